@@ -1,0 +1,5 @@
+pub mod Atoms
+pub mod Faults
+pub mod Names
+pub mod ValueLaws
+pub mod Values

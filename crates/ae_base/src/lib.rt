@@ -1,0 +1,15 @@
+//! The values of Herdcentury: texts, types, data, cells, atoms, rows, faults and batches, and what
+//! each of them means in a contract.
+#![tactic(auto)]
+
+pub mod atoms;
+pub mod batches;
+pub mod blobs;
+pub mod cells;
+pub mod faults;
+pub mod lists;
+pub mod names;
+pub mod sameness;
+pub mod texts;
+pub mod types;
+pub mod values;
