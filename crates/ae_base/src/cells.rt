@@ -45,7 +45,7 @@ impl Cell {
     pub fn same(&self, other: &Cell) -> bool
         ensures { result ≡ bytes_eq self.now other.now }
     {
-        self.bytes == other.bytes
+        *self == *other
     }
 
     /// How many bytes the cell has.

@@ -10,6 +10,8 @@ pub mod faults;
 pub mod lists;
 pub mod names;
 pub mod sameness;
+#[cfg(test)]
+mod tests;
 pub mod texts;
 pub mod types;
 pub mod values;
