@@ -1,6 +1,9 @@
--- What the kernel computes of the labels of specs/Keys: their lengths, and that they are ASCII.
-use Rattle.std.proofs.Common.{◌≡◌, true, refl, length, nat_lt}
-use Rattle.std.specs.List.{list_all}
+-- What the kernel computes of the labels of specs/Keys: their lengths in characters, and that their
+-- bytes are std's UTF-16 with the low byte of each unit first.
+use Rattle.std.proofs.Common.{◌≡◌, ℕ, List, refl, length}
+use Rattle.std.specs.Char.Escape.{encode_utf16}
+use Rattle.std.specs.Int.{w16, to_le_bytes}
+use Rattle.std.specs.List.{flat_map}
 use Rattle.hmac_kdf.specs.Keys.{enc_label, mac_label, iv_label, utf16le_of_ascii}
 
 length-enc_label : length enc_label ≡ 114
@@ -12,14 +15,15 @@ length-mac_label = refl
 length-iv_label : length iv_label ≡ 106
 length-iv_label = refl
 
-length-enc_label_utf16 : length (utf16le_of_ascii enc_label) ≡ 228
-length-enc_label_utf16 = refl
+-- any text in UTF-16LE
+abbrev utf16le : List ℕ → List ℕ
+utf16le text = flat_map (λ character. flat_map (to_le_bytes w16) (encode_utf16 character)) text
 
-ascii-enc_label : list_all (λ character. nat_lt character 128) enc_label ≡ true
-ascii-enc_label = refl
+utf16le-enc_label : utf16le enc_label ≡ utf16le_of_ascii enc_label
+utf16le-enc_label = refl
 
-ascii-mac_label : list_all (λ character. nat_lt character 128) mac_label ≡ true
-ascii-mac_label = refl
+utf16le-mac_label : utf16le mac_label ≡ utf16le_of_ascii mac_label
+utf16le-mac_label = refl
 
-ascii-iv_label : list_all (λ character. nat_lt character 128) iv_label ≡ true
-ascii-iv_label = refl
+utf16le-iv_label : utf16le iv_label ≡ utf16le_of_ascii iv_label
+utf16le-iv_label = refl

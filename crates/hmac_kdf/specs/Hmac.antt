@@ -1,4 +1,5 @@
--- HMAC-SHA-256 (RFC 2104) as a function on lists of bytes, over the SHA-256 of FIPS 180-4.
+-- HMAC-SHA-256 (RFC 2104) as a function on lists of bytes, over the SHA-256 of FIPS 180-4. The
+-- sections are those of RFC 2104.
 use Rattle.std.specs.Prelude.{ℕ, ◌-◌, List, ◌++◌, map, length, replicate, bit_xor, nat_lt, if◌then◌else◌}
 use Rattle.sha2.specs.Sha256.{sha256}
 
@@ -26,8 +27,9 @@ key_block key = zero_filled (if nat_lt block_length (length key) then sha256 key
 abbrev pub padded_with : ℕ → List ℕ → List ℕ
 padded_with pad block = map (λ byte. bit_xor byte pad) block
 
--- the code of a message under a key: H(K XOR opad, H(K XOR ipad, text)) (section 2)
+-- the HMAC of a message under a key: H(K XOR opad, H(K XOR ipad, text)) (section 2)
 unfoldable pub hmac : List ℕ → List ℕ → List ℕ
 hmac key message =
-    sha256 (padded_with outer_pad (key_block key)
-        ++ sha256 (padded_with inner_pad (key_block key) ++ message))
+    let block = key_block key in
+    let inner_hash = sha256 (padded_with inner_pad block ++ message) in
+    sha256 (padded_with outer_pad block ++ inner_hash)

@@ -9,24 +9,27 @@ pub record Keys : Type 0 where
   pub mac_key : List ℕ
   pub iv_key : List ℕ
 
--- the texts of the three labels
+-- the text of the label of enc_key; the three texts are this repository's own choice
 abbrev pub enc_label : List ℕ
 enc_label = codes "Microsoft SQL Server cell encryption key with encryption algorithm:AEAD_AES_256_CBC_HMAC_SHA256 and key length:256"
 
+-- the text of the label of mac_key
 abbrev pub mac_label : List ℕ
 mac_label = codes "Microsoft SQL Server cell MAC key with encryption algorithm:AEAD_AES_256_CBC_HMAC_SHA256 and key length:256"
 
+-- the text of the label of iv_key
 abbrev pub iv_label : List ℕ
 iv_label = codes "Microsoft SQL Server cell IV key with encryption algorithm:AEAD_AES_256_CBC_HMAC_SHA256 and key length:256"
 
--- an ASCII text in UTF-16LE (RFC 2781 section 4.2) with no byte order mark: each character and a zero byte
+-- an ASCII text in UTF-16LE, with no byte order mark: a zero byte after each character
+-- (RFC 2781 sections 2.1, 3.1 and 3.3)
 abbrev pub utf16le_of_ascii : List ℕ → List ℕ
 utf16le_of_ascii text = flat_map (λ character. character ∷ 0 ∷ []) text
 
--- the keys of a column encryption key: its HMAC of each label's bytes
+-- the keys of a column encryption key: the HMAC of each label under it (RFC 2104 section 2)
 unfoldable pub keys_of : List ℕ → Keys
 keys_of cek = record {
   enc_key = hmac cek (utf16le_of_ascii enc_label);
   mac_key = hmac cek (utf16le_of_ascii mac_label);
-  iv_key = hmac cek (utf16le_of_ascii iv_label)
+  iv_key = hmac cek (utf16le_of_ascii iv_label);
 }

@@ -1,3 +1,5 @@
+//! The keys that are derived from a column encryption key.
+
 ghost use Rattle.std.specs.Prelude.{◌≡◌};
 ghost use Rattle.hmac_kdf.specs.Hmac.{hmac};
 ghost use Rattle.hmac_kdf.specs.Keys.{Keys, keys_of, utf16le_of_ascii};
@@ -5,13 +7,17 @@ ghost use Rattle.hmac_kdf.specs.Keys.{Keys, keys_of, utf16le_of_ascii};
 use crate::mac::Mac;
 use std::marker::Model;
 
-const ENC_LABEL: &[u8; 114] = b"Microsoft SQL Server cell encryption key with encryption algorithm:AEAD_AES_256_CBC_HMAC_SHA256 and key length:256";
+// The texts of the labels, which are ASCII.
+const ENC_LABEL: &[u8; 114] =
+    b"Microsoft SQL Server cell encryption key with encryption algorithm:AEAD_AES_256_CBC_HMAC_SHA256 and key length:256";
 
-const MAC_LABEL: &[u8; 107] = b"Microsoft SQL Server cell MAC key with encryption algorithm:AEAD_AES_256_CBC_HMAC_SHA256 and key length:256";
+const MAC_LABEL: &[u8; 107] =
+    b"Microsoft SQL Server cell MAC key with encryption algorithm:AEAD_AES_256_CBC_HMAC_SHA256 and key length:256";
 
-const IV_LABEL: &[u8; 106] = b"Microsoft SQL Server cell IV key with encryption algorithm:AEAD_AES_256_CBC_HMAC_SHA256 and key length:256";
+const IV_LABEL: &[u8; 106] =
+    b"Microsoft SQL Server cell IV key with encryption algorithm:AEAD_AES_256_CBC_HMAC_SHA256 and key length:256";
 
-/// The keys under which the cells of one column encryption key are made.
+/// The three keys that are derived from a column encryption key for the cells of its columns.
 #[derive(Drop)]
 pub struct CellKeys {
     enc_key: [u8; 32],
@@ -26,7 +32,8 @@ impl Model for CellKeys {
 }
 
 impl CellKeys {
-    /// The keys of the column encryption key `cek`.
+    /// The keys of the column encryption key `cek`: the HMAC-SHA-256 of each key's label under it.
+    /// Takes no memory.
     pub fn derive(cek: &[u8; 32]) -> CellKeys
         ensures { result ≡ keys_of cek.now }
     {
@@ -37,21 +44,21 @@ impl CellKeys {
         }
     }
 
-    /// The key that encrypts cells.
+    /// The AES-256 key that encrypts cells.
     pub fn enc_key(&self) -> &[u8; 32]
         ensures { result.now ≡ self.now.enc_key }
     {
         &self.enc_key
     }
 
-    /// The key of the cells' authentication codes.
+    /// The HMAC key of the cells' authentication tags.
     pub fn mac_key(&self) -> &[u8; 32]
         ensures { result.now ≡ self.now.mac_key }
     {
         &self.mac_key
     }
 
-    /// The key of the deterministic initialization vectors.
+    /// The HMAC key that gives deterministic cells their initialization vectors.
     pub fn iv_key(&self) -> &[u8; 32]
         ensures { result.now ≡ self.now.iv_key }
     {

@@ -4,6 +4,8 @@
 
 pub mod keys;
 pub mod mac;
+#[cfg(test)]
+mod tests;
 
 pub use keys::CellKeys;
 pub use mac::Mac;

@@ -1,3 +1,5 @@
+//! HMAC-SHA-256 (RFC 2104).
+
 ghost use Rattle.std.specs.Prelude.{◌≡◌, ◌≤◌, List, ℕ, [], ◌++◌, length};
 ghost use Rattle.hmac_kdf.specs.Hmac.{hmac, key_block, padded_with, zero_filled};
 
@@ -6,11 +8,15 @@ use sha2::{Digest, Sha256};
 // The length in bytes of a block of SHA-256.
 const BLOCK_LENGTH: usize = 64;
 
+// The byte that ipad repeats.
 const INNER_PAD: u8 = 0x36;
 
+// The byte that opad repeats.
 const OUTER_PAD: u8 = 0x5c;
 
 /// An HMAC-SHA-256 (RFC 2104) under way: a key, and the message so far.
+///
+/// The result does not depend on how the message is cut into pieces. No call takes memory.
 #[derive(Drop)]
 pub struct Mac {
     inner: Sha256,
@@ -21,7 +27,8 @@ pub struct Mac {
 impl Mac {
     ghost use Rattle.hmac_kdf.specs.Holding.{Holds};
 
-    /// The empty message under `key`, which may have any length.
+    /// Begins a message under `key`, which may have any length: of a key longer than the 64 bytes
+    /// of a block its SHA-256 digest is used (RFC 2104 section 2).
     pub fn new(key: &[u8]) -> Mac
         ensures { Holds result key.now [] }
     {
@@ -34,12 +41,13 @@ impl Mac {
 
     /// Adds `piece` to the end of the message.
     pub fn add(&mut self, piece: &[u8])
-        ensures { (key message : List ℕ) → Holds self.old key message → Holds self.new key (message ++ piece.now) }
+        ensures { (key message : List ℕ) → Holds self.old key message
+            → Holds self.new key (message ++ piece.now) }
     {
         self.inner.update(piece);
     }
 
-    /// The code of the message under the key (RFC 2104 section 2).
+    /// The HMAC of the message under the key (RFC 2104 section 2).
     pub fn finish(self) -> [u8; 32]
         ensures { (key message : List ℕ) → Holds self key message → result ≡ hmac key message }
     {
@@ -48,7 +56,7 @@ impl Mac {
     }
 }
 
-// The key as one block.
+// The key as one block of the hash function (RFC 2104 section 2).
 fn key_block(key: &[u8]) -> [u8; BLOCK_LENGTH]
     ensures { result ≡ key_block key.now }
 {
