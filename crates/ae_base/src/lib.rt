@@ -10,6 +10,7 @@ pub mod faults;
 pub mod lists;
 pub mod names;
 pub mod sameness;
+pub mod tables;
 #[cfg(test)]
 mod tests;
 pub mod texts;

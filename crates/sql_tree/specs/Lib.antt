@@ -1,0 +1,5 @@
+pub mod Conditions
+pub mod Operands
+pub mod Statements
+pub mod Tokens
+pub mod TokensWorked

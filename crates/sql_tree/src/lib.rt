@@ -1,0 +1,9 @@
+//! The words of SQL: tokens, the statement trees that they spell, and the bound trees in which
+//! each name is a place.
+#![tactic(auto)]
+
+pub mod bound;
+pub mod conditions;
+pub mod lexemes;
+pub mod operands;
+pub mod statements;

@@ -1,0 +1,160 @@
+use crate::conditions::Condition;
+use crate::operands::{ColumnRef, Operand};
+use ae_base::blobs::Blob;
+use ae_base::lists::Seq;
+use ae_base::names::Name;
+use ae_base::texts::Txt;
+use ae_base::types::Ty;
+
+/// How a column is encrypted.
+#[derive(Clone, Copy, PartialEq, Eq, Debug)]
+pub enum EncryptionKind {
+    Deterministic,
+    Randomized,
+}
+
+/// The clause ENCRYPTED WITH of a column: its key's name and its kind.
+#[derive(Drop)]
+pub struct Encryption {
+    pub key: Name,
+    pub kind: EncryptionKind,
+}
+
+/// A column of CREATE TABLE. `unique` is the place of its word UNIQUE.
+#[derive(Drop)]
+pub struct ColumnSpec {
+    pub name: Name,
+    pub ty: Ty,
+    pub encryption: Option<Encryption>,
+    pub not_null: bool,
+    pub unique: Option<u32>,
+}
+
+/// A name at its place.
+#[derive(Drop)]
+pub struct NameAt {
+    pub at: u32,
+    pub name: Name,
+}
+
+/// A list UNIQUE (..) of CREATE TABLE.
+#[derive(Drop)]
+pub struct UniqueSpec {
+    pub columns: Seq<NameAt>,
+}
+
+/// One row of VALUES, at its opening parenthesis.
+#[derive(Drop)]
+pub struct ValueRow {
+    pub at: u32,
+    pub values: Seq<Operand<ColumnRef, Name>>,
+}
+
+/// One assignment of SET, at its `=`.
+#[derive(Drop)]
+pub struct Assignment {
+    pub at: u32,
+    pub column: Name,
+    pub value: Operand<ColumnRef, Name>,
+}
+
+/// What an item of SELECT computes.
+#[derive(Drop)]
+pub enum ItemValue {
+    Value(Operand<ColumnRef, Name>),
+    /// COUNT(*), at its first token.
+    Count { at: u32 },
+}
+
+/// An item of SELECT.
+#[derive(Drop)]
+pub struct Item {
+    pub value: ItemValue,
+    pub alias: Option<Name>,
+}
+
+/// The items of SELECT.
+#[derive(Drop)]
+pub enum Items {
+    /// `*`, at its place.
+    Star { at: u32 },
+    List(Seq<Item>),
+}
+
+/// A table of FROM.
+#[derive(Drop)]
+pub struct SourceTable {
+    pub table: Name,
+    pub alias: Option<Name>,
+}
+
+/// A further table of FROM, with its condition ON.
+#[derive(Drop)]
+pub struct Join {
+    pub source: SourceTable,
+    pub on: Condition<ColumnRef, Name>,
+}
+
+/// A column at its place.
+#[derive(Drop)]
+pub struct ColumnAt {
+    pub at: u32,
+    pub column: ColumnRef,
+}
+
+/// A key of ORDER BY.
+#[derive(Drop)]
+pub struct OrderKey {
+    pub column: ColumnAt,
+    pub descending: bool,
+}
+
+/// A SELECT. `distinct` is the place of the word DISTINCT.
+#[derive(Drop)]
+pub struct Query {
+    pub distinct: Option<u32>,
+    pub top: Option<u64>,
+    pub items: Items,
+    pub from: SourceTable,
+    pub joins: Seq<Join>,
+    pub filter: Option<Condition<ColumnRef, Name>>,
+    pub group_by: Seq<ColumnAt>,
+    pub order_by: Seq<OrderKey>,
+}
+
+/// A statement, as its text has it.
+#[derive(Drop)]
+pub enum Statement {
+    CreateMaster {
+        name: Name,
+        path: Txt,
+    },
+    CreateKey {
+        name: Name,
+        master: Name,
+        wrapped: Blob,
+    },
+    CreateTable {
+        table: Name,
+        columns: Seq<ColumnSpec>,
+        uniques: Seq<UniqueSpec>,
+    },
+    DropTable(Name),
+    DropMaster(Name),
+    DropKey(Name),
+    Insert {
+        table: Name,
+        columns: Option<Seq<Name>>,
+        rows: Seq<ValueRow>,
+    },
+    Update {
+        table: Name,
+        assignments: Seq<Assignment>,
+        filter: Option<Condition<ColumnRef, Name>>,
+    },
+    Delete {
+        table: Name,
+        filter: Option<Condition<ColumnRef, Name>>,
+    },
+    Select(Query),
+}
