@@ -1,0 +1,2 @@
+//! What the server knows of keys and tables: lists in the order of their definitions, and a version.
+#![tactic(auto)]

@@ -1,0 +1,2 @@
+//! The relational engine: worlds of tables, and what a statement does to them.
+#![tactic(auto)]

@@ -1,0 +1,2 @@
+//! Binding: each name of a statement becomes the place of its column or parameter.
+#![tactic(auto)]

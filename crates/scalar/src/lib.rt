@@ -1,0 +1,4 @@
+//! The value of an operand in a row, and the truth of a condition.
+#![tactic(auto)]
+
+pub mod truth;
