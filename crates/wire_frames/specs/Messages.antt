@@ -1,20 +1,11 @@
--- The messages between driver and server, and the conditions that each of them meets.
-use Rattle.std.specs.Prelude.{◌≡◌, ◌≢◌, ◌<◌, ◌≤◌, ℕ, List, [], ◌∷◌, length, map, encode_utf8_all, Bool, IsTrue, FitsSigned, IsDistinct}
-use Rattle.std.specs.Int.{w64}
-use Rattle.std.specs.List.{All, list_all}
-use Rattle.std.specs.Str.{all_scalars}
-use Rattle.ae_base.specs.Names.{IsName}
+-- The messages between driver and server.
+use Rattle.std.specs.Prelude.{ℕ, List}
 use Rattle.ae_base.specs.declared.types.Ty.{Ty}
-use Rattle.ae_base.specs.declared.types.Ty.TheVariants as ty
 use Rattle.ae_base.specs.declared.types.Enc.{Enc}
-use Rattle.ae_base.specs.declared.types.Enc.TheVariants as enc
-use Rattle.ae_base.specs.declared.values.Datum.TheVariants.{Num, Text, Bin}
 use Rattle.ae_base.specs.declared.atoms.AtomOf.{AtomOf}
-use Rattle.ae_base.specs.declared.atoms.AtomOf.TheVariants.{Null, Plain, Sealed}
 use Rattle.ae_base.specs.declared.batches.ParamDecl.{ParamDecl}
 use Rattle.ae_base.specs.declared.batches.KeyMeta.{KeyMeta}
 use Rattle.ae_base.specs.declared.faults.SqlFault.{SqlFault}
-use Rattle.ae_base.specs.declared.faults.SqlFault.TheVariants as fault
 
 -- a parameter as it is sent: its name, its type, how it is encrypted, and its atom
 pub record SentParam : Type 0 where

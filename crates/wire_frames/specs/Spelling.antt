@@ -1,6 +1,6 @@
 -- The one spelling of each message, version 1: a version byte, a kind, the length of the body in four bytes, and the
 -- body. All numbers are big-endian.
-use Rattle.std.specs.Prelude.{ℕ, ℤ, List, [], ◌∷◌, ◌++◌, length, map, flat_map, encode_utf8_all}
+use Rattle.std.specs.Prelude.{ℕ, List, [], ◌∷◌, ◌++◌, length, flat_map, encode_utf8_all}
 use Rattle.std.specs.Int.{w16, w32, w64, to_be_bytes, cast_unsigned}
 use Rattle.ae_base.specs.Faults.{code_of}
 use Rattle.ae_base.specs.declared.types.Ty.{Ty}
