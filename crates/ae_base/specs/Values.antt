@@ -1,5 +1,5 @@
 -- Values, and which of them a type admits.
-use Rattle.std.specs.Prelude.{ℕ, ◌+◌, ◌<◌, ◌≤◌, List, [], ◌∷◌, length, Bool, true, false, IsTrue, nat_lt, if◌then◌else◌, FitsSigned}
+use Rattle.std.specs.Prelude.{ℕ, ◌+◌, ◌<◌, ◌≤◌, List, [], ◌∷◌, length, Bool, true, false, IsTrue, ◌&&◌, nat_lt, nat_le, int_le, pos, negsuc, if◌then◌else◌, FitsSigned}
 use Rattle.std.specs.Int.{w32, w64}
 use Rattle.std.specs.List.{All}
 use Rattle.std.specs.Ordering.{int_eq}
@@ -56,6 +56,21 @@ IsWithin (Bin bytes) BigInt = ⊥
 IsWithin (Bin bytes) (NVarChar most) = ⊥
 IsWithin (Bin bytes) (VarBinary most) = length bytes ≤ most
 
+-- the same as a test
+abbrev pub is_within : Datum → Ty → Bool
+is_within (Num n) Int = int_le (negsuc 2147483647) n && int_le n (pos 2147483647)
+is_within (Num n) BigInt = int_le (negsuc 9223372036854775807) n && int_le n (pos 9223372036854775807)
+is_within (Num n) (NVarChar most) = false
+is_within (Num n) (VarBinary most) = false
+is_within (Text characters) Int = false
+is_within (Text characters) BigInt = false
+is_within (Text characters) (NVarChar most) = nat_le (units characters) most
+is_within (Text characters) (VarBinary most) = false
+is_within (Bin bytes) Int = false
+is_within (Bin bytes) BigInt = false
+is_within (Bin bytes) (NVarChar most) = false
+is_within (Bin bytes) (VarBinary most) = nat_le (length bytes) most
+
 -- a datum fits a type: it is proper, of the type and within its bound
 abbrev pub DatumFits : Datum → Ty → Type 0
 DatumFits datum ty = IsProperDatum datum × IsWithin datum ty
@@ -64,3 +79,7 @@ DatumFits datum ty = IsProperDatum datum × IsWithin datum ty
 abbrev pub Fits : Value → Ty → Type 0
 Fits Null ty = Unit {0}
 Fits (Is datum) ty = DatumFits datum ty
+
+abbrev pub value_is_within : Value → Ty → Bool
+value_is_within Null ty = true
+value_is_within (Is datum) ty = is_within datum ty

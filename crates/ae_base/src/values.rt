@@ -1,6 +1,6 @@
 ghost use Rattle.std.specs.Prelude.{◌≡◌, IsTrue, ◌↔◌, ◌≤◌};
 ghost use Rattle.std.specs.Str.{chars};
-ghost use Rattle.ae_base.specs.Values.{DatumFits, Fits, units};
+ghost use Rattle.ae_base.specs.Values.{DatumFits, Fits, is_within, units, value_is_within};
 ghost use Rattle.ae_base.specs.declared.values.Datum.TheVariants.{Num, Text, Bin};
 
 use crate::blobs::Blob;
@@ -27,7 +27,8 @@ pub enum Value {
 impl Datum {
     /// Whether the value is of a type and within its bound.
     pub fn fits(&self, ty: Ty) -> bool
-        ensures { IsTrue result ↔ DatumFits self.now ty }
+        ensures fits { IsTrue result ↔ DatumFits self.now ty }
+        ensures value { result ≡ is_within self.now ty }
     {
         match self {
             Datum::Num(n) => number_fits(*n, ty),
@@ -38,7 +39,8 @@ impl Datum {
 }
 
 fn number_fits(n: i64, ty: Ty) -> bool
-    ensures { IsTrue result ↔ DatumFits (Num n) ty }
+    ensures fits { IsTrue result ↔ DatumFits (Num n) ty }
+    ensures value { result ≡ is_within (Num n) ty }
 {
     match ty {
         Ty::Int => i32::try_from(n).is_ok(),
@@ -48,7 +50,8 @@ fn number_fits(n: i64, ty: Ty) -> bool
 }
 
 fn text_fits(text: &Txt, ty: Ty) -> bool
-    ensures { IsTrue result ↔ DatumFits (Text text.now) ty }
+    ensures fits { IsTrue result ↔ DatumFits (Text text.now) ty }
+    ensures value { result ≡ is_within (Text text.now) ty }
 {
     let characters = text.as_str();
     match ty {
@@ -58,7 +61,8 @@ fn text_fits(text: &Txt, ty: Ty) -> bool
 }
 
 fn bytes_fit(bytes: &[u8], ty: Ty) -> bool
-    ensures { IsTrue result ↔ DatumFits (Bin bytes.now) ty }
+    ensures fits { IsTrue result ↔ DatumFits (Bin bytes.now) ty }
+    ensures value { result ≡ is_within (Bin bytes.now) ty }
 {
     match ty {
         Ty::VarBinary(most) => bytes.len() <= most as usize,
@@ -84,7 +88,8 @@ fn has_units_within(text: &str, most: u16) -> bool
 impl Value {
     /// Whether the value fits a type. NULL fits every type.
     pub fn fits(&self, ty: Ty) -> bool
-        ensures { IsTrue result ↔ Fits self.now ty }
+        ensures fits { IsTrue result ↔ Fits self.now ty }
+        ensures value { result ≡ value_is_within self.now ty }
     {
         match self {
             Value::Null => true,

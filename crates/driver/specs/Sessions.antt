@@ -1,7 +1,8 @@
 -- One session of the driver: what it holds, what it asks, and which replies it awaits.
-use Rattle.std.specs.Prelude.{ℕ, ◌+◌, List, [], ◌∷◌, length, map, encode_utf8_all, Option, Some, None, Result, Ok, Err, Bool, true, false, ◌&&◌, not, nat_lt, ◌==◌, if◌then◌else◌, is_some}
-use Rattle.std.specs.List.{find, list_all}
+use Rattle.std.specs.Prelude.{ℕ, ◌+◌, List, [], ◌∷◌, length, map, encode_utf8_all, Option, Some, None, Result, Ok, Err, Bool, true, false, ◌&&◌, nat_lt, ◌==◌, if◌then◌else◌}
+use Rattle.std.specs.List.{find}
 use Rattle.std.specs.Str.{bytes_eq}
+use Rattle.ae_base.specs.Values.{value_is_within}
 use Rattle.ae_base.specs.declared.values.Value.{Value}
 use Rattle.ae_base.specs.declared.values.Value.TheVariants as value
 use Rattle.ae_base.specs.declared.values.Datum.TheVariants.{Num, Text, Bin}
@@ -34,12 +35,20 @@ is_idle (Reading columns count) = false
 
 -- ---- what is asked
 
--- a text has at most 65,536 bytes; a session has one batch
-abbrev pub begin : Session → ℕ → Batch → Result (Request × Session) DriverFault
-begin session number batch =
-    if not (is_idle session) then Err fault.StillPending else
+-- the first parameter, in declaration order, whose value doesn't fit its type
+abbrev pub first_unfit : List Param → Option (List ℕ)
+first_unfit [] = None
+first_unfit (p ∷ ps) = if value_is_within p.value p.declaration.ty then first_unfit ps else Some p.declaration.name
+
+abbrev pub begin_fit : ℕ → Batch → Option (List ℕ) → Result (Request × Session) DriverFault
+begin_fit number batch (Some name) = Err (fault.DoesNotFit name)
+begin_fit number batch None =
     if nat_lt 65536 (length (encode_utf8_all batch.text)) then Err fault.TooLong else
     Ok (Describe number batch.text (map (λ p. p.declaration) batch.params), Begun batch)
+
+-- a session has one batch; its values fit their types; its text has at most 65,536 bytes
+abbrev pub begin : Session → ℕ → Batch → Result (Request × Session) DriverFault
+begin session number batch = if is_idle session then begin_fit number batch (first_unfit batch.params) else Err fault.StillPending
 
 abbrev pub plain_atom : Value → AtomOf (List ℕ)
 plain_atom value.Null = Null

@@ -1,13 +1,10 @@
 -- What a statement does to a world, by whole lists: its answer or its fault, and the world after it.
-use Rattle.std.specs.Prelude.{ℕ, zero, suc, ◌+◌, List, [], ◌∷◌, ◌++◌, length, flat_map, Option, Some, None, Result, Ok, Err, Bool, true, false, ◌&&◌, ◌==◌, nat_le, int_le, pos, negsuc, if◌then◌else◌, unwrap_or}
+use Rattle.std.specs.Prelude.{ℕ, zero, suc, ◌+◌, List, [], ◌∷◌, ◌++◌, length, flat_map, Option, Some, None, Result, Ok, Err, false, ◌==◌, nat_le, if◌then◌else◌, unwrap_or}
 use Rattle.std.specs.List.{slice_get, position, find}
 use Rattle.std.specs.Option.{option_map}
 use Rattle.std.specs.Str.{bytes_eq}
-use Rattle.ae_base.specs.Values.{units}
-use Rattle.ae_base.specs.declared.values.Datum.{Datum}
-use Rattle.ae_base.specs.declared.values.Datum.TheVariants.{Num, Text, Bin}
-use Rattle.ae_base.specs.declared.types.Ty.{Ty}
-use Rattle.ae_base.specs.declared.types.Ty.TheVariants.{Int, BigInt, NVarChar, VarBinary}
+use Rattle.ae_base.specs.Values.{is_within}
+use Rattle.ae_base.specs.declared.types.Ty.TheVariants.{Int}
 use Rattle.ae_base.specs.declared.types.Enc.TheVariants as enc
 use Rattle.ae_base.specs.declared.tables.ColumnDef.{ColumnDef}
 use Rattle.ae_base.specs.declared.tables.TableDef.{TableDef}
@@ -69,25 +66,11 @@ create_table world table = with_table world.catalog table >>= λ catalog. Ok (De
 
 -- ---- INSERT
 
--- a plain value is within the declared type of its column; a sealed one was tested when it came
-abbrev pub is_within : Ty → Datum → Bool
-is_within Int (Num n) = int_le (negsuc 2147483647) n && int_le n (pos 2147483647)
-is_within BigInt (Num n) = true
-is_within (NVarChar most) (Num n) = false
-is_within (VarBinary most) (Num n) = false
-is_within Int (Text characters) = false
-is_within BigInt (Text characters) = false
-is_within (NVarChar most) (Text characters) = nat_le (units characters) most
-is_within (VarBinary most) (Text characters) = false
-is_within Int (Bin bytes) = false
-is_within BigInt (Bin bytes) = false
-is_within (NVarChar most) (Bin bytes) = false
-is_within (VarBinary most) (Bin bytes) = nat_le (length bytes) most
-
--- NULL for a column that takes none, then a value that doesn't fit
+-- NULL for a column that takes none, then a plain value that isn't within its column's type; a sealed one was tested when
+-- it came
 abbrev pub admitted : ColumnDef → AtomOf (List ℕ) → Result (AtomOf (List ℕ)) SqlFault
 admitted column Null = if column.not_null then Err (fault.NullNotAllowed column.name) else Ok Null
-admitted column (Plain datum) = if is_within column.ty datum then Ok (Plain datum) else Err (fault.Truncated column.name)
+admitted column (Plain datum) = if is_within datum column.ty then Ok (Plain datum) else Err (fault.Truncated column.name)
 admitted column (Sealed cell) = Ok (Sealed cell)
 
 abbrev pub or_overflow : {A : Type 0} → Option A → Result A SqlFault

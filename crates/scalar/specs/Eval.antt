@@ -11,7 +11,6 @@ use Rattle.ae_base.specs.declared.values.Value.{Value}
 use Rattle.ae_base.specs.declared.values.Value.TheVariants as value
 use Rattle.ae_base.specs.declared.values.Datum.{Datum}
 use Rattle.ae_base.specs.declared.values.Datum.TheVariants.{Num, Text, Bin}
-use Rattle.ae_base.specs.Atoms.{Atom}
 use Rattle.ae_base.specs.declared.atoms.AtomOf.{AtomOf}
 use Rattle.ae_base.specs.declared.atoms.AtomOf.TheVariants.{Null, Plain, Sealed}
 use Rattle.sql_tree.specs.declared.conditions.Comparison.{Comparison}

@@ -1,8 +1,7 @@
 -- Some truths and sums, computed.
-use Rattle.std.specs.Prelude.{◌≡◌, pos, negsuc, codes, List, [], ◌∷◌, ℕ, Option, Some, None, refl}
+use Rattle.std.specs.Prelude.{◌≡◌, pos, negsuc, codes, [], ◌∷◌, ℕ, Some, None, refl}
 use Rattle.ae_base.specs.declared.values.Value.TheVariants as value
 use Rattle.ae_base.specs.declared.values.Datum.TheVariants.{Num, Text}
-use Rattle.ae_base.specs.declared.atoms.AtomOf.{AtomOf}
 use Rattle.ae_base.specs.declared.atoms.AtomOf.TheVariants.{Null, Plain, Sealed}
 use Rattle.sql_tree.specs.declared.conditions.Comparison.TheVariants as comparison
 use Rattle.sql_tree.specs.Operands as operands
@@ -11,17 +10,19 @@ use Rattle.scalar.specs.declared.truth.Truth.TheVariants as truths
 use Rattle.scalar.specs.Eval.{eval, compare, conjunction, disjunction, negation}
 
 pub conjunctions :
-  (conjunction truths.True truths.Unknown ≡ truths.Unknown) × (conjunction truths.Unknown truths.False ≡ truths.False)
-  × (conjunction truths.False truths.Unknown ≡ truths.False) × (conjunction truths.Unknown truths.Unknown ≡ truths.Unknown)
-conjunctions = (refl, refl, refl, refl)
+  (conjunction truths.True truths.True ≡ truths.True) × (conjunction truths.True truths.False ≡ truths.False) × (conjunction truths.True truths.Unknown ≡ truths.Unknown)
+  × (conjunction truths.False truths.True ≡ truths.False) × (conjunction truths.False truths.False ≡ truths.False) × (conjunction truths.False truths.Unknown ≡ truths.False)
+  × (conjunction truths.Unknown truths.True ≡ truths.Unknown) × (conjunction truths.Unknown truths.False ≡ truths.False) × (conjunction truths.Unknown truths.Unknown ≡ truths.Unknown)
+conjunctions = (refl, refl, refl, refl, refl, refl, refl, refl, refl)
 
 pub disjunctions :
-  (disjunction truths.True truths.Unknown ≡ truths.True) × (disjunction truths.Unknown truths.True ≡ truths.True)
-  × (disjunction truths.False truths.Unknown ≡ truths.Unknown) × (disjunction truths.Unknown truths.False ≡ truths.Unknown)
-disjunctions = (refl, refl, refl, refl)
+  (disjunction truths.True truths.True ≡ truths.True) × (disjunction truths.True truths.False ≡ truths.True) × (disjunction truths.True truths.Unknown ≡ truths.True)
+  × (disjunction truths.False truths.True ≡ truths.True) × (disjunction truths.False truths.False ≡ truths.False) × (disjunction truths.False truths.Unknown ≡ truths.Unknown)
+  × (disjunction truths.Unknown truths.True ≡ truths.True) × (disjunction truths.Unknown truths.False ≡ truths.Unknown) × (disjunction truths.Unknown truths.Unknown ≡ truths.Unknown)
+disjunctions = (refl, refl, refl, refl, refl, refl, refl, refl, refl)
 
-pub negations : (negation truths.Unknown ≡ truths.Unknown) × (negation truths.True ≡ truths.False)
-negations = (refl, refl)
+pub negations : (negation truths.True ≡ truths.False) × (negation truths.False ≡ truths.True) × (negation truths.Unknown ≡ truths.Unknown)
+negations = (refl, refl, refl)
 
 pub comparisons :
   (compare comparison.Less (Plain (Num (pos 5))) (Plain (Num (pos 6))) ≡ truths.True)

@@ -1,8 +1,8 @@
 -- What the server answers to a request, and the world after it.
-use Rattle.std.specs.Prelude.{ℕ, ◌+◌, List, [], ◌∷◌, ◌++◌, length, map, encode_utf8_all, Option, Some, None, Result, Ok, Err, Bool, true, false, ◌==◌, if◌then◌else◌}
+use Rattle.std.specs.Prelude.{ℕ, ◌+◌, List, [], ◌∷◌, ◌++◌, length, map, encode_utf8_all, Result, Ok, Err, Bool, true, false, ◌==◌, if◌then◌else◌}
 use Rattle.ae_base.specs.declared.types.Enc.TheVariants as enc
 use Rattle.ae_base.specs.declared.batches.ParamDecl.{ParamDecl}
-use Rattle.ae_base.specs.declared.values.Datum.{Datum}
+use Rattle.ae_base.specs.Values.{is_within}
 use Rattle.ae_base.specs.declared.atoms.AtomOf.{AtomOf}
 use Rattle.ae_base.specs.declared.atoms.AtomOf.TheVariants.{Null, Plain, Sealed}
 use Rattle.ae_base.specs.declared.types.Enc.{Enc}
@@ -13,7 +13,7 @@ use Rattle.sql_tree.specs.Bound.{Bound}
 use Rattle.sql_parse.specs.Parse.{parsed}
 use Rattle.resolve.specs.Bind.{bind, uses}
 use Rattle.engine.specs.Worlds.{World}
-use Rattle.engine.specs.Step.{Answer, Outcome, step, is_within}
+use Rattle.engine.specs.Step.{Answer, Outcome, step}
 use Rattle.engine.specs.Step as engine
 use Rattle.wire_frames.specs.Messages.{Request, Describe, Execute, Reply, Described, Columns, Row, Ended, Refused, Defined, Changed, Answered, SentParam, UsedParam, SentColumn}
 
@@ -80,7 +80,7 @@ suits p = if is_plain p.enc then plain_suits p.atom else false
   where
     plain_suits : AtomOf (List ℕ) → Bool
     plain_suits Null = true
-    plain_suits (Plain datum) = is_within p.ty datum
+    plain_suits (Plain datum) = is_within datum p.ty
     plain_suits (Sealed cell) = false
 
 abbrev pub suited : List SentParam → Result (List (AtomOf (List ℕ))) SqlFault

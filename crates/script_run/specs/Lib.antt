@@ -1,0 +1,5 @@
+pub mod Drive
+pub mod Outcomes
+pub mod Reference
+pub mod RunWorked
+pub mod Transcript

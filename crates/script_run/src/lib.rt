@@ -1,0 +1,2 @@
+//! Scripts run through driver and server, and what that means in plain SQL.
+#![tactic(auto)]
