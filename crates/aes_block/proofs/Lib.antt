@@ -1,1 +1,5 @@
+mod Computed
+mod Expansion
+mod Inverses
+mod Products
 mod Vectors

@@ -49,7 +49,7 @@ sub_byte b = affine (inverse b)
 
 -- SubBytes (5.1.1)
 unfoldable pub sub_bytes : List ℕ → List ℕ
-sub_bytes state = map sub_byte state
+sub_bytes state = from_cells (λ r c. sub_byte (cell state r c))
 
 -- ShiftRows (5.1.2): row r turns left by r
 unfoldable pub shift_rows : List ℕ → List ℕ
@@ -144,7 +144,7 @@ inv_sub_byte b = inverse (inv_affine b)
 
 -- InvSubBytes (5.3.2)
 unfoldable pub inv_sub_bytes : List ℕ → List ℕ
-inv_sub_bytes state = map inv_sub_byte state
+inv_sub_bytes state = from_cells (λ r c. inv_sub_byte (cell state r c))
 
 -- InvShiftRows (5.3.1): row r turns right by r
 unfoldable pub inv_shift_rows : List ℕ → List ℕ

@@ -1,5 +1,7 @@
 // Products of a byte and a constant, in the field of FIPS 197, section 4.2.
 
+#![tactic(auto, using(crate::proofs::Products::by_shifts))]
+
 ghost use Rattle.std.specs.Prelude.{◌≡◌};
 ghost use Rattle.aes_block.specs.Field.{product, times_x};
 
@@ -7,11 +9,7 @@ ghost use Rattle.aes_block.specs.Field.{product, times_x};
 pub(crate) fn times_x(byte: u8) -> u8
     ensures { result ≡ times_x byte }
 {
-    if byte < 0x80 {
-        byte << 1
-    } else {
-        (byte << 1) ^ 0x1b
-    }
+    (byte << 1) ^ ((byte >> 7) * 0x1b)
 }
 
 pub(crate) fn times_2(byte: u8) -> u8

@@ -1,42 +1,40 @@
 // The transformations of the state (FIPS 197, sections 5.1.1 to 5.1.4 and 5.3.1 to 5.3.3).
 
-ghost use Rattle.std.specs.Prelude.{◌≡◌, ◌<◌, [], ◌∷◌};
-ghost use Rattle.std.specs.List.{concat};
-ghost use Rattle.aes_block.specs.Aes.{add_round_key, column, inv_mix_columns, inv_shift_rows, inv_sub_byte, inv_sub_bytes, mix_columns, shift_rows, sub_byte, sub_bytes, word_product, word_sum};
+ghost use Rattle.std.specs.Prelude.{◌≡◌, ◌<◌, [], ◌∷◌, slice_index};
+ghost use Rattle.aes_block.specs.Aes.{add_round_key, column, from_cells, inv_mix_columns, inv_shift_rows, inv_sub_byte, inv_sub_bytes, mix_columns, shift_rows, sub_byte, sub_bytes, word, word_product, word_sum};
 
 use crate::field::{times_2, times_3, times_9, times_11, times_13, times_14};
 use crate::tables::{INV_SBOX, SBOX};
 
+#[tactic(auto, using(crate::proofs::Inverses::by_tables))]
 pub(crate) fn sub_byte(byte: u8) -> u8
     ensures { result ≡ sub_byte byte }
 {
     SBOX[byte as usize]
 }
 
+#[tactic(auto, using(crate::proofs::Inverses::by_tables))]
 fn inv_sub_byte(byte: u8) -> u8
     ensures { result ≡ inv_sub_byte byte }
 {
     INV_SBOX[byte as usize]
 }
 
-pub(crate) fn sub_bytes(mut state: [u8; 16]) -> [u8; 16]
+
+pub(crate) fn sub_bytes(state: [u8; 16]) -> [u8; 16]
     ensures { result ≡ sub_bytes state }
 {
-    for byte in state.iter_mut() {
-        *byte = sub_byte(*byte);
-    }
-    state
+    state.map(sub_byte)
 }
 
-pub(crate) fn inv_sub_bytes(mut state: [u8; 16]) -> [u8; 16]
+
+pub(crate) fn inv_sub_bytes(state: [u8; 16]) -> [u8; 16]
     ensures { result ≡ inv_sub_bytes state }
 {
-    for byte in state.iter_mut() {
-        *byte = inv_sub_byte(*byte);
-    }
-    state
+    state.map(inv_sub_byte)
 }
 
+#[tactic(auto, unfolding(crate::specs::Aes::shift_rows))]
 pub(crate) fn shift_rows(s: [u8; 16]) -> [u8; 16]
     ensures { result ≡ shift_rows s }
 {
@@ -46,6 +44,7 @@ pub(crate) fn shift_rows(s: [u8; 16]) -> [u8; 16]
     ]
 }
 
+#[tactic(auto, unfolding(crate::specs::Aes::inv_shift_rows))]
 pub(crate) fn inv_shift_rows(s: [u8; 16]) -> [u8; 16]
     ensures { result ≡ inv_shift_rows s }
 {
@@ -68,19 +67,15 @@ fn column(state: &[u8; 16], c: usize) -> [u8; 4]
 }
 
 fn from_columns(columns: [[u8; 4]; 4]) -> [u8; 16]
-    ensures { result ≡ concat columns }
+    ensures { result ≡ from_cells (λ r c. slice_index (word columns c) r) }
 {
-    let [
-        [a0, a1, a2, a3],
-        [b0, b1, b2, b3],
-        [c0, c1, c2, c3],
-        [d0, d1, d2, d3],
-    ] = columns;
+    let [[a0, a1, a2, a3], [b0, b1, b2, b3], [c0, c1, c2, c3], [d0, d1, d2, d3]] = columns;
     [
         a0, a1, a2, a3, b0, b1, b2, b3, c0, c1, c2, c3, d0, d1, d2, d3,
     ]
 }
 
+#[tactic(auto, using(crate::proofs::Products::product_1))]
 fn mixed_column(column: [u8; 4]) -> [u8; 4]
     ensures { result ≡ word_product (0x02 ∷ 0x01 ∷ 0x01 ∷ 0x03 ∷ []) column }
 {
@@ -105,6 +100,7 @@ fn inv_mixed_column(column: [u8; 4]) -> [u8; 4]
     ]
 }
 
+#[tactic(auto, unfolding(crate::specs::Aes::mix_columns))]
 pub(crate) fn mix_columns(state: [u8; 16]) -> [u8; 16]
     ensures { result ≡ mix_columns state }
 {
@@ -116,6 +112,7 @@ pub(crate) fn mix_columns(state: [u8; 16]) -> [u8; 16]
     ])
 }
 
+#[tactic(auto, unfolding(crate::specs::Aes::inv_mix_columns))]
 pub(crate) fn inv_mix_columns(state: [u8; 16]) -> [u8; 16]
     ensures { result ≡ inv_mix_columns state }
 {
@@ -134,6 +131,7 @@ pub(crate) fn word_sum(v: [u8; 4], w: [u8; 4]) -> [u8; 4]
     [v[0] ^ w[0], v[1] ^ w[1], v[2] ^ w[2], v[3] ^ w[3]]
 }
 
+#[tactic(auto, unfolding(crate::specs::Aes::add_round_key))]
 pub(crate) fn add_round_key(words: &[[u8; 4]; 60], round: usize, state: [u8; 16]) -> [u8; 16]
     requires { round < 15 }
     ensures { result ≡ add_round_key words.now round state }
