@@ -2,4 +2,5 @@ mod Computed
 mod Expansion
 mod Inverses
 mod Products
+mod RoundSteps
 mod Vectors
