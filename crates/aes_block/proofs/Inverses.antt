@@ -72,4 +72,41 @@ INV_SBOX-at b low =
     same_below (slice_index INV_SBOX) (λ x. slice_index inverses (inv_affine x)) 256 b inv_sbox_below low
     ∙ inv_sub_byte-listed b low
 
+-- both are bytes, and each undoes the other
+sub_byte_below : SameBelow (λ b. affine (slice_index inverses b) / 256) (λ _. 0) 256
+unfolding affine
+sub_byte_below = refl
+
+pub sub_byte-lt : (b : ℕ) → b < 256 → sub_byte b < 256
+sub_byte-lt b low =
+    let top : affine (slice_index inverses b) / 256 ≡ 0 = same_below (λ x. affine (slice_index inverses x) / 256) (λ _. 0) 256 b sub_byte_below low in
+    rw (← sub_byte-listed b low) (omega arith)
+
+inv_sub_byte_below : SameBelow (λ b. slice_index inverses (inv_affine b) / 256) (λ _. 0) 256
+unfolding inv_affine
+inv_sub_byte_below = refl
+
+pub inv_sub_byte-lt : (b : ℕ) → b < 256 → inv_sub_byte b < 256
+inv_sub_byte-lt b low =
+    let top : slice_index inverses (inv_affine b) / 256 ≡ 0 = same_below (λ x. slice_index inverses (inv_affine x) / 256) (λ _. 0) 256 b inv_sub_byte_below low in
+    rw (← inv_sub_byte-listed b low) (omega arith)
+
+inv_sub_sub_below : SameBelow (λ b. slice_index inverses (inv_affine (affine (slice_index inverses b)))) (λ b. b) 256
+unfolding affine inv_affine
+inv_sub_sub_below = refl
+
+pub inv_sub_byte-sub_byte : (b : ℕ) → b < 256 → inv_sub_byte (sub_byte b) ≡ b
+inv_sub_byte-sub_byte b low =
+    rw (← inv_sub_byte-listed (sub_byte b) (sub_byte-lt b low), ← sub_byte-listed b low)
+    (same_below (λ x. slice_index inverses (inv_affine (affine (slice_index inverses x)))) (λ x. x) 256 b inv_sub_sub_below low)
+
+sub_inv_sub_below : SameBelow (λ b. affine (slice_index inverses (slice_index inverses (inv_affine b)))) (λ b. b) 256
+unfolding affine inv_affine
+sub_inv_sub_below = refl
+
+pub sub_byte-inv_sub_byte : (b : ℕ) → b < 256 → sub_byte (inv_sub_byte b) ≡ b
+sub_byte-inv_sub_byte b low =
+    rw (← sub_byte-listed (inv_sub_byte b) (inv_sub_byte-lt b low), ← inv_sub_byte-listed b low)
+    (same_below (λ x. affine (slice_index inverses (slice_index inverses (inv_affine x)))) (λ x. x) 256 b sub_inv_sub_below low)
+
 pub ruleset by_tables = (SBOX-at, INV_SBOX-at)

@@ -1,6 +1,9 @@
+mod Blocks
 mod Computed
 mod Expansion
 mod Inverses
+mod Linear
+mod Mixing
 mod Products
 mod RoundSteps
 mod Vectors

@@ -55,16 +55,21 @@ sub_bytes state = from_cells (λ r c. sub_byte (cell state r c))
 unfoldable pub shift_rows : List ℕ → List ℕ
 shift_rows state = from_cells (λ r c. cell state r ((c + r) % 4))
 
+-- the sum of four bytes
+abbrev pub sum_of_four : (ℕ → ℕ) → ℕ
+sum_of_four f = bit_xor (bit_xor (bit_xor (f 0) (f 1)) (f 2)) (f 3)
+
 -- the product of a word and the polynomial whose coefficients are a, the constant first, modulo x^4 + 1 (4.3)
 abbrev pub word_product : List ℕ → List ℕ → List ℕ
-word_product a w = map (λ r. bit_xor (bit_xor (bit_xor (term r 0) (term r 1)) (term r 2)) (term r 3)) (range_with_len 0 4)
-  where
-    term : ℕ → ℕ → ℕ
-    term r i = product (slice_index a ((r + 4 - i) % 4)) (slice_index w i)
+word_product a w = map (λ r. sum_of_four (λ i. product (slice_index a ((r + 4 - i) % 4)) (slice_index w i))) (range_with_len 0 4)
 
--- MixColumns (5.1.3): each column times {03}x^3 + {01}x^2 + {01}x + {02}
+-- {03}x^3 + {01}x^2 + {01}x + {02} (5.1.3)
+abbrev pub mix_polynomial : List ℕ
+mix_polynomial = 0x02 ∷ 0x01 ∷ 0x01 ∷ 0x03 ∷ []
+
+-- MixColumns (5.1.3)
 unfoldable pub mix_columns : List ℕ → List ℕ
-mix_columns state = from_columns (λ c. word_product (0x02 ∷ 0x01 ∷ 0x01 ∷ 0x03 ∷ []) (column state c))
+mix_columns state = from_columns (λ c. word_product mix_polynomial (column state c))
 
 -- the sum of two words
 abbrev pub word_sum : List ℕ → List ℕ → List ℕ
@@ -150,9 +155,13 @@ inv_sub_bytes state = from_cells (λ r c. inv_sub_byte (cell state r c))
 unfoldable pub inv_shift_rows : List ℕ → List ℕ
 inv_shift_rows state = from_cells (λ r c. cell state r ((c + 4 - r) % 4))
 
--- InvMixColumns (5.3.3): each column times {0b}x^3 + {0d}x^2 + {09}x + {0e}
+-- {0b}x^3 + {0d}x^2 + {09}x + {0e}, the inverse of that polynomial (5.3.3)
+abbrev pub inv_mix_polynomial : List ℕ
+inv_mix_polynomial = 0x0e ∷ 0x09 ∷ 0x0d ∷ 0x0b ∷ []
+
+-- InvMixColumns (5.3.3)
 unfoldable pub inv_mix_columns : List ℕ → List ℕ
-inv_mix_columns state = from_columns (λ c. word_product (0x0e ∷ 0x09 ∷ 0x0d ∷ 0x0b ∷ []) (column state c))
+inv_mix_columns state = from_columns (λ c. word_product inv_mix_polynomial (column state c))
 
 -- the state after the first addition and n rounds of the inverse cipher (5.3)
 unfoldable pub inv_rounds : List (List ℕ) → List ℕ → ℕ → List ℕ

@@ -1,7 +1,7 @@
 // The transformations of the state (FIPS 197, sections 5.1.1 to 5.1.4 and 5.3.1 to 5.3.3).
 
-ghost use Rattle.std.specs.Prelude.{◌≡◌, ◌<◌, [], ◌∷◌, slice_index};
-ghost use Rattle.aes_block.specs.Aes.{add_round_key, column, from_cells, inv_mix_columns, inv_shift_rows, inv_sub_byte, inv_sub_bytes, mix_columns, shift_rows, sub_byte, sub_bytes, word, word_product, word_sum};
+ghost use Rattle.std.specs.Prelude.{◌≡◌, ◌<◌, slice_index};
+ghost use Rattle.aes_block.specs.Aes.{add_round_key, column, from_cells, inv_mix_columns, inv_mix_polynomial, inv_shift_rows, inv_sub_byte, inv_sub_bytes, mix_columns, mix_polynomial, shift_rows, sub_byte, sub_bytes, word, word_product, word_sum};
 
 use crate::field::{times_2, times_3, times_9, times_11, times_13, times_14};
 use crate::tables::{INV_SBOX, SBOX};
@@ -77,7 +77,7 @@ fn from_columns(columns: [[u8; 4]; 4]) -> [u8; 16]
 
 #[tactic(auto, using(crate::proofs::Products::product_1))]
 fn mixed_column(column: [u8; 4]) -> [u8; 4]
-    ensures { result ≡ word_product (0x02 ∷ 0x01 ∷ 0x01 ∷ 0x03 ∷ []) column }
+    ensures { result ≡ word_product mix_polynomial column }
 {
     let [a, b, c, d] = column;
     [
@@ -89,7 +89,7 @@ fn mixed_column(column: [u8; 4]) -> [u8; 4]
 }
 
 fn inv_mixed_column(column: [u8; 4]) -> [u8; 4]
-    ensures { result ≡ word_product (0x0e ∷ 0x09 ∷ 0x0d ∷ 0x0b ∷ []) column }
+    ensures { result ≡ word_product inv_mix_polynomial column }
 {
     let [a, b, c, d] = column;
     [
