@@ -2,6 +2,8 @@ mod Blocks
 mod Computed
 mod Expansion
 mod Inverses
+mod Inversion
+mod KeyBytes
 mod Linear
 mod Mixing
 mod Products
