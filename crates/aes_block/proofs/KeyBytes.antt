@@ -7,7 +7,7 @@ use Rattle.std.proofs.lemmas.List.Elements.{All-append, All-cons, All-from_get_o
 use Rattle.std.proofs.lemmas.List.FromFn.{fill_by_all}
 use Rattle.std.proofs.lemmas.Nat.{xor_lt}
 use Rattle.aes_block.specs.Field.{power}
-use Rattle.aes_block.specs.Aes.{IsKey, changed_word, expanded_key, key_of, key_word, key_words, next_word, rot_word, round_constant, sub_byte, sub_word, word, word_sum}
+use Rattle.aes_block.specs.Aes.{IsBlock, IsKey, changed_word, expanded_key, key_of, key_word, key_words, next_word, rot_word, round_constant, sub_byte, sub_word, word, word_sum}
 use Rattle.aes_block.proofs.Blocks.{AreBytes, AreBytes-map, AreWords, byte_at, word_at}
 use Rattle.aes_block.proofs.Inverses.{sub_byte-lt}
 use Rattle.aes_block.proofs.Linear.{power_2-lt}
@@ -85,3 +85,6 @@ key_of-key_words key n long =
 
 pub IsKey-from_bytes : (key : List ℕ) → length key ≡ 32 → ((i : ℕ) → slice_index key i < 256) → IsKey key
 IsKey-from_bytes key long bytes = (long, All-from_get_or (λ byte. byte < 256) key 0 (λ i _. bytes i))
+
+pub IsBlock-from_bytes : (block : List ℕ) → length block ≡ 16 → ((i : ℕ) → slice_index block i < 256) → IsBlock block
+IsBlock-from_bytes block long bytes = (long, All-from_get_or (λ byte. byte < 256) block 0 (λ i _. bytes i))
