@@ -9,6 +9,7 @@ use Rattle.std.proofs.lemmas.List.FromFn.{fill_by_all, get_or-map-range_with_len
 use Rattle.std.proofs.lemmas.Nat.{xor_lt}
 use Rattle.aes_block.specs.Field.{product}
 use Rattle.aes_block.specs.Aes.{IsBlock, IsKey, add_round_key, cell, column, from_columns, inv_mix_columns, inv_mix_polynomial, inv_shift_rows, inv_sub_byte, inv_sub_bytes, mix_columns, mix_polynomial, shift_rows, sub_byte, sub_bytes, sum_of_four, word, word_product, word_sum}
+use Rattle.aes_block.proofs.Computed.{same_below, SameBelow}
 use Rattle.aes_block.proofs.Inverses.{inv_sub_byte-lt, inv_sub_byte-sub_byte, sub_byte-inv_sub_byte, sub_byte-lt}
 use Rattle.aes_block.proofs.Linear.{product-lt}
 use Rattle.aes_block.proofs.Mixing.{inv_mix-undoes-mix, mix-undoes-inv_mix, sum_of_four-lt, Undoes, word_back}
@@ -32,6 +33,12 @@ word_at words all k = elim (cases_lt k (length words)) [
   | inl low ↦ all k [] low
   | inr past ↦ rw (get_or_past words k [] past) (All-nil (λ byte. byte < 256))
 ]
+
+-- a list whose bytes a test computes
+pub AreBytes-tested : (bytes : List ℕ) (n : ℕ) → length bytes ≡ n → SameBelow (λ k. slice_index bytes k / 256) (λ _. 0) n → AreBytes bytes
+AreBytes-tested bytes n long test = All-from_get_or (λ byte. byte < 256) bytes 0 (λ k low.
+    let top : slice_index bytes k / 256 ≡ 0 = same_below (λ i. slice_index bytes i / 256) (λ _. 0) n k test (omega arith) in
+    omega arith)
 
 -- the bytes that f gives at the first n numbers
 pub AreBytes-map : (f : ℕ → ℕ) (n : ℕ) → ((k : ℕ) → f k < 256) → AreBytes (map f (range_with_len 0 n))

@@ -83,11 +83,11 @@ row_back : (a b : List ℕ) → Undoes a b → (r : ℕ) → r < 4 → (w : ℕ 
 row_back a b undoes r low w bytes =
     twice-row a b r w bytes
     ∙ rw (
-        twice-at a b undoes r 0 (w 0) low (omega arith) (bytes 0),
-        twice-at a b undoes r 1 (w 1) low (omega arith) (bytes 1),
-        twice-at a b undoes r 2 (w 2) low (omega arith) (bytes 2),
-        twice-at a b undoes r 3 (w 3) low (omega arith) (bytes 3),
-      ) refl
+      twice-at a b undoes r 0 (w 0) low (omega arith) (bytes 0),
+      twice-at a b undoes r 1 (w 1) low (omega arith) (bytes 1),
+      twice-at a b undoes r 2 (w 2) low (omega arith) (bytes 2),
+      twice-at a b undoes r 3 (w 3) low (omega arith) (bytes 3),
+    ) refl
 
 four_same : (a b c d p q r s : ℕ) → a ≡ p → b ≡ q → c ≡ r → d ≡ s → (a ∷ b ∷ c ∷ d ∷ []) ≡ (p ∷ q ∷ r ∷ s ∷ [])
 four_same a b c d p q r s e f g h = cc

@@ -2,7 +2,9 @@
 use Rattle.std.proofs.Common.{◌≡◌, ℕ, List, [], ◌∷◌, refl}
 use Rattle.std.specs.List.{range_with_len}
 use Rattle.aes_block.specs.Field.{times_x, partial_product, product, power}
-use Rattle.aes_block.specs.Aes.{affine, sub_byte, sub_bytes, shift_rows, mix_columns, add_round_key, changed_word, key_words, rounds, cipher, encrypted, inv_affine, inv_sub_byte, inv_sub_bytes, inv_shift_rows, inv_mix_columns, inv_rounds, inv_cipher, decrypted}
+use Rattle.aes_block.proofs.Blocks.{AreBytes-tested}
+use Rattle.aes_block.proofs.Inversion.{decrypted-encrypted}
+use Rattle.aes_block.specs.Aes.{IsBlock, IsKey, affine, sub_byte, sub_bytes, shift_rows, mix_columns, add_round_key, changed_word, key_words, rounds, cipher, encrypted, inv_affine, inv_sub_byte, decrypted}
 
 -- {57} • {83} = {c1} (4.2)
 pub product-example : product 0x57 0x83 ≡ 0xc1
@@ -18,6 +20,10 @@ pub inv_sub_byte-example : inv_sub_byte 0xed ≡ 0x53
 unfolding times_x partial_product product power inv_affine inv_sub_byte
 inv_sub_byte-example = refl
 
+-- the bytes 00, 01, .. 1f
+abbrev the_key : List ℕ
+the_key = range_with_len 0 32
+
 abbrev the_block : List ℕ
 the_block =
     0x00 ∷ 0x11 ∷ 0x22 ∷ 0x33 ∷ 0x44 ∷ 0x55 ∷ 0x66 ∷ 0x77
@@ -29,10 +35,15 @@ the_ciphertext =
     ∷ 0xea ∷ 0xfc ∷ 0x49 ∷ 0x90 ∷ 0x4b ∷ 0x49 ∷ 0x60 ∷ 0x89 ∷ []
 
 -- the example of AES-256
-pub encrypted-example : encrypted (range_with_len 0 32) the_block ≡ the_ciphertext
+pub encrypted-example : encrypted the_key the_block ≡ the_ciphertext
 unfolding times_x partial_product product power affine sub_byte sub_bytes shift_rows mix_columns add_round_key changed_word key_words rounds cipher encrypted
 encrypted-example = refl
 
-pub decrypted-example : decrypted (range_with_len 0 32) the_ciphertext ≡ the_block
-unfolding times_x partial_product product power affine sub_byte inv_affine inv_sub_byte inv_sub_bytes inv_shift_rows inv_mix_columns add_round_key changed_word key_words inv_rounds inv_cipher decrypted
-decrypted-example = refl
+is_key : IsKey the_key
+is_key = (refl, AreBytes-tested the_key 32 refl refl)
+
+is_block : IsBlock the_block
+is_block = (refl, AreBytes-tested the_block 16 refl refl)
+
+pub decrypted-example : decrypted the_key the_ciphertext ≡ the_block
+decrypted-example = rw (← encrypted-example) (decrypted-encrypted the_key the_block is_key is_block)

@@ -20,38 +20,16 @@ fn inv_sub_byte(byte: u8) -> u8
     INV_SBOX[byte as usize]
 }
 
-
 pub(crate) fn sub_bytes(state: [u8; 16]) -> [u8; 16]
     ensures { result ≡ sub_bytes state }
 {
     state.map(sub_byte)
 }
 
-
 pub(crate) fn inv_sub_bytes(state: [u8; 16]) -> [u8; 16]
     ensures { result ≡ inv_sub_bytes state }
 {
     state.map(inv_sub_byte)
-}
-
-#[tactic(auto, unfolding(crate::specs::Aes::shift_rows))]
-pub(crate) fn shift_rows(s: [u8; 16]) -> [u8; 16]
-    ensures { result ≡ shift_rows s }
-{
-    [
-        s[0], s[5], s[10], s[15], s[4], s[9], s[14], s[3], s[8], s[13], s[2], s[7], s[12], s[1],
-        s[6], s[11],
-    ]
-}
-
-#[tactic(auto, unfolding(crate::specs::Aes::inv_shift_rows))]
-pub(crate) fn inv_shift_rows(s: [u8; 16]) -> [u8; 16]
-    ensures { result ≡ inv_shift_rows s }
-{
-    [
-        s[0], s[13], s[10], s[7], s[4], s[1], s[14], s[11], s[8], s[5], s[2], s[15], s[12], s[9],
-        s[6], s[3],
-    ]
 }
 
 fn column(state: &[u8; 16], c: usize) -> [u8; 4]
@@ -69,10 +47,39 @@ fn column(state: &[u8; 16], c: usize) -> [u8; 4]
 fn from_columns(columns: [[u8; 4]; 4]) -> [u8; 16]
     ensures { result ≡ from_cells (λ r c. slice_index (word columns c) r) }
 {
-    let [[a0, a1, a2, a3], [b0, b1, b2, b3], [c0, c1, c2, c3], [d0, d1, d2, d3]] = columns;
+    let [
+        [a0, a1, a2, a3],
+        [b0, b1, b2, b3],
+        [c0, c1, c2, c3],
+        [d0, d1, d2, d3],
+    ] = columns;
     [
         a0, a1, a2, a3, b0, b1, b2, b3, c0, c1, c2, c3, d0, d1, d2, d3,
     ]
+}
+
+#[tactic(auto, unfolding(crate::specs::Aes::shift_rows))]
+pub(crate) fn shift_rows(s: [u8; 16]) -> [u8; 16]
+    ensures { result ≡ shift_rows s }
+{
+    from_columns([
+        [s[0], s[5], s[10], s[15]],
+        [s[4], s[9], s[14], s[3]],
+        [s[8], s[13], s[2], s[7]],
+        [s[12], s[1], s[6], s[11]],
+    ])
+}
+
+#[tactic(auto, unfolding(crate::specs::Aes::inv_shift_rows))]
+pub(crate) fn inv_shift_rows(s: [u8; 16]) -> [u8; 16]
+    ensures { result ≡ inv_shift_rows s }
+{
+    from_columns([
+        [s[0], s[13], s[10], s[7]],
+        [s[4], s[1], s[14], s[11]],
+        [s[8], s[5], s[2], s[15]],
+        [s[12], s[9], s[6], s[3]],
+    ])
 }
 
 #[tactic(auto, using(crate::proofs::Products::product_1))]

@@ -6,5 +6,5 @@ returns c = record {
   decrypts = decrypted-encrypted;
   encrypts = encrypted-decrypted;
   ciphertext = IsBlock-encrypted;
-  plaintext = IsBlock-decrypted
+  plaintext = IsBlock-decrypted;
 }

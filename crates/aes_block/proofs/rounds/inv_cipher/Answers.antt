@@ -6,7 +6,7 @@ use Rattle.aes_block.proofs.rounds.inv_cipher.Goals as goal
 pub loop-round-init : goal.loop-round-init
 loop-round-init c = record {
   in_range = omega arith;
-  so_far = let first = inv_rounds-first c.args.words.now c.args.block.now in cc
+  so_far = let first = inv_rounds-first c.args.words.now c.args.block.now in cc;
 }
 
 pub loop-round-preserved : goal.loop-round-preserved
@@ -14,7 +14,7 @@ loop-round-preserved c = record {
   in_range = omega arith;
   so_far =
       let more = inv_rounds-more c.args.words.now c.args.block.now c.loop-round.state (14 - c.loop-round.round) (14 - (c.loop-round.round - 1)) (c.loop-round.round - 1) (omega arith) (omega arith) c.loop-round.invariant.so_far in
-      cc
+      cc;
 }
 
 pub returns : goal.returns

@@ -6,7 +6,7 @@ use Rattle.aes_block.proofs.cipher.Aes256.decrypt.Goals as goal
 
 pub returns-clause-value : goal.returns-clause-value
 unfolding decrypted
-returns-clause-value c = rw (← c.self.view_is, ← c.self.invariant.1) c.inv_cipher.ensures
+returns-clause-value c = rw (← c.self.view_is, ← c.self.invariant.1) (cc)
 
 pub returns-clause-undoes : goal.returns-clause-undoes
 returns-clause-undoes c =

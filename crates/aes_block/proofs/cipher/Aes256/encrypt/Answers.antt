@@ -3,4 +3,4 @@ use Rattle.aes_block.proofs.cipher.Aes256.encrypt.Goals as goal
 
 pub returns : goal.returns
 unfolding encrypted
-returns c = rw (← c.self.view_is, ← c.self.invariant.1) c.cipher.ensures
+returns c = rw (← c.self.view_is, ← c.self.invariant.1) (cc)
