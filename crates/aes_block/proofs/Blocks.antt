@@ -1,14 +1,14 @@
 -- The transformations of the state make blocks of blocks, and have their inverses.
-use Rattle.std.proofs.Common.{◌≡◌, ℕ, zero, suc, ◌+◌, ◌-◌, ◌*◌, ◌/◌, ◌%◌, ◌<◌, ◌≤◌, List, [], ◌∷◌, ◌++◌, length, map, All, take, slice_index, slice_index_or, bit_xor, refl, sym, ap, ◌∙◌, arith, inl, inr}
+use Rattle.std.proofs.Common.{◌≡◌, ℕ, ◌+◌, ◌-◌, ◌*◌, ◌/◌, ◌%◌, ◌<◌, List, [], ◌∷◌, length, map, All, slice_index, slice_index_or, bit_xor, refl, sym, ◌∙◌, arith, inl, inr}
 use Rattle.std.specs.List.{concat, range_with_len}
 use Rattle.std.specs.Int.Bits.{xor_assoc, xor_self, xor_zero_r}
 use Rattle.std.proofs.lemmas.Bool.{cases_lt}
 use Rattle.std.proofs.lemmas.List.{get_or_past}
-use Rattle.std.proofs.lemmas.List.Elements.{All-append, All-from_get_or, All-get_or, All-map, All-nil}
-use Rattle.std.proofs.lemmas.List.FromFn.{fill_by_all, get_or-map-range_with_len, length-map-range_with_len}
+use Rattle.std.proofs.lemmas.List.Elements.{All-from_get_or, All-map, All-nil}
+use Rattle.std.proofs.lemmas.List.FromFn.{fill_by_all, length-map-range_with_len}
 use Rattle.std.proofs.lemmas.Nat.{xor_lt}
 use Rattle.aes_block.specs.Field.{product}
-use Rattle.aes_block.specs.Aes.{IsBlock, IsKey, add_round_key, cell, column, from_columns, inv_mix_columns, inv_mix_polynomial, inv_shift_rows, inv_sub_byte, inv_sub_bytes, mix_columns, mix_polynomial, shift_rows, sub_byte, sub_bytes, sum_of_four, word, word_product, word_sum}
+use Rattle.aes_block.specs.Aes.{IsBlock, IsKey, add_round_key, cell, column, from_columns, inv_mix_columns, inv_mix_polynomial, inv_shift_rows, inv_sub_byte, inv_sub_bytes, mix_columns, mix_polynomial, shift_rows, sub_byte, sub_bytes, sum_of_four, word, word_product}
 use Rattle.aes_block.proofs.Computed.{same_below, SameBelow}
 use Rattle.aes_block.proofs.Inverses.{inv_sub_byte-lt, inv_sub_byte-sub_byte, sub_byte-inv_sub_byte, sub_byte-lt}
 use Rattle.aes_block.proofs.Linear.{product-lt}
@@ -33,6 +33,13 @@ word_at words all k = elim (cases_lt k (length words)) [
   | inl low ↦ all k [] low
   | inr past ↦ rw (get_or_past words k [] past) (All-nil (λ byte. byte < 256))
 ]
+
+-- what the code knows of an array of bytes
+pub IsKey-from_bytes : (key : List ℕ) → length key ≡ 32 → ((i : ℕ) → slice_index key i < 256) → IsKey key
+IsKey-from_bytes key long bytes = (long, All-from_get_or (λ byte. byte < 256) key 0 (λ i _. bytes i))
+
+pub IsBlock-from_bytes : (block : List ℕ) → length block ≡ 16 → ((i : ℕ) → slice_index block i < 256) → IsBlock block
+IsBlock-from_bytes block long bytes = (long, All-from_get_or (λ byte. byte < 256) block 0 (λ i _. bytes i))
 
 -- a list whose bytes a test computes
 pub AreBytes-tested : (bytes : List ℕ) (n : ℕ) → length bytes ≡ n → SameBelow (λ k. slice_index bytes k / 256) (λ _. 0) n → AreBytes bytes

@@ -1,5 +1,5 @@
 -- The inverses of all bytes in a list, and the S-box and its inverse by them.
-use Rattle.std.proofs.Common.{◌≡◌, ℕ, zero, ◌+◌, ◌-◌, ◌/◌, ◌<◌, List, [], ◌∷◌, slice_index, refl, ap, ◌∙◌, arith}
+use Rattle.std.proofs.Common.{◌≡◌, ℕ, ◌+◌, ◌/◌, ◌<◌, List, [], ◌∷◌, slice_index, refl, ◌∙◌, arith}
 use Rattle.aes_block.specs.Field.{times_x, partial_product, product, power, inverse}
 use Rattle.aes_block.specs.Aes.{affine, sub_byte, inv_affine, inv_sub_byte}
 use Rattle.aes_block.specs.declared.tables.TheConstants.{SBOX, INV_SBOX}

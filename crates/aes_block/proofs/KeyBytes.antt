@@ -1,13 +1,13 @@
 -- The key words are words of bytes, and the first eight are the key.
-use Rattle.std.proofs.Common.{◌≡◌, ℕ, zero, suc, ◌+◌, ◌-◌, ◌*◌, ◌/◌, ◌%◌, ◌<◌, ◌≤◌, ◌==◌, Bool, true, false, List, [], ◌∷◌, ◌++◌, length, map, take, slice_index, slice_index_or, bit_xor, refl, sym, ap, ◌∙◌, arith}
+use Rattle.std.proofs.Common.{◌≡◌, ℕ, zero, suc, ◌+◌, ◌-◌, ◌*◌, ◌/◌, ◌%◌, ◌<◌, ◌≤◌, ◌==◌, Bool, true, false, List, [], ◌∷◌, length, map, take, slice_index, slice_index_or, bit_xor, refl, sym, ap, ◌∙◌, arith}
 use Rattle.std.specs.Prelude.{if◌then◌else◌}
 use Rattle.std.specs.List.{concat, range_with_len}
 use Rattle.std.proofs.lemmas.List.{length-append, take-append-le}
-use Rattle.std.proofs.lemmas.List.Elements.{All-append, All-cons, All-from_get_or, All-map, All-nil}
+use Rattle.std.proofs.lemmas.List.Elements.{All-append, All-cons, All-map, All-nil}
 use Rattle.std.proofs.lemmas.List.FromFn.{fill_by_all}
 use Rattle.std.proofs.lemmas.Nat.{xor_lt}
 use Rattle.aes_block.specs.Field.{power}
-use Rattle.aes_block.specs.Aes.{IsBlock, IsKey, changed_word, expanded_key, key_of, key_word, key_words, next_word, rot_word, round_constant, sub_byte, sub_word, word, word_sum}
+use Rattle.aes_block.specs.Aes.{changed_word, key_of, key_word, key_words, next_word, rot_word, round_constant, sub_byte, sub_word, word, word_sum}
 use Rattle.aes_block.proofs.Blocks.{AreBytes, AreBytes-map, AreWords, byte_at, word_at}
 use Rattle.aes_block.proofs.Inverses.{sub_byte-lt}
 use Rattle.aes_block.proofs.Linear.{power_2-lt}
@@ -82,9 +82,3 @@ take-key_words key (suc n) =
 pub key_of-key_words : (key : List ℕ) (n : ℕ) → length key ≡ 32 → key_of (key_words key n) ≡ key
 key_of-key_words key n long =
     ap concat (take-key_words key n) ∙ sym (fill_by_all (λ k. slice_index key k) key 32 0 long (λ k _. refl))
-
-pub IsKey-from_bytes : (key : List ℕ) → length key ≡ 32 → ((i : ℕ) → slice_index key i < 256) → IsKey key
-IsKey-from_bytes key long bytes = (long, All-from_get_or (λ byte. byte < 256) key 0 (λ i _. bytes i))
-
-pub IsBlock-from_bytes : (block : List ℕ) → length block ≡ 16 → ((i : ℕ) → slice_index block i < 256) → IsBlock block
-IsBlock-from_bytes block long bytes = (long, All-from_get_or (λ byte. byte < 256) block 0 (λ i _. bytes i))

@@ -1,8 +1,8 @@
-mod Blocks
+pub mod Blocks
 mod Computed
 mod Expansion
 mod Inverses
-mod Inversion
+pub mod Inversion
 mod KeyBytes
 mod Linear
 mod Mixing

@@ -97,10 +97,10 @@ pub word_back : (a b : List ℕ) → Undoes a b → (w : ℕ → ℕ) → ((i : 
 word_back a b undoes w bytes =
     let at = λ (r : ℕ) (low : r < 4). row_back a b undoes r low w bytes in
     four_same _ _ _ _ _ _ _ _
-    (at 0 (omega arith) ∙ simp (xor_zero_l, xor_zero_r))
+    (at 0 (omega arith) ∙ simp xor_zero_r)
     (at 1 (omega arith) ∙ simp (xor_zero_l, xor_zero_r))
     (at 2 (omega arith) ∙ simp (xor_zero_l, xor_zero_r))
-    (at 3 (omega arith) ∙ simp (xor_zero_l, xor_zero_r))
+    (at 3 (omega arith) ∙ simp xor_zero_l)
 
 pub inv_mix-undoes-mix : Undoes inv_mix_polynomial mix_polynomial
 unfolding times_x partial_product product

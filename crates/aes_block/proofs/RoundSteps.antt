@@ -1,6 +1,6 @@
 -- One round more of the cipher and of the inverse cipher.
-use Rattle.std.proofs.Common.{◌≡◌, ℕ, suc, ◌+◌, ◌-◌, List, refl, sym, add-one, arith}
-use Rattle.aes_block.specs.Aes.{add_round_key, cipher, inv_cipher, inv_mix_columns, inv_rounds, inv_shift_rows, inv_sub_bytes, mix_columns, rounds, shift_rows, sub_bytes}
+use Rattle.std.proofs.Common.{◌≡◌, ℕ, suc, ◌+◌, ◌-◌, List, refl, add-one, arith}
+use Rattle.aes_block.specs.Aes.{add_round_key, inv_mix_columns, inv_rounds, inv_shift_rows, inv_sub_bytes, mix_columns, rounds, shift_rows, sub_bytes}
 
 pub rounds-first : (words : List (List ℕ)) (block : List ℕ) → rounds words block 0 ≡ add_round_key words 0 block
 unfolding rounds

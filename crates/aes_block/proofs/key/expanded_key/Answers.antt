@@ -1,4 +1,4 @@
-use Rattle.std.proofs.Common.{◌≤◌, ◌<◌, ◌∙◌, length, arith}
+use Rattle.std.proofs.Common.{◌∙◌, arith}
 use Rattle.std.proofs.lemmas.List.{length-set}
 use Rattle.aes_block.proofs.Expansion.{key_words-more}
 use Rattle.aes_block.proofs.key.expanded_key.Goals as goal

@@ -1,5 +1,5 @@
-use Rattle.std.proofs.Common.{◌≡◌, ◌+◌, ◌-◌, ◌∙◌, arith}
-use Rattle.aes_block.specs.Aes.{cipher, rounds}
+use Rattle.std.proofs.Common.{◌≡◌, ◌+◌, ◌-◌, arith}
+use Rattle.aes_block.specs.Aes.{cipher}
 use Rattle.aes_block.proofs.RoundSteps.{rounds-first, rounds-more}
 use Rattle.aes_block.proofs.rounds.cipher.Goals as goal
 

@@ -1,5 +1,5 @@
-use Rattle.std.proofs.Common.{◌≡◌, ◌≤◌, ◌-◌, arith}
-use Rattle.aes_block.specs.Aes.{inv_cipher, inv_rounds}
+use Rattle.std.proofs.Common.{◌≡◌, ◌-◌, arith}
+use Rattle.aes_block.specs.Aes.{inv_cipher}
 use Rattle.aes_block.proofs.RoundSteps.{inv_rounds-first, inv_rounds-more}
 use Rattle.aes_block.proofs.rounds.inv_cipher.Goals as goal
 

@@ -1,4 +1,4 @@
-use Rattle.std.proofs.Common.{ℕ, rules, slice_index}
+use Rattle.std.proofs.Common.{rules, slice_index}
 use Rattle.std.proofs.lemmas.List.FromFn.{fill_by_all}
 use Rattle.aes_block.specs.Aes.{inv_sub_byte, inv_sub_bytes}
 use Rattle.aes_block.proofs.state.inv_sub_bytes.Goals as goal

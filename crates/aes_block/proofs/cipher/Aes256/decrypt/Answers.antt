@@ -1,6 +1,6 @@
-use Rattle.std.proofs.Common.{◌≡◌, List, ℕ, sym, ap, ◌∙◌}
-use Rattle.aes_block.specs.Aes.{IsBlock, IsKey, decrypted, encrypted}
-use Rattle.aes_block.proofs.KeyBytes.{IsBlock-from_bytes}
+use Rattle.std.proofs.Common.{sym, ap, ◌∙◌}
+use Rattle.aes_block.specs.Aes.{IsKey, decrypted}
+use Rattle.aes_block.proofs.Blocks.{IsBlock-from_bytes}
 use Rattle.aes_block.proofs.Inversion.{decrypted-encrypted, encrypted-decrypted}
 use Rattle.aes_block.proofs.cipher.Aes256.decrypt.Goals as goal
 

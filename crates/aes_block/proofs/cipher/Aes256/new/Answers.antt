@@ -1,6 +1,7 @@
 use Rattle.std.proofs.Common.{◌≡◌, refl}
-use Rattle.aes_block.specs.Aes.{IsKey, expanded_key, key_of}
-use Rattle.aes_block.proofs.KeyBytes.{IsKey-from_bytes, key_of-key_words}
+use Rattle.aes_block.specs.Aes.{expanded_key, key_of}
+use Rattle.aes_block.proofs.Blocks.{IsKey-from_bytes}
+use Rattle.aes_block.proofs.KeyBytes.{key_of-key_words}
 use Rattle.aes_block.proofs.cipher.Aes256.new.Goals as goal
 
 pub invariant_of-result : goal.invariant_of-result
