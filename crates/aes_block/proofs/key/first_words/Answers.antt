@@ -1,0 +1,10 @@
+use Rattle.std.proofs.Common.{◌∙◌, arith}
+use Rattle.std.proofs.lemmas.List.{length-set}
+use Rattle.aes_block.proofs.Expansion.{first_words-more}
+use Rattle.aes_block.proofs.key.first_words.Goals as goal
+
+pub loop-i-preserved : goal.loop-i-preserved
+loop-i-preserved c = record {
+  long = length-set c.loop-i.words c.loop-i.i c.key_word.result ∙ c.loop-i.invariant.long;
+  so_far = first_words-more c.args.key.now c.loop-i.words c.loop-i.i c.key_word.result (omega arith) c.key_word.ensures c.loop-i.invariant.so_far;
+}
