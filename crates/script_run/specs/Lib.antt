@@ -2,4 +2,5 @@ pub mod Drive
 pub mod Outcomes
 pub mod Reference
 pub mod RunWorked
+pub mod Statuses
 pub mod Transcript

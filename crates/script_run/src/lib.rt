@@ -1,2 +1,4 @@
 //! Scripts run through driver and server, and what that means in plain SQL.
 #![tactic(auto)]
+
+pub mod status;
