@@ -1,0 +1,7 @@
+pub mod Bytes
+pub mod Blocks
+pub mod Chaining
+pub mod Unchaining
+pub mod Padding
+pub mod Decrypting
+pub mod RoundTrip

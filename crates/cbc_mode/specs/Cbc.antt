@@ -1,0 +1,74 @@
+use Rattle.std.specs.Prelude.{◌≡◌, ℕ, ◌-◌, ◌/◌, ◌%◌, ◌<◌, ◌&&◌, ◌==◌, ◌≢◌, ◌⊎◌, Bool, nat_lt, nat_le, if◌then◌else◌, List, [], ◌∷◌, ◌++◌, map, length, take, drop, replicate, slice_index, bit_xor, Option, Some, None, Result, Ok, Err}
+use Rattle.std.specs.Global.{Vec}
+use Rattle.std.specs.List.{All, concat, list_all, zip}
+use Rattle.std.specs.Option.{ok_or}
+use Rattle.std.specs.Simd.{first_chunks}
+use Rattle.aes_block.specs.Aes.{encrypted, decrypted}
+use Rattle.cbc_mode.specs.declared.CbcFault.{CbcFault}
+use Rattle.cbc_mode.specs.declared.CbcFault.TheVariants.{BadLength, NotPadded, OutOfMemory}
+
+-- a list of bytes
+abbrev pub AreBytes : List ℕ → Type 0
+AreBytes bytes = All (λ byte. byte < 256) bytes
+
+-- the whole blocks of 16 bytes that bytes begin with, in order
+abbrev pub blocks_of : List ℕ → List (List ℕ)
+blocks_of bytes = first_chunks 16 (length bytes / 16) bytes
+
+-- exclusive or, byte by byte
+unfoldable pub xored : List ℕ → List ℕ → List ℕ
+xored xs ys = map (λ pair. bit_xor pair.0 pair.1) (zip xs ys)
+
+-- RFC 5652 section 6.3: 1 to 16 bytes are added, up to whole blocks, and each of them is their number
+abbrev pub padded : List ℕ → List ℕ
+padded bytes = let count = 16 - length bytes % 16 in bytes ++ replicate count count
+
+-- RFC 5652 section 6.3: the bytes before the padding. None where the last byte is not 1 to 16, or as many
+-- bytes at the end are not all that byte
+abbrev pub unpadded : List ℕ → Option (List ℕ)
+unpadded bytes =
+    let count = slice_index bytes (length bytes - 1) in
+    let kept = length bytes - count in
+    if nat_le 1 count && nat_le count 16 && list_all (λ byte. byte == count) (drop kept bytes)
+    then Some (take kept bytes)
+    else None
+
+-- SP 800-38A section 6.2, encryption: each block goes into the ciphertext block before it by exclusive or,
+-- the first into the initialization vector, and is encrypted
+abbrev pub chained : List ℕ → List ℕ → List (List ℕ) → List (List ℕ)
+chained key previous [] = []
+chained key previous (block ∷ blocks) =
+    let cipher_block = encrypted key (xored block previous) in
+    cipher_block ∷ chained key cipher_block blocks
+
+-- SP 800-38A section 6.2, decryption: each block is decrypted, and goes into the ciphertext block before it
+-- by exclusive or, the first into the initialization vector
+abbrev pub unchained : List ℕ → List ℕ → List (List ℕ) → List (List ℕ)
+unchained key previous [] = []
+unchained key previous (block ∷ blocks) = xored (decrypted key block) previous ∷ unchained key block blocks
+
+-- the ciphertext of bytes under a key and an initialization vector
+unfoldable pub cbc : List ℕ → List ℕ → List ℕ → List ℕ
+cbc key iv bytes = concat (chained key iv (blocks_of (padded bytes)))
+
+-- one or more blocks, and nothing beside them
+abbrev pub is_whole_blocks : List ℕ → Bool
+is_whole_blocks bytes = nat_lt 0 (length bytes) && length bytes % 16 == 0
+
+-- the other lengths
+abbrev pub IsBadLength : List ℕ → Type 0
+IsBadLength bytes = (length bytes ≡ 0) ⊎ (length bytes % 16 ≢ 0)
+
+-- what a ciphertext decrypts to, or the first fault
+unfoldable pub decrypted_cbc : List ℕ → List ℕ → List ℕ → Result (List ℕ) CbcFault
+decrypted_cbc key iv bytes =
+    if is_whole_blocks bytes
+    then ok_or (unpadded (concat (unchained key iv (blocks_of bytes)))) NotPadded
+    else Err BadLength
+
+-- a call answers what the ciphertext decrypts to; want of memory says nothing of it
+abbrev pub DecryptsTo : Result (Vec ℕ) CbcFault → Result (List ℕ) CbcFault → Type 0
+DecryptsTo (Ok plaintext) answer = answer ≡ Ok plaintext.items
+DecryptsTo (Err BadLength) answer = answer ≡ Err BadLength
+DecryptsTo (Err NotPadded) answer = answer ≡ Err NotPadded
+DecryptsTo (Err OutOfMemory) answer = Unit {0}

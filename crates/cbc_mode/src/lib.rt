@@ -1,0 +1,179 @@
+//! Cipher block chaining (SP 800-38A, section 6.2) with AES-256, and the padding of RFC 5652, section 6.3.
+#![tactic(auto)]
+
+ghost use Rattle.std.specs.Prelude.{◌≡◌, ◌==◌, ℕ, ◌+◌, ◌-◌, ◌*◌, ◌/◌, ◌%◌, ◌<◌, ◌≤◌, ◌↔◌, List, length, take, None, Some, Ok, IfOk, IsErrOf, MatchOption};
+ghost use Rattle.std.specs.List.{concat, list_all};
+ghost use Rattle.aes_block.specs.Aes.{IsBlock, IsKey};
+ghost use Rattle.cbc_mode.specs.Cbc.{AreBytes, xored, padded, unpadded, unchained, blocks_of, chained, cbc, decrypted_cbc, is_whole_blocks, DecryptsTo, IsBadLength};
+
+use aes_block::Aes256;
+use std::alloc::{AllocError, Global};
+use thiserror::Error;
+
+#[cfg(test)]
+mod tests;
+
+/// Why a ciphertext is not decrypted.
+#[derive(Debug, Drop, PartialEq, Eq, Error)]
+pub enum CbcFault {
+    /// The ciphertext is empty, or its length is no multiple of 16.
+    #[error("the ciphertext is not one or more whole blocks")]
+    BadLength,
+    /// The decrypted bytes do not end in padding (RFC 5652, section 6.3).
+    #[error("the decrypted bytes do not end in padding")]
+    NotPadded,
+    /// Memory ran out.
+    #[error("out of memory")]
+    OutOfMemory,
+}
+
+impl From<AllocError> for CbcFault {
+    ghost use Rattle.cbc_mode.specs.declared.CbcFault.TheVariants.{OutOfMemory};
+
+    ghost from_gives = { λ _ fault. fault ≡ OutOfMemory };
+
+    fn from(_error: AllocError) -> CbcFault {
+        CbcFault::OutOfMemory
+    }
+}
+
+// Exclusive or, byte by byte.
+fn xor(a: &[u8; 16], b: &[u8; 16]) -> [u8; 16]
+    ensures { result ≡ xored a.now b.now }
+{
+    let mut mixed = *a;
+    for i in 0..16 {
+        mixed[i] ^= b[i];
+    }
+    mixed
+}
+
+// A last block: fewer than 16 bytes, and their padding.
+fn padded_block(rest: &[u8]) -> [u8; 16]
+    requires { length rest.now < 16 }
+    ensures { result ≡ padded rest.now }
+{
+    let mut block = [(16 - rest.len()) as u8; 16];
+    block[..rest.len()].copy_from_slice(rest);
+    block
+}
+
+/// The ciphertext of `bytes`, which are padded first: 1 to 16 bytes are always added, up to whole blocks.
+///
+/// `iv` is the initialization vector. The only error is want of memory, which is taken once.
+pub fn encrypt(
+    alloc: Global,
+    key: &Aes256,
+    iv: &[u8; 16],
+    bytes: &[u8],
+) -> Result<Vec<u8>, AllocError>
+    ensures value { IfOk result (λ ciphertext. ciphertext.items ≡ cbc key.now iv.now bytes.now) }
+    ensures len { IfOk result
+        (λ ciphertext. length ciphertext.items ≡ (length bytes.now / 16 + 1) * 16) }
+{
+    let (blocks, rest) = bytes.as_chunks::<16>();
+    let mut ciphertext = Vec::with_capacity(alloc, (blocks.len() + 1) * 16)?;
+    let mut previous = *iv;
+    for block in blocks {
+        previous = key.encrypt(&xor(block, &previous));
+        ciphertext.extend_from_slice(&previous)?;
+    }
+    let last = key.encrypt(&xor(&padded_block(rest), &previous));
+    ciphertext.extend_from_slice(&last)?;
+    Ok(ciphertext)
+}
+
+// The decrypted bytes, with their padding.
+fn decrypt_blocks(
+    alloc: Global,
+    key: &Aes256,
+    iv: &[u8; 16],
+    bytes: &[u8],
+) -> Result<Vec<u8>, AllocError>
+    requires { length bytes.now % 16 ≡ 0 }
+    ensures value { IfOk result
+        (λ plaintext. plaintext.items ≡ concat (unchained key.now iv.now (blocks_of bytes.now))) }
+    ensures undoes { IfOk result
+        (λ plaintext. concat (chained key.now iv.now (blocks_of plaintext.items)) ≡ bytes.now) }
+    ensures len { IfOk result (λ plaintext. length plaintext.items ≡ length bytes.now) }
+{
+    let (blocks, _) = bytes.as_chunks::<16>();
+    let mut plaintext = Vec::with_capacity(alloc, bytes.len())?;
+    let mut previous = *iv;
+    for block in blocks {
+        let decrypted = key.decrypt(block);
+        plaintext.extend_from_slice(&xor(&decrypted, &previous))?;
+        previous = *block;
+    }
+    Ok(plaintext)
+}
+
+// Whether each byte is `value`.
+fn are_all(bytes: &[u8], value: u8) -> bool
+    ensures { result ≡ list_all (λ byte. byte == value) bytes.now }
+{
+    bytes.iter().all(|byte| *byte == value)
+}
+
+// How many bytes stand before the padding, where the bytes end in padding.
+fn unpadded_len(bytes: &[u8]) -> Option<usize>
+    requires { 16 ≤ length bytes.now }
+    ensures { MatchOption result (unpadded bytes.now ≡ None)
+        (λ len. unpadded bytes.now ≡ Some (take len bytes.now)) }
+{
+    let count = bytes[bytes.len() - 1];
+    if count < 1 || count > 16 {
+        return None;
+    }
+    let len = bytes.len() - count as usize;
+    are_all(&bytes[len..], count).then_some(len)
+}
+
+// Whether the bytes are one or more blocks, with nothing beside them.
+fn is_whole_blocks(bytes: &[u8]) -> bool
+    ensures { result ≡ is_whole_blocks bytes.now }
+{
+    !bytes.is_empty() && bytes.len() % 16 == 0
+}
+
+/// The bytes whose ciphertext `bytes` is.
+///
+/// `iv` is the initialization vector. `BadLength` comes exactly where the length is 0 or no multiple of 16; else
+/// `NotPadded` exactly where the last decrypted byte is not 1 to 16, or as many bytes at the end are not that byte;
+/// else `OutOfMemory` where memory runs out, which may come in place of `NotPadded` too.
+pub fn decrypt(
+    alloc: Global,
+    key: &Aes256,
+    iv: &[u8; 16],
+    bytes: &[u8],
+) -> Result<Vec<u8>, CbcFault>
+    ensures exact { DecryptsTo result (decrypted_cbc key.now iv.now bytes.now) }
+    ensures undoes { IfOk result (λ plaintext. cbc key.now iv.now plaintext.items ≡ bytes.now) }
+    ensures bad_length { IsErrOf result CbcFault.BadLength ↔ IsBadLength bytes.now }
+{
+    if !is_whole_blocks(bytes) {
+        return Err(CbcFault::BadLength);
+    }
+    let mut plaintext = decrypt_blocks(alloc, key, iv, bytes)?;
+    let Some(len) = unpadded_len(&plaintext) else {
+        return Err(CbcFault::NotPadded);
+    };
+    plaintext.truncate(len);
+    Ok(plaintext)
+}
+
+/// Decryption undoes encryption, and encryption decryption, under every key and initialization vector.
+pub fn each_undoes_the_other()
+    ensures decrypts { (key iv bytes : List ℕ) → IsKey key → IsBlock iv → AreBytes bytes
+        → decrypted_cbc key iv (cbc key iv bytes) ≡ Ok bytes }
+    ensures encrypts { (key iv bytes plaintext : List ℕ) → IsKey key → IsBlock iv → AreBytes bytes
+        → decrypted_cbc key iv bytes ≡ Ok plaintext → cbc key iv plaintext ≡ bytes }
+    ensures ciphertext { (key iv bytes : List ℕ) → IsKey key → IsBlock iv → AreBytes bytes
+        → AreBytes (cbc key iv bytes) }
+    ensures plaintext { (key iv bytes plaintext : List ℕ) → IsKey key → IsBlock iv → AreBytes bytes
+        → decrypted_cbc key iv bytes ≡ Ok plaintext → AreBytes plaintext }
+    ensures len { (key iv bytes : List ℕ) → IsKey key → IsBlock iv → AreBytes bytes
+        → length (cbc key iv bytes) ≡ (length bytes / 16 + 1) * 16 }
+{
+    aes_block::each_undoes_the_other();
+}
