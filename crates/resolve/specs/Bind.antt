@@ -1,7 +1,7 @@
 -- Binding a statement: its names become places, in passes over the whole text. First the tables, then the other
 -- names, then the kinds of values; the first fault of the first pass that has one is the answer.
 use Rattle.std.specs.Prelude.{ℕ, ◌+◌, List, [], ◌∷◌, ◌++◌, length, map, Option, Some, None, Result, Ok, Err, Bool, true, false, ◌&&◌, ◌||◌, not, ◌==◌, if◌then◌else◌, is_some, unwrap_or}
-use Rattle.std.specs.List.{list_any, slice_get, find, position}
+use Rattle.std.specs.List.{list_any, slice_get, find, position_from}
 use Rattle.std.specs.Option.{option_map}
 use Rattle.std.specs.Str.{bytes_eq}
 use Rattle.ae_base.specs.declared.batches.ParamDecl.{ParamDecl}
@@ -65,7 +65,7 @@ repeated before (name ∷ names) = if list_any (bytes_eq name) before then Some 
 
 -- the place of a declared parameter
 abbrev pub param_place : List ParamDecl → List ℕ → Result ℕ SqlFault
-param_place declarations name = or_fault (fault.NoParam name) (position (λ declaration. bytes_eq declaration.name name) declarations)
+param_place declarations name = or_fault (fault.NoParam name) (position_from (λ declaration. bytes_eq declaration.name name) 0 declarations)
 
 -- a column in scope, with the visible name of its table
 pub record ScopeColumn : Type 0 where
@@ -233,7 +233,7 @@ bind_table table columns (unique ∷ uniques) = later
 abbrev pub named_places : List ColumnDef → List (List ℕ) → List (List ℕ) → Result (List ℕ) SqlFault
 named_places columns before [] = Ok []
 named_places columns before (name ∷ names) =
-    or_fault (fault.NoColumn name) (position (λ column. bytes_eq column.name name) columns) >>= λ place.
+    or_fault (fault.NoColumn name) (position_from (λ column. bytes_eq column.name name) 0 columns) >>= λ place.
     (if list_any (bytes_eq name) before then Err (fault.Ambiguous name) else all_well) >>= λ new.
     named_places columns (name ∷ before) names >>= λ places.
     Ok (place ∷ places)

@@ -1,0 +1,2 @@
+pub mod BindSent
+pub mod SentParams
