@@ -1,0 +1,5 @@
+mod KeyContents
+mod KeyPaths
+mod Progress
+mod Reading
+pub mod Told

@@ -1,0 +1,8 @@
+//! Devices in memory. Each fails at the calls of the listed numbers, from 0, and tells what it
+//! holds; with an empty list it never fails.
+
+pub mod calls;
+pub mod entropy;
+pub mod sink;
+pub mod source;
+pub mod vault;

@@ -1,0 +1,36 @@
+ghost use Rattle.std.specs.Prelude.{◌≡◌, ◌≤◌, ℕ, List, Option};
+ghost use Rattle.ae_edge.specs.Devices.{Rose, WhereTold};
+ghost use Rattle.ae_edge.specs.Sources.{IsPiece, Takes};
+
+use ae_base::blobs::Blob;
+use std::alloc::Global;
+
+/// What a call on a source answers.
+#[derive(Drop)]
+pub enum Taken {
+    /// The next bytes.
+    Bytes(Blob),
+    /// No bytes are left.
+    End,
+    /// The call failed.
+    Failed,
+    OutOfMemory,
+}
+
+/// Where bytes come from.
+pub trait Source {
+    /// The bytes that are left, where that is told.
+    ghost left: { Self → Option (List ℕ) };
+
+    /// How many calls have failed. It never falls.
+    ghost faults: { Self → ℕ };
+
+    /// Takes the next bytes, at least one and at most `max`. After `Failed` and without memory the
+    /// same bytes are left.
+    fn take(&mut self, alloc: Global, max: usize) -> Taken
+        requires { 1 ≤ max }
+        ensures piece { IsPiece max result }
+        ensures content { WhereTold (Takes result) (left self.old) (left self.new) }
+        ensures count { faults self.old ≤ faults self.new }
+        ensures failed { result ≡ Taken.Failed → Rose (faults self.old) (faults self.new) };
+}
