@@ -7,6 +7,7 @@ use Rattle.ae_base.specs.declared.batches.ParamDecl.{ParamDecl}
 use Rattle.ae_base.specs.declared.types.Ty.{Ty}
 use Rattle.ae_base.specs.declared.faults.SqlFault.{SqlFault}
 use Rattle.ae_base.specs.declared.faults.SqlFault.TheVariants as fault
+use Rattle.sql_tree.specs.declared.conditions.Comparison.{Comparison}
 use Rattle.sql_tree.specs.Operands as operands
 use Rattle.sql_tree.specs.Conditions as conditions
 use Rattle.sql_tree.specs.Statements.{Operand, Condition}
@@ -122,7 +123,7 @@ operand-alike ps bound scope (operands.Sum first terms) used = tt
 
 -- ---- lists
 
-joined-alike : {A B C : Type 0} (Alike : B → C → Type 0) (Used : B → Type 0) (r : Result B SqlFault) (rs : Result (List B) SqlFault)
+joined-alike : {B C : Type 0} (Alike : B → C → Type 0) (Used : B → Type 0) (r : Result B SqlFault) (rs : Result (List B) SqlFault)
   (t : Result C SqlFault) (ts : Result (List C) SqlFault)
   → (((b : B) → r ≡ Ok b → Used b) → BindAlike Alike r t)
   → (((bs : List B) → rs ≡ Ok bs → Each Used bs) → BindAlike (AllAlike Alike) rs ts)
@@ -146,5 +147,76 @@ pub each-alike : {A B C : Type 0} (Alike : B → C → Type 0) (Used : B → Typ
   → ((x : A) → ((b : B) → f x ≡ Ok b → Used b) → BindAlike Alike (f x) (g x))
   → (xs : List A) → ((bs : List B) → each f xs ≡ Ok bs → Each Used bs) → BindAlike (AllAlike Alike) (each f xs) (each g xs)
 each-alike Alike Used f g one [] used = tt
-each-alike {A = A} Alike Used f g one (x ∷ xs) used =
-    joined-alike {A = A} Alike Used (f x) (each f xs) (g x) (each g xs) (one x) (each-alike Alike Used f g one xs) used
+each-alike Alike Used f g one (x ∷ xs) used =
+    joined-alike Alike Used (f x) (each f xs) (g x) (each g xs) (one x) (each-alike Alike Used f g one xs) used
+
+-- ---- conditions
+
+abbrev pub UsesInCondition : Bound → BoundCondition → Type 0
+UsesInCondition bound c = (p : ℕ) → uses_in_condition p c ≡ true → uses p bound ≡ true
+
+pub or-left : (a b : Bool) → a ≡ true → (a || b) ≡ true
+or-left true b h = refl
+or-left false b h = absurd cc
+
+pub or-right : (a b : Bool) → b ≡ true → (a || b) ≡ true
+or-right true b h = refl
+or-right false b h = h
+
+abbrev pub compared_of : ℕ → Comparison → Result BoundOperand SqlFault → Result BoundOperand SqlFault → Result BoundCondition SqlFault
+compared_of at compared l r = resolve.◌>>=◌ l (λ a. resolve.◌>>=◌ r (λ b. Ok (conditions.Compare at compared a b)))
+
+compared-alike : (ps : List Param) (bound : Bound) (at : ℕ) (compared : Comparison) (l r : Result BoundOperand SqlFault) (s t : Result BoundOperand SqlFault)
+  → (((b : BoundOperand) → l ≡ Ok b → UsesIn bound b) → BindAlike (AlikeOperand ps (kept 0 bound ps)) l s)
+  → (((b : BoundOperand) → r ≡ Ok b → UsesIn bound b) → BindAlike (AlikeOperand ps (kept 0 bound ps)) r t)
+  → ((c : BoundCondition) → compared_of at compared l r ≡ Ok c → UsesInCondition bound c)
+  → BindAlike (AlikeCondition ps (kept 0 bound ps)) (compared_of at compared l r) (compared_of at compared s t)
+compared-alike ps bound at compared (Err f) r s t one two used = err-alike (AlikeCondition ps (kept 0 bound ps)) f _
+compared-alike ps bound at compared (Ok a) (Err f) s t one two used = err-alike (AlikeCondition ps (kept 0 bound ps)) f _
+compared-alike ps bound at compared (Ok a) (Ok b) s t one two used =
+    let all : UsesInCondition bound (conditions.Compare at compared a b) = used (conditions.Compare at compared a b) refl in
+    both s t
+      (one (λ c h. let e : a ≡ c = cc in subst (UsesIn bound) e (λ p u. all p (or-left (uses_in p a) (uses_in p b) u))))
+      (two (λ c h. let e : b ≡ c = cc in subst (UsesIn bound) e (λ p u. all p (or-right (uses_in p a) (uses_in p b) u))))
+  where
+    both : (s t : Result BoundOperand SqlFault) → BindAlike (AlikeOperand ps (kept 0 bound ps)) (Ok a) s → BindAlike (AlikeOperand ps (kept 0 bound ps)) (Ok b) t
+      → BindAlike (AlikeCondition ps (kept 0 bound ps)) (Ok (conditions.Compare at compared a b)) (compared_of at compared s t)
+    both (Ok c) (Ok d) h k = (refl, refl, h, k)
+    both (Ok c) (Err g) h k = absurd k
+    both (Err g) t h k = absurd h
+
+pub condition-alike : (ps : List Param) (bound : Bound) (scope : Scope) (c : Condition)
+  → ((b : BoundCondition) → bind_condition scope (map declared ps) c ≡ Ok b → UsesInCondition bound b)
+  → BindAlike (AlikeCondition ps (kept 0 bound ps)) (bind_condition scope (map declared ps) c) (bind_condition scope (map declared (kept 0 bound ps)) c)
+condition-alike ps bound scope (conditions.Compare at compared left right) used =
+    compared-alike ps bound at compared _ _ _ _ (operand-alike ps bound scope left) (operand-alike ps bound scope right) used
+condition-alike ps bound scope (conditions.IsNull negated operand) used = tt
+condition-alike ps bound scope (conditions.In at negated operand list) used = tt
+condition-alike ps bound scope (conditions.Not condition) used = tt
+condition-alike ps bound scope (conditions.AllOf all) used = tt
+condition-alike ps bound scope (conditions.AnyOf any) used = tt
+
+abbrev pub UsesInFilter : Bound → Option BoundCondition → Type 0
+UsesInFilter bound None = Unit {0}
+UsesInFilter bound (Some c) = UsesInCondition bound c
+
+abbrev pub some_of : Result BoundCondition SqlFault → Result (Option BoundCondition) SqlFault
+some_of r = resolve.◌>>=◌ r (λ b. Ok (Some b))
+
+some-alike : (ps qs : List Param) (r s : Result BoundCondition SqlFault) → BindAlike (AlikeCondition ps qs) r s → BindAlike (AlikeFilter ps qs) (some_of r) (some_of s)
+some-alike ps qs (Ok c) (Ok d) h = h
+some-alike ps qs (Ok c) (Err f) h = absurd h
+some-alike ps qs (Err f) (Ok d) h = tt
+some-alike ps qs (Err f) (Err g) h = tt
+
+some-used : (bound : Bound) (r : Result BoundCondition SqlFault)
+  → ((o : Option BoundCondition) → some_of r ≡ Ok o → UsesInFilter bound o) → (c : BoundCondition) → r ≡ Ok c → UsesInCondition bound c
+some-used bound (Ok d) used c h = let e : d ≡ c = cc in subst (UsesInCondition bound) e (used (Some d) refl)
+some-used bound (Err f) used c h = absurd cc
+
+pub filter-alike : (ps : List Param) (bound : Bound) (scope : Scope) (f : Option Condition)
+  → ((o : Option BoundCondition) → bind_filter scope (map declared ps) f ≡ Ok o → UsesInFilter bound o)
+  → BindAlike (AlikeFilter ps (kept 0 bound ps)) (bind_filter scope (map declared ps) f) (bind_filter scope (map declared (kept 0 bound ps)) f)
+filter-alike ps bound scope None used = tt
+filter-alike ps bound scope (Some c) used =
+    some-alike ps (kept 0 bound ps) _ _ (condition-alike ps bound scope c (some-used bound (bind_condition scope (map declared ps) c) used))

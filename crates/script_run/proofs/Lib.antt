@@ -1,2 +1,5 @@
 pub mod BindSent
 pub mod SentParams
+pub mod Served
+pub mod StatementSent
+pub mod StepSent
