@@ -96,17 +96,18 @@ row_values columns params (place ∷ places) (v ∷ vs) =
 abbrev pub value_at : List (ℕ × AtomOf (List ℕ)) → ℕ → Option (AtomOf (List ℕ))
 value_at values place = option_map (λ v. v.1) (find (λ v. v.0 == place) values)
 
--- in table order: the value that was given, or NULL for a column that wasn't named
+-- the value that was given, or NULL for a column that wasn't named
+abbrev pub or_null : ColumnDef → Option (AtomOf (List ℕ)) → Result (AtomOf (List ℕ)) SqlFault
+or_null column (Some atom) = Ok atom
+or_null column None = admitted column Null
+
+-- the row in table order
 abbrev pub completed : ℕ → List (ℕ × AtomOf (List ℕ)) → List ColumnDef → Result (List (AtomOf (List ℕ))) SqlFault
 completed place values [] = Ok []
 completed place values (column ∷ columns) =
-    given column (value_at values place) >>= λ atom.
+    or_null column (value_at values place) >>= λ atom.
     completed (place + 1) values columns >>= λ rest.
     Ok (atom ∷ rest)
-  where
-    given : ColumnDef → Option (AtomOf (List ℕ)) → Result (AtomOf (List ℕ)) SqlFault
-    given column (Some atom) = Ok atom
-    given column None = admitted column Null
 
 abbrev pub new_row : BoundInsert → List (AtomOf (List ℕ)) → List BoundOperand → Result (List (AtomOf (List ℕ))) SqlFault
 new_row insert params values = row_values insert.columns params insert.named values >>= λ given. completed 0 given insert.columns

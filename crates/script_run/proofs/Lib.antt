@@ -1,4 +1,6 @@
 pub mod BindSent
+pub mod PlainInserts
+pub mod PlainRows
 pub mod SentParams
 pub mod Served
 pub mod StatementSent

@@ -298,7 +298,7 @@ equal-prefix : {D B C : Type 0} (Alike : B → C → Type 0) (r s : Result D Sql
 equal-prefix {D = D} {B = B} {C = C} Alike r s f g e h = subst (λ (t : Result D SqlFault). BindAlike Alike (resolve.◌>>=◌ r f) (resolve.◌>>=◌ t g)) e (same-prefix Alike r f g h)
 
 -- a bound part that goes on is the part of what is bound in the end
-bind-ok : {A B : Type 0} (r : Result A SqlFault) (f : A → Result B SqlFault) (y : B) → resolve.◌>>=◌ r f ≡ Ok y → (x : A) × (r ≡ Ok x) × (f x ≡ Ok y)
+pub bind-ok : {A B : Type 0} (r : Result A SqlFault) (f : A → Result B SqlFault) (y : B) → resolve.◌>>=◌ r f ≡ Ok y → (x : A) × (r ≡ Ok x) × (f x ≡ Ok y)
 bind-ok (Ok x) f y h = (x, refl, h)
 bind-ok (Err e) f y h = absurd cc
 
