@@ -1,0 +1,47 @@
+-- Laws of cells.
+use Rattle.std.specs.Prelude.{◌≡◌, ℕ, ◌+◌, ◌*◌, ◌/◌, ◌≤◌, List, length, Ok}
+use Rattle.ae_base.specs.declared.types.Ty.{Ty}
+use Rattle.ae_base.specs.declared.types.Ty.TheVariants.{Int, BigInt, NVarChar, VarBinary}
+use Rattle.aes_block.specs.Aes.{IsKey, IsBlock}
+use Rattle.cbc_mode.specs.Cbc.{AreBytes}
+use Rattle.hmac_kdf.specs.Keys.{Keys, keys_of}
+use Rattle.cell_codec.specs.Cells.{sealed, sealed_det, iv_of, unsealed, IsShape}
+
+-- what is sealed is read back: under a key of 32 bytes and a vector of 16, any bytes
+abbrev pub SealedIsReadBack : Type 0
+SealedIsReadBack = (keys : Keys) (iv bytes : List ℕ) → IsKey keys.enc_key → IsBlock iv → AreBytes bytes
+    → unsealed keys (sealed keys iv bytes) ≡ Ok bytes
+
+-- and under the deterministic vector
+abbrev pub SealedDetIsReadBack : Type 0
+SealedDetIsReadBack = (keys : Keys) (bytes : List ℕ) → IsKey keys.enc_key → AreBytes bytes
+    → unsealed keys (sealed_det keys bytes) ≡ Ok bytes
+
+-- how long a cell is, and that it is made of bytes
+pub record IsCellOf (cell bytes : List ℕ) : Type 0 where
+  pub long : length cell ≡ 49 + (length bytes / 16 + 1) * 16
+  pub bytes_alone : AreBytes cell
+
+abbrev pub SealedIsCell : Type 0
+SealedIsCell = (keys : Keys) (iv bytes : List ℕ) → IsKey keys.enc_key → IsBlock iv → AreBytes bytes
+    → IsCellOf (sealed keys iv bytes) bytes
+
+-- the most bytes that the cell of a value of the type holds
+abbrev pub most_bytes : Ty → ℕ
+most_bytes Int = 8
+most_bytes BigInt = 8
+most_bytes (NVarChar most) = 2 * most
+most_bytes (VarBinary most) = most
+
+-- a cell of no more bytes than the type has at most is of the type's shape
+abbrev pub SealedHasShape : Type 0
+SealedHasShape = (keys : Keys) (iv bytes : List ℕ) (ty : Ty) → IsKey keys.enc_key → IsBlock iv → AreBytes bytes
+    → length bytes ≤ most_bytes ty → IsShape (sealed keys iv bytes) ty
+
+-- a derived key is a key
+abbrev pub DerivedAreKeys : Type 0
+DerivedAreKeys = (cek : List ℕ) → IsKey (keys_of cek).enc_key
+
+-- the deterministic vector is a block
+abbrev pub IvIsBlock : Type 0
+IvIsBlock = (keys : Keys) (bytes : List ℕ) → IsBlock (iv_of keys bytes)
