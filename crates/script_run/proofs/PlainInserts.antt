@@ -1,5 +1,6 @@
 -- The rows that an INSERT over plain values makes are rows of its table.
-use Rattle.std.proofs.Common.{◌≡◌, ℕ, zero, suc, ◌+◌, List, [], ◌∷◌, map, Option, Some, None, Result, Ok, Err, Bool, true, false, cond, nat_le, if◌then◌else◌, ◌==◌, refl, sym, ◌∙◌, ap, subst, add-zero, arith, eqb→eq}
+use Rattle.std.proofs.Common.{◌≡◌, ℕ, zero, suc, ◌+◌, List, [], ◌∷◌, map, Option, Some, None, Result, Ok, Err, Bool, true, false, cond, nat_le, if◌then◌else◌, ◌==◌, refl, sym, ◌∙◌, ap, subst, add-zero, arith}
+use Rattle.std.proofs.lemmas.Bool.Decides.{nat_tests}
 use Rattle.std.specs.List.{slice_get, find}
 use Rattle.std.specs.Option.{option_map}
 use Rattle.ae_base.specs.declared.batches.Param.{Param}
@@ -96,7 +97,7 @@ value-step : (columns : List ColumnDef) (v : ℕ × AtomOf (List ℕ)) (vs : Lis
   → (value_at vs place ≡ Some a → is_of_base (column_at columns place).ty a ≡ true)
   → (b : Bool) → (v.0 == place) ≡ b → option_map (λ w. w.1) (cond b (Some v) (find (λ w. w.0 == place) vs)) ≡ Some a → is_of_base (column_at columns place).ty a ≡ true
 value-step columns v vs place a h more true t k =
-    let p : v.0 ≡ place = eqb→eq v.0 place t in
+    let p : v.0 ≡ place = grind (arith, nat_tests) in
     let x : v.1 ≡ a = cc in
     subst (λ (q : ℕ). is_of_base (column_at columns q).ty a ≡ true) p (subst (λ (y : AtomOf (List ℕ)). is_of_base (column_at columns v.0).ty y ≡ true) x h)
 value-step columns v vs place a h more false t k = more k
