@@ -1,3 +1,4 @@
+pub mod Agreement
 pub mod BindSent
 pub mod PlainInserts
 pub mod PlainRows

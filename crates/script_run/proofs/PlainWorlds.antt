@@ -1,5 +1,5 @@
 -- Worlds of plain tables: a statement over plain values keeps each row of its columns, and gives such rows.
-use Rattle.std.proofs.Common.{◌≡◌, ℕ, zero, suc, ◌+◌, List, [], ◌∷◌, ◌++◌, map, length, Option, Some, None, Result, Ok, Err, Bool, true, false, cond, nat_lt, if◌then◌else◌, unwrap_or, is_some, refl, sym, ◌∙◌, ap, subst, arith}
+use Rattle.std.proofs.Common.{◌≡◌, ℕ, zero, suc, ◌+◌, List, [], ◌∷◌, ◌++◌, map, length, Option, Some, None, Result, Ok, Err, Bool, true, false, cond, nat_lt, if◌then◌else◌, unwrap_or, is_some, refl, sym, ◌∙◌, ap, subst, arith, encode_utf8_all}
 use Rattle.std.specs.List.{slice_get, find, position, position_or_len}
 use Rattle.std.proofs.lemmas.List.Folds.{find_at}
 use Rattle.std.proofs.lemmas.Option.{slice_get_within}
@@ -13,13 +13,21 @@ use Rattle.ae_base.specs.declared.faults.SqlFault.{SqlFault}
 use Rattle.ae_base.specs.declared.faults.SqlFault.TheVariants as fault
 use Rattle.sql_tree.specs.Bound.{Bound, BoundOperand, BoundInsert, BoundQuery}
 use Rattle.sql_tree.specs.Bound as bound
+use Rattle.sql_tree.specs.Statements.{Statement}
+use Rattle.sql_tree.specs.Statements as tree
+use Rattle.sql_tree.specs.declared.statements.UniqueSpec.{UniqueSpec}
+use Rattle.ae_base.specs.declared.batches.ParamDecl.{ParamDecl}
 use Rattle.catalog.specs.Catalogs.{Catalog, table_named, is_full_of_tables}
 use Rattle.resolve.specs.Bind.{each, result_column, column_types, table_for}
+use Rattle.resolve.specs.Bind as resolve
+use Rattle.sql_parse.specs.Parse.{parsed}
+use Rattle.server_core.specs.Serve.{understood}
+use Rattle.server_core.specs.Serve as server
 use Rattle.engine.specs.Worlds.{World}
 use Rattle.engine.specs.Step.{step, rows_of, with_rows, replaced, table_place, new_rows, results, events_of, Answer, Outcome}
 use Rattle.engine.specs.Step as engine
 use Rattle.script_run.proofs.BindSent.{Each, AllAlike, AlikeOperand}
-use Rattle.script_run.proofs.StatementSent.{AlikeBound}
+use Rattle.script_run.proofs.StatementSent.{AlikeBound, bind-ok}
 use Rattle.script_run.proofs.StepSent.{atoms}
 use Rattle.script_run.proofs.PlainRows.{RowOf, EventOf, result_types, results-of, events-of, each-append, step-ok}
 use Rattle.script_run.proofs.PlainInserts.{new_rows-of}
@@ -157,3 +165,45 @@ plain-step ps qs world (bound.Insert i) (bound.CreateTable u) h on alike = absur
 plain-step ps qs world (bound.Insert i) (bound.Select r) h on alike = absurd alike
 plain-step ps qs world (bound.Select q) (bound.CreateTable u) h on alike = absurd alike
 plain-step ps qs world (bound.Select q) (bound.Insert j) h on alike = absurd alike
+
+-- what is understood of a text stands on the catalog
+bind-on : (catalog : Catalog) (s : Statement) (ps : List ParamDecl) (b : Bound) → resolve.bind catalog s ps ≡ Ok b → BoundOn catalog b
+bind-on catalog (tree.CreateTable table columns uniques) ps b h = table-on uniques h
+  where
+    table-on : (uniques : List UniqueSpec) → resolve.bind_table table columns uniques ≡ Ok b → BoundOn catalog b
+    table-on [] k =
+        let o = bind-ok (resolve.given_once (map (λ c. c.name) columns)) _ b k in
+        let d = bind-ok (each resolve.bind_column columns) _ b o.2 in
+        let f : bound.CreateTable (record { name = table; columns = d.0; uniques = [] }) ≡ b = cc in
+        subst (BoundOn catalog) f tt
+    table-on (u ∷ us) k = absurd cc
+bind-on catalog (tree.Insert table names rows) ps b h =
+    let d = bind-ok (table_for catalog table) _ b h in
+    let n = bind-ok (resolve.places_for d.0.columns names) _ b d.2 in
+    let v = bind-ok (each (resolve.bind_row ps) rows) _ b n.2 in
+    let c = bind-ok (resolve.rows_clash (resolve.param_types ps) (map (resolve.type_at d.0.columns) n.0) rows v.0) _ b v.2 in
+    let f : bound.Insert (record { table = table; columns = d.0.columns; named = n.0; rows = v.0 }) ≡ b = cc in
+    subst (BoundOn catalog) f (d.0, d.1, refl)
+bind-on catalog (tree.Select q) ps b h =
+    let n = bind-ok (if resolve.has_later q then resolve.later else resolve.all_well) _ b h in
+    let d = bind-ok (table_for catalog q.from.table) _ b n.2 in
+    let i = bind-ok (resolve.bind_items (resolve.scope_of q.from d.0) ps q.items) _ b d.2 in
+    let g = bind-ok (resolve.bind_filter (resolve.scope_of q.from d.0) ps q.filter) _ b i.2 in
+    let c = bind-ok (resolve.filter_clash (resolve.column_types d.0.columns) (resolve.param_types ps) g.0) _ b g.2 in
+    let r = bind-ok (each (result_column d.0.columns) i.0) _ b c.2 in
+    let f : bound.Select (record { from = q.from.table; joins = []; filter = g.0; items = i.0; columns = r.0 }) ≡ b = cc in
+    subst (BoundOn catalog) f (d.0, d.1, r.1)
+bind-on catalog (tree.CreateMaster name path) ps b h = absurd cc
+bind-on catalog (tree.CreateKey name master wrapped) ps b h = absurd cc
+bind-on catalog (tree.DropTable name) ps b h = absurd cc
+bind-on catalog (tree.DropMaster name) ps b h = absurd cc
+bind-on catalog (tree.DropKey name) ps b h = absurd cc
+bind-on catalog (tree.Update table assignments filter) ps b h = absurd cc
+bind-on catalog (tree.Delete table filter) ps b h = absurd cc
+
+understood-on : (catalog : Catalog) (r : Result Statement SqlFault) (ps : List ParamDecl) (b : Bound) → server.◌>>=◌ r (λ s. resolve.bind catalog s ps) ≡ Ok b → BoundOn catalog b
+understood-on catalog (Ok s) ps b h = bind-on catalog s ps b h
+understood-on catalog (Err f) ps b h = absurd cc
+
+pub bound-on : (world : World) (text : List ℕ) (ps : List ParamDecl) (b : Bound) → understood world text ps ≡ Ok b → BoundOn world.catalog b
+bound-on world text ps b h = understood-on world.catalog (parsed (encode_utf8_all text)) ps b h
