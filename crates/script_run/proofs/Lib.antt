@@ -5,5 +5,6 @@ pub mod PlainRows
 pub mod PlainWorlds
 pub mod SentParams
 pub mod Served
+pub mod ServedIsPlain
 pub mod StatementSent
 pub mod StepSent

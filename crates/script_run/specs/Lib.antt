@@ -1,4 +1,5 @@
 pub mod Drive
+pub mod Laws
 pub mod Outcomes
 pub mod Reference
 pub mod RunWorked
