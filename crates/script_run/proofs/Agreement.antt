@@ -1,5 +1,5 @@
 -- Over the replies of a server the driver comes to what plain SQL says.
-use Rattle.std.proofs.Common.{◌≡◌, ℕ, zero, suc, ◌+◌, List, [], ◌∷◌, ◌++◌, map, flat_map, length, Option, Some, None, Result, Ok, Err, Bool, true, false, nat_lt, if◌then◌else◌, ◌==◌, encode_utf8_all, refl, sym, ◌∙◌, ap, subst, arith, add-zero, append_assoc, append-nil, zero-add, eq-eqb}
+use Rattle.std.proofs.Common.{◌≡◌, ℕ, suc, ◌+◌, List, [], ◌∷◌, ◌++◌, map, length, Option, Some, None, Result, Ok, Err, Bool, true, false, nat_lt, if◌then◌else◌, ◌==◌, encode_utf8_all, refl, sym, ◌∙◌, ap, subst, arith, add-zero, append_assoc, append-nil, zero-add, eq-eqb}
 use Rattle.ae_base.specs.declared.batches.Batch.{Batch}
 use Rattle.ae_base.specs.declared.batches.Param.{Param}
 use Rattle.ae_base.specs.declared.types.Ty.{Ty}
@@ -11,9 +11,9 @@ use Rattle.sql_tree.specs.Bound.{Bound}
 use Rattle.engine.specs.Worlds.{World}
 use Rattle.engine.specs.Step.{Answer, Outcome, step}
 use Rattle.engine.specs.Step as engine
-use Rattle.wire_frames.specs.Messages.{Request, Describe, Execute, Reply, Described, Columns, Row, Ended, Refused, Defined, Changed, Answered, SentColumn}
-use Rattle.server_core.specs.Serve.{executed, column_of, replies_of, so_far}
-use Rattle.driver.specs.Sessions.{Session, Idle, Sent, Reading, is_row_of, value_of, replied}
+use Rattle.wire_frames.specs.Messages.{Request, Describe, Execute, Reply, Described, Row, Ended, Refused, Answered, SentColumn}
+use Rattle.server_core.specs.Serve.{executed, column_of, so_far}
+use Rattle.driver.specs.Sessions.{Idle, Sent, Reading, is_row_of, value_of}
 use Rattle.script_run.specs.Outcomes as outcomes
 use Rattle.script_run.specs.Drive.{Driven, Onward, coming_to, asking, read_rows, read_answer}
 use Rattle.script_run.specs.Reference.{outcome_of}
@@ -45,8 +45,8 @@ pub record GoesOn (d : Driven) (outcome : outcomes.Outcome) (onward : Onward) (m
   pub is : d ≡ coming_to outcome (onward taken more)
 
 rows-read : (names : List (List ℕ)) (onward : Onward) (columns : List SentColumn) (more : List Reply) (rows : List (List (AtomOf (List ℕ))))
-  → Each (λ row. is_row_of columns row ≡ true) rows → (done : List (List Value)) (count taken total : ℕ) → count + length rows ≡ total
-  → GoesOn (read_rows names onward done (Reading columns count) taken (map Row rows ++ Ended (Answered total) ∷ more)) (outcomes.Rows names (done ++ map values rows)) onward more
+    → Each (λ row. is_row_of columns row ≡ true) rows → (done : List (List Value)) (count taken total : ℕ) → count + length rows ≡ total
+    → GoesOn (read_rows names onward done (Reading columns count) taken (map Row rows ++ Ended (Answered total) ∷ more)) (outcomes.Rows names (done ++ map values rows)) onward more
 rows-read names onward columns more [] h done count taken total e =
     let t : total ≡ count = sym e ∙ add-zero count in
     let b : (total == count) ≡ true = eq-eqb total count t in
@@ -68,7 +68,7 @@ column-names [] = refl
 column-names (c ∷ cs) = ap (λ x. c.name ∷ x) (column-names cs)
 
 rows-awaited : (columns : List ResultColumn) (rows : List (List (AtomOf (List ℕ)))) → Each (RowOf (result_types columns)) rows
-  → Each (λ row. is_row_of (map column_of columns) row ≡ true) rows
+    → Each (λ row. is_row_of (map column_of columns) row ≡ true) rows
 rows-awaited columns [] h = tt
 rows-awaited columns (row ∷ rows) h =
     (row-awaited (map column_of columns) row (subst (λ (x : List Ty). RowOf x row) (sym (column-types columns)) h.0), rows-awaited columns rows h.1)
@@ -79,7 +79,7 @@ pub record IsRead (world : World) (answer : Result Answer SqlFault) (after : Wor
   pub onward_world : (executed world (record { answer = answer; world = after })).world ≡ after
 
 answer-read : (world : World) (answer : Result Answer SqlFault) (after : World) → AnswerOf answer → ((f : SqlFault) → answer ≡ Err f → after ≡ world)
-  → (onward : Onward) (taken : ℕ) (more : List Reply) → IsRead world answer after onward taken more
+    → (onward : Onward) (taken : ℕ) (more : List Reply) → IsRead world answer after onward taken more
 answer-read world (Err f) after h stays onward taken more = record { goes_on = record { taken = suc taken; is = refl }; onward_world = sym (stays f refl) }
 answer-read world (Ok engine.Defined) after h stays onward taken more = record { goes_on = record { taken = suc taken; is = refl }; onward_world = refl }
 answer-read world (Ok (engine.Changed count)) after h stays onward taken more = record { goes_on = record { taken = suc taken; is = refl }; onward_world = refl }
@@ -99,7 +99,7 @@ comes_to exchanges outcome rest = record { requests = requests_in exchanges ++ r
 pub record BatchAgrees (world : World) (number : ℕ) (batch : Batch) (onward : Onward) (taken : ℕ) (more : List Reply) : Type 0 where
   pub later : ℕ
   pub is : drive_batch onward number taken (replies_in (batch_passes world number (begin Idle number batch)).exchanges ++ more) (begin Idle number batch)
-    ≡ comes_to (batch_passes world number (begin Idle number batch)).exchanges (meaning world batch).outcome (onward later more)
+      ≡ comes_to (batch_passes world number (begin Idle number batch)).exchanges (meaning world batch).outcome (onward later more)
   pub next : (batch_passes world number (begin Idle number batch)).world ≡ (meaning world batch).world
   pub plain : IsPlain (meaning world batch).world
 
@@ -117,8 +117,8 @@ cond-true true x y h = refl
 cond-true false x y h = absurd cc
 
 asked-is : (world : World) (request : Request) (onward : World → List Reply → Passed) (replies : List Reply) (after : World)
-  → serve world request ≡ record { replies = replies; world = after }
-  → asked world request onward ≡ record { exchanges = record { request = request; replies = replies } ∷ (onward after replies).exchanges; world = (onward after replies).world }
+    → serve world request ≡ record { replies = replies; world = after }
+    → asked world request onward ≡ record { exchanges = record { request = request; replies = replies } ∷ (onward after replies).exchanges; world = (onward after replies).world }
 asked-is world request onward replies after e =
     ap (λ (s : Served). record { exchanges = record { request = request; replies = s.replies } ∷ (onward s.world s.replies).exchanges; world = (onward s.world s.replies).world }) e
 
@@ -137,41 +137,41 @@ described_as world batch b = Described world.catalog.version [] (used_from 0 b (
 abbrev pub passed_for : ℕ → World → Batch → Bound → Served → Passed
 passed_for number world batch b served = record {
   exchanges = record { request = question number batch; replies = described_as world batch b ∷ [] }
-    ∷ record { request = execution_of number world batch b; replies = served.replies } ∷ [];
+      ∷ record { request = execution_of number world batch b; replies = served.replies } ∷ [];
   world = served.world;
 }
 
 begun-is : (number : ℕ) (batch : Batch) → first_unfit batch.params ≡ None → nat_lt 65536 (length (encode_utf8_all batch.text)) ≡ false
-  → begin Idle number batch ≡ Ok (question number batch, Begun batch)
+    → begin Idle number batch ≡ Ok (question number batch, Begun batch)
 begun-is number batch fits short =
     ap (begin_fit number batch) fits ∙ cond-false (nat_lt 65536 (length (encode_utf8_all batch.text))) (Err driver_fault.TooLong) (Ok (question number batch, Begun batch)) short
 
 -- the description is awaited, and the batch is pending then
 pending-is : (world : World) (batch : Batch) (b : Bound)
-  → described (Begun batch) (described_as world batch b) ≡ Some (Ready (used_from 0 b (map declared batch.params)), Pending batch world.catalog.version (used_from 0 b (map declared batch.params)))
+    → described (Begun batch) (described_as world batch b) ≡ Some (Ready (used_from 0 b (map declared batch.params)), Pending batch world.catalog.version (used_from 0 b (map declared batch.params)))
 pending-is world batch b =
     cond-true (in_order (map used_name (used_from 0 b (map declared batch.params))) batch.params)
-      (Some (Ready (used_from 0 b (map declared batch.params)), Pending batch world.catalog.version (used_from 0 b (map declared batch.params)))) None (used-in_order 0 b batch.params)
+    (Some (Ready (used_from 0 b (map declared batch.params)), Pending batch world.catalog.version (used_from 0 b (map declared batch.params)))) None (used-in_order 0 b batch.params)
 
 sent-is : (number : ℕ) (world : World) (batch : Batch) (b : Bound) → AreFound batch.params batch.params
-  → execute (Pending batch world.catalog.version (used_from 0 b (map declared batch.params))) number ≡ Ok (execution_of number world batch b, Sent)
+    → execute (Pending batch world.catalog.version (used_from 0 b (map declared batch.params))) number ≡ Ok (execution_of number world batch b, Sent)
 sent-is number world batch b found = ap (λ sent. Ok (Execute number world.catalog.version batch.text sent, Sent)) (sent-used batch.params 0 b batch.params found)
 
 passed-is : (number : ℕ) (world : World) (batch : Batch) (b : Bound) (served : Served) → AreFound batch.params batch.params
-  → understood world batch.text (map declared batch.params) ≡ Ok b → serve world (execution_of number world batch b) ≡ served
-  → batch_passes world number (Ok (question number batch, Begun batch)) ≡ passed_for number world batch b served
+    → understood world batch.text (map declared batch.params) ≡ Ok b → serve world (execution_of number world batch b) ≡ served
+    → batch_passes world number (Ok (question number batch, Begun batch)) ≡ passed_for number world batch b served
 passed-is number world batch b served found e s =
     let first : serve world (question number batch) ≡ record { replies = described_as world batch b ∷ []; world = world } = ap (describe world (map declared batch.params)) e in
     let one = asked-is world (question number batch) (λ after replies. after_replies after number (Begun batch) replies) (described_as world batch b ∷ []) world first in
     let two : after_replies world number (Begun batch) (described_as world batch b ∷ []) ≡ execution world (Ok (execution_of number world batch b, Sent)) =
-          ap (after_description world number) (pending-is world batch b) ∙ ap (execution world) (sent-is number world batch b found) in
+    ap (after_description world number) (pending-is world batch b) ∙ ap (execution world) (sent-is number world batch b found) in
     let three = asked-is world (execution_of number world batch b) (λ after replies. nothing_passed after) served.replies served.world s in
     let rest : after_replies world number (Begun batch) (described_as world batch b ∷ []) ≡ record { exchanges = record { request = execution_of number world batch b; replies = served.replies } ∷ []; world = served.world } = two ∙ three in
     one ∙ ap (λ (p : Passed). record { exchanges = record { request = question number batch; replies = described_as world batch b ∷ [] } ∷ p.exchanges; world = p.world }) rest
 
 meaning-is : (world : World) (batch : Batch) (b : Bound) → first_unfit batch.params ≡ None → nat_lt 65536 (length (encode_utf8_all batch.text)) ≡ false
-  → understood world batch.text (map declared batch.params) ≡ Ok b
-  → meaning world batch ≡ record { outcome = outcome_of (step world b (map atom_of_param batch.params)).answer; world = (step world b (map atom_of_param batch.params)).world }
+    → understood world batch.text (map declared batch.params) ≡ Ok b
+    → meaning world batch ≡ record { outcome = outcome_of (step world b (map atom_of_param batch.params)).answer; world = (step world b (map atom_of_param batch.params)).world }
 meaning-is world batch b fits short e =
     ap (meaning_of_fit world batch) fits
     ∙ cond-false (nat_lt 65536 (length (encode_utf8_all batch.text))) (record { outcome = outcomes.Failed driver_fault.TooLong; world = world }) (meaning_of world batch (understood world batch.text (map declared batch.params))) short
@@ -179,20 +179,20 @@ meaning-is world batch b fits short e =
 
 -- the drive over what passed
 driven-is : (number : ℕ) (world : World) (batch : Batch) (b : Bound) (served : Served) → AreFound batch.params batch.params → (onward : Onward) (taken : ℕ) (more : List Reply)
-  → drive_batch onward number taken (replies_in (passed_for number world batch b served).exchanges ++ more) (Ok (question number batch, Begun batch))
+    → drive_batch onward number taken (replies_in (passed_for number world batch b served).exchanges ++ more) (Ok (question number batch, Begun batch))
     ≡ asking (question number batch) (asking (execution_of number world batch b) (read_answer onward Sent (suc taken) (served.replies ++ more)))
 driven-is number world batch b served found onward taken more =
     let rest : (served.replies ++ []) ++ more ≡ served.replies ++ more = ap (λ (x : List Reply). x ++ more) (append-nil served.replies) in
     let one : described_or_bad onward number taken ((served.replies ++ []) ++ more) (described (Begun batch) (described_as world batch b))
-          ≡ asking (execution_of number world batch b) (read_answer onward Sent (suc taken) ((served.replies ++ []) ++ more)) =
-          ap (described_or_bad onward number taken ((served.replies ++ []) ++ more)) (pending-is world batch b)
-          ∙ ap (executing onward (suc taken) ((served.replies ++ []) ++ more)) (sent-is number world batch b found) in
+    ≡ asking (execution_of number world batch b) (read_answer onward Sent (suc taken) ((served.replies ++ []) ++ more)) =
+    ap (described_or_bad onward number taken ((served.replies ++ []) ++ more)) (pending-is world batch b)
+    ∙ ap (executing onward (suc taken) ((served.replies ++ []) ++ more)) (sent-is number world batch b found) in
     ap (asking (question number batch)) (one ∙ ap (λ (x : List Reply). asking (execution_of number world batch b) (read_answer onward Sent (suc taken) x)) rest)
 
 -- where the text is described and executed
 executed-agrees : (world : World) (number : ℕ) (batch : Batch) (b : Bound) (onward : Onward) (taken : ℕ) (more : List Reply) → IsPlain world → AreFound batch.params batch.params
-  → first_unfit batch.params ≡ None → nat_lt 65536 (length (encode_utf8_all batch.text)) ≡ false → AreFit batch.params
-  → understood world batch.text (map declared batch.params) ≡ Ok b → BatchAgrees world number batch onward taken more
+    → first_unfit batch.params ≡ None → nat_lt 65536 (length (encode_utf8_all batch.text)) ≡ false → AreFit batch.params
+    → understood world batch.text (map declared batch.params) ≡ Ok b → BatchAgrees world number batch onward taken more
 executed-agrees world number batch b onward taken more h found fits short fit e =
     let ps = batch.params in
     let o = step world b (map atom_of_param ps) in
@@ -202,7 +202,7 @@ executed-agrees world number batch b onward taken more h found fits short fit e 
     let read = answer-read world o.answer o.world plain.answer (λ f k. stays-old world (engine.changed world b (map atom_of_param ps)) f k) onward (suc taken) more in
     let begun = begun-is number batch fits short in
     let passed : batch_passes world number (begin Idle number batch) ≡ passed_for number world batch b (executed world o) =
-          ap (batch_passes world number) begun ∙ passed-is number world batch b (executed world o) found e served in
+    ap (batch_passes world number) begun ∙ passed-is number world batch b (executed world o) found e served in
     let means = meaning-is world batch b fits short e in
     let driven = driven-is number world batch b (executed world o) found onward taken more in
     record {
@@ -220,18 +220,18 @@ executed-agrees world number batch b onward taken more h found fits short fit e 
 
 -- where the text is refused
 refused-agrees : (world : World) (number : ℕ) (batch : Batch) (f : SqlFault) (onward : Onward) (taken : ℕ) (more : List Reply) → IsPlain world
-  → first_unfit batch.params ≡ None → nat_lt 65536 (length (encode_utf8_all batch.text)) ≡ false
-  → understood world batch.text (map declared batch.params) ≡ Err f → BatchAgrees world number batch onward taken more
+    → first_unfit batch.params ≡ None → nat_lt 65536 (length (encode_utf8_all batch.text)) ≡ false
+    → understood world batch.text (map declared batch.params) ≡ Err f → BatchAgrees world number batch onward taken more
 refused-agrees world number batch f onward taken more h fits short e =
     let begun = begun-is number batch fits short in
     let first : serve world (question number batch) ≡ record { replies = Refused (so_far f) ∷ []; world = world } = ap (describe world (map declared batch.params)) e in
     let passed : batch_passes world number (begin Idle number batch) ≡ record { exchanges = record { request = question number batch; replies = Refused (so_far f) ∷ [] } ∷ []; world = world } =
-          ap (batch_passes world number) begun
-          ∙ asked-is world (question number batch) (λ after replies. after_replies after number (Begun batch) replies) (Refused (so_far f) ∷ []) world first in
+    ap (batch_passes world number) begun
+    ∙ asked-is world (question number batch) (λ after replies. after_replies after number (Begun batch) replies) (Refused (so_far f) ∷ []) world first in
     let means : meaning world batch ≡ record { outcome = outcomes.Refused (so_far f); world = world } =
-          ap (meaning_of_fit world batch) fits
-          ∙ cond-false (nat_lt 65536 (length (encode_utf8_all batch.text))) (record { outcome = outcomes.Failed driver_fault.TooLong; world = world }) (meaning_of world batch (understood world batch.text (map declared batch.params))) short
-          ∙ ap (meaning_of world batch) e in
+    ap (meaning_of_fit world batch) fits
+    ∙ cond-false (nat_lt 65536 (length (encode_utf8_all batch.text))) (record { outcome = outcomes.Failed driver_fault.TooLong; world = world }) (meaning_of world batch (understood world batch.text (map declared batch.params))) short
+    ∙ ap (meaning_of world batch) e in
     record {
       later = suc taken;
       is =
@@ -245,7 +245,7 @@ refused-agrees world number batch f onward taken more h fits short e =
 
 -- where the driver refuses
 failed-agrees : (world : World) (number : ℕ) (batch : Batch) (f : DriverFault) (onward : Onward) (taken : ℕ) (more : List Reply) → IsPlain world
-  → begin Idle number batch ≡ Err f → meaning world batch ≡ record { outcome = outcomes.Failed f; world = world } → BatchAgrees world number batch onward taken more
+    → begin Idle number batch ≡ Err f → meaning world batch ≡ record { outcome = outcomes.Failed f; world = world } → BatchAgrees world number batch onward taken more
 failed-agrees world number batch f onward taken more h begun means =
     let passed : batch_passes world number (begin Idle number batch) ≡ nothing_passed world = ap (batch_passes world number) begun in
     record {
@@ -261,7 +261,7 @@ failed-agrees world number batch f onward taken more h begun means =
 
 -- no parameter is unfit exactly where each fits
 fit-step : (p : Param) (ps : List Param) (b : Bool) → value_is_within p.value p.declaration.ty ≡ b → (first_unfit ps ≡ None → AreFit ps)
-  → (if b then first_unfit ps else Some p.declaration.name) ≡ None → AreFit (p ∷ ps)
+    → (if b then first_unfit ps else Some p.declaration.name) ≡ None → AreFit (p ∷ ps)
 fit-step p ps true e more h = (e, more h)
 fit-step p ps false e more h = absurd cc
 
@@ -270,23 +270,23 @@ all-fit [] h = tt
 all-fit (p ∷ ps) h = fit-step p ps (value_is_within p.value p.declaration.ty) refl (all-fit ps) h
 
 understood-agrees : (world : World) (number : ℕ) (batch : Batch) (onward : Onward) (taken : ℕ) (more : List Reply) → IsPlain world → AreFound batch.params batch.params
-  → first_unfit batch.params ≡ None → nat_lt 65536 (length (encode_utf8_all batch.text)) ≡ false
-  → (r : Result Bound SqlFault) → understood world batch.text (map declared batch.params) ≡ r → BatchAgrees world number batch onward taken more
+    → first_unfit batch.params ≡ None → nat_lt 65536 (length (encode_utf8_all batch.text)) ≡ false
+    → (r : Result Bound SqlFault) → understood world batch.text (map declared batch.params) ≡ r → BatchAgrees world number batch onward taken more
 understood-agrees world number batch onward taken more h found fits short (Ok b) e = executed-agrees world number batch b onward taken more h found fits short (all-fit batch.params fits) e
 understood-agrees world number batch onward taken more h found fits short (Err f) e = refused-agrees world number batch f onward taken more h fits short e
 
 length-agrees : (world : World) (number : ℕ) (batch : Batch) (onward : Onward) (taken : ℕ) (more : List Reply) → IsPlain world → AreFound batch.params batch.params
-  → first_unfit batch.params ≡ None → (b : Bool) → nat_lt 65536 (length (encode_utf8_all batch.text)) ≡ b → BatchAgrees world number batch onward taken more
+    → first_unfit batch.params ≡ None → (b : Bool) → nat_lt 65536 (length (encode_utf8_all batch.text)) ≡ b → BatchAgrees world number batch onward taken more
 length-agrees world number batch onward taken more h found fits true e =
     failed-agrees world number batch driver_fault.TooLong onward taken more h
-      (ap (begin_fit number batch) fits ∙ cond-true (nat_lt 65536 (length (encode_utf8_all batch.text))) (Err driver_fault.TooLong) (Ok (question number batch, Begun batch)) e)
-      (ap (meaning_of_fit world batch) fits
-        ∙ cond-true (nat_lt 65536 (length (encode_utf8_all batch.text))) (record { outcome = outcomes.Failed driver_fault.TooLong; world = world }) (meaning_of world batch (understood world batch.text (map declared batch.params))) e)
+    (ap (begin_fit number batch) fits ∙ cond-true (nat_lt 65536 (length (encode_utf8_all batch.text))) (Err driver_fault.TooLong) (Ok (question number batch, Begun batch)) e)
+    (ap (meaning_of_fit world batch) fits
+    ∙ cond-true (nat_lt 65536 (length (encode_utf8_all batch.text))) (record { outcome = outcomes.Failed driver_fault.TooLong; world = world }) (meaning_of world batch (understood world batch.text (map declared batch.params))) e)
 length-agrees world number batch onward taken more h found fits false e =
     understood-agrees world number batch onward taken more h found fits e (understood world batch.text (map declared batch.params)) refl
 
 fit-agrees : (world : World) (number : ℕ) (batch : Batch) (onward : Onward) (taken : ℕ) (more : List Reply) → IsPlain world → AreFound batch.params batch.params
-  → (o : Option (List ℕ)) → first_unfit batch.params ≡ o → BatchAgrees world number batch onward taken more
+    → (o : Option (List ℕ)) → first_unfit batch.params ≡ o → BatchAgrees world number batch onward taken more
 fit-agrees world number batch onward taken more h found (Some name) e =
     failed-agrees world number batch (driver_fault.DoesNotFit name) onward taken more h (ap (begin_fit number batch) e) (ap (meaning_of_fit world batch) e)
 fit-agrees world number batch onward taken more h found None e =
@@ -294,5 +294,5 @@ fit-agrees world number batch onward taken more h found None e =
 
 -- each batch agrees with its meaning
 pub batch-agrees : (world : World) (number : ℕ) (batch : Batch) (onward : Onward) (taken : ℕ) (more : List Reply) → IsPlain world → AreFound batch.params batch.params
-  → BatchAgrees world number batch onward taken more
+    → BatchAgrees world number batch onward taken more
 batch-agrees world number batch onward taken more h found = fit-agrees world number batch onward taken more h found (first_unfit batch.params) refl

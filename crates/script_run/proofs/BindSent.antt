@@ -1,10 +1,7 @@
 -- Binding over the sent declarations alone gives the same statement, but for the places of its parameters.
-use Rattle.std.proofs.Common.{◌≡◌, ℕ, zero, suc, ◌+◌, List, [], ◌∷◌, map, length, Option, Some, None, Result, Ok, Err, Bool, true, false, ◌||◌, cond, if◌then◌else◌, ◌==◌, refl, sym, ◌∙◌, ap, subst, arith, zero-add, eq-eqb}
-use Rattle.std.specs.List.{slice_get, position_from, list_any}
-use Rattle.std.specs.Option.{option_map}
+use Rattle.std.proofs.Common.{◌≡◌, ℕ, ◌+◌, List, [], ◌∷◌, map, Option, Some, None, Result, Ok, Err, Bool, true, false, ◌||◌, ◌==◌, refl, ◌∙◌, subst, zero-add, eq-eqb}
+use Rattle.std.specs.List.{slice_get, position_from}
 use Rattle.ae_base.specs.declared.batches.Param.{Param}
-use Rattle.ae_base.specs.declared.batches.ParamDecl.{ParamDecl}
-use Rattle.ae_base.specs.declared.types.Ty.{Ty}
 use Rattle.ae_base.specs.declared.faults.SqlFault.{SqlFault}
 use Rattle.ae_base.specs.declared.faults.SqlFault.TheVariants as fault
 use Rattle.sql_tree.specs.declared.conditions.Comparison.{Comparison}
@@ -69,7 +66,7 @@ self-eq : (p : ℕ) → (p == p) ≡ true
 self-eq p = eq-eqb p p refl
 
 param-found : (ps : List Param) (bound : Bound) (name : List ℕ) (p : ℕ) → IsFound name 0 0 p ps (kept 0 bound ps)
-  → (q : ℕ) × (position_from (named name) 0 (map declared (kept 0 bound ps)) ≡ Some q) × SamePlace ps (kept 0 bound ps) p q
+    → (q : ℕ) × (position_from (named name) 0 (map declared (kept 0 bound ps)) ≡ Some q) × SamePlace ps (kept 0 bound ps) p q
 param-found ps bound name p f = (0 + f.l, f.kept_place, record { param = f.param; there = rw (f.here, zero-add f.k) f.there; kept_there = rw (zero-add f.l) f.kept_there })
 
 abbrev pub bound_param : ℕ → Result ℕ SqlFault → Result BoundOperand SqlFault
@@ -78,10 +75,10 @@ bound_param at (Err f) = Err f
 
 -- a parameter that is found is found among the sent ones
 param-alike : (ps : List Param) (bound : Bound) (at : ℕ) (name : List ℕ) (o : Option ℕ) (f : SqlFault)
-  → position_from (named name) 0 (map declared ps) ≡ o
-  → ((b : BoundOperand) → bound_param at (resolve.or_fault f o) ≡ Ok b → UsesIn bound b)
-  → BindAlike (AlikeOperand ps (kept 0 bound ps)) (bound_param at (resolve.or_fault f o))
-      (bound_param at (resolve.or_fault f (position_from (named name) 0 (map declared (kept 0 bound ps)))))
+    → position_from (named name) 0 (map declared ps) ≡ o
+    → ((b : BoundOperand) → bound_param at (resolve.or_fault f o) ≡ Ok b → UsesIn bound b)
+    → BindAlike (AlikeOperand ps (kept 0 bound ps)) (bound_param at (resolve.or_fault f o))
+    (bound_param at (resolve.or_fault f (position_from (named name) 0 (map declared (kept 0 bound ps)))))
 param-alike ps bound at name None f e used =
     none (bound_param at (resolve.or_fault f (position_from (named name) 0 (map declared (kept 0 bound ps)))))
   where
@@ -101,7 +98,7 @@ bound_column at (Ok place) = Ok (operands.Column at place)
 bound_column at (Err f) = Err f
 
 column-alike : (ps qs : List Param) (at : ℕ) (r : Result ℕ SqlFault)
-  → BindAlike (AlikeOperand ps qs) (resolve.◌>>=◌ r (λ place. Ok (operands.Column at place))) (resolve.◌>>=◌ r (λ place. Ok (operands.Column at place)))
+    → BindAlike (AlikeOperand ps qs) (resolve.◌>>=◌ r (λ place. Ok (operands.Column at place))) (resolve.◌>>=◌ r (λ place. Ok (operands.Column at place)))
 column-alike ps qs at (Ok place) = (refl, refl)
 column-alike ps qs at (Err f) = tt
 
@@ -110,8 +107,8 @@ err-alike Alike f (Ok c) = tt
 err-alike Alike f (Err g) = tt
 
 pub operand-alike : (ps : List Param) (bound : Bound) (scope : Scope) (o : Operand)
-  → ((b : BoundOperand) → bind_operand scope (map declared ps) o ≡ Ok b → UsesIn bound b)
-  → BindAlike (AlikeOperand ps (kept 0 bound ps)) (bind_operand scope (map declared ps) o) (bind_operand scope (map declared (kept 0 bound ps)) o)
+    → ((b : BoundOperand) → bind_operand scope (map declared ps) o ≡ Ok b → UsesIn bound b)
+    → BindAlike (AlikeOperand ps (kept 0 bound ps)) (bind_operand scope (map declared ps) o) (bind_operand scope (map declared (kept 0 bound ps)) o)
 operand-alike ps bound scope (operands.Literal at v) used = (refl, refl)
 operand-alike ps bound scope (operands.Param at name) used =
     let e = same-binding at (resolve.param_place (map declared ps) name) in
@@ -124,28 +121,28 @@ operand-alike ps bound scope (operands.Sum first terms) used = tt
 -- ---- lists
 
 joined-alike : {B C : Type 0} (Alike : B → C → Type 0) (Used : B → Type 0) (r : Result B SqlFault) (rs : Result (List B) SqlFault)
-  (t : Result C SqlFault) (ts : Result (List C) SqlFault)
-  → (((b : B) → r ≡ Ok b → Used b) → BindAlike Alike r t)
-  → (((bs : List B) → rs ≡ Ok bs → Each Used bs) → BindAlike (AllAlike Alike) rs ts)
-  → ((bs : List B) → resolve.◌>>=◌ r (λ y. resolve.◌>>=◌ rs (λ ys. Ok (y ∷ ys))) ≡ Ok bs → Each Used bs)
-  → BindAlike (AllAlike Alike) (resolve.◌>>=◌ r (λ y. resolve.◌>>=◌ rs (λ ys. Ok (y ∷ ys)))) (resolve.◌>>=◌ t (λ y. resolve.◌>>=◌ ts (λ ys. Ok (y ∷ ys))))
+    (t : Result C SqlFault) (ts : Result (List C) SqlFault)
+    → (((b : B) → r ≡ Ok b → Used b) → BindAlike Alike r t)
+    → (((bs : List B) → rs ≡ Ok bs → Each Used bs) → BindAlike (AllAlike Alike) rs ts)
+    → ((bs : List B) → resolve.◌>>=◌ r (λ y. resolve.◌>>=◌ rs (λ ys. Ok (y ∷ ys))) ≡ Ok bs → Each Used bs)
+    → BindAlike (AllAlike Alike) (resolve.◌>>=◌ r (λ y. resolve.◌>>=◌ rs (λ ys. Ok (y ∷ ys)))) (resolve.◌>>=◌ t (λ y. resolve.◌>>=◌ ts (λ ys. Ok (y ∷ ys))))
 joined-alike Alike Used (Err f) rs t ts one more used = err-alike (AllAlike Alike) f _
 joined-alike Alike Used (Ok b) (Err f) t ts one more used = err-alike (AllAlike Alike) f _
 joined-alike {B = B} {C = C} Alike Used (Ok b) (Ok bs) t ts one more used =
     let all : Each Used (b ∷ bs) = used (b ∷ bs) refl in
     both t ts
-      (one (λ c h. let e : b ≡ c = cc in subst Used e all.0))
-      (more (λ cs h. let e : bs ≡ cs = cc in subst (Each Used) e all.1))
+    (one (λ c h. let e : b ≡ c = cc in subst Used e all.0))
+    (more (λ cs h. let e : bs ≡ cs = cc in subst (Each Used) e all.1))
   where
     both : (t : Result C SqlFault) (ts : Result (List C) SqlFault) → BindAlike Alike (Ok b) t → BindAlike (AllAlike Alike) (Ok bs) ts
-      → BindAlike (AllAlike Alike) (Ok (b ∷ bs)) (resolve.◌>>=◌ t (λ y. resolve.◌>>=◌ ts (λ ys. Ok (y ∷ ys))))
+        → BindAlike (AllAlike Alike) (Ok (b ∷ bs)) (resolve.◌>>=◌ t (λ y. resolve.◌>>=◌ ts (λ ys. Ok (y ∷ ys))))
     both (Ok c) (Ok cs) h k = (h, k)
     both (Ok c) (Err g) h k = absurd k
     both (Err g) ts h k = absurd h
 
 pub each-alike : {A B C : Type 0} (Alike : B → C → Type 0) (Used : B → Type 0) (f : A → Result B SqlFault) (g : A → Result C SqlFault)
-  → ((x : A) → ((b : B) → f x ≡ Ok b → Used b) → BindAlike Alike (f x) (g x))
-  → (xs : List A) → ((bs : List B) → each f xs ≡ Ok bs → Each Used bs) → BindAlike (AllAlike Alike) (each f xs) (each g xs)
+    → ((x : A) → ((b : B) → f x ≡ Ok b → Used b) → BindAlike Alike (f x) (g x))
+    → (xs : List A) → ((bs : List B) → each f xs ≡ Ok bs → Each Used bs) → BindAlike (AllAlike Alike) (each f xs) (each g xs)
 each-alike Alike Used f g one [] used = tt
 each-alike Alike Used f g one (x ∷ xs) used =
     joined-alike Alike Used (f x) (each f xs) (g x) (each g xs) (one x) (each-alike Alike Used f g one xs) used
@@ -167,27 +164,27 @@ abbrev pub compared_of : ℕ → Comparison → Result BoundOperand SqlFault →
 compared_of at compared l r = resolve.◌>>=◌ l (λ a. resolve.◌>>=◌ r (λ b. Ok (conditions.Compare at compared a b)))
 
 compared-alike : (ps : List Param) (bound : Bound) (at : ℕ) (compared : Comparison) (l r : Result BoundOperand SqlFault) (s t : Result BoundOperand SqlFault)
-  → (((b : BoundOperand) → l ≡ Ok b → UsesIn bound b) → BindAlike (AlikeOperand ps (kept 0 bound ps)) l s)
-  → (((b : BoundOperand) → r ≡ Ok b → UsesIn bound b) → BindAlike (AlikeOperand ps (kept 0 bound ps)) r t)
-  → ((c : BoundCondition) → compared_of at compared l r ≡ Ok c → UsesInCondition bound c)
-  → BindAlike (AlikeCondition ps (kept 0 bound ps)) (compared_of at compared l r) (compared_of at compared s t)
+    → (((b : BoundOperand) → l ≡ Ok b → UsesIn bound b) → BindAlike (AlikeOperand ps (kept 0 bound ps)) l s)
+    → (((b : BoundOperand) → r ≡ Ok b → UsesIn bound b) → BindAlike (AlikeOperand ps (kept 0 bound ps)) r t)
+    → ((c : BoundCondition) → compared_of at compared l r ≡ Ok c → UsesInCondition bound c)
+    → BindAlike (AlikeCondition ps (kept 0 bound ps)) (compared_of at compared l r) (compared_of at compared s t)
 compared-alike ps bound at compared (Err f) r s t one two used = err-alike (AlikeCondition ps (kept 0 bound ps)) f _
 compared-alike ps bound at compared (Ok a) (Err f) s t one two used = err-alike (AlikeCondition ps (kept 0 bound ps)) f _
 compared-alike ps bound at compared (Ok a) (Ok b) s t one two used =
     let all : UsesInCondition bound (conditions.Compare at compared a b) = used (conditions.Compare at compared a b) refl in
     both s t
-      (one (λ c h. let e : a ≡ c = cc in subst (UsesIn bound) e (λ p u. all p (or-left (uses_in p a) (uses_in p b) u))))
-      (two (λ c h. let e : b ≡ c = cc in subst (UsesIn bound) e (λ p u. all p (or-right (uses_in p a) (uses_in p b) u))))
+    (one (λ c h. let e : a ≡ c = cc in subst (UsesIn bound) e (λ p u. all p (or-left (uses_in p a) (uses_in p b) u))))
+    (two (λ c h. let e : b ≡ c = cc in subst (UsesIn bound) e (λ p u. all p (or-right (uses_in p a) (uses_in p b) u))))
   where
     both : (s t : Result BoundOperand SqlFault) → BindAlike (AlikeOperand ps (kept 0 bound ps)) (Ok a) s → BindAlike (AlikeOperand ps (kept 0 bound ps)) (Ok b) t
-      → BindAlike (AlikeCondition ps (kept 0 bound ps)) (Ok (conditions.Compare at compared a b)) (compared_of at compared s t)
+        → BindAlike (AlikeCondition ps (kept 0 bound ps)) (Ok (conditions.Compare at compared a b)) (compared_of at compared s t)
     both (Ok c) (Ok d) h k = (refl, refl, h, k)
     both (Ok c) (Err g) h k = absurd k
     both (Err g) t h k = absurd h
 
 pub condition-alike : (ps : List Param) (bound : Bound) (scope : Scope) (c : Condition)
-  → ((b : BoundCondition) → bind_condition scope (map declared ps) c ≡ Ok b → UsesInCondition bound b)
-  → BindAlike (AlikeCondition ps (kept 0 bound ps)) (bind_condition scope (map declared ps) c) (bind_condition scope (map declared (kept 0 bound ps)) c)
+    → ((b : BoundCondition) → bind_condition scope (map declared ps) c ≡ Ok b → UsesInCondition bound b)
+    → BindAlike (AlikeCondition ps (kept 0 bound ps)) (bind_condition scope (map declared ps) c) (bind_condition scope (map declared (kept 0 bound ps)) c)
 condition-alike ps bound scope (conditions.Compare at compared left right) used =
     compared-alike ps bound at compared _ _ _ _ (operand-alike ps bound scope left) (operand-alike ps bound scope right) used
 condition-alike ps bound scope (conditions.IsNull negated operand) used = tt
@@ -210,13 +207,13 @@ some-alike ps qs (Err f) (Ok d) h = tt
 some-alike ps qs (Err f) (Err g) h = tt
 
 some-used : (bound : Bound) (r : Result BoundCondition SqlFault)
-  → ((o : Option BoundCondition) → some_of r ≡ Ok o → UsesInFilter bound o) → (c : BoundCondition) → r ≡ Ok c → UsesInCondition bound c
+    → ((o : Option BoundCondition) → some_of r ≡ Ok o → UsesInFilter bound o) → (c : BoundCondition) → r ≡ Ok c → UsesInCondition bound c
 some-used bound (Ok d) used c h = let e : d ≡ c = cc in subst (UsesInCondition bound) e (used (Some d) refl)
 some-used bound (Err f) used c h = absurd cc
 
 pub filter-alike : (ps : List Param) (bound : Bound) (scope : Scope) (f : Option Condition)
-  → ((o : Option BoundCondition) → bind_filter scope (map declared ps) f ≡ Ok o → UsesInFilter bound o)
-  → BindAlike (AlikeFilter ps (kept 0 bound ps)) (bind_filter scope (map declared ps) f) (bind_filter scope (map declared (kept 0 bound ps)) f)
+    → ((o : Option BoundCondition) → bind_filter scope (map declared ps) f ≡ Ok o → UsesInFilter bound o)
+    → BindAlike (AlikeFilter ps (kept 0 bound ps)) (bind_filter scope (map declared ps) f) (bind_filter scope (map declared (kept 0 bound ps)) f)
 filter-alike ps bound scope None used = tt
 filter-alike ps bound scope (Some c) used =
     some-alike ps (kept 0 bound ps) _ _ (condition-alike ps bound scope c (some-used bound (bind_condition scope (map declared ps) c) used))

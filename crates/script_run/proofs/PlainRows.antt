@@ -1,15 +1,13 @@
 -- Rows of plain tables: each atom is NULL or of its column's kind, before a statement and after it.
-use Rattle.std.proofs.Common.{◌≡◌, ℕ, zero, suc, ◌+◌, List, [], ◌∷◌, ◌++◌, map, flat_map, length, nat_le, Option, Some, None, Result, Ok, Err, Bool, true, false, ◌&&◌, if◌then◌else◌, ◌==◌, refl, sym, ◌∙◌, ap, subst, add-zero, add-one, arith, eqb→eq}
-use Rattle.std.specs.List.{slice_get, find}
+use Rattle.std.proofs.Common.{◌≡◌, ℕ, zero, suc, ◌+◌, List, [], ◌∷◌, ◌++◌, map, flat_map, nat_le, Option, Some, None, Result, Ok, Err, Bool, true, false, if◌then◌else◌, refl, sym, ap, subst}
+use Rattle.std.specs.List.{slice_get}
 use Rattle.std.specs.Option.{option_map}
 use Rattle.ae_base.specs.declared.types.Ty.{Ty}
 use Rattle.ae_base.specs.declared.types.Ty.TheVariants as ty
 use Rattle.ae_base.specs.declared.values.Datum.{Datum}
 use Rattle.ae_base.specs.declared.values.Datum.TheVariants.{Num, Text, Bin}
-use Rattle.ae_base.specs.declared.values.Value.{Value}
-use Rattle.ae_base.specs.declared.values.Value.TheVariants as value
 use Rattle.ae_base.specs.declared.atoms.AtomOf.{AtomOf}
-use Rattle.ae_base.specs.declared.atoms.AtomOf.TheVariants.{Null, Plain, Sealed}
+use Rattle.ae_base.specs.declared.atoms.AtomOf.TheVariants.{Null, Plain}
 use Rattle.ae_base.specs.declared.tables.ColumnDef.{ColumnDef}
 use Rattle.ae_base.specs.declared.faults.SqlFault.{SqlFault}
 use Rattle.ae_base.specs.Values.{is_within}
@@ -82,13 +80,13 @@ abbrev pub result_types : List ResultColumn → List Ty
 result_types columns = map (λ c. c.ty) columns
 
 column-found : (columns : List ColumnDef) (o : Option ColumnDef) (r : ResultColumn) (p : ℕ) → slice_get columns p ≡ o
-  → resolve.or_fault fault.Syntax (option_map (λ c. record { name = c.name; ty = c.ty; enc = c.enc }) o) ≡ Ok r
-  → (c : ColumnDef) × (slice_get columns p ≡ Some c) × (r.ty ≡ c.ty)
+    → resolve.or_fault fault.Syntax (option_map (λ c. record { name = c.name; ty = c.ty; enc = c.enc }) o) ≡ Ok r
+    → (c : ColumnDef) × (slice_get columns p ≡ Some c) × (r.ty ≡ c.ty)
 column-found columns (Some c) r p e h = (c, e, ap (λ x. x.ty) (let k : r ≡ record { name = c.name; ty = c.ty; enc = c.enc } = cc in k))
 column-found columns None r p e h = absurd cc
 
 item-of : (columns : List ColumnDef) (row params : List (AtomOf (List ℕ))) (b : BoundOperand) (r : ResultColumn) (a : AtomOf (List ℕ))
-  → RowOf (column_types columns) row → result_column columns b ≡ Ok r → eval row params b ≡ Some a → is_of_base r.ty a ≡ true
+    → RowOf (column_types columns) row → result_column columns b ≡ Ok r → eval row params b ≡ Some a → is_of_base r.ty a ≡ true
 item-of columns row params (operands.Column at p) r a of h e =
     let c = column-found columns (slice_get columns p) r p refl h in
     let g = get-of (column_types columns) row p c.0.ty of (get-type columns p c.0 c.1) in
@@ -108,7 +106,7 @@ step-ok (Ok x) f y h = (x, refl, h)
 step-ok (Err e) f y h = absurd cc
 
 items-of : (columns : List ColumnDef) (row params : List (AtomOf (List ℕ))) (bs : List BoundOperand) (rs : List ResultColumn) (result : List (AtomOf (List ℕ)))
-  → RowOf (column_types columns) row → each (result_column columns) bs ≡ Ok rs → items_of bs row params ≡ Ok result → RowOf (result_types rs) result
+    → RowOf (column_types columns) row → each (result_column columns) bs ≡ Ok rs → items_of bs row params ≡ Ok result → RowOf (result_types rs) result
 items-of columns row params [] rs result of h e =
     let f : [] ≡ rs = cc in
     let g : [] ≡ result = cc in
@@ -123,7 +121,7 @@ items-of columns row params (b ∷ bs) rs result of h e =
     let f : r.0 ∷ q.0 ≡ rs = cc in
     let g : a.0 ∷ n.0 ≡ result = cc in
     subst (λ (x : List ResultColumn). RowOf (result_types x) result) f
-      (subst (λ (x : List (AtomOf (List ℕ))). RowOf (result_types (r.0 ∷ q.0)) x) g (one, more))
+    (subst (λ (x : List (AtomOf (List ℕ))). RowOf (result_types (r.0 ∷ q.0)) x) g (one, more))
 
 -- what the walk meets are rows of the table, or faults
 abbrev pub EventOf : List Ty → Event → Type 0
@@ -141,14 +139,14 @@ each-append P [] ys h k = k
 each-append P (x ∷ xs) ys h k = (h.0, each-append P xs ys h.1 k)
 
 pub events-of : (types : List Ty) (world : World) (f : Option BoundCondition) (params : List (AtomOf (List ℕ))) (rows : List (List (AtomOf (List ℕ)))) → Each (RowOf types) rows
-  → Each (EventOf types) (flat_map (walk world f params []) rows)
+    → Each (EventOf types) (flat_map (walk world f params []) rows)
 events-of types world f params [] h = tt
 events-of types world f params (row ∷ rows) h =
     each-append (EventOf types) _ _ (passed-of types row h.0 (passes f row params)) (events-of types world f params rows h.1)
 
 pub results-of : (columns : List ColumnDef) (params : List (AtomOf (List ℕ))) (bs : List BoundOperand) (rs : List ResultColumn) → each (result_column columns) bs ≡ Ok rs
-  → (count : ℕ) (events : List Event) → Each (EventOf (column_types columns)) events
-  → (rows : List (List (AtomOf (List ℕ)))) → results bs params count events ≡ Ok rows → Each (RowOf (result_types rs)) rows
+    → (count : ℕ) (events : List Event) → Each (EventOf (column_types columns)) events
+    → (rows : List (List (AtomOf (List ℕ)))) → results bs params count events ≡ Ok rows → Each (RowOf (result_types rs)) rows
 results-of columns params bs rs e count [] of rows h = let f : [] ≡ rows = cc in subst (Each (RowOf (result_types rs))) f tt
 results-of columns params bs rs e count (Err f ∷ events) of rows h = absurd cc
 results-of columns params bs rs e count (Ok row ∷ events) of rows h =

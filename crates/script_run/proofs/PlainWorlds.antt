@@ -1,5 +1,5 @@
 -- Worlds of plain tables: a statement over plain values keeps each row of its columns, and gives such rows.
-use Rattle.std.proofs.Common.{◌≡◌, ℕ, zero, suc, ◌+◌, List, [], ◌∷◌, ◌++◌, map, length, Option, Some, None, Result, Ok, Err, Bool, true, false, cond, nat_lt, if◌then◌else◌, unwrap_or, is_some, refl, sym, ◌∙◌, ap, subst, arith, encode_utf8_all}
+use Rattle.std.proofs.Common.{◌≡◌, ℕ, zero, suc, ◌+◌, List, [], ◌∷◌, ◌++◌, map, length, Option, Some, None, Result, Ok, Err, Bool, true, false, nat_lt, if◌then◌else◌, unwrap_or, is_some, refl, sym, ◌∙◌, ap, subst, arith, encode_utf8_all}
 use Rattle.std.specs.List.{slice_get, find, position, position_or_len}
 use Rattle.std.proofs.lemmas.List.Folds.{find_at}
 use Rattle.std.proofs.lemmas.Option.{slice_get_within}
@@ -29,7 +29,7 @@ use Rattle.engine.specs.Step as engine
 use Rattle.script_run.proofs.BindSent.{Each, AllAlike, AlikeOperand}
 use Rattle.script_run.proofs.StatementSent.{AlikeBound, bind-ok}
 use Rattle.script_run.proofs.StepSent.{atoms}
-use Rattle.script_run.proofs.PlainRows.{RowOf, EventOf, result_types, results-of, events-of, each-append, step-ok}
+use Rattle.script_run.proofs.PlainRows.{RowOf, EventOf, result_types, results-of, events-of, each-append}
 use Rattle.script_run.proofs.PlainInserts.{new_rows-of}
 
 abbrev pub TableIs : TableDef → List (List (AtomOf (List ℕ))) → Type 0
@@ -42,7 +42,7 @@ IsPlain world = AllAlike TableIs world.catalog.tables world.contents
 -- ---- the rows of one table
 
 rows-at : (tables : List TableDef) (contents : List (List (List (AtomOf (List ℕ))))) (k : ℕ) (def : TableDef) → AllAlike TableIs tables contents
-  → slice_get tables k ≡ Some def → TableIs def (unwrap_or (slice_get contents k) [])
+    → slice_get tables k ≡ Some def → TableIs def (unwrap_or (slice_get contents k) [])
 rows-at [] [] k def h e = absurd cc
 rows-at (t ∷ ts) (c ∷ cs) zero def h e = let f : t ≡ def = cc in subst (λ (x : TableDef). TableIs x c) f h.0
 rows-at (t ∷ ts) (c ∷ cs) (suc k) def h e = rows-at ts cs k def h.1 e
@@ -50,7 +50,7 @@ rows-at [] (c ∷ cs) k def h e = absurd h
 rows-at (t ∷ ts) [] k def h e = absurd h
 
 replaced-is : (tables : List TableDef) (contents : List (List (List (AtomOf (List ℕ))))) (k : ℕ) (def : TableDef) (rows : List (List (AtomOf (List ℕ)))) → AllAlike TableIs tables contents
-  → slice_get tables k ≡ Some def → TableIs def rows → AllAlike TableIs tables (replaced k rows contents)
+    → slice_get tables k ≡ Some def → TableIs def rows → AllAlike TableIs tables (replaced k rows contents)
 replaced-is [] [] k def rows h e r = absurd cc
 replaced-is (t ∷ ts) (c ∷ cs) zero def rows h e r = let f : def ≡ t = cc in (subst (λ (x : TableDef). TableIs x rows) f r, h.1)
 replaced-is (t ∷ ts) (c ∷ cs) (suc k) def rows h e r = (h.0, replaced-is ts cs k def rows h.1 e r)
@@ -58,7 +58,7 @@ replaced-is [] (c ∷ cs) k def rows h e r = absurd h
 replaced-is (t ∷ ts) [] k def rows h e r = absurd h
 
 appended-is : (tables : List TableDef) (contents : List (List (List (AtomOf (List ℕ))))) (t : TableDef) → AllAlike TableIs tables contents
-  → AllAlike TableIs (tables ++ t ∷ []) (contents ++ [] ∷ [])
+    → AllAlike TableIs (tables ++ t ∷ []) (contents ++ [] ∷ [])
 appended-is [] [] t h = (tt, tt)
 appended-is (u ∷ us) (c ∷ cs) t h = (h.0, appended-is us cs t h.1)
 appended-is [] (c ∷ cs) t h = absurd h
@@ -75,7 +75,7 @@ placed test xs x h =
     (n, rw t refl, s)
 
 named-table : (catalog : Catalog) (name : List ℕ) (o : Option TableDef) (def : TableDef) → table_named catalog name ≡ o
-  → Rattle.resolve.specs.Bind.or_fault (fault.NoTable name) o ≡ Ok def → table_named catalog name ≡ Some def
+    → Rattle.resolve.specs.Bind.or_fault (fault.NoTable name) o ≡ Ok def → table_named catalog name ≡ Some def
 named-table catalog name (Some d) def e h = let f : d ≡ def = cc in e ∙ ap Some f
 named-table catalog name None def e h = absurd cc
 
@@ -97,7 +97,7 @@ table-rows world name def h e =
     rw q (rows-at world.catalog.tables world.contents p.k def h p.there)
 
 rows-replaced : (world : World) (name : List ℕ) (def : TableDef) (rows : List (List (AtomOf (List ℕ)))) → IsPlain world → table_for world.catalog name ≡ Ok def → TableIs def rows
-  → IsPlain (with_rows world name rows)
+    → IsPlain (with_rows world name rows)
 rows-replaced world name def rows h e r =
     let p = table-at world.catalog name def e in
     let q = p.place in
@@ -123,29 +123,29 @@ pub record StaysPlain (o : Outcome) : Type 0 where
   pub answer : AnswerOf o.answer
 
 create-plain : (world : World) (t : TableDef) (b c : Bool) → IsPlain world
-  → StaysPlain (engine.outcome world (engine.◌>>=◌ (if b then Err (fault.Exists t.name) else if c then Err fault.Full else Ok (record { masters = world.catalog.masters; keys = world.catalog.keys; tables = world.catalog.tables ++ t ∷ []; next_id = world.catalog.next_id; version = world.catalog.version + 1 })) (λ catalog. Ok (engine.Defined, record { catalog = catalog; contents = world.contents ++ [] ∷ [] }))))
+    → StaysPlain (engine.outcome world (engine.◌>>=◌ (if b then Err (fault.Exists t.name) else if c then Err fault.Full else Ok (record { masters = world.catalog.masters; keys = world.catalog.keys; tables = world.catalog.tables ++ t ∷ []; next_id = world.catalog.next_id; version = world.catalog.version + 1 })) (λ catalog. Ok (engine.Defined, record { catalog = catalog; contents = world.contents ++ [] ∷ [] }))))
 create-plain world t true c h = record { world = h; answer = tt }
 create-plain world t false true h = record { world = h; answer = tt }
 create-plain world t false false h = record { world = appended-is world.catalog.tables world.contents t h; answer = tt }
 
 insert-plain : (ps qs : List Param) (world : World) (i : BoundInsert) (cs : List (List BoundOperand)) (def : TableDef) → IsPlain world
-  → table_for world.catalog i.table ≡ Ok def → i.columns ≡ def.columns → AllAlike (AllAlike (AlikeOperand ps qs)) i.rows cs
-  → (r : Result (List (List (AtomOf (List ℕ)))) SqlFault) → new_rows i (atoms ps) (length (rows_of world i.table)) i.rows ≡ r
-  → StaysPlain (engine.outcome world (engine.◌>>=◌ r (λ rows. Ok (engine.Changed (length i.rows), with_rows world i.table (rows_of world i.table ++ rows)))))
+    → table_for world.catalog i.table ≡ Ok def → i.columns ≡ def.columns → AllAlike (AllAlike (AlikeOperand ps qs)) i.rows cs
+    → (r : Result (List (List (AtomOf (List ℕ)))) SqlFault) → new_rows i (atoms ps) (length (rows_of world i.table)) i.rows ≡ r
+    → StaysPlain (engine.outcome world (engine.◌>>=◌ r (λ rows. Ok (engine.Changed (length i.rows), with_rows world i.table (rows_of world i.table ++ rows)))))
 insert-plain ps qs world i cs def h t c alike (Ok rows) e = record {
   world =
       let new = new_rows-of ps qs i (length (rows_of world i.table)) i.rows cs alike rows e in
       let here : TableIs def rows = subst (λ (columns : List ColumnDef). Each (RowOf (column_types columns)) rows) c new in
       rows-replaced world i.table def (rows_of world i.table ++ rows) h t
-        (each-append (RowOf (column_types def.columns)) (rows_of world i.table) rows (table-rows world i.table def h t) here);
+      (each-append (RowOf (column_types def.columns)) (rows_of world i.table) rows (table-rows world i.table def h t) here);
   answer = tt;
 }
 insert-plain ps qs world i cs def h t c alike (Err f) e = record { world = h; answer = tt }
 
 select-plain : (world : World) (q : BoundQuery) (params : List (AtomOf (List ℕ))) (def : TableDef) → IsPlain world → q.joins ≡ []
-  → table_for world.catalog q.from ≡ Ok def → each (result_column def.columns) q.items ≡ Ok q.columns
-  → (r : Result (List (List (AtomOf (List ℕ)))) SqlFault) → results q.items params 0 (events_of world q params) ≡ r
-  → StaysPlain (engine.outcome world (engine.◌>>=◌ r (λ rows. Ok (engine.Rows q.columns rows, world))))
+    → table_for world.catalog q.from ≡ Ok def → each (result_column def.columns) q.items ≡ Ok q.columns
+    → (r : Result (List (List (AtomOf (List ℕ)))) SqlFault) → results q.items params 0 (events_of world q params) ≡ r
+    → StaysPlain (engine.outcome world (engine.◌>>=◌ r (λ rows. Ok (engine.Rows q.columns rows, world))))
 select-plain world q params def h j t c (Err f) e = record { world = h; answer = tt }
 select-plain world q params def h j t c (Ok rows) e = record {
   world = h;

@@ -1,6 +1,6 @@
 -- The parameters that the driver sends are those that the statement uses, in their order, each with its value.
-use Rattle.std.proofs.Common.{◌≡◌, ℕ, zero, suc, ◌+◌, List, [], ◌∷◌, map, Option, Some, None, Result, Ok, Err, Bool, true, false, cond, if◌then◌else◌, refl, sym, ◌∙◌, ap, subst, arith, add-zero, add-suc, add-one}
-use Rattle.std.specs.List.{slice_get, position_from, find}
+use Rattle.std.proofs.Common.{◌≡◌, ℕ, suc, ◌+◌, List, [], ◌∷◌, map, Some, Ok, Bool, true, false, if◌then◌else◌, refl, sym, ◌∙◌, ap, arith, add-zero}
+use Rattle.std.specs.List.{slice_get, position_from}
 use Rattle.std.specs.Str.{bytes_eq}
 use Rattle.std.proofs.lemmas.Slice.Eq.{bytes_eq-Decides}
 use Rattle.ae_base.specs.declared.types.Enc.TheVariants as enc
@@ -9,7 +9,6 @@ use Rattle.ae_base.specs.declared.batches.ParamDecl.{ParamDecl}
 use Rattle.ae_base.specs.declared.atoms.AtomOf.{AtomOf}
 use Rattle.ae_base.specs.declared.values.Value.{Value}
 use Rattle.ae_base.specs.declared.values.Value.TheVariants as value
-use Rattle.ae_base.specs.declared.faults.SqlFault.{SqlFault}
 use Rattle.ae_base.specs.Values.{value_is_within}
 use Rattle.sql_tree.specs.Bound.{Bound}
 use Rattle.resolve.specs.Bind.{uses}
@@ -37,17 +36,17 @@ AreFound params [] = Unit {0}
 AreFound params (p ∷ ps) = (param_named params p.declaration.name ≡ Some p) × AreFound params ps
 
 sent-step : (params : List Param) (p : Param) (rest : List UsedParam) → param_named params p.declaration.name ≡ Some p
-  → sent_params params (record { name = p.declaration.name; enc = enc.Plain } ∷ rest) ≡ sent_of p ∷ sent_params params rest
+    → sent_params params (record { name = p.declaration.name; enc = enc.Plain } ∷ rest) ≡ sent_of p ∷ sent_params params rest
 sent-step params p rest e = rw e refl
 
 sent-used-step : (params : List Param) (p : Param) (used : List UsedParam) (ps : List Param) → param_named params p.declaration.name ≡ Some p
-  → sent_params params used ≡ map sent_of ps → (b : Bool)
-  → sent_params params (if b then record { name = p.declaration.name; enc = enc.Plain } ∷ used else used) ≡ map sent_of (if b then p ∷ ps else ps)
+    → sent_params params used ≡ map sent_of ps → (b : Bool)
+    → sent_params params (if b then record { name = p.declaration.name; enc = enc.Plain } ∷ used else used) ≡ map sent_of (if b then p ∷ ps else ps)
 sent-used-step params p used ps e h true = sent-step params p used e ∙ ap (λ rest. sent_of p ∷ rest) h
 sent-used-step params p used ps e h false = h
 
 pub sent-used : (params : List Param) (place : ℕ) (bound : Bound) (ps : List Param) → AreFound params ps
-  → sent_params params (used_from place bound (map declared ps)) ≡ map sent_of (kept place bound ps)
+    → sent_params params (used_from place bound (map declared ps)) ≡ map sent_of (kept place bound ps)
 sent-used params place bound [] found = refl
 sent-used params place bound (p ∷ ps) found =
     sent-used-step params p _ _ found.0 (sent-used params (place + 1) bound ps found.1) (uses place bound)
@@ -61,21 +60,21 @@ same_name : (name : List ℕ) → bytes_eq name name ≡ true
 same_name name = (bytes_eq-Decides name name).1 refl
 
 tail-step : (name : List ℕ) (names : List (List ℕ)) (p : Param) (ps : List Param) (b : Bool)
-  → ((first : List ℕ) (rest : List (List ℕ)) → in_order (first ∷ rest) ps ≡ true → in_order rest ps ≡ true)
-  → (if b then in_order names ps else in_order (name ∷ names) ps) ≡ true → in_order names ps ≡ true
+    → ((first : List ℕ) (rest : List (List ℕ)) → in_order (first ∷ rest) ps ≡ true → in_order rest ps ≡ true)
+    → (if b then in_order names ps else in_order (name ∷ names) ps) ≡ true → in_order names ps ≡ true
 tail-step name names p ps true tail h = h
 tail-step name names p ps false tail h = tail name names h
 
 -- fewer names are in order too, and more parameters before them change nothing
 cons-step : (name : List ℕ) (names : List (List ℕ)) (ps : List Param) (b : Bool)
-  → (in_order (name ∷ names) ps ≡ true → in_order names ps ≡ true) → in_order (name ∷ names) ps ≡ true
-  → (if b then in_order names ps else in_order (name ∷ names) ps) ≡ true
+    → (in_order (name ∷ names) ps ≡ true → in_order names ps ≡ true) → in_order (name ∷ names) ps ≡ true
+    → (if b then in_order names ps else in_order (name ∷ names) ps) ≡ true
 cons-step name names ps true tail h = tail h
 cons-step name names ps false tail h = h
 
 cons-by : (names : List (List ℕ)) (p : Param) (ps : List Param)
-  → ((first : List ℕ) (rest : List (List ℕ)) → in_order (first ∷ rest) ps ≡ true → in_order rest ps ≡ true)
-  → in_order names ps ≡ true → in_order names (p ∷ ps) ≡ true
+    → ((first : List ℕ) (rest : List (List ℕ)) → in_order (first ∷ rest) ps ≡ true → in_order rest ps ≡ true)
+    → in_order names ps ≡ true → in_order names (p ∷ ps) ≡ true
 cons-by [] p ps tail h = refl
 cons-by (name ∷ names) p ps tail h = cons-step name names ps (bytes_eq name p.declaration.name) (tail name names) h
 
@@ -92,7 +91,7 @@ first-step : (names : List (List ℕ)) (p : Param) (ps : List Param) → in_orde
 first-step names p ps h = rw (same_name p.declaration.name) h
 
 used-in_order-step : (p : Param) (used : List UsedParam) (ps : List Param) → in_order (map used_name used) ps ≡ true → (b : Bool)
-  → in_order (map used_name (if b then record { name = p.declaration.name; enc = enc.Plain } ∷ used else used)) (p ∷ ps) ≡ true
+    → in_order (map used_name (if b then record { name = p.declaration.name; enc = enc.Plain } ∷ used else used)) (p ∷ ps) ≡ true
 used-in_order-step p used ps h true = first-step (map used_name used) p ps h
 used-in_order-step p used ps h false = in_order-cons (map used_name used) p ps h
 
@@ -108,8 +107,8 @@ AreFit [] = Unit {0}
 AreFit (p ∷ ps) = (value_is_within p.value p.declaration.ty ≡ true) × AreFit ps
 
 suited-step : (p : Param) (v : Value) (ps : List SentParam) (atoms : List (AtomOf (List ℕ)))
-  → value_is_within v p.declaration.ty ≡ true → suited ps ≡ Ok atoms
-  → suited (record { name = p.declaration.name; ty = p.declaration.ty; enc = enc.Plain; atom = plain_atom v } ∷ ps) ≡ Ok (plain_atom v ∷ atoms)
+    → value_is_within v p.declaration.ty ≡ true → suited ps ≡ Ok atoms
+    → suited (record { name = p.declaration.name; ty = p.declaration.ty; enc = enc.Plain; atom = plain_atom v } ∷ ps) ≡ Ok (plain_atom v ∷ atoms)
 suited-step p value.Null ps atoms fit h = rw h refl
 suited-step p (value.Is datum) ps atoms fit h = rw (fit, h) refl
 
@@ -148,9 +147,11 @@ suc-plus : (i k : ℕ) → (i + 1) + k ≡ i + suc k
 suc-plus i k = omega arith
 
 found-here : (name : List ℕ) (i j p : ℕ) (x : Param) (ps qs : List Param) → named name x.declaration ≡ true
-  → position_from (named name) i (map declared (x ∷ ps)) ≡ Some p → IsFound name i j p (x ∷ ps) (x ∷ qs)
+    → position_from (named name) i (map declared (x ∷ ps)) ≡ Some p → IsFound name i j p (x ∷ ps) (x ∷ qs)
 found-here name i j p x ps qs t h = record {
-  k = 0; l = 0; param = x;
+  k = 0;
+  l = 0;
+  param = x;
   here = let e : Some i ≡ Some p = rw t at h in let f : i ≡ p = cc in omega arith;
   there = refl;
   kept_place = rw t (ap Some (sym (add-zero j)));
@@ -159,7 +160,9 @@ found-here name i j p x ps qs t h = record {
 
 found-after : (name : List ℕ) (i j p : ℕ) (x : Param) (ps qs : List Param) → IsFound name (i + 1) j p ps qs → IsFound name i j p (x ∷ ps) qs
 found-after name i j p x ps qs f = record {
-  k = suc f.k; l = f.l; param = f.param;
+  k = suc f.k;
+  l = f.l;
+  param = f.param;
   here = f.here ∙ suc-plus i f.k;
   there = f.there;
   kept_place = f.kept_place;
@@ -167,9 +170,11 @@ found-after name i j p x ps qs f = record {
 }
 
 found-after_kept : (name : List ℕ) (i j p : ℕ) (x : Param) (ps qs : List Param) → named name x.declaration ≡ false
-  → IsFound name (i + 1) (j + 1) p ps qs → IsFound name i j p (x ∷ ps) (x ∷ qs)
+    → IsFound name (i + 1) (j + 1) p ps qs → IsFound name i j p (x ∷ ps) (x ∷ qs)
 found-after_kept name i j p x ps qs t f = record {
-  k = suc f.k; l = suc f.l; param = f.param;
+  k = suc f.k;
+  l = suc f.l;
+  param = f.param;
   here = f.here ∙ suc-plus i f.k;
   there = f.there;
   kept_place = rw t (f.kept_place ∙ ap Some (suc-plus j f.l));
@@ -178,10 +183,10 @@ found-after_kept name i j p x ps qs t f = record {
 
 -- the step of the induction, by whether the parameter has the name and whether it is kept
 found-step : (name : List ℕ) (i j p : ℕ) (bound : Bound) (x : Param) (ps qs : List Param)
-  → position_from (named name) i (map declared (x ∷ ps)) ≡ Some p → uses p bound ≡ true
-  → ((m : ℕ) → position_from (named name) (i + 1) (map declared ps) ≡ Some p → IsFound name (i + 1) m p ps qs)
-  → (t u : Bool) → named name x.declaration ≡ t → uses i bound ≡ u
-  → IsFound name i j p (x ∷ ps) (if u then x ∷ qs else qs)
+    → position_from (named name) i (map declared (x ∷ ps)) ≡ Some p → uses p bound ≡ true
+    → ((m : ℕ) → position_from (named name) (i + 1) (map declared ps) ≡ Some p → IsFound name (i + 1) m p ps qs)
+    → (t u : Bool) → named name x.declaration ≡ t → uses i bound ≡ u
+    → IsFound name i j p (x ∷ ps) (if u then x ∷ qs else qs)
 found-step name i j p bound x ps qs h used more true true et eu = found-here name i j p x ps qs et h
 found-step name i j p bound x ps qs h used more true false et eu =
     let e : Some i ≡ Some p = rw et at h in
@@ -196,8 +201,8 @@ found-step name i j p bound x ps qs h used more false false et eu =
     found-after name i j p x ps qs (more j e)
 
 pub found-kept : (name : List ℕ) (i j p : ℕ) (bound : Bound) (ps : List Param)
-  → position_from (named name) i (map declared ps) ≡ Some p → uses p bound ≡ true → IsFound name i j p ps (kept i bound ps)
+    → position_from (named name) i (map declared ps) ≡ Some p → uses p bound ≡ true → IsFound name i j p ps (kept i bound ps)
 found-kept name i j p bound [] h used = absurd cc
 found-kept name i j p bound (x ∷ ps) h used =
     found-step name i j p bound x ps (kept (i + 1) bound ps) h used (λ m e. found-kept name (i + 1) m p bound ps e used)
-      (named name x.declaration) (uses i bound) refl refl
+    (named name x.declaration) (uses i bound) refl refl

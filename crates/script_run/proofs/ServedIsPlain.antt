@@ -1,16 +1,15 @@
 -- The steps of every script, over a fresh server, come to their plaintext meaning.
-use Rattle.std.proofs.Common.{◌≡◌, ℕ, suc, ◌+◌, List, [], ◌∷◌, ◌++◌, map, flat_map, length, take, Option, Some, None, Result, Ok, Err, Bool, true, false, ◌||◌, ◌&&◌, not, nat_le, cond, if◌then◌else◌, ◌==◌, codes, refl, sym, ◌∙◌, ap, subst, append_assoc}
+use Rattle.std.proofs.Common.{◌≡◌, ℕ, ◌+◌, List, [], ◌∷◌, ◌++◌, length, take, Option, Some, None, Ok, Err, Bool, true, false, ◌||◌, ◌&&◌, not, nat_le, cond, if◌then◌else◌, ◌==◌, codes, refl, sym, ◌∙◌, ap, subst, append_assoc}
 use Rattle.std.specs.List.{find, list_any}
 use Rattle.std.specs.Str.{bytes_eq, is_utf8}
 use Rattle.std.proofs.lemmas.Slice.Eq.{bytes_eq-Decides}
-use Rattle.ae_base.specs.declared.batches.Batch.{Batch}
 use Rattle.ae_base.specs.declared.batches.Param.{Param}
 use Rattle.engine.specs.Worlds.{World, empty_world}
 use Rattle.wire_frames.specs.Messages.{Request, Reply}
 use Rattle.driver.specs.Sessions.{Idle, begin, param_named}
 use Rattle.script_lang.specs.Script.{Step, Whole, Half, Execute, Begun, Read, steps_of, steps_from, with_line, with_param, with_declaration, ended, then_steps, nothing_begun}
 use Rattle.script_lang.specs.Script as script
-use Rattle.script_run.specs.Drive.{drive_from, Driven, Done}
+use Rattle.script_run.specs.Drive.{drive_from, Done}
 use Rattle.script_run.specs.Transcript.{Exchange, batch_passes, exchanges_from, replies_in, requests_in}
 use Rattle.script_run.specs.Reference.{meaning, meanings_from}
 use Rattle.script_run.specs.Laws.{ServedIsPlain}
@@ -34,7 +33,7 @@ requests-append [] b = refl
 requests-append (e ∷ es) b = ap (λ (x : List Request). e.request ∷ x) (requests-append es b)
 
 pub run-agrees : (steps : List Step) (world : World) → IsPlain world → AreSteps steps → (taken : ℕ)
-  → drive_from steps taken (replies_in (exchanges_from world steps))
+    → drive_from steps taken (replies_in (exchanges_from world steps))
     ≡ record { requests = requests_in (exchanges_from world steps); outcomes = meanings_from world steps; end = Done }
 run-agrees [] world h s taken = refl
 run-agrees (Whole number batch ∷ steps) world h s taken =
@@ -89,7 +88,7 @@ found-itself p = let e : bytes_eq p.declaration.name p.declaration.name ≡ true
 found-push : (params : List Param) (p : Param) → AreFound params params → list_any (is_named p.declaration.name) params ≡ false → AreFound (params ++ p ∷ []) (params ++ p ∷ [])
 found-push params p h e =
     found-append (params ++ p ∷ []) params p (found-more params (p ∷ []) params h)
-      (find-last (is_named p.declaration.name) params (p ∷ []) e ∙ found-itself p)
+    (find-last (is_named p.declaration.name) params (p ∷ []) e ∙ found-itself p)
 
 -- ---- so for the steps of a script
 
@@ -102,7 +101,7 @@ cond-begun true x y h k = h
 cond-begun false x y h k = k
 
 push-begun : (begun : Begun) (p : Param) (any big : Bool) → list_any (is_named p.declaration.name) begun.params ≡ any → AreFound begun.params begun.params
-  → AreBegun (if any || big then None else Some (record { params = begun.params ++ p ∷ []; lines = [] }))
+    → AreBegun (if any || big then None else Some (record { params = begun.params ++ p ∷ []; lines = [] }))
 push-begun begun p true big e h = tt
 push-begun begun p false true e h = tt
 push-begun begun p false false e h = found-push begun.params p h e
@@ -117,9 +116,9 @@ line-begun begun line h =
     let blank : Bool = (length (script.behind_blanks line) == 0) || bytes_eq (take 2 (script.behind_blanks line)) (codes "--") in
     let declares : Option Begun = if script.is_word (codes "DECLARE") line then with_declaration begun (script.declaration_of line) else Some (record { params = begun.params; lines = line ∷ [] }) in
     cond-begun (length begun.lines == 0) (if blank then Some begun else declares) (Some (record { params = begun.params; lines = begun.lines ++ line ∷ [] }))
-      (cond-begun blank (Some begun) declares h
-        (cond-begun (script.is_word (codes "DECLARE") line) (with_declaration begun (script.declaration_of line)) (Some (record { params = begun.params; lines = line ∷ [] }))
-          (declaration-begun begun (script.declaration_of line) h) h)) h
+    (cond-begun blank (Some begun) declares h
+    (cond-begun (script.is_word (codes "DECLARE") line) (with_declaration begun (script.declaration_of line)) (Some (record { params = begun.params; lines = line ∷ [] }))
+    (declaration-begun begun (script.declaration_of line) h) h)) h
 
 abbrev pub AreRead : Read → Type 0
 AreRead (Ok steps) = AreSteps steps
@@ -154,11 +153,11 @@ lines-read : (number : ℕ) (begun : Begun) (lines : List (List ℕ)) → AreFou
 lines-read number begun [] h = ended-steps begun h
 lines-read number begun (line ∷ lines) h =
     cond-read (not (is_utf8 line) || script.is_refused_so_far line) (Err number) _ tt
-      (cond-read (script.is_word (codes "GO") line) _ _
-        (cond-read (length (script.behind_blanks (script.behind_word line)) == 0) _ (Err number)
-          (then-read (ended begun) (steps_from (number + 1) nothing_begun lines) (ended-steps begun h) (lines-read (number + 1) nothing_begun lines tt)) tt)
-        (bad-read number (λ next. steps_from (number + 1) next lines) (with_line begun line) (line-begun begun line h)
-          (λ next k. lines-read (number + 1) next lines k)))
+    (cond-read (script.is_word (codes "GO") line) _ _
+    (cond-read (length (script.behind_blanks (script.behind_word line)) == 0) _ (Err number)
+    (then-read (ended begun) (steps_from (number + 1) nothing_begun lines) (ended-steps begun h) (lines-read (number + 1) nothing_begun lines tt)) tt)
+    (bad-read number (λ next. steps_from (number + 1) next lines) (with_line begun line) (line-begun begun line h)
+    (λ next k. lines-read (number + 1) next lines k)))
 
 read-steps : (r : Read) (steps : List Step) → AreRead r → r ≡ Ok steps → AreSteps steps
 read-steps (Ok s) steps h e = let f : s ≡ steps = cc in subst AreSteps f h

@@ -11,4 +11,4 @@ use Rattle.script_run.specs.Reference.{outcomes_of}
 abbrev pub ServedIsPlain : Type 0
 ServedIsPlain = (bytes : List ℕ) (steps : List Step) → steps_of bytes ≡ Ok steps
     → drive steps (replies_in (exchanges_from empty_world steps))
-      ≡ record { requests = requests_in (exchanges_from empty_world steps); outcomes = outcomes_of steps; end = Done }
+    ≡ record { requests = requests_in (exchanges_from empty_world steps); outcomes = outcomes_of steps; end = Done }

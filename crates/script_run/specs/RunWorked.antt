@@ -40,7 +40,7 @@ unfolding encodes encode chars is_utf8
 the_steps = refl
 
 pub the_outcomes : outcomes_of plain_table_steps
-  ≡ Defined ∷ Changed 3 ∷ Rows (codes "a" ∷ []) ((value.Is (Num (pos 5)) ∷ []) ∷ []) ∷ []
+    ≡ Defined ∷ Changed 3 ∷ Rows (codes "a" ∷ []) ((value.Is (Num (pos 5)) ∷ []) ∷ []) ∷ []
 unfolding encodes encode
 the_outcomes = refl
 
@@ -55,10 +55,10 @@ the_drive = refl
 
 -- a line that is no line of a script
 pub bad_lines :
-  (steps_of (lines (codes ":sesion 2" ∷ [])) ≡ Err 1)
-  × (steps_of (lines (codes "SELECT a FROM t" ∷ codes "GO 2" ∷ [])) ≡ Err 2)
-  × (steps_of (lines (codes "DECLARE @p INT = 3000000000" ∷ [])) ≡ Err 1)
-  × (steps_of (lines (codes "DECLARE @p INT = 1" ∷ codes "DECLARE @p INT = 2" ∷ [])) ≡ Err 2)
+    (steps_of (lines (codes ":sesion 2" ∷ [])) ≡ Err 1)
+    × (steps_of (lines (codes "SELECT a FROM t" ∷ codes "GO 2" ∷ [])) ≡ Err 2)
+    × (steps_of (lines (codes "DECLARE @p INT = 3000000000" ∷ [])) ≡ Err 1)
+    × (steps_of (lines (codes "DECLARE @p INT = 1" ∷ codes "DECLARE @p INT = 2" ∷ [])) ≡ Err 2)
 unfolding encodes encode chars is_utf8
 bad_lines = (refl, refl, refl, refl)
 
@@ -69,6 +69,6 @@ no_steps = refl
 pub refusals : reference (
     batch (codes "SELECT a FROM t") [] ∷ batch (codes "CREATE TABLE t (a INT)") [] ∷ batch (codes "SELECT zz FROM t") [] ∷ batch (codes "SELEC") []
     ∷ batch (codes "CREATE TABLE t (b INT)") [] ∷ [])
-  ≡ lines (codes "error 20 NoTable t" ∷ codes "ok" ∷ codes "error 21 NoColumn zz" ∷ codes "error 10 Syntax" ∷ codes "error 10 Syntax" ∷ [])
+    ≡ lines (codes "error 20 NoTable t" ∷ codes "ok" ∷ codes "error 21 NoColumn zz" ∷ codes "error 10 Syntax" ∷ codes "error 10 Syntax" ∷ [])
 unfolding encodes encode digits
 refusals = refl
