@@ -48,6 +48,9 @@ with_table catalog table =
     if is_some (table_named catalog table.name) then Err (fault.Exists table.name) else
     if is_full_of_tables catalog then Err fault.Full else
     Ok (record {
-      masters = catalog.masters; keys = catalog.keys; tables = catalog.tables ++ table ∷ [];
-      next_id = catalog.next_id; version = catalog.version + 1;
+      masters = catalog.masters;
+      keys = catalog.keys;
+      tables = catalog.tables ++ table ∷ [];
+      next_id = catalog.next_id;
+      version = catalog.version + 1;
     })

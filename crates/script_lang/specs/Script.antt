@@ -155,9 +155,9 @@ abbrev pub with_line : Begun → List ℕ → Option Begun
 with_line begun line =
     if length begun.lines == 0
     then (
-      if (length (behind_blanks line) == 0) || bytes_eq (take 2 (behind_blanks line)) (codes "--") then Some begun else
-      if is_word (codes "DECLARE") line then with_declaration begun (declaration_of line) else
-      Some (record { params = begun.params; lines = line ∷ [] })
+    if (length (behind_blanks line) == 0) || bytes_eq (take 2 (behind_blanks line)) (codes "--") then Some begun else
+    if is_word (codes "DECLARE") line then with_declaration begun (declaration_of line) else
+    Some (record { params = begun.params; lines = line ∷ [] })
     )
     else Some (record { params = begun.params; lines = begun.lines ++ line ∷ [] })
 

@@ -29,25 +29,25 @@ unfolding encodes encode
 a_definition = refl
 
 pub a_description : (serve with_t (Describe 1 (codes "INSERT INTO t (a) VALUES (@p)") (record { name = codes "p"; ty = ty.Int } ∷ record { name = codes "q"; ty = ty.Int } ∷ []))).replies
-  ≡ Described 1 [] (record { name = codes "p"; enc = enc.Plain } ∷ []) ∷ []
+    ≡ Described 1 [] (record { name = codes "p"; enc = enc.Plain } ∷ []) ∷ []
 unfolding encodes encode
 a_description = refl
 
 -- a comparison with NULL keeps no row
 pub an_answer : (serve with_rows (Execute 1 1 (codes "SELECT a FROM t WHERE a < @p") (p 6 ∷ []))).replies
-  ≡ Columns [] (record { name = codes "a"; ty = ty.Int; enc = enc.Plain } ∷ []) ∷ Row (Plain (Num (pos 5)) ∷ []) ∷ Ended (Answered 1) ∷ []
+    ≡ Columns [] (record { name = codes "a"; ty = ty.Int; enc = enc.Plain } ∷ []) ∷ Row (Plain (Num (pos 5)) ∷ []) ∷ Ended (Answered 1) ∷ []
 unfolding encodes encode
 an_answer = refl
 
 pub all_rows : (serve with_rows (Execute 1 1 (codes "SELECT a FROM t") [])).replies
-  ≡ Columns [] (record { name = codes "a"; ty = ty.Int; enc = enc.Plain } ∷ []) ∷ Row (Plain (Num (pos 5)) ∷ []) ∷ Row (Plain (Num (pos 7)) ∷ []) ∷ Row (Null ∷ []) ∷ Ended (Answered 3) ∷ []
+    ≡ Columns [] (record { name = codes "a"; ty = ty.Int; enc = enc.Plain } ∷ []) ∷ Row (Plain (Num (pos 5)) ∷ []) ∷ Row (Plain (Num (pos 7)) ∷ []) ∷ Row (Null ∷ []) ∷ Ended (Answered 3) ∷ []
 unfolding encodes encode
 all_rows = refl
 
 -- an unknown column; a text that is no statement; a version that has moved
 pub refusals :
-  ((serve with_t (Describe 1 (codes "SELECT zz FROM t") [])).replies ≡ Refused (fault.NoColumn (codes "zz")) ∷ [])
-  × ((serve with_t (Describe 1 (codes "SELEC") [])).replies ≡ Refused fault.Syntax ∷ [])
-  × ((serve with_t (Execute 1 0 (codes "SELECT a FROM t") [])).replies ≡ Refused fault.Syntax ∷ [])
+    ((serve with_t (Describe 1 (codes "SELECT zz FROM t") [])).replies ≡ Refused (fault.NoColumn (codes "zz")) ∷ [])
+    × ((serve with_t (Describe 1 (codes "SELEC") [])).replies ≡ Refused fault.Syntax ∷ [])
+    × ((serve with_t (Execute 1 0 (codes "SELECT a FROM t") [])).replies ≡ Refused fault.Syntax ∷ [])
 unfolding encodes encode
 refusals = (refl, refl, refl)

@@ -131,7 +131,7 @@ Spells (tree.CreateTable table columns []) tokens =
 Spells (tree.CreateTable table columns (unique ∷ uniques)) tokens = ⊥
 Spells (tree.Insert table (Some columns) rows) tokens =
     (Is (lexeme.Keyword keyword.Insert) then Is (lexeme.Keyword keyword.Into) then IsName table then InParens (Listed IsName columns)
-      then Is (lexeme.Keyword keyword.Values) then Listed SpellsRow rows) tokens
+    then Is (lexeme.Keyword keyword.Values) then Listed SpellsRow rows) tokens
     × AreAsLong columns rows
 Spells (tree.Insert table None rows) tokens = ⊥
 Spells (tree.Select query) tokens = SpellsQuery query tokens

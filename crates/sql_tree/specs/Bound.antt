@@ -54,8 +54,11 @@ join_of j = record { table = j.table; on = conditions.condition_of j.on }
 
 abbrev pub query_of : code_query.BoundQuery → BoundQuery
 query_of q = record {
-  from = q.from; joins = map join_of q.joins; filter = option_map conditions.condition_of q.filter;
-  items = map operands.operand_of q.items; columns = q.columns;
+  from = q.from;
+  joins = map join_of q.joins;
+  filter = option_map conditions.condition_of q.filter;
+  items = map operands.operand_of q.items;
+  columns = q.columns;
 }
 
 abbrev pub bound_of : code.Bound → Bound

@@ -98,8 +98,14 @@ join_of join = record { source = join.source; on = conditions.condition_of join.
 
 abbrev pub query_of : code_query.Query → Query
 query_of q = record {
-  distinct = q.distinct; top = q.top; items = items_of q.items; from = q.from; joins = map join_of q.joins;
-  filter = option_map conditions.condition_of q.filter; group_by = q.group_by; order_by = q.order_by;
+  distinct = q.distinct;
+  top = q.top;
+  items = items_of q.items;
+  from = q.from;
+  joins = map join_of q.joins;
+  filter = option_map conditions.condition_of q.filter;
+  group_by = q.group_by;
+  order_by = q.order_by;
 }
 
 abbrev pub statement_of : code.Statement → Statement

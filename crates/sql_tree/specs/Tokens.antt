@@ -27,17 +27,17 @@ is_word_byte b = begins_word b || is_digit b
 -- the reserved words
 abbrev pub keywords : List (List ℕ × Keyword)
 keywords =
-  (codes "ADD", keyword.Add) ∷ (codes "ALTER", keyword.Alter) ∷ (codes "AND", keyword.And) ∷ (codes "AS", keyword.As)
-  ∷ (codes "ASC", keyword.Asc) ∷ (codes "BEGIN", keyword.Begin) ∷ (codes "BY", keyword.By) ∷ (codes "COLLATE", keyword.Collate)
-  ∷ (codes "COLUMN", keyword.Column) ∷ (codes "COMMIT", keyword.Commit) ∷ (codes "CREATE", keyword.Create)
-  ∷ (codes "DELETE", keyword.Delete) ∷ (codes "DESC", keyword.Desc) ∷ (codes "DISTINCT", keyword.Distinct)
-  ∷ (codes "DROP", keyword.Drop) ∷ (codes "FROM", keyword.From) ∷ (codes "GROUP", keyword.Group) ∷ (codes "IN", keyword.In)
-  ∷ (codes "INNER", keyword.Inner) ∷ (codes "INSERT", keyword.Insert) ∷ (codes "INTO", keyword.Into) ∷ (codes "IS", keyword.Is)
-  ∷ (codes "JOIN", keyword.Join) ∷ (codes "KEY", keyword.Key) ∷ (codes "NOT", keyword.Not) ∷ (codes "NULL", keyword.Null)
-  ∷ (codes "ON", keyword.On) ∷ (codes "OR", keyword.Or) ∷ (codes "ORDER", keyword.Order) ∷ (codes "ROLLBACK", keyword.Rollback)
-  ∷ (codes "SELECT", keyword.Select) ∷ (codes "SET", keyword.Set) ∷ (codes "TABLE", keyword.Table) ∷ (codes "TOP", keyword.Top)
-  ∷ (codes "TRANSACTION", keyword.Transaction) ∷ (codes "UNIQUE", keyword.Unique) ∷ (codes "UPDATE", keyword.Update)
-  ∷ (codes "VALUES", keyword.Values) ∷ (codes "WHERE", keyword.Where) ∷ (codes "WITH", keyword.With) ∷ []
+    (codes "ADD", keyword.Add) ∷ (codes "ALTER", keyword.Alter) ∷ (codes "AND", keyword.And) ∷ (codes "AS", keyword.As)
+    ∷ (codes "ASC", keyword.Asc) ∷ (codes "BEGIN", keyword.Begin) ∷ (codes "BY", keyword.By) ∷ (codes "COLLATE", keyword.Collate)
+    ∷ (codes "COLUMN", keyword.Column) ∷ (codes "COMMIT", keyword.Commit) ∷ (codes "CREATE", keyword.Create)
+    ∷ (codes "DELETE", keyword.Delete) ∷ (codes "DESC", keyword.Desc) ∷ (codes "DISTINCT", keyword.Distinct)
+    ∷ (codes "DROP", keyword.Drop) ∷ (codes "FROM", keyword.From) ∷ (codes "GROUP", keyword.Group) ∷ (codes "IN", keyword.In)
+    ∷ (codes "INNER", keyword.Inner) ∷ (codes "INSERT", keyword.Insert) ∷ (codes "INTO", keyword.Into) ∷ (codes "IS", keyword.Is)
+    ∷ (codes "JOIN", keyword.Join) ∷ (codes "KEY", keyword.Key) ∷ (codes "NOT", keyword.Not) ∷ (codes "NULL", keyword.Null)
+    ∷ (codes "ON", keyword.On) ∷ (codes "OR", keyword.Or) ∷ (codes "ORDER", keyword.Order) ∷ (codes "ROLLBACK", keyword.Rollback)
+    ∷ (codes "SELECT", keyword.Select) ∷ (codes "SET", keyword.Set) ∷ (codes "TABLE", keyword.Table) ∷ (codes "TOP", keyword.Top)
+    ∷ (codes "TRANSACTION", keyword.Transaction) ∷ (codes "UNIQUE", keyword.Unique) ∷ (codes "UPDATE", keyword.Update)
+    ∷ (codes "VALUES", keyword.Values) ∷ (codes "WHERE", keyword.Where) ∷ (codes "WITH", keyword.With) ∷ []
 
 abbrev pub named_in : List (List ℕ × Keyword) → List ℕ → Option Keyword
 named_in [] word = None

@@ -11,12 +11,12 @@ abbrev pub token : ℕ → Lexeme → Token
 token at l = record { at = at; lexeme = l }
 
 pub table_definition : tokens_of (codes "CREATE table t (a INT)")
-  ≡ Some (token 0 (lexeme.Keyword keyword.Create) ∷ token 7 (lexeme.Keyword keyword.Table) ∷ token 13 (lexeme.Ident (codes "t"))
+    ≡ Some (token 0 (lexeme.Keyword keyword.Create) ∷ token 7 (lexeme.Keyword keyword.Table) ∷ token 13 (lexeme.Ident (codes "t"))
     ∷ token 15 (lexeme.Symbol symbol.Open) ∷ token 16 (lexeme.Ident (codes "a")) ∷ token 18 (lexeme.Ident (codes "INT")) ∷ token 21 (lexeme.Symbol symbol.Close) ∷ [])
 table_definition = refl
 
 pub longest_symbols : tokens_of (codes "<= <> != < =@p1")
-  ≡ Some (token 0 (lexeme.Symbol symbol.LessEqual) ∷ token 3 (lexeme.Symbol symbol.NotEqual) ∷ token 6 (lexeme.Symbol symbol.NotEqual)
+    ≡ Some (token 0 (lexeme.Symbol symbol.LessEqual) ∷ token 3 (lexeme.Symbol symbol.NotEqual) ∷ token 6 (lexeme.Symbol symbol.NotEqual)
     ∷ token 9 (lexeme.Symbol symbol.Less) ∷ token 11 (lexeme.Symbol symbol.Equal) ∷ token 12 (lexeme.Param (codes "p1")) ∷ [])
 longest_symbols = refl
 
@@ -24,7 +24,7 @@ pub no_token_lists : (tokens_of (codes "1a") ≡ None) × (tokens_of (codes "@")
 no_token_lists = (refl, refl, refl, refl)
 
 pub wide_number : tokens_of (codes "SELECT 9223372036854775808")
-  ≡ Some (token 0 (lexeme.Keyword keyword.Select) ∷ token 7 (lexeme.Number 9223372036854775808) ∷ [])
+    ≡ Some (token 0 (lexeme.Keyword keyword.Select) ∷ token 7 (lexeme.Number 9223372036854775808) ∷ [])
 wide_number = refl
 
 pub wide_place : first_wide 9223372036854775807 (token 0 (lexeme.Keyword keyword.Select) ∷ token 7 (lexeme.Number 9223372036854775808) ∷ []) ≡ Some 7

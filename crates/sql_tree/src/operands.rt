@@ -14,11 +14,23 @@ pub struct ColumnRef {
 #[cycle(operand)]
 pub enum Operand<C, P> {
     /// A number, a text, some bytes or NULL.
-    Literal { at: u32, value: Value },
-    Param { at: u32, param: P },
-    Column { at: u32, column: C },
+    Literal {
+        at: u32,
+        value: Value,
+    },
+    Param {
+        at: u32,
+        param: P,
+    },
+    Column {
+        at: u32,
+        column: C,
+    },
     /// A unary minus, at its sign.
-    Minus { at: u32, operand: Box<Operand<C, P>> },
+    Minus {
+        at: u32,
+        operand: Box<Operand<C, P>>,
+    },
     Sum {
         first: Box<Operand<C, P>>,
         terms: Vec<Term<C, P>>,
