@@ -1,0 +1,3 @@
+mod Capitals
+mod Digits
+mod Progress

@@ -1,5 +1,5 @@
 -- The statements as trees without where they lie in memory. Each place is an offset in the text, in bytes.
-use Rattle.std.specs.Prelude.{ℕ, Bool, List, map, Option, Some, None}
+use Rattle.std.specs.Prelude.{ℕ, List, map, Option}
 use Rattle.std.specs.Option.{option_map}
 use Rattle.sql_tree.specs.Operands as operands
 use Rattle.sql_tree.specs.Conditions as conditions

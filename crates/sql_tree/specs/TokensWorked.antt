@@ -1,5 +1,5 @@
 -- The tokens of some texts, computed.
-use Rattle.std.specs.Prelude.{◌≡◌, ℕ, List, [], ◌∷◌, codes, Option, Some, None, refl}
+use Rattle.std.specs.Prelude.{◌≡◌, ℕ, [], ◌∷◌, codes, Some, None, refl}
 use Rattle.sql_tree.specs.declared.lexemes.Keyword.TheVariants as keyword
 use Rattle.sql_tree.specs.declared.lexemes.Symbol.TheVariants as symbol
 use Rattle.sql_tree.specs.declared.lexemes.Lexeme.{Lexeme}

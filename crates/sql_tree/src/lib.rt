@@ -4,6 +4,11 @@
 
 pub mod bound;
 pub mod conditions;
+mod fronts;
 pub mod lexemes;
 pub mod operands;
 pub mod statements;
+#[cfg(test)]
+mod tests;
+pub mod tokens;
+pub mod words;

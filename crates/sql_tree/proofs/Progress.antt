@@ -1,0 +1,151 @@
+-- How far the tokens of a text are read.
+use Rattle.std.proofs.Common.{◌≡◌, ℕ, zero, suc, ◌+◌, ◌-◌, ◌<◌, ◌≤◌, Bool, true, false, List, [], ◌∷◌, ◌++◌, length, get_or, drop, Option, Some, None, MatchOption, Ok, Err, if◌then◌else◌, refl, sym, ◌∙◌, ap, arith, add-zero, sub-one, append_assoc}
+use Rattle.std.specs.Option.{option_map, option_or}
+use Rattle.std.proofs.lemmas.List.{drop_more, drop_all, drop-drop, append-nil}
+use Rattle.std.proofs.lemmas.Bool.{lt-ltb}
+use Rattle.sql_tree.specs.declared.lexemes.Lexeme.{Lexeme}
+use Rattle.sql_tree.specs.declared.lexemes.Lexeme.TheVariants as lexeme
+use Rattle.sql_tree.specs.declared.lexemes.Token.{Token}
+use Rattle.sql_tree.specs.declared.tokens.TokensFault.TheVariants.{NumberTooWide}
+use Rattle.sql_tree.specs.Reading.{IsToken, IsWide, Tokenizes}
+use Rattle.sql_tree.specs.Tokens.{front, is_blank, tokens_from, tokens_of, wide, first_wide}
+
+abbrev pub with_front : List Token → Option (List Token) → Option (List Token)
+with_front front more = option_map (λ tokens. front ++ tokens) more
+
+-- tokens are read up to the place; the list has them unless a number was too wide
+pub record SoFar (most : ℕ) (bytes : List ℕ) (at : ℕ) (list : List Token) (first : Option ℕ) : Type 0 where
+  pub tokens : List Token
+  pub ahead : tokens_of bytes ≡ with_front tokens (tokens_from at 0 (drop at bytes))
+  pub first_wide : first_wide most tokens ≡ first
+  pub kept : MatchOption first (tokens ≡ list) (λ _. Unit {0})
+
+with_front-nil : (more : Option (List Token)) → more ≡ with_front [] more
+with_front-nil None = refl
+with_front-nil (Some tokens) = refl
+
+with_front-push : (front : List Token) (t : Token) (more : Option (List Token)) → with_front front (option_map (λ tokens. t ∷ tokens) more) ≡ with_front (front ++ t ∷ []) more
+with_front-push front t None = refl
+with_front-push front t (Some tokens) = ap Some (sym (append_assoc front (t ∷ []) tokens))
+
+pub start : (most : ℕ) (bytes : List ℕ) → SoFar most bytes 0 [] None
+start most bytes = record { tokens = []; ahead = with_front-nil (tokens_of bytes); first_wide = refl; kept = refl }
+
+-- the bytes of a token are passed over
+tokens_from-skip : (at skip : ℕ) (bytes : List ℕ) → tokens_from at skip bytes ≡ tokens_from (at + skip) 0 (drop skip bytes)
+tokens_from-skip at zero bytes = ap (λ n. tokens_from n 0 bytes) (sym (add-zero at))
+tokens_from-skip at (suc skip) [] = refl
+tokens_from-skip at (suc skip) (b ∷ bytes) =
+    tokens_from-skip (at + 1) skip bytes ∙ ap (λ n. tokens_from n 0 (drop skip bytes)) (omega arith)
+
+read_blank : (at b : ℕ) (bytes : List ℕ) → is_blank b ≡ true → tokens_from at 0 (b ∷ bytes) ≡ tokens_from (at + 1) 0 bytes
+read_blank at b bytes h = rw h refl
+
+token_then : (at len : ℕ) (b : ℕ) (bytes : List ℕ) (l : Lexeme) → 1 ≤ len → tokens_from (at + 1) (len - 1) bytes ≡ tokens_from (at + len) 0 (drop len (b ∷ bytes))
+token_then at zero b bytes l some = absurd (omega arith)
+token_then at (suc n) b bytes l some =
+    rw (sub-one) (tokens_from-skip (at + 1) n bytes ∙ ap (λ k. tokens_from k 0 (drop n bytes)) (omega arith))
+
+read_token : (at b len : ℕ) (bytes : List ℕ) (l : Lexeme) → is_blank b ≡ false → 1 ≤ len → front (b ∷ bytes) ≡ Some (l, len)
+    → tokens_from at 0 (b ∷ bytes) ≡ option_map (λ tokens. record { at = at; lexeme = l } ∷ tokens) (tokens_from (at + len) 0 (drop len (b ∷ bytes)))
+read_token at b len bytes l blank some e =
+    rw (blank, e) (ap (option_map (λ tokens. record { at = at; lexeme = l } ∷ tokens)) (token_then at len b bytes l some))
+
+read_nothing : (at b : ℕ) (bytes : List ℕ) → is_blank b ≡ false → front (b ∷ bytes) ≡ None → tokens_from at 0 (b ∷ bytes) ≡ None
+read_nothing at b bytes blank e = rw (blank, e) refl
+
+-- ---- one place on
+
+abbrev one_wide_of : ℕ → Token → Option ℕ
+one_wide_of most t = if wide most t.lexeme then Some t.at else None
+
+first_more : (most : ℕ) (tokens : List Token) (u t : Token) (b : Bool) → wide most u.lexeme ≡ b → first_wide most (tokens ++ t ∷ []) ≡ option_or (first_wide most tokens) (one_wide_of most t)
+    → first_wide most (u ∷ (tokens ++ t ∷ [])) ≡ option_or (first_wide most (u ∷ tokens)) (one_wide_of most t)
+first_more most tokens u t true e h = rw e refl
+first_more most tokens u t false e h = rw e h
+
+first_wide-push : (most : ℕ) (tokens : List Token) (t : Token) → first_wide most (tokens ++ t ∷ []) ≡ option_or (first_wide most tokens) (one_wide_of most t)
+first_wide-push most [] t = refl
+first_wide-push most (u ∷ tokens) t = first_more most tokens u t (wide most u.lexeme) refl (first_wide-push most tokens t)
+
+pub so_far_blank : (most : ℕ) (bytes : List ℕ) (at : ℕ) (list : List Token) (first : Option ℕ) → SoFar most bytes at list first
+    → at < length bytes → is_blank (get_or bytes at 0) ≡ true → SoFar most bytes (at + 1) list first
+so_far_blank most bytes at list first s within blank =
+    let next : tokens_from at 0 (drop at bytes) ≡ tokens_from (at + 1) 0 (drop (at + 1) bytes) =
+    ap (tokens_from at 0) (drop_more bytes at 0 within) ∙ read_blank at (get_or bytes at 0) (drop (at + 1) bytes) blank in
+    record { tokens = s.tokens; ahead = s.ahead ∙ ap (with_front s.tokens) next; first_wide = s.first_wide; kept = s.kept }
+
+pub so_far_nothing : (most : ℕ) (bytes : List ℕ) (at : ℕ) (list : List Token) (first : Option ℕ) → SoFar most bytes at list first
+    → at < length bytes → is_blank (get_or bytes at 0) ≡ false → front (drop at bytes) ≡ None → tokens_of bytes ≡ None
+so_far_nothing most bytes at list first s within blank e =
+    let next : tokens_from at 0 (drop at bytes) ≡ None =
+    ap (tokens_from at 0) (drop_more bytes at 0 within) ∙ read_nothing at (get_or bytes at 0) (drop (at + 1) bytes) blank (sym (ap front (drop_more bytes at 0 within)) ∙ e) in
+    s.ahead ∙ ap (with_front s.tokens) next
+
+-- a token of so many bytes: the tokens, and what is left
+record Grown (bytes : List ℕ) (at len : ℕ) (tokens : List Token) (l : Lexeme) : Type 0 where
+  ahead : tokens_of bytes ≡ with_front (tokens ++ record { at = at; lexeme = l } ∷ []) (tokens_from (at + len) 0 (drop (at + len) bytes))
+
+grown : (bytes : List ℕ) (at len : ℕ) (tokens : List Token) (l : Lexeme) → tokens_of bytes ≡ with_front tokens (tokens_from at 0 (drop at bytes))
+    → at < length bytes → is_blank (get_or bytes at 0) ≡ false → 1 ≤ len → front (drop at bytes) ≡ Some (l, len) → Grown bytes at len tokens l
+grown bytes at len tokens l ahead within blank some e =
+    let more = drop_more bytes at 0 within in
+    let next : tokens_from at 0 (drop at bytes) ≡ option_map (λ ts. record { at = at; lexeme = l } ∷ ts) (tokens_from (at + len) 0 (drop len (drop at bytes))) =
+    ap (tokens_from at 0) more ∙ read_token at (get_or bytes at 0) len (drop (at + 1) bytes) l blank some (sym (ap front more) ∙ e)
+    ∙ ap (λ rest. option_map (λ ts. record { at = at; lexeme = l } ∷ ts) (tokens_from (at + len) 0 (drop len rest))) (sym more) in
+    let there : drop len (drop at bytes) ≡ drop (at + len) bytes = drop-drop len at bytes in
+    record {
+      ahead = ahead ∙ ap (with_front tokens) (next ∙ ap (λ rest. option_map (λ ts. record { at = at; lexeme = l } ∷ ts) (tokens_from (at + len) 0 rest)) there)
+          ∙ with_front-push tokens (record { at = at; lexeme = l }) (tokens_from (at + len) 0 (drop (at + len) bytes));
+    }
+
+kept_more : (first : Option ℕ) (tokens list : List Token) (t : Token) → MatchOption first (tokens ≡ list) (λ _. Unit {0}) → MatchOption first (tokens ++ t ∷ [] ≡ list ++ t ∷ []) (λ _. Unit {0})
+kept_more None tokens list t e = ap (λ ts. ts ++ t ∷ []) e
+kept_more (Some at) tokens list t e = tt
+
+or_none : (first : Option ℕ) → option_or first None ≡ first
+or_none None = refl
+or_none (Some at) = refl
+
+pub so_far_token : (most : ℕ) (bytes : List ℕ) (at : ℕ) (list : List Token) (first : Option ℕ) (l : Lexeme) (len : ℕ) → SoFar most bytes at list first
+    → at < length bytes → is_blank (get_or bytes at 0) ≡ false → IsToken most (drop at bytes) (front (drop at bytes)) l len
+    → SoFar most bytes (at + len) (list ++ record { at = at; lexeme = l } ∷ []) first
+so_far_token most bytes at list first l len s within blank f =
+    let t : Token = record { at = at; lexeme = l } in
+    let g = grown bytes at len s.tokens l s.ahead within blank f.some f.token in
+    record {
+      tokens = s.tokens ++ t ∷ [];
+      ahead = g.ahead;
+      first_wide = first_wide-push most s.tokens t ∙ rw (f.narrow, s.first_wide) (or_none first);
+      kept = kept_more first s.tokens list t s.kept;
+    }
+
+kept_none : (first : Option ℕ) (at : ℕ) (tokens list : List Token) → MatchOption (option_or first (Some at)) (tokens ≡ list) (λ _. Unit {0})
+kept_none None at tokens list = tt
+kept_none (Some before) at tokens list = tt
+
+pub so_far_wide : (most : ℕ) (bytes : List ℕ) (at : ℕ) (list : List Token) (first : Option ℕ) (len : ℕ) → SoFar most bytes at list first
+    → at < length bytes → is_blank (get_or bytes at 0) ≡ false → IsWide most (drop at bytes) (front (drop at bytes)) len
+    → SoFar most bytes (at + len) list (option_or first (Some at))
+so_far_wide most bytes at list first len s within blank f =
+    let t : Token = record { at = at; lexeme = lexeme.Number f.number } in
+    let g = grown bytes at len s.tokens (lexeme.Number f.number) s.ahead within blank f.some f.token in
+    record {
+      tokens = s.tokens ++ t ∷ [];
+      ahead = g.ahead;
+      first_wide = first_wide-push most s.tokens t ∙ rw (lt-ltb most f.number f.wide, s.first_wide) refl;
+      kept = kept_none first at (s.tokens ++ t ∷ []) list;
+    }
+
+-- ---- the end
+
+whole : (most : ℕ) (bytes : List ℕ) (at : ℕ) (list : List Token) (first : Option ℕ) (s : SoFar most bytes at list first) → length bytes ≤ at → tokens_of bytes ≡ Some s.tokens
+whole most bytes at list first s end =
+    s.ahead ∙ ap (λ rest. with_front s.tokens (tokens_from at 0 rest)) (drop_all at bytes end) ∙ ap Some (append-nil s.tokens)
+
+pub all_narrow : (most : ℕ) (bytes : List ℕ) (at : ℕ) (list : List Token) → SoFar most bytes at list None → length bytes ≤ at → Tokenizes most bytes (Ok list)
+all_narrow most bytes at list s end =
+    (whole most bytes at list None s end ∙ ap Some s.kept, ap (first_wide most) (sym s.kept) ∙ s.first_wide)
+
+pub one_wide : (most : ℕ) (bytes : List ℕ) (at : ℕ) (list : List Token) (place : ℕ) → SoFar most bytes at list (Some place) → length bytes ≤ at → Tokenizes most bytes (Err (NumberTooWide place))
+one_wide most bytes at list place s end = (s.tokens, whole most bytes at list (Some place) s end, s.first_wide)

@@ -1,0 +1,40 @@
+-- What the reader of tokens answers, case by case.
+use Rattle.std.specs.Prelude.{◌≡◌, ◌<◌, ◌≤◌, ℕ, List, length, Bool, false, ◌&&◌, nat_le, Some, None, Result, Ok, Err}
+use Rattle.sql_tree.specs.declared.lexemes.Lexeme.{Lexeme}
+use Rattle.sql_tree.specs.declared.lexemes.Lexeme.TheVariants as lexeme
+use Rattle.sql_tree.specs.declared.lexemes.Token.{Token}
+use Rattle.sql_tree.specs.declared.fronts.Front as code
+use Rattle.sql_tree.specs.declared.tokens.TokensFault.{TokensFault}
+use Rattle.sql_tree.specs.declared.tokens.TokensFault.TheVariants.{NotTokens, NumberTooWide, OutOfMemory}
+use Rattle.sql_tree.specs.Tokens.{Front, wide, first_wide, tokens_of}
+
+abbrev pub is_capital : ℕ → Bool
+is_capital b = nat_le 65 b && nat_le b 90
+
+-- the front of the bytes is a token with no number above the most
+pub record IsToken (most : ℕ) (bytes : List ℕ) (front : Front) (read : Lexeme) (len : ℕ) : Type 0 where
+  pub token : front ≡ Some (read, len)
+  pub narrow : wide most read ≡ false
+  pub some : 1 ≤ len
+  pub within : len ≤ length bytes
+
+-- the front of the bytes is a number above the most
+pub record IsWide (most : ℕ) (bytes : List ℕ) (front : Front) (len : ℕ) : Type 0 where
+  pub number : ℕ
+  pub token : front ≡ Some (lexeme.Number number, len)
+  pub wide : most < number
+  pub some : 1 ≤ len
+  pub within : len ≤ length bytes
+
+-- what stands at the front of the bytes
+abbrev pub IsFront : ℕ → List ℕ → Front → code.Front → Type 0
+IsFront most bytes front (code.TheVariants.Token read len) = IsToken most bytes front read len
+IsFront most bytes front (code.TheVariants.Wide len) = IsWide most bytes front len
+IsFront most bytes front code.TheVariants.Nothing = front ≡ None
+
+-- the tokens of a text in UTF-8 with no number above the most, or why there are none
+abbrev pub Tokenizes : ℕ → List ℕ → Result (List Token) TokensFault → Type 0
+Tokenizes most bytes (Ok tokens) = (tokens_of bytes ≡ Some tokens) × (first_wide most tokens ≡ None)
+Tokenizes most bytes (Err NotTokens) = tokens_of bytes ≡ None
+Tokenizes most bytes (Err (NumberTooWide at)) = (tokens : List Token) × (tokens_of bytes ≡ Some tokens) × (first_wide most tokens ≡ Some at)
+Tokenizes most bytes (Err OutOfMemory) = Unit {0}
