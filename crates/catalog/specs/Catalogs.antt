@@ -1,22 +1,12 @@
 -- The catalog: master keys, column keys and tables in the order of their definitions, and the version.
-use Rattle.std.specs.Prelude.{ℕ, ◌+◌, List, [], ◌∷◌, ◌++◌, length, Option, Some, None, Result, Ok, Err, Bool, ◌||◌, nat_le, ◌==◌, if◌then◌else◌, is_some}
+use Rattle.std.specs.Prelude.{ℕ, ◌+◌, List, [], ◌∷◌, ◌++◌, length, Option, Result, Ok, Err, Bool, ◌||◌, nat_le, ◌==◌, if◌then◌else◌, is_some}
 use Rattle.std.specs.List.{find}
 use Rattle.std.specs.Str.{bytes_eq}
 use Rattle.ae_base.specs.declared.tables.TableDef.{TableDef}
 use Rattle.ae_base.specs.declared.faults.SqlFault.{SqlFault}
 use Rattle.ae_base.specs.declared.faults.SqlFault.TheVariants as fault
-
--- a master key and the path of its bytes
-pub record MasterKey : Type 0 where
-  pub name : List ℕ
-  pub path : List ℕ
-
--- a column key: its number, its name, the name of the master key that wraps it, and its wrapped bytes
-pub record ColumnKey : Type 0 where
-  pub id : ℕ
-  pub name : List ℕ
-  pub master : List ℕ
-  pub wrapped : List ℕ
+use Rattle.catalog.specs.declared.keys.ColumnKey.{ColumnKey}
+use Rattle.catalog.specs.declared.keys.MasterKey.{MasterKey}
 
 -- the number of the next column key is never used before; each accepted definition raises the version by one
 pub record Catalog : Type 0 where

@@ -1,2 +1,8 @@
 //! What the server knows of keys and tables: lists in the order of their definitions, and a version.
 #![tactic(auto)]
+
+pub mod catalogs;
+pub mod faults;
+pub mod keys;
+#[cfg(test)]
+mod tests;

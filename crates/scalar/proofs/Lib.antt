@@ -1,0 +1,2 @@
+pub mod Junctions
+pub mod Terms

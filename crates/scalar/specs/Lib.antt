@@ -1,2 +1,6 @@
 pub mod Eval
 pub mod EvalWorked
+pub mod Lent
+pub mod Listed
+pub mod Places
+pub mod Results

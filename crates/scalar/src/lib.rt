@@ -1,4 +1,10 @@
 //! The value of an operand in a row, and the truth of a condition.
 #![tactic(auto)]
 
+pub mod conditions;
+pub mod faults;
+mod lent;
+pub mod operands;
+#[cfg(test)]
+mod tests;
 pub mod truth;
