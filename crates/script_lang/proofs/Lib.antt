@@ -1,0 +1,4 @@
+mod AllLines
+mod AnyCase
+mod DeclaredParts
+mod FirstLine

@@ -14,14 +14,8 @@ use Rattle.sql_tree.specs.declared.lexemes.Lexeme.{Lexeme}
 use Rattle.sql_tree.specs.declared.lexemes.Lexeme.TheVariants as lexeme
 use Rattle.sql_tree.specs.declared.lexemes.Token.{Token}
 use Rattle.sql_tree.specs.Tokens.{tokens_of, first_wide, in_capitals, begins_word, is_word_byte}
-
--- ---- steps
-
--- a batch is described and executed, half a batch is described, and an :execute executes what is pending
-pub data Step : Type 0 where
-  Whole : (session : ℕ) (batch : Batch) → Step
-  Half : (session : ℕ) (batch : Batch) → Step
-  Execute : (session : ℕ) → Step
+use Rattle.script_lang.specs.declared.steps.Step.{Step}
+use Rattle.script_lang.specs.declared.steps.Step.TheVariants.{Whole}
 
 -- ---- lines
 
