@@ -7,7 +7,9 @@ use Rattle.ae_base.specs.declared.batches.Param.{Param}
 use Rattle.engine.specs.Worlds.{World, empty_world}
 use Rattle.wire_frames.specs.Messages.{Request, Reply}
 use Rattle.driver.specs.Sessions.{Idle, begin, param_named}
-use Rattle.script_lang.specs.Script.{Step, Whole, Half, Execute, Begun, Read, steps_of, steps_from, with_line, with_param, with_declaration, ended, then_steps, nothing_begun}
+use Rattle.script_lang.specs.declared.steps.Step.{Step}
+use Rattle.script_lang.specs.declared.steps.Step.TheVariants.{Whole, Half, Execute}
+use Rattle.script_lang.specs.Script.{Begun, Read, steps_of, steps_from, with_line, with_param, with_declaration, ended, then_steps, nothing_begun}
 use Rattle.script_lang.specs.Script as script
 use Rattle.script_run.specs.Drive.{drive_from, Done}
 use Rattle.script_run.specs.Transcript.{Exchange, batch_passes, exchanges_from, replies_in, requests_in}

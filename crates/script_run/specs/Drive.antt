@@ -4,7 +4,8 @@ use Rattle.ae_base.specs.declared.values.Value.{Value}
 use Rattle.wire_frames.specs.Messages.{Request, Reply}
 use Rattle.driver.specs.declared.faults.DriverFault.{DriverFault}
 use Rattle.driver.specs.Sessions.{Session, Idle, begin, described, execute, replied, DescribeAnswer, Ready, DescribeRefused, ReplyAnswer, Header, Values, RowCount, ChangeCount, Definition, ReplyRefused}
-use Rattle.script_lang.specs.Script.{Step, Whole, Half, Execute}
+use Rattle.script_lang.specs.declared.steps.Step.{Step}
+use Rattle.script_lang.specs.declared.steps.Step.TheVariants.{Whole, Half, Execute}
 use Rattle.script_run.specs.Outcomes.{Outcome, Rows, Changed, Defined, Refused, Failed}
 
 -- a drive is done, or it meets a reply that isn't awaited, or none where one is awaited: the number of replies before it

@@ -1,7 +1,8 @@
 -- The law of the plaintext meaning, over definitions alone.
 use Rattle.std.specs.Prelude.{◌≡◌, ℕ, List, Ok}
 use Rattle.engine.specs.Worlds.{empty_world}
-use Rattle.script_lang.specs.Script.{Step, steps_of}
+use Rattle.script_lang.specs.declared.steps.Step.{Step}
+use Rattle.script_lang.specs.Script.{steps_of}
 use Rattle.script_run.specs.Drive.{drive, Done}
 use Rattle.script_run.specs.Transcript.{exchanges_from, replies_in, requests_in}
 use Rattle.script_run.specs.Reference.{outcomes_of}

@@ -10,7 +10,8 @@ use Rattle.engine.specs.Step as engine
 use Rattle.server_core.specs.Serve.{understood, so_far}
 use Rattle.driver.specs.declared.faults.DriverFault.TheVariants as fault
 use Rattle.driver.specs.Sessions.{plain_atom, value_of, first_unfit}
-use Rattle.script_lang.specs.Script.{Step, Whole, Half, Execute}
+use Rattle.script_lang.specs.declared.steps.Step.{Step}
+use Rattle.script_lang.specs.declared.steps.Step.TheVariants.{Whole, Half, Execute}
 use Rattle.script_run.specs.Outcomes.{Outcome, Rows, Changed, Defined, Refused, Failed, print}
 
 -- what a statement comes to, and the plain world after it

@@ -7,7 +7,9 @@ use Rattle.ae_base.specs.declared.values.Value.TheVariants as value
 use Rattle.ae_base.specs.declared.values.Datum.TheVariants.{Num}
 use Rattle.ae_base.specs.declared.types.Ty.TheVariants as ty
 use Rattle.ae_base.specs.declared.batches.Param.{Param}
-use Rattle.script_lang.specs.Script.{Step, Whole, steps_of}
+use Rattle.script_lang.specs.declared.steps.Step.{Step}
+use Rattle.script_lang.specs.declared.steps.Step.TheVariants.{Whole}
+use Rattle.script_lang.specs.Script.{steps_of}
 use Rattle.script_run.specs.Outcomes.{Rows, Changed, Defined, line}
 use Rattle.script_run.specs.Drive.{drive}
 use Rattle.script_run.specs.Transcript.{exchanges_from, replies_in}

@@ -6,7 +6,8 @@ use Rattle.wire_frames.specs.Spelling.{request_frame, reply_frame}
 use Rattle.server_core.specs.Serve.{serve}
 use Rattle.driver.specs.declared.faults.DriverFault.{DriverFault}
 use Rattle.driver.specs.Sessions.{Session, Idle, begin, described, execute, DescribeAnswer, Ready, DescribeRefused}
-use Rattle.script_lang.specs.Script.{Step, Whole, Half, Execute}
+use Rattle.script_lang.specs.declared.steps.Step.{Step}
+use Rattle.script_lang.specs.declared.steps.Step.TheVariants.{Whole, Half, Execute}
 
 -- a request and the replies to it
 pub record Exchange : Type 0 where

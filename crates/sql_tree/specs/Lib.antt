@@ -1,3 +1,4 @@
+pub mod Bound
 pub mod Conditions
 pub mod Operands
 pub mod Reading
