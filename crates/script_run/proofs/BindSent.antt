@@ -2,6 +2,7 @@
 use Rattle.std.proofs.Common.{◌≡◌, ℕ, ◌+◌, List, [], ◌∷◌, map, Option, Some, None, Result, Ok, Err, Bool, true, false, ◌||◌, ◌==◌, refl, ◌∙◌, subst, zero-add, eq-eqb}
 use Rattle.std.specs.List.{slice_get, position_from}
 use Rattle.ae_base.specs.declared.batches.Param.{Param}
+use Rattle.ae_base.specs.declared.values.Value.{Value}
 use Rattle.ae_base.specs.declared.faults.SqlFault.{SqlFault}
 use Rattle.ae_base.specs.declared.faults.SqlFault.TheVariants as fault
 use Rattle.sql_tree.specs.declared.conditions.Comparison.{Comparison}
@@ -20,11 +21,10 @@ pub record SamePlace (ps qs : List Param) (p q : ℕ) : Type 0 where
   pub kept_there : slice_get qs q ≡ Some param
 
 -- one operand, but for the places of parameters
-abbrev pub AlikeOperand : List Param → List Param → BoundOperand → BoundOperand → Type 0
-AlikeOperand ps qs (operands.Literal at v) (operands.Literal a w) = (at ≡ a) × (v ≡ w)
-AlikeOperand ps qs (operands.Param at p) (operands.Param a q) = (at ≡ a) × SamePlace ps qs p q
-AlikeOperand ps qs (operands.Column at c) (operands.Column a d) = (at ≡ a) × (c ≡ d)
-AlikeOperand ps qs b c = ⊥
+pub data AlikeOperand (ps qs : List Param) : BoundOperand → BoundOperand → Type 0 where
+  SameLiteral : (at : ℕ) (v : Value) → AlikeOperand ps qs (operands.Literal at v) (operands.Literal at v)
+  SameParam : (at p q : ℕ) → SamePlace ps qs p q → AlikeOperand ps qs (operands.Param at p) (operands.Param at q)
+  SameColumn : (at c : ℕ) → AlikeOperand ps qs (operands.Column at c) (operands.Column at c)
 
 -- alike place by place
 abbrev pub AllAlike : {B C : Type 0} → (B → C → Type 0) → List B → List C → Type 0
@@ -38,10 +38,9 @@ abbrev pub Each : {B : Type 0} → (B → Type 0) → List B → Type 0
 Each P [] = Unit {0}
 Each P (b ∷ bs) = P b × Each P bs
 
-abbrev pub AlikeCondition : List Param → List Param → BoundCondition → BoundCondition → Type 0
-AlikeCondition ps qs (conditions.Compare at compared left right) (conditions.Compare a comp l r) =
-    (at ≡ a) × (compared ≡ comp) × AlikeOperand ps qs left l × AlikeOperand ps qs right r
-AlikeCondition ps qs b c = ⊥
+pub data AlikeCondition (ps qs : List Param) : BoundCondition → BoundCondition → Type 0 where
+  SameCompare : (at : ℕ) (compared : Comparison) (left right l r : BoundOperand) → AlikeOperand ps qs left l → AlikeOperand ps qs right r
+      → AlikeCondition ps qs (conditions.Compare at compared left right) (conditions.Compare at compared l r)
 
 abbrev pub AlikeFilter : List Param → List Param → Option BoundCondition → Option BoundCondition → Type 0
 AlikeFilter ps qs None None = Unit {0}
@@ -87,7 +86,7 @@ param-alike ps bound at name None f e used =
     none (Err g) = tt
 param-alike ps bound at name (Some p) f e used =
     let found = param-found ps bound name p (found-kept name 0 0 p bound ps e (used (operands.Param at p) refl p (self-eq p))) in
-    rw found.1 (refl, found.2)
+    rw found.1 (SameParam at p found.0 found.2)
 
 same-binding : (at : ℕ) (r : Result ℕ SqlFault) → resolve.◌>>=◌ r (λ place. Ok (operands.Param at place)) ≡ bound_param at r
 same-binding at (Ok place) = refl
@@ -99,7 +98,7 @@ bound_column at (Err f) = Err f
 
 column-alike : (ps qs : List Param) (at : ℕ) (r : Result ℕ SqlFault)
     → BindAlike (AlikeOperand ps qs) (resolve.◌>>=◌ r (λ place. Ok (operands.Column at place))) (resolve.◌>>=◌ r (λ place. Ok (operands.Column at place)))
-column-alike ps qs at (Ok place) = (refl, refl)
+column-alike ps qs at (Ok place) = SameColumn at place
 column-alike ps qs at (Err f) = tt
 
 pub err-alike : {B C : Type 0} (Alike : B → C → Type 0) (f : SqlFault) (r : Result C SqlFault) → BindAlike {A = B} Alike (Err f) r
@@ -109,7 +108,7 @@ err-alike Alike f (Err g) = tt
 pub operand-alike : (ps : List Param) (bound : Bound) (scope : Scope) (o : Operand)
     → ((b : BoundOperand) → bind_operand scope (map declared ps) o ≡ Ok b → UsesIn bound b)
     → BindAlike (AlikeOperand ps (kept 0 bound ps)) (bind_operand scope (map declared ps) o) (bind_operand scope (map declared (kept 0 bound ps)) o)
-operand-alike ps bound scope (operands.Literal at v) used = (refl, refl)
+operand-alike ps bound scope (operands.Literal at v) used = SameLiteral at v
 operand-alike ps bound scope (operands.Param at name) used =
     let e = same-binding at (resolve.param_place (map declared ps) name) in
     let f = same-binding at (resolve.param_place (map declared (kept 0 bound ps)) name) in
@@ -178,7 +177,7 @@ compared-alike ps bound at compared (Ok a) (Ok b) s t one two used =
   where
     both : (s t : Result BoundOperand SqlFault) → BindAlike (AlikeOperand ps (kept 0 bound ps)) (Ok a) s → BindAlike (AlikeOperand ps (kept 0 bound ps)) (Ok b) t
         → BindAlike (AlikeCondition ps (kept 0 bound ps)) (Ok (conditions.Compare at compared a b)) (compared_of at compared s t)
-    both (Ok c) (Ok d) h k = (refl, refl, h, k)
+    both (Ok c) (Ok d) h k = SameCompare at compared a b c d h k
     both (Ok c) (Err g) h k = absurd k
     both (Err g) t h k = absurd h
 

@@ -19,7 +19,7 @@ use Rattle.resolve.specs.Bind.{column_types}
 use Rattle.scalar.specs.Eval.{eval, atom_at}
 use Rattle.engine.specs.Step.{admitted, row_values, value_at, completed, column_at, new_row, new_rows}
 use Rattle.engine.specs.Step as engine
-use Rattle.script_run.proofs.BindSent.{Each, AlikeOperand, AllAlike}
+use Rattle.script_run.proofs.BindSent.{SameLiteral, SameParam, SameColumn, Each, AlikeOperand, AllAlike}
 use Rattle.script_run.proofs.StepSent.{atoms}
 use Rattle.script_run.proofs.PlainRows.{RowOf, null-of-base, within-base, overflow-ok, step-ok}
 
@@ -40,20 +40,10 @@ open-param (x ∷ xs) (suc p) = open-param xs p
 
 -- VALUES sees no row, so what it computes is open
 open-eval : (ps qs : List Param) (b c : BoundOperand) (a : AtomOf (List ℕ)) → AlikeOperand ps qs b c → eval [] (atoms ps) b ≡ Some a → IsOpen a
-open-eval ps qs (operands.Literal at value.Null) c a h e = let f : Null ≡ a = cc in subst IsOpen f tt
-open-eval ps qs (operands.Literal at (value.Is datum)) c a h e = let f : Plain datum ≡ a = cc in subst IsOpen f tt
-open-eval ps qs (operands.Param at p) c a h e = let f : atom_at (atoms ps) p ≡ a = cc in subst IsOpen f (open-param ps p)
-open-eval ps qs (operands.Column at p) c a h e = let f : Null ≡ a = cc in subst IsOpen f tt
-open-eval ps qs (operands.Minus at b) (operands.Literal x w) a h e = absurd h
-open-eval ps qs (operands.Minus at b) (operands.Param x w) a h e = absurd h
-open-eval ps qs (operands.Minus at b) (operands.Column x w) a h e = absurd h
-open-eval ps qs (operands.Minus at b) (operands.Minus x w) a h e = absurd h
-open-eval ps qs (operands.Minus at b) (operands.Sum x w) a h e = absurd h
-open-eval ps qs (operands.Sum b terms) (operands.Literal x w) a h e = absurd h
-open-eval ps qs (operands.Sum b terms) (operands.Param x w) a h e = absurd h
-open-eval ps qs (operands.Sum b terms) (operands.Column x w) a h e = absurd h
-open-eval ps qs (operands.Sum b terms) (operands.Minus x w) a h e = absurd h
-open-eval ps qs (operands.Sum b terms) (operands.Sum x w) a h e = absurd h
+open-eval ps qs b c a (SameLiteral at value.Null) e = let f : Null ≡ a = cc in subst IsOpen f tt
+open-eval ps qs b c a (SameLiteral at (value.Is datum)) e = let f : Plain datum ≡ a = cc in subst IsOpen f tt
+open-eval ps qs b c a (SameParam at p q h) e = let f : atom_at (atoms ps) p ≡ a = cc in subst IsOpen f (open-param ps p)
+open-eval ps qs b c a (SameColumn at p) e = let f : Null ≡ a = cc in subst IsOpen f tt
 
 -- what a column admits is of its kind
 admitted-null : (column : ColumnDef) (b : Bool) (k : AtomOf (List ℕ)) → (if b then Err (fault.NullNotAllowed column.name) else Ok Null) ≡ Ok k → is_of_base column.ty k ≡ true

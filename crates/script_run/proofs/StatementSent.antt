@@ -20,7 +20,7 @@ use Rattle.catalog.specs.Catalogs.{Catalog}
 use Rattle.resolve.specs.Bind.{Scope, each, uses, uses_in, operand_base, place_of, param_types, base_of, values_clash, row_clash, rows_clash, bind_row, differ, result_column, condition_clash, filter_clash}
 use Rattle.resolve.specs.Bind as resolve
 use Rattle.script_run.proofs.SentParams.{declared, kept}
-use Rattle.script_run.proofs.BindSent.{AlikeOperand, AllAlike, Each, AlikeCondition, AlikeFilter, BindAlike, UsesIn, operand-alike, each-alike, err-alike, or-left, or-right, filter-alike, UsesInFilter}
+use Rattle.script_run.proofs.BindSent.{SameLiteral, SameParam, SameColumn, SameCompare, AlikeOperand, AllAlike, Each, AlikeCondition, AlikeFilter, BindAlike, UsesIn, operand-alike, each-alike, err-alike, or-left, or-right, filter-alike, UsesInFilter}
 
 -- ---- the kinds of alike operands are the same
 
@@ -34,65 +34,14 @@ type-at ps p x h = get-map (λ d. d.ty) (map declared ps) p x.declaration (get-m
 
 same-base : (ps qs : List Param) (columns : List Ty) (b c : BoundOperand) → AlikeOperand ps qs b c
     → operand_base columns (param_types (map declared ps)) b ≡ operand_base columns (param_types (map declared qs)) c
-same-base ps qs columns (operands.Literal at v) (operands.Literal a w) h = let e = h.1 in rw e refl
-same-base ps qs columns (operands.Param at p) (operands.Param a q) h =
-    ap (option_map base_of) (type-at ps p h.1.param h.1.there ∙ sym (type-at qs q h.1.param h.1.kept_there))
-same-base ps qs columns (operands.Column at c) (operands.Column a d) h = let e = h.1 in rw e refl
-same-base ps qs columns (operands.Literal at v) (operands.Param a q) h = absurd h
-same-base ps qs columns (operands.Literal at v) (operands.Column a d) h = absurd h
-same-base ps qs columns (operands.Literal at v) (operands.Minus a d) h = absurd h
-same-base ps qs columns (operands.Literal at v) (operands.Sum a d) h = absurd h
-same-base ps qs columns (operands.Param at p) (operands.Literal a w) h = absurd h
-same-base ps qs columns (operands.Param at p) (operands.Column a d) h = absurd h
-same-base ps qs columns (operands.Param at p) (operands.Minus a d) h = absurd h
-same-base ps qs columns (operands.Param at p) (operands.Sum a d) h = absurd h
-same-base ps qs columns (operands.Column at c) (operands.Literal a w) h = absurd h
-same-base ps qs columns (operands.Column at c) (operands.Param a q) h = absurd h
-same-base ps qs columns (operands.Column at c) (operands.Minus a d) h = absurd h
-same-base ps qs columns (operands.Column at c) (operands.Sum a d) h = absurd h
-same-base ps qs columns (operands.Minus at b) c h = absurd (no-minus at b c h)
-  where
-    no-minus : (at : ℕ) (b c : BoundOperand) → AlikeOperand ps qs (operands.Minus at b) c → ⊥
-    no-minus at b (operands.Literal a w) h = h
-    no-minus at b (operands.Param a q) h = h
-    no-minus at b (operands.Column a d) h = h
-    no-minus at b (operands.Minus a d) h = h
-    no-minus at b (operands.Sum a d) h = h
-same-base ps qs columns (operands.Sum first terms) c h = absurd (no-sum first terms c h)
-  where
-    no-sum : (first : BoundOperand) (terms : operands.Terms ℕ ℕ) (c : BoundOperand) → AlikeOperand ps qs (operands.Sum first terms) c → ⊥
-    no-sum first terms (operands.Literal a w) h = h
-    no-sum first terms (operands.Param a q) h = h
-    no-sum first terms (operands.Column a d) h = h
-    no-sum first terms (operands.Minus a d) h = h
-    no-sum first terms (operands.Sum a d) h = h
+same-base ps qs columns b c (SameLiteral at v) = refl
+same-base ps qs columns b c (SameParam at p q h) = ap (option_map base_of) (type-at ps p h.param h.there ∙ sym (type-at qs q h.param h.kept_there))
+same-base ps qs columns b c (SameColumn at d) = refl
 
 same-place : (ps qs : List Param) (b c : BoundOperand) → AlikeOperand ps qs b c → place_of b ≡ place_of c
-same-place ps qs (operands.Literal at v) (operands.Literal a w) h = h.0
-same-place ps qs (operands.Param at p) (operands.Param a q) h = h.0
-same-place ps qs (operands.Column at c) (operands.Column a d) h = h.0
-same-place ps qs (operands.Literal at v) (operands.Param a q) h = absurd h
-same-place ps qs (operands.Literal at v) (operands.Column a d) h = absurd h
-same-place ps qs (operands.Literal at v) (operands.Minus a d) h = absurd h
-same-place ps qs (operands.Literal at v) (operands.Sum a d) h = absurd h
-same-place ps qs (operands.Param at p) (operands.Literal a w) h = absurd h
-same-place ps qs (operands.Param at p) (operands.Column a d) h = absurd h
-same-place ps qs (operands.Param at p) (operands.Minus a d) h = absurd h
-same-place ps qs (operands.Param at p) (operands.Sum a d) h = absurd h
-same-place ps qs (operands.Column at c) (operands.Literal a w) h = absurd h
-same-place ps qs (operands.Column at c) (operands.Param a q) h = absurd h
-same-place ps qs (operands.Column at c) (operands.Minus a d) h = absurd h
-same-place ps qs (operands.Column at c) (operands.Sum a d) h = absurd h
-same-place ps qs (operands.Minus at b) (operands.Literal a w) h = absurd h
-same-place ps qs (operands.Minus at b) (operands.Param a q) h = absurd h
-same-place ps qs (operands.Minus at b) (operands.Column a d) h = absurd h
-same-place ps qs (operands.Minus at b) (operands.Minus a d) h = absurd h
-same-place ps qs (operands.Minus at b) (operands.Sum a d) h = absurd h
-same-place ps qs (operands.Sum first terms) (operands.Literal a w) h = absurd h
-same-place ps qs (operands.Sum first terms) (operands.Param a q) h = absurd h
-same-place ps qs (operands.Sum first terms) (operands.Column a d) h = absurd h
-same-place ps qs (operands.Sum first terms) (operands.Minus a d) h = absurd h
-same-place ps qs (operands.Sum first terms) (operands.Sum a d) h = absurd h
+same-place ps qs b c (SameLiteral at v) = refl
+same-place ps qs b c (SameParam at p q h) = refl
+same-place ps qs b c (SameColumn at d) = refl
 
 -- ---- nothing clashes in the one that doesn't in the other
 
@@ -137,61 +86,10 @@ rows-clash ps qs types (row ∷ rows) (b ∷ bs) [] h = absurd h
 
 condition-clash : (ps qs : List Param) (columns : List Ty) (b c : BoundCondition) → AlikeCondition ps qs b c
     → condition_clash columns (sent_types ps) b ≡ condition_clash columns (sent_types qs) c
-condition-clash ps qs columns (conditions.Compare at compared left right) (conditions.Compare a comp l r) h =
-    let e = same-base ps qs columns left l h.2 in
-    let f = same-base ps qs columns right r h.3 in
-    let g : at ≡ a = h.0 in
-    rw (e, f, g) refl
-condition-clash ps qs columns (conditions.Compare at compared left right) (conditions.IsNull n o) h = absurd h
-condition-clash ps qs columns (conditions.Compare at compared left right) (conditions.In a n o l) h = absurd h
-condition-clash ps qs columns (conditions.Compare at compared left right) (conditions.Not n) h = absurd h
-condition-clash ps qs columns (conditions.Compare at compared left right) (conditions.AllOf n) h = absurd h
-condition-clash ps qs columns (conditions.Compare at compared left right) (conditions.AnyOf n) h = absurd h
-condition-clash ps qs columns (conditions.IsNull n o) c h = absurd (none c h)
-  where
-    none : (c : BoundCondition) → AlikeCondition ps qs (conditions.IsNull n o) c → ⊥
-    none (conditions.Compare a comp l r) h = h
-    none (conditions.IsNull m u) h = h
-    none (conditions.In a m u l) h = h
-    none (conditions.Not u) h = h
-    none (conditions.AllOf u) h = h
-    none (conditions.AnyOf u) h = h
-condition-clash ps qs columns (conditions.In at n o list) c h = absurd (none c h)
-  where
-    none : (c : BoundCondition) → AlikeCondition ps qs (conditions.In at n o list) c → ⊥
-    none (conditions.Compare a comp l r) h = h
-    none (conditions.IsNull m u) h = h
-    none (conditions.In a m u l) h = h
-    none (conditions.Not u) h = h
-    none (conditions.AllOf u) h = h
-    none (conditions.AnyOf u) h = h
-condition-clash ps qs columns (conditions.Not b) c h = absurd (none c h)
-  where
-    none : (c : BoundCondition) → AlikeCondition ps qs (conditions.Not b) c → ⊥
-    none (conditions.Compare a comp l r) h = h
-    none (conditions.IsNull m u) h = h
-    none (conditions.In a m u l) h = h
-    none (conditions.Not u) h = h
-    none (conditions.AllOf u) h = h
-    none (conditions.AnyOf u) h = h
-condition-clash ps qs columns (conditions.AllOf b) c h = absurd (none c h)
-  where
-    none : (c : BoundCondition) → AlikeCondition ps qs (conditions.AllOf b) c → ⊥
-    none (conditions.Compare a comp l r) h = h
-    none (conditions.IsNull m u) h = h
-    none (conditions.In a m u l) h = h
-    none (conditions.Not u) h = h
-    none (conditions.AllOf u) h = h
-    none (conditions.AnyOf u) h = h
-condition-clash ps qs columns (conditions.AnyOf b) c h = absurd (none c h)
-  where
-    none : (c : BoundCondition) → AlikeCondition ps qs (conditions.AnyOf b) c → ⊥
-    none (conditions.Compare a comp l r) h = h
-    none (conditions.IsNull m u) h = h
-    none (conditions.In a m u l) h = h
-    none (conditions.Not u) h = h
-    none (conditions.AllOf u) h = h
-    none (conditions.AnyOf u) h = h
+condition-clash ps qs columns b c (SameCompare at compared left right l r h k) =
+    let e = same-base ps qs columns left l h in
+    let f = same-base ps qs columns right r k in
+    rw (e, f) refl
 
 filter-clash : (ps qs : List Param) (columns : List Ty) (b c : Option BoundCondition) → AlikeFilter ps qs b c
     → filter_clash columns (sent_types ps) b ≡ filter_clash columns (sent_types qs) c
@@ -201,31 +99,9 @@ filter-clash ps qs columns None (Some c) h = absurd h
 filter-clash ps qs columns (Some b) None h = absurd h
 
 same-column : (ps qs : List Param) (columns : List ColumnDef) (b c : BoundOperand) → AlikeOperand ps qs b c → result_column columns b ≡ result_column columns c
-same-column ps qs columns (operands.Literal at v) (operands.Literal a w) h = refl
-same-column ps qs columns (operands.Param at p) (operands.Param a q) h = refl
-same-column ps qs columns (operands.Column at c) (operands.Column a d) h = let e : c ≡ d = h.1 in rw e refl
-same-column ps qs columns (operands.Literal at v) (operands.Param a q) h = absurd h
-same-column ps qs columns (operands.Literal at v) (operands.Column a d) h = absurd h
-same-column ps qs columns (operands.Literal at v) (operands.Minus a d) h = absurd h
-same-column ps qs columns (operands.Literal at v) (operands.Sum a d) h = absurd h
-same-column ps qs columns (operands.Param at p) (operands.Literal a w) h = absurd h
-same-column ps qs columns (operands.Param at p) (operands.Column a d) h = absurd h
-same-column ps qs columns (operands.Param at p) (operands.Minus a d) h = absurd h
-same-column ps qs columns (operands.Param at p) (operands.Sum a d) h = absurd h
-same-column ps qs columns (operands.Column at c) (operands.Literal a w) h = absurd h
-same-column ps qs columns (operands.Column at c) (operands.Param a q) h = absurd h
-same-column ps qs columns (operands.Column at c) (operands.Minus a d) h = absurd h
-same-column ps qs columns (operands.Column at c) (operands.Sum a d) h = absurd h
-same-column ps qs columns (operands.Minus at b) (operands.Literal a w) h = absurd h
-same-column ps qs columns (operands.Minus at b) (operands.Param a q) h = absurd h
-same-column ps qs columns (operands.Minus at b) (operands.Column a d) h = absurd h
-same-column ps qs columns (operands.Minus at b) (operands.Minus a d) h = absurd h
-same-column ps qs columns (operands.Minus at b) (operands.Sum a d) h = absurd h
-same-column ps qs columns (operands.Sum first terms) (operands.Literal a w) h = absurd h
-same-column ps qs columns (operands.Sum first terms) (operands.Param a q) h = absurd h
-same-column ps qs columns (operands.Sum first terms) (operands.Column a d) h = absurd h
-same-column ps qs columns (operands.Sum first terms) (operands.Minus a d) h = absurd h
-same-column ps qs columns (operands.Sum first terms) (operands.Sum a d) h = absurd h
+same-column ps qs columns b c (SameLiteral at v) = refl
+same-column ps qs columns b c (SameParam at p q h) = refl
+same-column ps qs columns b c (SameColumn at d) = refl
 
 same-columns : (ps qs : List Param) (columns : List ColumnDef) (bs cs : List BoundOperand) → AllAlike (AlikeOperand ps qs) bs cs
     → each (result_column columns) bs ≡ each (result_column columns) cs

@@ -13,7 +13,7 @@ use Rattle.engine.specs.Worlds.{World}
 use Rattle.engine.specs.Step.{step, row_values, new_row, new_rows, passes, walk, events_of, items_of, results, Event, rows_of}
 use Rattle.engine.specs.Step as engine
 use Rattle.script_run.proofs.SentParams.{atom_of_param}
-use Rattle.script_run.proofs.BindSent.{AlikeOperand, AllAlike, AlikeCondition, AlikeFilter}
+use Rattle.script_run.proofs.BindSent.{SameLiteral, SameParam, SameColumn, SameCompare, AlikeOperand, AllAlike, AlikeCondition, AlikeFilter}
 use Rattle.script_run.proofs.StatementSent.{AlikeInsert, AlikeQuery, AlikeBound}
 
 abbrev pub atoms : List Param → List (AtomOf (List ℕ))
@@ -26,32 +26,9 @@ value-at (y ∷ ys) (suc p) x h = value-at ys p x h
 
 same-eval : (ps qs : List Param) (row : List (AtomOf (List ℕ))) (b c : BoundOperand) → AlikeOperand ps qs b c
     → eval row (atoms ps) b ≡ eval row (atoms qs) c
-same-eval ps qs row (operands.Literal at v) (operands.Literal a w) h = let e = h.1 in rw e refl
-same-eval ps qs row (operands.Param at p) (operands.Param a q) h =
-    ap Some (value-at ps p h.1.param h.1.there ∙ sym (value-at qs q h.1.param h.1.kept_there))
-same-eval ps qs row (operands.Column at c) (operands.Column a d) h = let e : c ≡ d = h.1 in rw e refl
-same-eval ps qs row (operands.Literal at v) (operands.Param a q) h = absurd h
-same-eval ps qs row (operands.Literal at v) (operands.Column a d) h = absurd h
-same-eval ps qs row (operands.Literal at v) (operands.Minus a d) h = absurd h
-same-eval ps qs row (operands.Literal at v) (operands.Sum a d) h = absurd h
-same-eval ps qs row (operands.Param at p) (operands.Literal a w) h = absurd h
-same-eval ps qs row (operands.Param at p) (operands.Column a d) h = absurd h
-same-eval ps qs row (operands.Param at p) (operands.Minus a d) h = absurd h
-same-eval ps qs row (operands.Param at p) (operands.Sum a d) h = absurd h
-same-eval ps qs row (operands.Column at c) (operands.Literal a w) h = absurd h
-same-eval ps qs row (operands.Column at c) (operands.Param a q) h = absurd h
-same-eval ps qs row (operands.Column at c) (operands.Minus a d) h = absurd h
-same-eval ps qs row (operands.Column at c) (operands.Sum a d) h = absurd h
-same-eval ps qs row (operands.Minus at b) (operands.Literal a w) h = absurd h
-same-eval ps qs row (operands.Minus at b) (operands.Param a q) h = absurd h
-same-eval ps qs row (operands.Minus at b) (operands.Column a d) h = absurd h
-same-eval ps qs row (operands.Minus at b) (operands.Minus a d) h = absurd h
-same-eval ps qs row (operands.Minus at b) (operands.Sum a d) h = absurd h
-same-eval ps qs row (operands.Sum first terms) (operands.Literal a w) h = absurd h
-same-eval ps qs row (operands.Sum first terms) (operands.Param a q) h = absurd h
-same-eval ps qs row (operands.Sum first terms) (operands.Column a d) h = absurd h
-same-eval ps qs row (operands.Sum first terms) (operands.Minus a d) h = absurd h
-same-eval ps qs row (operands.Sum first terms) (operands.Sum a d) h = absurd h
+same-eval ps qs row b c (SameLiteral at v) = refl
+same-eval ps qs row b c (SameParam at p q h) = ap Some (value-at ps p h.param h.there ∙ sym (value-at qs q h.param h.kept_there))
+same-eval ps qs row b c (SameColumn at d) = refl
 
 -- ---- INSERT
 
@@ -101,61 +78,10 @@ same-insert ps qs world i j h =
 
 same-truth : (ps qs : List Param) (row : List (AtomOf (List ℕ))) (b c : BoundCondition) → AlikeCondition ps qs b c
     → truth row (atoms ps) b ≡ truth row (atoms qs) c
-same-truth ps qs row (conditions.Compare at compared left right) (conditions.Compare a comp l r) h =
-    let e = same-eval ps qs row left l h.2 in
-    let f = same-eval ps qs row right r h.3 in
-    let g : compared ≡ comp = h.1 in
-    rw (e, f, g) refl
-same-truth ps qs row (conditions.Compare at compared left right) (conditions.IsNull n o) h = absurd h
-same-truth ps qs row (conditions.Compare at compared left right) (conditions.In a n o l) h = absurd h
-same-truth ps qs row (conditions.Compare at compared left right) (conditions.Not n) h = absurd h
-same-truth ps qs row (conditions.Compare at compared left right) (conditions.AllOf n) h = absurd h
-same-truth ps qs row (conditions.Compare at compared left right) (conditions.AnyOf n) h = absurd h
-same-truth ps qs row (conditions.IsNull n o) c h = absurd (none c h)
-  where
-    none : (c : BoundCondition) → AlikeCondition ps qs (conditions.IsNull n o) c → ⊥
-    none (conditions.Compare a comp l r) h = h
-    none (conditions.IsNull m u) h = h
-    none (conditions.In a m u l) h = h
-    none (conditions.Not u) h = h
-    none (conditions.AllOf u) h = h
-    none (conditions.AnyOf u) h = h
-same-truth ps qs row (conditions.In at n o list) c h = absurd (none c h)
-  where
-    none : (c : BoundCondition) → AlikeCondition ps qs (conditions.In at n o list) c → ⊥
-    none (conditions.Compare a comp l r) h = h
-    none (conditions.IsNull m u) h = h
-    none (conditions.In a m u l) h = h
-    none (conditions.Not u) h = h
-    none (conditions.AllOf u) h = h
-    none (conditions.AnyOf u) h = h
-same-truth ps qs row (conditions.Not b) c h = absurd (none c h)
-  where
-    none : (c : BoundCondition) → AlikeCondition ps qs (conditions.Not b) c → ⊥
-    none (conditions.Compare a comp l r) h = h
-    none (conditions.IsNull m u) h = h
-    none (conditions.In a m u l) h = h
-    none (conditions.Not u) h = h
-    none (conditions.AllOf u) h = h
-    none (conditions.AnyOf u) h = h
-same-truth ps qs row (conditions.AllOf b) c h = absurd (none c h)
-  where
-    none : (c : BoundCondition) → AlikeCondition ps qs (conditions.AllOf b) c → ⊥
-    none (conditions.Compare a comp l r) h = h
-    none (conditions.IsNull m u) h = h
-    none (conditions.In a m u l) h = h
-    none (conditions.Not u) h = h
-    none (conditions.AllOf u) h = h
-    none (conditions.AnyOf u) h = h
-same-truth ps qs row (conditions.AnyOf b) c h = absurd (none c h)
-  where
-    none : (c : BoundCondition) → AlikeCondition ps qs (conditions.AnyOf b) c → ⊥
-    none (conditions.Compare a comp l r) h = h
-    none (conditions.IsNull m u) h = h
-    none (conditions.In a m u l) h = h
-    none (conditions.Not u) h = h
-    none (conditions.AllOf u) h = h
-    none (conditions.AnyOf u) h = h
+same-truth ps qs row b c (SameCompare at compared left right l r h k) =
+    let e = same-eval ps qs row left l h in
+    let f = same-eval ps qs row right r k in
+    rw (e, f) refl
 
 same-passes : (ps qs : List Param) (row : List (AtomOf (List ℕ))) (f g : Option BoundCondition) → AlikeFilter ps qs f g
     → passes f row (atoms ps) ≡ passes g row (atoms qs)
