@@ -1,0 +1,3 @@
+pub mod Befores
+pub mod Trees
+pub mod Walks
