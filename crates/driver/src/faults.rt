@@ -1,5 +1,9 @@
+ghost use Rattle.std.specs.Prelude.{◌≡◌};
+ghost use Rattle.driver.specs.Faults.{printed_failure};
+
 use ae_base::names::Name;
 use ae_base::texts::Txt;
+use std::fmt;
 
 /// Why a cell couldn't be opened.
 #[derive(Clone, Copy, PartialEq, Eq, Debug)]
@@ -39,4 +43,45 @@ pub enum DriverFault {
     },
     /// The reply isn't awaited.
     BadReply,
+}
+
+impl CellFailure {
+    /// The name of the failure, in printed lines.
+    pub fn name(self) -> &'static str
+        ensures { result.now ≡ printed_failure self }
+    {
+        match self {
+            CellFailure::BadVersion => "BadVersion",
+            CellFailure::BadLength => "BadLength",
+            CellFailure::BadTag => "BadTag",
+            CellFailure::BadPadding => "BadPadding",
+            CellFailure::NotNormal => "NotNormal",
+        }
+    }
+}
+
+impl fmt::Display for DriverFault {
+    ghost use Rattle.std.specs.Prelude.{Some};
+    ghost use Rattle.driver.specs.Faults.{printed_fault};
+
+    ghost output = { λ f. Some (printed_fault f) };
+
+    fn fmt<W: fmt::Write>(&self, f: &mut fmt::Formatter<W>) -> fmt::Result {
+        match self {
+            DriverFault::StillPending => write!(f, "error 70 StillPending"),
+            DriverFault::NothingPending => write!(f, "error 71 NothingPending"),
+            DriverFault::DoesNotFit(name) => write!(f, "error 72 DoesNotFit @{}", name.as_str()),
+            DriverFault::TooLong => write!(f, "error 13 TooLong"),
+            DriverFault::NoMasterKey(path) => write!(f, "error 73 NoMasterKey {}", path.as_str()),
+            DriverFault::KeyRefused(name) => write!(f, "error 74 KeyRefused {}", name.as_str()),
+            DriverFault::CellFailed { row, column, why } => {
+                write!(
+                    f,
+                    "error 75 CellFailed row {row} column {column} {}",
+                    why.name()
+                )
+            }
+            DriverFault::EntropyFault | DriverFault::VaultFault | DriverFault::BadReply => Ok(()),
+        }
+    }
 }

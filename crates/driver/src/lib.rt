@@ -1,4 +1,14 @@
 //! The client's end: what it asks for a batch, and what the replies mean.
 #![tactic(auto)]
 
+pub mod answers;
+mod asking;
+mod client;
+pub mod errors;
 pub mod faults;
+mod reading;
+mod sessions;
+#[cfg(test)]
+mod tests;
+
+pub use client::Driver;

@@ -96,16 +96,16 @@ row_values columns params (place ∷ places) (v ∷ vs) =
 abbrev pub value_at : List (ℕ × AtomOf (List ℕ)) → ℕ → Option (AtomOf (List ℕ))
 value_at values place = option_map (λ v. v.1) (find (λ v. v.0 == place) values)
 
--- the value that was given, or NULL for a column that wasn't named
-abbrev pub or_null : ColumnDef → Option (AtomOf (List ℕ)) → Result (AtomOf (List ℕ)) SqlFault
-or_null column (Some atom) = Ok atom
-or_null column None = admitted column Null
+-- the value that was given for a column, or NULL where it wasn't named
+abbrev pub value_for : ColumnDef → Option (AtomOf (List ℕ)) → Result (AtomOf (List ℕ)) SqlFault
+value_for column (Some atom) = Ok atom
+value_for column None = admitted column Null
 
 -- the row in table order
 abbrev pub completed : ℕ → List (ℕ × AtomOf (List ℕ)) → List ColumnDef → Result (List (AtomOf (List ℕ))) SqlFault
 completed place values [] = Ok []
 completed place values (column ∷ columns) =
-    or_null column (value_at values place) >>= λ atom.
+    value_for column (value_at values place) >>= λ atom.
     completed (place + 1) values columns >>= λ rest.
     Ok (atom ∷ rest)
 

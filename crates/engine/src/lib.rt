@@ -1,2 +1,10 @@
 //! The relational engine: worlds of tables, and what a statement does to them.
 #![tactic(auto)]
+
+pub mod answers;
+mod inserts;
+// mod queries;
+pub mod tables;
+#[cfg(test)]
+mod tests;
+// pub mod worlds;

@@ -97,7 +97,7 @@ value-of columns (v ∷ vs) place a h e = value-step columns v vs place a h.0 (v
 -- ---- the completed row is of the table
 
 given-or-null : (column : ColumnDef) (o : Option (AtomOf (List ℕ))) (a : AtomOf (List ℕ)) → ((b : AtomOf (List ℕ)) → o ≡ Some b → is_of_base column.ty b ≡ true)
-    → engine.or_null column o ≡ Ok a → is_of_base column.ty a ≡ true
+    → engine.value_for column o ≡ Ok a → is_of_base column.ty a ≡ true
 given-or-null column (Some b) a h e = let f : b ≡ a = cc in subst (λ (x : AtomOf (List ℕ)). is_of_base column.ty x ≡ true) f (h b refl)
 given-or-null column None a h e = admitted-of column Null a tt e
 
@@ -106,7 +106,7 @@ completed-of : (all columns : List ColumnDef) (place : ℕ) (given : List (ℕ �
     → (row : List (AtomOf (List ℕ))) → completed place given columns ≡ Ok row → RowOf (column_types columns) row
 completed-of all [] place given g at row e = let f : [] ≡ row = cc in subst (RowOf []) f tt
 completed-of all (c ∷ cs) place given g at row e =
-    let a = step-ok (engine.or_null c (value_at given place)) _ row e in
+    let a = step-ok (engine.value_for c (value_at given place)) _ row e in
     let n = step-ok (completed (place + 1) given cs) _ row a.2 in
     let here : column_at all place ≡ c = subst (λ (p : ℕ). column_at all p ≡ c) (add-zero place) (at 0 c refl) in
     let one = given-or-null c (value_at given place) a.0

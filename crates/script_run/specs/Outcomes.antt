@@ -9,9 +9,7 @@ use Rattle.ae_base.specs.declared.values.Datum.TheVariants.{Num, Text, Bin}
 use Rattle.ae_base.specs.declared.faults.SqlFault.{SqlFault}
 use Rattle.ae_base.specs.Faults.{printed}
 use Rattle.driver.specs.declared.faults.DriverFault.{DriverFault}
-use Rattle.driver.specs.declared.faults.DriverFault.TheVariants as fault
-use Rattle.driver.specs.declared.faults.CellFailure.{CellFailure}
-use Rattle.driver.specs.declared.faults.CellFailure.TheVariants as failure
+use Rattle.driver.specs.Faults.{printed_fault}
 
 -- the rows of an answer with its column names; a number of changed rows; a definition; or a refusal, by the server or
 -- by the driver
@@ -55,26 +53,6 @@ joined_by_tabs (x ∷ y ∷ more) = x ++ 9 ∷ joined_by_tabs (y ∷ more)
 
 abbrev pub printed_row : List Value → List ℕ
 printed_row values = line (joined_by_tabs (map printed_value values))
-
-abbrev pub printed_failure : CellFailure → List ℕ
-printed_failure failure.BadVersion = codes "BadVersion"
-printed_failure failure.BadLength = codes "BadLength"
-printed_failure failure.BadTag = codes "BadTag"
-printed_failure failure.BadPadding = codes "BadPadding"
-printed_failure failure.NotNormal = codes "NotNormal"
-
--- EntropyFault, VaultFault and BadReply end the run and are no lines
-abbrev pub printed_fault : DriverFault → List ℕ
-printed_fault fault.StillPending = codes "error 70 StillPending"
-printed_fault fault.NothingPending = codes "error 71 NothingPending"
-printed_fault (fault.DoesNotFit name) = codes "error 72 DoesNotFit @" ++ encode_utf8_all name
-printed_fault fault.TooLong = codes "error 13 TooLong"
-printed_fault (fault.NoMasterKey path) = codes "error 73 NoMasterKey " ++ encode_utf8_all path
-printed_fault (fault.KeyRefused name) = codes "error 74 KeyRefused " ++ encode_utf8_all name
-printed_fault (fault.CellFailed row column why) = codes "error 75 CellFailed row " ++ decimal row ++ codes " column " ++ decimal column ++ codes " " ++ printed_failure why
-printed_fault fault.EntropyFault = []
-printed_fault fault.VaultFault = []
-printed_fault fault.BadReply = []
 
 abbrev pub printed_outcome : Outcome → List ℕ
 printed_outcome (Rows names rows) =

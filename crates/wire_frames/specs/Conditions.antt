@@ -118,8 +118,11 @@ abbrev pub IsRequest : Request → Type 0
 IsRequest (Describe session characters declarations) = IsSession session × IsText characters × AreDeclarations declarations
 IsRequest (Execute session version characters params) = IsSession session × (version < 2 ^ 64) × IsText characters × AreSent params
 
+abbrev pub IsUsed : UsedParam → Type 0
+IsUsed p = IsParamName p.name × IsEnc p.enc
+
 abbrev pub AreUsed : List UsedParam → Type 0
-AreUsed ps = (length ps ≤ 128) × All (λ p. IsParamName p.name × IsEnc p.enc) ps × IsTrue (all_differ (map (λ p. p.name) ps))
+AreUsed ps = (length ps ≤ 128) × All IsUsed ps × IsTrue (all_differ (map (λ p. p.name) ps))
 
 -- a column's name has at most 128 characters, and may have none
 pub record IsColumn (c : SentColumn) : Type 0 where
