@@ -1,2 +1,4 @@
 pub mod Collected
+pub mod Contents
 pub mod Rows
+pub mod Walking

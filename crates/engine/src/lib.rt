@@ -3,8 +3,8 @@
 
 pub mod answers;
 mod inserts;
-// mod queries;
+mod queries;
 pub mod tables;
 #[cfg(test)]
 mod tests;
-// pub mod worlds;
+pub mod worlds;
