@@ -1,5 +1,5 @@
 -- Lists of results that are made item by item, up to the first fault.
-use Rattle.std.proofs.Common.{◌≡◌, ℕ, List, [], ◌∷◌, ◌++◌, Result, Ok, Err, refl, ap, sym, ◌∙◌, append_assoc}
+use Rattle.std.proofs.Common.{◌≡◌, List, [], ◌∷◌, ◌++◌, Result, Ok, Err, refl, ap, sym, ◌∙◌, append_assoc}
 use Rattle.ae_base.specs.declared.faults.SqlFault.{SqlFault}
 use Rattle.std.proofs.lemmas.List.{append-nil}
 use Rattle.engine.specs.declared.answers.ExecuteFault.{ExecuteFault}

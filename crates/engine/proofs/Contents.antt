@@ -1,12 +1,12 @@
 -- The tables of a well-typed world, and worlds that stay so.
-use Rattle.std.proofs.Common.{◌≡◌, ◌≢◌, ℕ, zero, suc, ◌+◌, ◌<◌, ◌≤◌, List, [], ◌∷◌, ◌++◌, length, length-append, get_or, refl, ap, sym, subst, ◌∙◌, arith, Option, Some, None, Result, Ok, Err, unwrap_or, Bool, true, false, cond}
+use Rattle.std.proofs.Common.{◌≡◌, ◌≢◌, ℕ, zero, suc, ◌+◌, ◌<◌, ◌≤◌, List, [], ◌∷◌, ◌++◌, length, length-append, get_or, refl, ap, sym, subst, ◌∙◌, arith, Option, Some, None, Ok, Err, unwrap_or, Bool, true, false, cond}
 use Rattle.std.specs.Prelude.{nat_lt, nat_le, ◌==◌, ◌||◌, slice_set, is_some, IsSome}
-use Rattle.std.specs.List.{All, AllZip, find, position, position_or_len, slice_get}
+use Rattle.std.specs.List.{All, AllZip, position_or_len, slice_get}
 use Rattle.std.specs.Str.{bytes_eq}
 use Rattle.std.proofs.lemmas.List.Elements.{All-append}
 use Rattle.std.proofs.lemmas.List.Folds.{find_at}
 use Rattle.std.proofs.lemmas.Bool.Decides.{nat_tests}
-use Rattle.std.proofs.lemmas.Option.{slice_get_read, slice_get_within, unwrap_or-slice_get}
+use Rattle.std.proofs.lemmas.Option.{slice_get_read, slice_get_within}
 use Rattle.ae_base.specs.declared.faults.SqlFault.{SqlFault}
 use Rattle.ae_base.specs.declared.tables.ColumnDef.{ColumnDef}
 use Rattle.ae_base.specs.declared.tables.TableDef.{TableDef}
@@ -98,8 +98,7 @@ table_typed world name w h =
     let k = index_of world.catalog name in
     let z = zip_there IsTable world.catalog.tables world.contents k w.tables (index_within world.catalog name h) in
     let columns : columns_of world.catalog name ≡ z.0.columns = ap columns_in (find_at (has_name name) world.catalog.tables ∙ z.2) in
-    let rows : rows_of world name ≡ z.1 = ap (λ o. unwrap_or (slice_get world.contents (unwrap_or o 0)) []) (table_place_there world.catalog name h) ∙ ap (λ o. unwrap_or o []) z.3 in
-    (
+    let rows : rows_of world name ≡ z.1 = ap (λ o. unwrap_or (slice_get world.contents (unwrap_or o 0)) []) (table_place_there world.catalog name h) ∙ ap (λ o. unwrap_or o []) z.3 in (
       subst (λ cs. All (IsRowOf cs) (rows_of world name)) (sym columns) (subst (All (IsRowOf z.0.columns)) (sym rows) z.4.each),
       subst (λ rs. length rs ≤ 100000) (sym rows) z.4.most,
     )
@@ -135,12 +134,12 @@ inserted_typed world name place rows w h e typed most =
     record {
       tables = zip_set IsTable world.catalog.tables world.contents place (rows_of world name ++ rows) w.tables
           (λ table t.
-            let found : table_named world.catalog name ≡ Some table = find_at (has_name name) world.catalog.tables ∙ ap (slice_get world.catalog.tables) (sym here) ∙ t in
-            let columns : columns_of world.catalog name ≡ table.columns = ap columns_in found in
-            record {
-              each = subst (λ cs. All (IsRowOf cs) (rows_of world name ++ rows)) columns (All-append (IsRowOf (columns_of world.catalog name)) (rows_of world name) rows old.0 typed);
-              most = omega (arith, length-append (rows_of world name) rows);
-            });
+          let found : table_named world.catalog name ≡ Some table = find_at (has_name name) world.catalog.tables ∙ ap (slice_get world.catalog.tables) (sym here) ∙ t in
+          let columns : columns_of world.catalog name ≡ table.columns = ap columns_in found in
+          record {
+            each = subst (λ cs. All (IsRowOf cs) (rows_of world name ++ rows)) columns (All-append (IsRowOf (columns_of world.catalog name)) (rows_of world name) rows old.0 typed);
+            most = omega (arith, length-append (rows_of world name) rows);
+          });
       most = w.most;
       version = w.version;
     }

@@ -1,5 +1,5 @@
 -- What a call answered and left, as the outcome of a step.
-use Rattle.std.specs.Prelude.{◌≡◌, List, Result, Ok, Err}
+use Rattle.std.specs.Prelude.{◌≡◌, Result, Ok, Err}
 use Rattle.ae_base.specs.declared.faults.SqlFault.{SqlFault}
 use Rattle.engine.specs.declared.answers.Answer as code
 use Rattle.engine.specs.declared.answers.ExecuteFault.{ExecuteFault}

@@ -1,5 +1,5 @@
 -- The next column's value.
-use Rattle.std.proofs.Common.{◌≡◌, Ok, sym, ap, subst, ◌∙◌, arith}
+use Rattle.std.proofs.Common.{sym, ap, ◌∙◌}
 use Rattle.std.specs.Option.{option_copied}
 use Rattle.engine.specs.Step.{value_for, completed}
 use Rattle.engine.proofs.Rows.{given_typed, row_typed, completed_more}

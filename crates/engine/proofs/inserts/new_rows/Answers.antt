@@ -1,5 +1,5 @@
 -- The next row.
-use Rattle.std.proofs.Common.{◌≡◌, ◌+◌, ◌<◌, Ok, [], ◌∷◌, length, length-append, map, sym, ap, ◌∙◌, arith}
+use Rattle.std.proofs.Common.{◌+◌, ◌<◌, [], ◌∷◌, length, length-append, map, sym, ap, ◌∙◌, arith}
 use Rattle.std.proofs.lemmas.List.Elements.{All-push}
 use Rattle.sql_tree.specs.Operands.{operand_of}
 use Rattle.sql_tree.specs.Bound.{insert_of, values_of}

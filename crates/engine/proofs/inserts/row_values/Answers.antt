@@ -1,5 +1,5 @@
 -- The next value, in its column.
-use Rattle.std.proofs.Common.{◌≡◌, ◌<◌, [], ◌∷◌, length, get_or, map, drop, sym, subst, ◌∙◌, ap, arith, Some, Ok}
+use Rattle.std.proofs.Common.{◌≡◌, ◌<◌, [], length, get_or, map, drop, sym, subst, ◌∙◌, ap, arith, Some}
 use Rattle.std.proofs.lemmas.List.{drop_all}
 use Rattle.std.proofs.lemmas.List.Elements.{All-push}
 use Rattle.std.proofs.lemmas.Result.{err_from_is_err_and}
