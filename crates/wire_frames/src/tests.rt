@@ -1,18 +1,13 @@
 ghost use Rattle.std.specs.Prelude.{◌≤◌, length};
 
 use super::*;
-use crate::messages::{AtomPart, DatumPart, Declaration, Done, KeyPart, Reply, Request};
-use crate::parts::{BlobPart, CellPart, NamePart, TxtPart};
-use ae_base::atoms::{Atom, AtomOf};
-use ae_base::batches::{KeyMeta, ParamDecl};
-use ae_base::blobs::Blob;
-use ae_base::cells::Cell;
+use crate::messages::{AtomPart, DatumPart, Done, Reply, Request};
+use crate::parts::{CellPart, TxtPart};
 use ae_base::faults::SqlFault;
 use ae_base::lists::{Duplicate, Seq};
 use ae_base::names::Name;
 use ae_base::texts::Txt;
-use ae_base::types::{Enc, KeyId, Ty};
-use ae_base::values::Datum;
+use ae_base::types::{Enc, Ty};
 use std::alloc::{AllocError, Global};
 use std::test::Fail;
 
@@ -138,65 +133,6 @@ fn describes_are_read(rt: HostRuntime) -> Result<(), Fail> {
 }
 
 #[test]
-fn executes_are_read(rt: HostRuntime) -> Result<(), Fail> {
-    // The statement @p in session 64, described at version 3, with -5 for the parameter p.
-    let frame = [
-        0x01, 0x02, 0x00, 0x00, 0x00, 0x1f, 0x00, 0x40, 0x00, 0x00, 0x00, 0x00, 0x00, 0x00, 0x00,
-        0x03, 0x00, 0x00, 0x00, 0x02, 0x40, 0x70, 0x01, 0x00, 0x01, 0x70, 0x01, 0x00, 0x01, 0xff,
-        0xff, 0xff, 0xff, 0xff, 0xff, 0xff, 0xfb,
-    ];
-    let Decoded::One(request, used) = decode_request(rt.alloc(), &frame) else {
-        return Err(Fail::from("a request"));
-    };
-    match request {
-        Request::Execute {
-            session,
-            version,
-            text,
-            params,
-        } => {
-            assert_eq!(rt; (session, version, used), (64, 3, 37));
-            assert_eq!(rt; text.as_str(), "@p");
-            assert_eq!(rt; params.len(), 1);
-            for param in params.as_slice() {
-                assert_eq!(rt; param.name.as_str(), "p");
-                assert!(rt; param.ty == Ty::Int && param.enc == Enc::Plain);
-                assert!(rt; matches!(&param.atom, AtomPart::Plain(DatumPart::Num(-5))));
-            }
-            Ok(())
-        }
-        Request::Describe { .. } => Err(Fail::from("an Execute")),
-    }
-}
-
-#[test]
-fn replies_are_read(rt: HostRuntime) {
-    // The bytes behind a frame are not its own.
-    let mut two = [0; 31];
-    two[..16].copy_from_slice(&DESCRIBED);
-    two[16..].copy_from_slice(&DONE);
-    assert!(rt;
-        matches!(
-            decode_reply(rt.alloc(), &two),
-            Decoded::One(Reply::Described { version: 0, .. }, 16)
-        )
-    );
-    assert!(rt;
-        matches!(
-            decode_reply(rt.alloc(), &DONE),
-            Decoded::One(Reply::Ended(Done::Defined), 15)
-        )
-    );
-    let refused = decode_reply(rt.alloc(), &REFUSED);
-    assert!(rt;
-        matches!(
-            &refused,
-            Decoded::One(Reply::Refused(SqlFault::NoTable(table)), 10) if table.as_str() == "t"
-        )
-    );
-}
-
-#[test]
 fn answers_are_read(rt: HostRuntime) -> Result<(), Fail> {
     let columns = [
         0x01, 0x82, 0x00, 0x00, 0x00, 0x08, 0x00, 0x00, 0x01, 0x00, 0x01, 0x61, 0x01, 0x00,
@@ -301,39 +237,5 @@ fn a_sealed_atom_is_spelled_byte_by_byte(rt: HostRuntime) -> Result<(), Fail> {
         0x01, 0x83, 0x00, 0x00, 0x00, 0x06, 0x00, 0x01, 0x04, 0x00, 0x01, 0x09,
     ];
     assert_eq!(rt; frame.as_slice(), bytes.as_slice());
-    Ok(())
-}
-
-#[test]
-fn parts_are_own_or_lent(rt: HostRuntime) -> Result<(), Fail> {
-    let name = Name::from_txt(Txt::copied(rt.alloc(), "p")?).ok_or("a name")?;
-    let declaration = Declaration::own(ParamDecl { name, ty: Ty::Int });
-    assert_eq!(rt; declaration.name.as_str(), "p");
-    let copy = declaration.to_declaration(rt.alloc())?;
-    assert!(rt; NamePart::own(copy.name).same(&declaration.name));
-    let cell = Cell::from_bytes(rt.alloc(), &[1, 2])?;
-    let atom = AtomPart::own(Atom::new(AtomOf::Sealed(cell)));
-    assert!(rt; matches!(&atom, AtomPart::Sealed(cell) if cell.bytes() == [1, 2].as_slice()));
-    assert!(rt; atom.to_atom(rt.alloc())?.same(&atom.to_atom(rt.alloc())?));
-    let text = DatumPart::own(Datum::Text(Txt::copied(rt.alloc(), "x")?));
-    assert!(rt; text.to_datum(rt.alloc())? == Datum::Text(TxtPart::lent("x").to_txt(rt.alloc())?));
-    let bytes = DatumPart::Bin(BlobPart::lent(&[3]));
-    assert!(rt; bytes.to_datum(rt.alloc())? == Datum::Bin(Blob::copied(rt.alloc(), &[3])?));
-    Ok(())
-}
-
-#[test]
-fn a_key_is_told_as_it_is(rt: HostRuntime) -> Result<(), Fail> {
-    let key = KeyMeta {
-        id: KeyId::from_number(1).ok_or("a key")?,
-        name: Name::from_txt(Txt::copied(rt.alloc(), "K")?).ok_or("a name")?,
-        path: Txt::copied(rt.alloc(), "main")?,
-        wrapped: Blob::copied(rt.alloc(), &[0])?,
-    };
-    let part = KeyPart::own(key);
-    assert_eq!(rt; part.path.as_str(), "main");
-    let copy = part.to_meta(rt.alloc())?;
-    assert_eq!(rt; (copy.id.number(), copy.name.as_str()), (1, "K"));
-    assert_eq!(rt; copy.wrapped.as_slice(), part.wrapped.as_slice());
     Ok(())
 }
