@@ -1,6 +1,0 @@
-mod Again
-mod Fronts
-mod Going
-mod Listing
-mod Spelled
-mod Whole
