@@ -25,7 +25,8 @@ use Rattle.driver.specs.declared.faults.DriverFault.TheVariants as driver_fault
 use Rattle.ae_base.specs.Values.{value_is_within}
 use Rattle.server_core.specs.Serve.{understood, serve, describe, used_from, Served}
 use Rattle.script_run.specs.Drive.{drive_batch, described_or_bad, executing}
-use Rattle.script_run.specs.Transcript.{Exchange, Passed, asked, batch_passes, after_replies, after_description, execution, nothing_passed, replies_in, requests_in}
+use Rattle.server_core.specs.Exchanges.{Exchange}
+use Rattle.script_run.specs.Transcript.{Passed, asked, batch_passes, after_replies, after_description, execution, nothing_passed, replies_in, requests_in}
 use Rattle.script_run.specs.Reference.{Meant, meaning, meaning_of, meaning_of_fit}
 use Rattle.script_run.proofs.SentParams.{declared, kept, atom_of_param, sent_of, used_name, AreFound, AreFit, used-in_order, sent-used}
 use Rattle.script_run.proofs.Served.{served-sent, sent-statement}

@@ -12,7 +12,8 @@ use Rattle.script_lang.specs.declared.steps.Step.TheVariants.{Whole, Half, Execu
 use Rattle.script_lang.specs.Script.{Begun, Read, steps_of, steps_from, with_line, with_param, with_declaration, ended, then_steps, nothing_begun}
 use Rattle.script_lang.specs.Script as script
 use Rattle.script_run.specs.Drive.{drive_from, Done}
-use Rattle.script_run.specs.Transcript.{Exchange, batch_passes, exchanges_from, replies_in, requests_in}
+use Rattle.server_core.specs.Exchanges.{Exchange}
+use Rattle.script_run.specs.Transcript.{batch_passes, exchanges_from, replies_in, requests_in}
 use Rattle.script_run.specs.Reference.{meaning, meanings_from}
 use Rattle.script_run.specs.Laws.{ServedIsPlain}
 use Rattle.script_run.proofs.SentParams.{AreFound}

@@ -1,3 +1,4 @@
+pub mod Batches
 pub mod Drive
 pub mod Laws
 pub mod Outcomes

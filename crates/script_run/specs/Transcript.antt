@@ -3,16 +3,12 @@ use Rattle.std.specs.Prelude.{ℕ, List, [], ◌∷◌, ◌++◌, map, flat_map,
 use Rattle.engine.specs.Worlds.{World, empty_world}
 use Rattle.wire_frames.specs.Messages.{Request, Reply}
 use Rattle.wire_frames.specs.Spelling.{request_frame, reply_frame}
+use Rattle.server_core.specs.Exchanges.{Exchange}
 use Rattle.server_core.specs.Serve.{serve}
 use Rattle.driver.specs.declared.faults.DriverFault.{DriverFault}
 use Rattle.driver.specs.Sessions.{Session, Idle, begin, described, execute, DescribeAnswer, Ready, DescribeRefused}
 use Rattle.script_lang.specs.declared.steps.Step.{Step}
 use Rattle.script_lang.specs.declared.steps.Step.TheVariants.{Whole, Half, Execute}
-
--- a request and the replies to it
-pub record Exchange : Type 0 where
-  pub request : Request
-  pub replies : List Reply
 
 -- what passed, and the world after it
 pub record Passed : Type 0 where

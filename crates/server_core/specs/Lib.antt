@@ -1,2 +1,4 @@
+pub mod Exchanges
 pub mod Serve
 pub mod ServeWorked
+pub mod ServedWorlds
