@@ -1,0 +1,6 @@
+mod Again
+mod Fronts
+mod Going
+mod Listing
+mod Spelled
+mod Whole

@@ -1,3 +1,5 @@
 pub mod Grammar
+pub mod Laws
 pub mod Parse
 pub mod ParseWorked
+pub mod Reads

@@ -123,8 +123,8 @@ operand (t ∷ ts) = operand_at t.at t.lexeme >>= λ read. Some (read, ts)
 abbrev pub no_column : Operand → Option Operand
 no_column (operands.Literal at v) = Some (operands.Literal at v)
 no_column (operands.Param at name) = Some (operands.Param at name)
-no_column (operands.Column at column) = None
-no_column (operands.Minus at operand) = None
+no_column (operands.Column at named) = None
+no_column (operands.Minus at negated) = None
 no_column (operands.Sum first terms) = None
 
 abbrev pub row_value : Reading Operand
@@ -156,8 +156,8 @@ comparison_of symbol.Star = None
 abbrev pub comparison_at : Lexeme → Option Comparison
 comparison_at (lexeme.Symbol s) = comparison_of s
 comparison_at (lexeme.Keyword k) = None
-comparison_at (lexeme.Ident name) = None
-comparison_at (lexeme.Param name) = None
+comparison_at (lexeme.Ident word) = None
+comparison_at (lexeme.Param word) = None
 comparison_at (lexeme.Number n) = None
 comparison_at (lexeme.Binary bytes) = None
 comparison_at (lexeme.Text characters) = None
@@ -261,13 +261,13 @@ passes_a_limit (tree.CreateTable table columns uniques) =
     nat_lt 64 (length columns) || nat_lt 8 (length uniques) || list_any (λ unique. nat_lt 16 (length unique.columns)) uniques
 passes_a_limit (tree.Insert table columns rows) = nat_lt 1000 (length rows)
 passes_a_limit (tree.Select query) = nat_lt 512 (items_of query.items) || nat_lt 8 (suc (length query.joins))
-passes_a_limit (tree.CreateMaster name path) = false
-passes_a_limit (tree.CreateKey name master wrapped) = false
-passes_a_limit (tree.DropTable name) = false
-passes_a_limit (tree.DropMaster name) = false
-passes_a_limit (tree.DropKey name) = false
-passes_a_limit (tree.Update table assignments filter) = false
-passes_a_limit (tree.Delete table filter) = false
+passes_a_limit (tree.CreateMaster word path) = false
+passes_a_limit (tree.CreateKey word master wrapped) = false
+passes_a_limit (tree.DropTable word) = false
+passes_a_limit (tree.DropMaster word) = false
+passes_a_limit (tree.DropKey word) = false
+passes_a_limit (tree.Update table assignments asked) = false
+passes_a_limit (tree.Delete table asked) = false
 
 abbrev pub parsed_tree : Option Statement → Result Statement SqlFault
 parsed_tree None = Err fault.Syntax

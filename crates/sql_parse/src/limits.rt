@@ -1,0 +1,93 @@
+ghost use Rattle.std.specs.Prelude.{◌≡◌, ◌==◌, length, nat_lt};
+ghost use Rattle.std.specs.List.{list_any};
+ghost use Rattle.sql_tree.specs.Statements.{items_of, statement_of};
+ghost use Rattle.sql_parse.specs.Parse as spec;
+
+use sql_tree::lexemes::{Lexeme, Symbol, Token};
+use sql_tree::statements::{Items, Statement, UniqueSpec};
+
+/// The most parentheses that are open at once.
+const MOST_OPEN: usize = 64;
+
+/// The most columns of a table.
+const MOST_COLUMNS: usize = 64;
+
+/// The most unique keys of a table.
+const MOST_KEYS: usize = 8;
+
+/// The most columns of a unique key.
+const MOST_KEY_COLUMNS: usize = 16;
+
+/// The most rows of one VALUES.
+const MOST_ROWS: usize = 1000;
+
+/// The most items of a SELECT.
+const MOST_ITEMS: usize = 512;
+
+/// The most tables of a FROM.
+const MOST_TABLES: usize = 8;
+
+/// Whether more than 64 parentheses are open at once. One that closes nothing counts for nothing.
+pub(crate) fn opens_too_deep(tokens: &[Token]) -> bool
+    ensures { result ≡ spec.opens_too_deep 0 tokens.now }
+{
+    let mut depth: usize = 0;
+    for token in tokens {
+        match token.lexeme {
+            Lexeme::Symbol(Symbol::Open) => {
+                if depth >= MOST_OPEN {
+                    return true;
+                }
+                depth += 1;
+            }
+            Lexeme::Symbol(Symbol::Close) => depth = depth.saturating_sub(1),
+            _ => {}
+        }
+    }
+    false
+}
+
+/// Whether a count of the statement passes its limit.
+pub(crate) fn passes_a_limit(statement: &Statement) -> bool
+    ensures { result ≡ spec.passes_a_limit (statement_of statement.now) }
+{
+    match statement {
+        Statement::CreateTable {
+            columns,
+            uniques,
+            ..
+        } => {
+            columns.len() > MOST_COLUMNS
+                || uniques.len() > MOST_KEYS
+                || has_wide_key(uniques.as_slice())
+        }
+        Statement::Insert { rows, .. } => rows.len() > MOST_ROWS,
+        Statement::Select(query) => {
+            item_count(&query.items) > MOST_ITEMS || query.joins.len() >= MOST_TABLES
+        }
+        Statement::CreateMaster { .. }
+        | Statement::CreateKey { .. }
+        | Statement::DropTable(_)
+        | Statement::DropMaster(_)
+        | Statement::DropKey(_)
+        | Statement::Update { .. }
+        | Statement::Delete { .. } => false,
+    }
+}
+
+fn has_wide_key(uniques: &[UniqueSpec]) -> bool
+    ensures { result ≡ list_any (λ unique. nat_lt 16 (length unique.columns)) uniques.now }
+{
+    uniques
+        .iter()
+        .any(|unique| unique.columns.len() > MOST_KEY_COLUMNS)
+}
+
+fn item_count(items: &Items) -> usize
+    ensures { result ≡ spec.items_of (items_of items.now) }
+{
+    match items {
+        Items::Star { .. } => 1,
+        Items::List(items) => items.len(),
+    }
+}
