@@ -1,10 +1,12 @@
 -- The batches that a script has.
-use Rattle.std.specs.Prelude.{◌≡◌, map, IsTrue}
+use Rattle.std.specs.Prelude.{◌≡◌, ℕ, List, map, Ok, IsTrue}
 use Rattle.std.specs.List.{All}
 use Rattle.std.specs.Str.{all_scalars}
 use Rattle.ae_base.specs.declared.types.Ty.TheVariants as ty
 use Rattle.ae_base.specs.declared.batches.Batch.{Batch}
-use Rattle.wire_frames.specs.Conditions.{AreDeclarations, IsSession}
+use Rattle.wire_frames.specs.Conditions.{AreDeclarations, IsRequest, IsSession}
+use Rattle.wire_frames.specs.Messages.{Request, UsedParam}
+use Rattle.driver.specs.Sessions.{Session, Pending, execute}
 use Rattle.script_lang.specs.declared.steps.Step.{Step}
 use Rattle.script_lang.specs.declared.steps.Step.TheVariants.{Whole, Half, Execute}
 
@@ -19,3 +21,11 @@ abbrev pub IsStep : Step → Type 0
 IsStep (Whole number batch) = IsSession number × IsBatch batch
 IsStep (Half number batch) = IsSession number × IsBatch batch
 IsStep (Execute number) = IsSession number
+
+-- a described batch whose execution asks a request that has a frame
+pub record IsFramedExecution (number : ℕ) (session : Session) : Type 0 where
+  pub batch : Batch
+  pub version : ℕ
+  pub used : List UsedParam
+  pub pending : session ≡ Pending batch version used
+  pub framed : (request : Request) (after : Session) → execute session number ≡ Ok (request, after) → IsRequest request

@@ -1,8 +1,12 @@
+pub mod Answers
 pub mod Batches
 pub mod Drive
 pub mod Laws
 pub mod Outcomes
+pub mod Programs
 pub mod Reference
 pub mod RunWorked
+pub mod Runs
 pub mod Statuses
 pub mod Transcript
+pub mod Views

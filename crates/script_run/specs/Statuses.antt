@@ -2,6 +2,7 @@
 use Rattle.std.specs.Prelude.{ℕ, List, [], ◌∷◌, ◌++◌, codes, decimal, encode_utf8_all}
 use Rattle.script_run.specs.declared.status.Status.{Status}
 use Rattle.script_run.specs.declared.status.Status.TheVariants as status
+use Rattle.script_run.specs.declared.runs.Ended as ended
 
 abbrev pub number_of : Status → ℕ
 number_of status.Done = 0
@@ -35,3 +36,11 @@ said_of status.TooLong = line (codes "too long")
 said_of (status.BadFrame place) = line (codes "bad frame at " ++ decimal place)
 said_of (status.BadReply place) = line (codes "bad reply at " ++ decimal place)
 said_of (status.NoMasterKey path) = line (codes "no master key " ++ encode_utf8_all path)
+
+-- the status of a run that ended so
+abbrev pub status_of : ended.Ended → Status
+status_of ended.TheVariants.Done = status.Done
+status_of ended.TheVariants.Refusals = status.Refusals
+status_of (ended.TheVariants.BadReply place) = status.BadReply place
+status_of ended.TheVariants.WriteFault = status.WriteFault
+status_of ended.TheVariants.OutOfMemory = status.OutOfMemory

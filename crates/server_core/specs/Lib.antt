@@ -1,4 +1,6 @@
+pub mod Calls
 pub mod Exchanges
+pub mod Faults
 pub mod Serve
 pub mod ServeWorked
 pub mod ServedWorlds

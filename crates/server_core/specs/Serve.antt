@@ -6,6 +6,7 @@ use Rattle.ae_base.specs.Values.{is_within}
 use Rattle.ae_base.specs.declared.atoms.AtomOf.{AtomOf}
 use Rattle.ae_base.specs.declared.atoms.AtomOf.TheVariants.{Null, Plain, Sealed}
 use Rattle.ae_base.specs.declared.types.Enc.{Enc}
+use Rattle.ae_base.specs.declared.types.Ty.{Ty}
 use Rattle.ae_base.specs.declared.faults.SqlFault.{SqlFault}
 use Rattle.ae_base.specs.declared.faults.SqlFault.TheVariants as fault
 use Rattle.sql_tree.specs.declared.bound.ResultColumn.{ResultColumn}
@@ -75,17 +76,20 @@ is_plain (enc.Det key) = false
 is_plain (enc.Rnd key) = false
 
 -- a plain parameter is neither sealed nor unfit for its type; so far each is plain
+abbrev pub is_plain_within : AtomOf (List ℕ) → Ty → Bool
+is_plain_within Null type = true
+is_plain_within (Plain datum) type = is_within datum type
+is_plain_within (Sealed cell) type = false
+
 abbrev pub suits : SentParam → Bool
-suits p = if is_plain p.enc then plain_suits p.atom else false
-  where
-    plain_suits : AtomOf (List ℕ) → Bool
-    plain_suits Null = true
-    plain_suits (Plain datum) = is_within datum p.ty
-    plain_suits (Sealed cell) = false
+suits p = if is_plain p.enc then is_plain_within p.atom p.ty else false
+
+abbrev pub suited_atom : SentParam → Result (AtomOf (List ℕ)) SqlFault
+suited_atom p = if suits p then Ok p.atom else Err (fault.ParamClash p.name)
 
 abbrev pub suited : List SentParam → Result (List (AtomOf (List ℕ))) SqlFault
 suited [] = Ok []
-suited (p ∷ ps) = (if suits p then Ok p.atom else Err (fault.ParamClash p.name)) >>= λ atom. suited ps >>= λ atoms. Ok (atom ∷ atoms)
+suited (p ∷ ps) = suited_atom p >>= λ atom. suited ps >>= λ atoms. Ok (atom ∷ atoms)
 
 -- ---- answers
 
