@@ -3,6 +3,7 @@ pub mod BindSent
 pub mod PlainInserts
 pub mod PlainRows
 pub mod PlainWorlds
+pub mod Requests
 pub mod SentParams
 pub mod Served
 pub mod ServedIsPlain
