@@ -4,6 +4,7 @@ pub mod PlainInserts
 pub mod PlainRows
 pub mod PlainWorlds
 pub mod Requests
+pub mod ScriptBatches
 pub mod SentParams
 pub mod Served
 pub mod ServedIsPlain

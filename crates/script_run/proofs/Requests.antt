@@ -1,9 +1,8 @@
 -- What the driver asks for a batch meets the conditions of its frames.
-use Rattle.std.proofs.Common.{◌≡◌, ℕ, suc, ◌<◌, ◌≤◌, ◌^◌, List, [], ◌∷◌, length, map, find, encode_utf8_all, Option, Some, None, Result, Ok, Err, Bool, true, false, cond, if◌then◌else◌, ◌||◌, ◌&&◌, not, nat_lt, int_le, pos, negsuc, FitsSigned, refl, sym, ◌∙◌, ap, subst, arith}
+use Rattle.std.proofs.Common.{◌≡◌, ℕ, ◌<◌, ◌≤◌, ◌^◌, List, [], ◌∷◌, length, map, find, encode_utf8_all, Option, Some, None, Ok, Err, Bool, true, false, cond, if◌then◌else◌, not, nat_lt, int_le, pos, negsuc, refl, sym, ◌∙◌, ap, subst, arith}
 use Rattle.std.specs.List.{All, list_any}
-use Rattle.std.specs.Int.{w64}
 use Rattle.std.specs.Str.{bytes_eq}
-use Rattle.std.proofs.lemmas.Bool.{and_parts, and_from, ltb-false}
+use Rattle.std.proofs.lemmas.Bool.{and_parts, and_from, or_parts, or_from, not-true, not_from_false, ltb-false}
 use Rattle.std.proofs.lemmas.Int.{ints}
 use Rattle.std.proofs.lemmas.List.Elements.{All-nil, All-cons, All-head, All-tail}
 use Rattle.ae_base.specs.declared.types.Ty.{Ty}
@@ -116,20 +115,6 @@ pub record AreSentFor (us : List UsedParam) (ps : List SentParam) : Type 0 where
   pub apart : (name : List ℕ) → list_any (bytes_eq name) (map used_name us) ≡ false → list_any (bytes_eq name) (map sent_name ps) ≡ false
   pub differ : all_differ (map used_name us) ≡ true → all_differ (map sent_name ps) ≡ true
 
-or-parts : (a b : Bool) → (a || b) ≡ false → (a ≡ false) × (b ≡ false)
-or-parts true b h = absurd cc
-or-parts false b h = (refl, h)
-
-or-from : (a b : Bool) → a ≡ false → b ≡ false → (a || b) ≡ false
-or-from a b e f = rw (e, f) refl
-
-not-true : (b : Bool) → not b ≡ true → b ≡ false
-not-true true h = absurd cc
-not-true false h = refl
-
-not-from : (b : Bool) → b ≡ false → not b ≡ true
-not-from b e = rw e refl
-
 sent-none : AreSentFor [] []
 sent-none = record { few = omega arith; sent = All-nil IsSent; apart = λ name h. refl; differ = λ h. refl }
 
@@ -137,7 +122,7 @@ sent-past : (u : UsedParam) (us : List UsedParam) (ps : List SentParam) → AreS
 sent-past u us ps h = record {
   few = omega (arith, h.few);
   sent = h.sent;
-  apart = λ name e. h.apart name (or-parts (bytes_eq name u.name) (list_any (bytes_eq name) (map used_name us)) e).1;
+  apart = λ name e. h.apart name (or_parts (bytes_eq name u.name) (list_any (bytes_eq name) (map used_name us)) e).1;
   differ = λ e. h.differ (and_parts (not (list_any (bytes_eq u.name) (map used_name us))) (all_differ (map used_name us)) e).1;
 }
 
@@ -146,13 +131,13 @@ sent-more u us p ps same good h = record {
   few = omega (arith, h.few);
   sent = All-cons IsSent p ps good h.sent;
   apart = λ name e.
-    let parts = or-parts (bytes_eq name u.name) (list_any (bytes_eq name) (map used_name us)) e in
-    or-from (bytes_eq name p.name) (list_any (bytes_eq name) (map sent_name ps)) (ap (bytes_eq name) same ∙ parts.0) (h.apart name parts.1);
+    let parts = or_parts (bytes_eq name u.name) (list_any (bytes_eq name) (map used_name us)) e in
+    or_from (bytes_eq name p.name) (list_any (bytes_eq name) (map sent_name ps)) (ap (bytes_eq name) same ∙ parts.0) (h.apart name parts.1);
   differ = λ e.
     let parts = and_parts (not (list_any (bytes_eq u.name) (map used_name us))) (all_differ (map used_name us)) e in
     let away = h.apart u.name (not-true (list_any (bytes_eq u.name) (map used_name us)) parts.0) in
     let other : list_any (bytes_eq p.name) (map sent_name ps) ≡ false = ap (λ n. list_any (bytes_eq n) (map sent_name ps)) same ∙ away in
-    and_from (not (list_any (bytes_eq p.name) (map sent_name ps))) (all_differ (map sent_name ps)) (not-from (list_any (bytes_eq p.name) (map sent_name ps)) other) (h.differ parts.1);
+    and_from (not (list_any (bytes_eq p.name) (map sent_name ps))) (all_differ (map sent_name ps)) (not_from_false (list_any (bytes_eq p.name) (map sent_name ps)) other) (h.differ parts.1);
 }
 
 abbrev pub sent_with : UsedParam → Param → SentParam
