@@ -131,13 +131,13 @@ sent-more u us p ps same good h = record {
   few = omega (arith, h.few);
   sent = All-cons IsSent p ps good h.sent;
   apart = λ name e.
-    let parts = or_parts (bytes_eq name u.name) (list_any (bytes_eq name) (map used_name us)) e in
-    or_from (bytes_eq name p.name) (list_any (bytes_eq name) (map sent_name ps)) (ap (bytes_eq name) same ∙ parts.0) (h.apart name parts.1);
+      let parts = or_parts (bytes_eq name u.name) (list_any (bytes_eq name) (map used_name us)) e in
+      or_from (bytes_eq name p.name) (list_any (bytes_eq name) (map sent_name ps)) (ap (bytes_eq name) same ∙ parts.0) (h.apart name parts.1);
   differ = λ e.
-    let parts = and_parts (not (list_any (bytes_eq u.name) (map used_name us))) (all_differ (map used_name us)) e in
-    let away = h.apart u.name (not-true (list_any (bytes_eq u.name) (map used_name us)) parts.0) in
-    let other : list_any (bytes_eq p.name) (map sent_name ps) ≡ false = ap (λ n. list_any (bytes_eq n) (map sent_name ps)) same ∙ away in
-    and_from (not (list_any (bytes_eq p.name) (map sent_name ps))) (all_differ (map sent_name ps)) (not_from_false (list_any (bytes_eq p.name) (map sent_name ps)) other) (h.differ parts.1);
+      let parts = and_parts (not (list_any (bytes_eq u.name) (map used_name us))) (all_differ (map used_name us)) e in
+      let away = h.apart u.name (not-true (list_any (bytes_eq u.name) (map used_name us)) parts.0) in
+      let other : list_any (bytes_eq p.name) (map sent_name ps) ≡ false = ap (λ n. list_any (bytes_eq n) (map sent_name ps)) same ∙ away in
+      and_from (not (list_any (bytes_eq p.name) (map sent_name ps))) (all_differ (map sent_name ps)) (not_from_false (list_any (bytes_eq p.name) (map sent_name ps)) other) (h.differ parts.1);
 }
 
 abbrev pub sent_with : UsedParam → Param → SentParam

@@ -63,8 +63,8 @@ named-front : (make : List ℕ → Lexeme) (sign : ℕ) (name : List ℕ) → (I
 named-front make sign name h =
     cond-front (nat_lt 0 (length name) && nat_le (length name) 128) (Some (make name, sign + length name)) None
     (λ e.
-        let parts = and_parts (nat_lt 0 (length name)) (nat_le (length name) 128) e in
-        h (ltb-true 0 (length name) parts.0, leb-true (length name) 128 parts.1))
+    let parts = and_parts (nat_lt 0 (length name)) (nat_le (length name) 128) e in
+    h (ltb-true 0 (length name) parts.0, leb-true (length name) 128 parts.1))
     tt
 
 word-named : (word : List ℕ) (o : Option Keyword) → IsNamed (keyword_or word o)
@@ -256,8 +256,8 @@ begun-batch : (begun : Begun) → IsBegun begun → IsBatch (batch_of begun)
 begun-batch begun h = record {
   text = scalars-chars (joined begun.lines) (joined-utf8 begun.lines h.lines);
   declarations =
-    let few : length (map (λ p. p.declaration) begun.params) ≤ 128 = rw (length-map begun.params (λ p. p.declaration)) h.few in
-    (few, All-map IsDeclaration (λ p. p.declaration) begun.params (λ k d lt. declared-declaration (get_or begun.params k d) (h.declared k d lt)), h.differ);
+      let few : length (map (λ p. p.declaration) begun.params) ≤ 128 = rw (length-map begun.params (λ p. p.declaration)) h.few in
+      (few, All-map IsDeclaration (λ p. p.declaration) begun.params (λ k d lt. declared-declaration (get_or begun.params k d) (h.declared k d lt)), h.differ);
   integers = λ k d lt. (h.declared k d lt).1;
 }
 
