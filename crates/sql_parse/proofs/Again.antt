@@ -1,32 +1,24 @@
 -- The parts of the statements: what is spelled is read, whatever follows.
-use Rattle.std.proofs.Common.{◌≡◌, ℕ, ℤ, zero, suc, ◌+◌, ◌≤◌, ◌<◌, pos, Bool, true, false, List, [], ◌∷◌, ◌++◌, length, map, codes, Option, Some, None, refl, sym, ◌∙◌, ap, subst, arith, append_assoc, length-append}
-use Rattle.std.specs.Option.{option_map}
-use Rattle.std.specs.Str.{bytes_eq}
+use Rattle.std.proofs.Common.{◌≡◌, ℕ, ℤ, ◌≤◌, List, [], ◌∷◌, ◌++◌, length, codes, Option, Some, None, refl, sym, ◌∙◌, ap, arith, length-append}
 use Rattle.std.proofs.lemmas.Slice.Eq.{bytes_eq-Decides}
 use Rattle.std.proofs.lemmas.List.{append-nil}
 use Rattle.ae_base.specs.declared.values.Value.TheVariants as value
 use Rattle.ae_base.specs.declared.values.Datum.TheVariants as datum
-use Rattle.ae_base.specs.declared.types.Ty.TheVariants as ty
-use Rattle.sql_tree.specs.contracts.lexemes.Keyword as the_keyword
-use Rattle.sql_tree.specs.declared.lexemes.Keyword.{Keyword}
 use Rattle.sql_tree.specs.declared.lexemes.Keyword.TheVariants as keyword
-use Rattle.sql_tree.specs.declared.lexemes.Symbol.{Symbol}
 use Rattle.sql_tree.specs.declared.lexemes.Symbol.TheVariants as symbol
 use Rattle.sql_tree.specs.declared.lexemes.Lexeme.{Lexeme}
 use Rattle.sql_tree.specs.declared.lexemes.Lexeme.TheVariants as lexeme
 use Rattle.sql_tree.specs.declared.lexemes.Token.{Token}
 use Rattle.sql_tree.specs.declared.conditions.Comparison.{Comparison}
 use Rattle.sql_tree.specs.declared.conditions.Comparison.TheVariants as comparison
-use Rattle.sql_tree.specs.declared.operands.ColumnRef.{ColumnRef}
 use Rattle.sql_tree.specs.declared.statements.ColumnSpec.{ColumnSpec}
 use Rattle.sql_tree.specs.Tokens.{in_capitals}
 use Rattle.sql_tree.specs.Operands as operands
 use Rattle.sql_tree.specs.Conditions as conditions
 use Rattle.sql_tree.specs.Statements.{Operand, Condition, ValueRow, Item}
-use Rattle.sql_tree.specs.Statements as tree
 use Rattle.sql_parse.specs.Grammar.{Is, IsAt, IsName, ReadsAs, ◌then◌, Listed, SpellsColumn, SpellsOperand, SpellsValue, IsNoColumn, SpellsCondition, SpellsFilter, SpellsRow, SpellsItem, symbol_of}
-use Rattle.sql_parse.specs.Parse.{◌>>=◌, Reading, token, is_keyword, is_symbol, name, ident_of, column, operand_at, operand, no_column, row_value, row, listed, comparison_of, comparison_at, condition_after, condition, filter_after, filter, item_at, item}
-use Rattle.sql_parse.proofs.Fronts.{Parts, parts_of, IsRead, token_read, token_read_at, token_none, name_read, length-Is, at_is}
+use Rattle.sql_parse.specs.Parse.{is_keyword, is_symbol, name, column, operand, no_column, row_value, row, comparison_of, condition_after, condition, filter, item}
+use Rattle.sql_parse.proofs.Fronts.{parts_of, token_read, token_read_at, token_none, name_read, length-Is}
 use Rattle.sql_parse.proofs.Listing.{IsComplete, listed_read}
 
 -- ---- column

@@ -1,6 +1,6 @@
 -- Fronts of tokens: what is read of them, and what spells them.
-use Rattle.std.proofs.Common.{◌≡◌, ℕ, ◌+◌, ◌≤◌, Bool, true, false, cond, List, [], ◌∷◌, ◌++◌, length, map, Option, Some, None, refl, sym, ◌∙◌, ap, subst, arith, append_assoc, length-append}
-use denote.Enum.Bare.{sameb, same_true}
+use Rattle.std.proofs.Common.{◌≡◌, ℕ, Bool, true, false, cond, List, [], ◌∷◌, ◌++◌, length, map, Option, Some, None, refl, sym, ◌∙◌, ap, subst, append_assoc}
+use denote.Enum.Bare.{same_true}
 use Rattle.sql_tree.specs.contracts.lexemes.Keyword as the_keyword
 use Rattle.sql_tree.specs.contracts.lexemes.Symbol as the_symbol
 use Rattle.sql_tree.specs.declared.lexemes.Keyword.{Keyword}
@@ -9,7 +9,7 @@ use Rattle.sql_tree.specs.declared.lexemes.Lexeme.{Lexeme}
 use Rattle.sql_tree.specs.declared.lexemes.Lexeme.TheVariants as lexeme
 use Rattle.sql_tree.specs.declared.lexemes.Token.{Token}
 use Rattle.sql_parse.specs.Grammar.{Is, IsAt, ◌then◌}
-use Rattle.sql_parse.specs.Parse.{◌>>=◌, Reading, is_keyword, is_symbol, token, ident_of, name}
+use Rattle.sql_parse.specs.Parse.{◌>>=◌, is_keyword, is_symbol, token, ident_of, name}
 
 -- the tokens are a front of which P holds, and the rest
 pub record Front (P : List Token → Type 0) (tokens rest : List Token) : Type 0 where

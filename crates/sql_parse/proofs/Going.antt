@@ -1,5 +1,5 @@
 -- A loop that reads items with commas between.
-use Rattle.std.proofs.Common.{◌≡◌, ℕ, zero, suc, ◌+◌, ◌≤◌, ◌<◌, Bool, true, false, List, [], ◌∷◌, ◌++◌, length, map, Option, Some, None, refl, sym, ◌∙◌, ap, subst, arith, append_assoc, length-append}
+use Rattle.std.proofs.Common.{◌≡◌, ℕ, zero, suc, ◌≤◌, ◌<◌, true, false, List, [], ◌∷◌, ◌++◌, length, Option, Some, None, refl, sym, ◌∙◌, ap, arith, append_assoc, length-append}
 use Rattle.std.specs.Option.{option_map}
 use Rattle.sql_tree.specs.declared.lexemes.Symbol.TheVariants as symbol
 use Rattle.sql_tree.specs.declared.lexemes.Token.{Token}
@@ -7,7 +7,7 @@ use Rattle.sql_parse.specs.declared.faults.ParseFault.{ParseFault}
 use Rattle.sql_parse.specs.declared.faults.ParseFault.TheVariants.{Refused, OutOfMemory}
 use Rattle.sql_parse.specs.Parse.{◌>>=◌, Reading, is_symbol, token, listed, more_items, behind}
 use Rattle.sql_parse.specs.Reads.{Fails, Passes}
-use Rattle.sql_parse.proofs.Fronts.{Front, symbol_front}
+use Rattle.sql_parse.proofs.Fronts.{symbol_front}
 use Rattle.sql_parse.proofs.Listing.{IsSound, IsComplete}
 
 -- an item is more than nothing

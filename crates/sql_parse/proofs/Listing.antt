@@ -1,15 +1,12 @@
 -- Lists with commas between.
-use Rattle.std.proofs.Common.{◌≡◌, ℕ, zero, suc, ◌+◌, ◌≤◌, ◌<◌, Bool, true, false, List, [], ◌∷◌, ◌++◌, length, map, Option, Some, None, refl, sym, ◌∙◌, ap, subst, arith, append_assoc, length-append}
+use Rattle.std.proofs.Common.{◌≡◌, ℕ, zero, suc, ◌≤◌, List, [], ◌∷◌, ◌++◌, length, Option, Some, None, refl, ap, subst, arith, length-append}
 use Rattle.std.specs.Option.{option_map}
 use Rattle.sql_tree.specs.declared.lexemes.Symbol.TheVariants as symbol
 use Rattle.sql_tree.specs.declared.lexemes.Lexeme.TheVariants as lexeme
 use Rattle.sql_tree.specs.declared.lexemes.Token.{Token}
-use Rattle.sql_parse.specs.declared.faults.ParseFault.{ParseFault}
-use Rattle.sql_parse.specs.declared.faults.ParseFault.TheVariants.{Refused, OutOfMemory}
 use Rattle.sql_parse.specs.Grammar.{Is, Listed, ◌then◌}
-use Rattle.sql_parse.specs.Parse.{◌>>=◌, Reading, is_symbol, token, listed, more_items, behind}
-use Rattle.sql_parse.specs.Reads.{Fails, Passes}
-use Rattle.sql_parse.proofs.Fronts.{Front, front_then, front_is, Bound, bind_some, symbol_front, Parts, parts_of, IsRead, token_read, length-Is}
+use Rattle.sql_parse.specs.Parse.{Reading, is_symbol, token, listed, more_items, behind}
+use Rattle.sql_parse.proofs.Fronts.{Front, front_then, front_is, bind_some, symbol_front, parts_of, token_read, length-Is}
 
 -- what is read as an item, a front of the tokens spells
 pub record IsSound {A : Type 0} (item : Reading A) (S : A → List Token → Type 0) : Type 0 where

@@ -1,6 +1,5 @@
 -- The parts of the statements: what is read is spelled, and what is spelled is read.
-use Rattle.std.proofs.Common.{◌≡◌, ℕ, ℤ, zero, suc, ◌+◌, ◌≤◌, ◌<◌, pos, Bool, true, false, List, [], ◌∷◌, ◌++◌, length, map, codes, Option, Some, None, refl, sym, ◌∙◌, ap, subst, arith, append_assoc, length-append}
-use Rattle.std.specs.Option.{option_map}
+use Rattle.std.proofs.Common.{◌≡◌, ℕ, pos, false, List, [], ◌∷◌, length, codes, Option, Some, None, refl, sym, ap, subst}
 use Rattle.std.specs.Str.{bytes_eq}
 use Rattle.std.proofs.lemmas.Slice.Eq.{bytes_eq-Decides}
 use denote.Enum.Bare.{sameb, same_true}
@@ -17,16 +16,15 @@ use Rattle.sql_tree.specs.declared.lexemes.Lexeme.TheVariants as lexeme
 use Rattle.sql_tree.specs.declared.lexemes.Token.{Token}
 use Rattle.sql_tree.specs.declared.conditions.Comparison.{Comparison}
 use Rattle.sql_tree.specs.declared.conditions.Comparison.TheVariants as comparison
-use Rattle.sql_tree.specs.declared.operands.ColumnRef.{ColumnRef}
 use Rattle.sql_tree.specs.declared.statements.ColumnSpec.{ColumnSpec}
 use Rattle.sql_tree.specs.Tokens.{in_capitals}
 use Rattle.sql_tree.specs.Operands as operands
 use Rattle.sql_tree.specs.Conditions as conditions
 use Rattle.sql_tree.specs.Statements.{Operand, Condition, ValueRow, Item}
 use Rattle.sql_tree.specs.Statements as tree
-use Rattle.sql_parse.specs.Grammar.{Is, IsAt, IsName, ReadsAs, ◌then◌, Listed, SpellsColumn, SpellsOperand, SpellsValue, IsNoColumn, SpellsCondition, SpellsFilter, SpellsRow, SpellsItem, symbol_of}
-use Rattle.sql_parse.specs.Parse.{◌>>=◌, Reading, token, is_keyword, is_symbol, name, ident_of, column, operand_at, operand, no_column, row_value, row, listed, comparison_of, comparison_at, condition_after, condition, filter_after, filter, item_at, item}
-use Rattle.sql_parse.proofs.Fronts.{Front, front_then, front_is, front_weaker, one_token, Bound, bind_some, chosen_some, ident_only, name_front, keyword_front, symbol_front}
+use Rattle.sql_parse.specs.Grammar.{IsName, ReadsAs, SpellsColumn, SpellsOperand, SpellsValue, IsNoColumn, SpellsCondition, SpellsFilter, SpellsRow, SpellsItem, symbol_of}
+use Rattle.sql_parse.specs.Parse.{token, is_keyword, is_symbol, name, ident_of, column, operand_at, operand, no_column, row_value, row, listed, comparison_of, comparison_at, condition_after, condition, filter_after, filter, item_at, item}
+use Rattle.sql_parse.proofs.Fronts.{Front, front_then, front_is, front_weaker, one_token, bind_some, chosen_some, ident_only, name_front, keyword_front, symbol_front}
 use Rattle.sql_parse.proofs.Listing.{IsSound, listed_front}
 
 -- ---- column

@@ -1,5 +1,5 @@
 -- The statements: what is read is spelled, and what is spelled is read.
-use Rattle.std.proofs.Common.{◌≡◌, ℕ, zero, suc, ◌+◌, ◌≤◌, ◌<◌, Bool, true, false, List, [], ◌∷◌, ◌++◌, length, map, codes, ◌==◌, Option, Some, None, refl, sym, ◌∙◌, ap, subst, arith, append_assoc, length-append}
+use Rattle.std.proofs.Common.{◌≡◌, ℕ, true, List, [], ◌∷◌, ◌++◌, length, ◌==◌, Option, Some, None, refl, sym, ◌∙◌, ap, subst, arith}
 use Rattle.std.specs.List.{list_all}
 use Rattle.std.proofs.lemmas.Bool.{and_parts, and_from, eqb-true, eq-eqb}
 use Rattle.std.proofs.lemmas.List.{nil_from_length, append-nil}
@@ -11,8 +11,8 @@ use Rattle.sql_tree.specs.declared.statements.ColumnSpec.{ColumnSpec}
 use Rattle.sql_tree.specs.Statements.{Condition, ValueRow, Item, Statement}
 use Rattle.sql_tree.specs.Statements as tree
 use Rattle.sql_parse.specs.Grammar.{Is, IsName, ◌then◌, InParens, Listed, SpellsColumn, SpellsRow, SpellsItem, SpellsFilter, AreAsLong, Spells}
-use Rattle.sql_parse.specs.Parse.{◌>>=◌, token, is_keyword, is_symbol, name, names, listed, column, row, item, filter, create_table, are_as_long, insert, select, or_else, whole, tree_of}
-use Rattle.sql_parse.proofs.Fronts.{Front, front_then, front_is, front_weaker, Bound, bind_some, chosen_some, name_front, keyword_front, symbol_front, Parts, parts_of, IsRead, token_read, token_none, name_read}
+use Rattle.sql_parse.specs.Parse.{token, is_keyword, is_symbol, name, names, listed, column, row, item, filter, create_table, are_as_long, insert, select, or_else, whole, tree_of}
+use Rattle.sql_parse.proofs.Fronts.{Front, front_then, front_is, front_weaker, bind_some, chosen_some, name_front, keyword_front, symbol_front, parts_of, token_read, token_none, name_read}
 use Rattle.sql_parse.proofs.Again.{column_complete, row_complete, name_complete, item_complete, spelled_filter}
 use Rattle.sql_parse.proofs.Listing.{listed_front, listed_read}
 use Rattle.sql_parse.proofs.Spelled.{column_sound, name_sound, row_sound, filter_front, item_sound}

@@ -1,6 +1,5 @@
 -- The grammar: which token lists spell which statement. A relation by cases, one line for each production.
-use Rattle.std.specs.Prelude.{◌≡◌, ◌≤◌, ℕ, ℤ, pos, List, [], ◌∷◌, ◌++◌, length, map, codes, Option, Some, None, Bool, true, false, AllPairs}
-use Rattle.ae_base.specs.declared.values.Value.{Value}
+use Rattle.std.specs.Prelude.{◌≡◌, ℕ, pos, List, [], ◌∷◌, ◌++◌, length, map, codes, Option, Some, None, false}
 use Rattle.ae_base.specs.declared.values.Value.TheVariants as value
 use Rattle.ae_base.specs.declared.values.Datum.TheVariants as datum
 use Rattle.ae_base.specs.declared.types.Ty.TheVariants as ty
@@ -12,10 +11,7 @@ use Rattle.sql_tree.specs.declared.lexemes.Lexeme.TheVariants as lexeme
 use Rattle.sql_tree.specs.declared.lexemes.Token.{Token}
 use Rattle.sql_tree.specs.declared.conditions.Comparison.{Comparison}
 use Rattle.sql_tree.specs.declared.conditions.Comparison.TheVariants as comparison
-use Rattle.sql_tree.specs.declared.operands.ColumnRef.{ColumnRef}
 use Rattle.sql_tree.specs.declared.statements.ColumnSpec.{ColumnSpec}
-use Rattle.sql_tree.specs.declared.statements.UniqueSpec.{UniqueSpec}
-use Rattle.sql_tree.specs.declared.statements.SourceTable.{SourceTable}
 use Rattle.sql_tree.specs.Tokens.{in_capitals}
 use Rattle.sql_tree.specs.Operands as operands
 use Rattle.sql_tree.specs.Conditions as conditions

@@ -1,5 +1,5 @@
 -- What a text parses to: the statement that its tokens spell, or its first fault.
-use Rattle.std.specs.Prelude.{◌≡◌, ℕ, zero, suc, ◌+◌, ◌-◌, pos, List, [], ◌∷◌, length, map, codes, Option, Some, None, Result, Ok, Err, Bool, true, false, ◌||◌, nat_lt, ◌==◌, if◌then◌else◌}
+use Rattle.std.specs.Prelude.{◌≡◌, ℕ, zero, suc, ◌+◌, ◌-◌, pos, List, [], ◌∷◌, length, codes, Option, Some, None, Result, Ok, Err, Bool, false, ◌||◌, nat_lt, ◌==◌, if◌then◌else◌}
 use Rattle.std.specs.List.{list_any, list_all}
 use Rattle.std.specs.Option.{option_map}
 use Rattle.std.specs.Str.{bytes_eq}
@@ -17,7 +17,6 @@ use Rattle.sql_tree.specs.declared.lexemes.Lexeme.TheVariants as lexeme
 use Rattle.sql_tree.specs.declared.lexemes.Token.{Token}
 use Rattle.sql_tree.specs.declared.conditions.Comparison.{Comparison}
 use Rattle.sql_tree.specs.declared.conditions.Comparison.TheVariants as comparison
-use Rattle.sql_tree.specs.declared.operands.ColumnRef.{ColumnRef}
 use Rattle.sql_tree.specs.declared.statements.ColumnSpec.{ColumnSpec}
 use Rattle.sql_tree.specs.contracts.lexemes.Keyword as the_keyword
 use Rattle.sql_tree.specs.contracts.lexemes.Symbol as the_symbol

@@ -1,5 +1,5 @@
 -- What some texts parse to, computed.
-use Rattle.std.specs.Prelude.{◌≡◌, ℕ, pos, List, [], ◌∷◌, codes, Option, Some, None, Result, Ok, Err, Bool, true, false, refl}
+use Rattle.std.specs.Prelude.{◌≡◌, pos, [], ◌∷◌, codes, Some, None, Ok, Err, false, refl}
 use Rattle.ae_base.specs.declared.values.Value.TheVariants as value
 use Rattle.ae_base.specs.declared.values.Datum.TheVariants as datum
 use Rattle.ae_base.specs.declared.types.Ty.TheVariants as ty

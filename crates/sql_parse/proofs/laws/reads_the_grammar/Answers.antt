@@ -1,4 +1,3 @@
-use Rattle.std.proofs.Common.{◌≡◌, Some}
 use Rattle.sql_parse.proofs.Whole.{tree_spelled, spelled_tree}
 use Rattle.sql_parse.proofs.laws.reads_the_grammar.Goals as goal
 

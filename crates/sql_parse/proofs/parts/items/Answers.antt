@@ -3,10 +3,9 @@ use Rattle.std.proofs.lemmas.List.{map_push}
 use Rattle.sql_tree.specs.Statements.{item_of}
 use Rattle.sql_parse.specs.Parse.{item}
 use Rattle.sql_parse.proofs.Again.{item_complete}
-use Rattle.sql_parse.proofs.Going.{Shrinks, shrinks, goes_more, goes_end}
+use Rattle.sql_parse.proofs.Going.{shrinks, goes_more, goes_end}
 use Rattle.sql_parse.proofs.Spelled.{item_sound}
 use Rattle.sql_parse.proofs.parts.items.Goals as goal
-use Rattle.std.proofs.lemmas.Result.{err_from_is_err_and}
 
 pub returns-then-not-passes_comma : goal.returns-then-not-passes_comma
 returns-then-not-passes_comma c =

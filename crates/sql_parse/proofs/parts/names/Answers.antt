@@ -1,10 +1,8 @@
-use Rattle.std.proofs.Common.{map}
 use Rattle.sql_parse.specs.Parse.{name}
 use Rattle.sql_parse.proofs.Again.{name_complete}
-use Rattle.sql_parse.proofs.Going.{Shrinks, shrinks, goes_more, goes_end}
+use Rattle.sql_parse.proofs.Going.{shrinks, goes_more, goes_end}
 use Rattle.sql_parse.proofs.Spelled.{name_sound}
 use Rattle.sql_parse.proofs.parts.names.Goals as goal
-use Rattle.std.proofs.lemmas.Result.{err_from_is_err_and}
 
 pub returns-then-not-passes_comma : goal.returns-then-not-passes_comma
 returns-then-not-passes_comma c =

@@ -3,7 +3,7 @@ use Rattle.std.proofs.lemmas.List.{map_push}
 use Rattle.sql_tree.specs.Operands.{operand_of}
 use Rattle.sql_parse.specs.Parse.{row_value}
 use Rattle.sql_parse.proofs.Again.{row_value_complete}
-use Rattle.sql_parse.proofs.Going.{Shrinks, shrinks, goes_more, goes_end, goes_fails}
+use Rattle.sql_parse.proofs.Going.{shrinks, goes_more, goes_end, goes_fails}
 use Rattle.sql_parse.proofs.Spelled.{row_value_sound}
 use Rattle.sql_parse.proofs.parts.row_values.Goals as goal
 use Rattle.std.proofs.lemmas.Result.{err_from_is_err_and}

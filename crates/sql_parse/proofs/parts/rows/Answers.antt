@@ -3,10 +3,9 @@ use Rattle.std.proofs.lemmas.List.{map_push}
 use Rattle.sql_tree.specs.Statements.{row_of}
 use Rattle.sql_parse.specs.Parse.{row}
 use Rattle.sql_parse.proofs.Again.{row_complete}
-use Rattle.sql_parse.proofs.Going.{Shrinks, shrinks, goes_more, goes_end, goes_smaller}
+use Rattle.sql_parse.proofs.Going.{shrinks, goes_more, goes_end, goes_smaller}
 use Rattle.sql_parse.proofs.Spelled.{row_sound}
 use Rattle.sql_parse.proofs.parts.rows.Goals as goal
-use Rattle.std.proofs.lemmas.Result.{err_from_is_err_and}
 
 pub returns-then-not-passes_comma : goal.returns-then-not-passes_comma
 returns-then-not-passes_comma c =
