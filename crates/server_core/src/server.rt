@@ -16,6 +16,7 @@ use ae_base::batches::ParamDecl;
 use ae_base::cells::Cell;
 use ae_base::faults::SqlFault;
 use ae_base::lists::Seq;
+use ae_base::texts::Txt;
 use engine::answers::Answer;
 use engine::worlds::World;
 use std::alloc::{AllocError, Global};
@@ -134,7 +135,7 @@ impl Server {
     pub fn explain(
         &self,
         alloc: Global,
-        _text: &TxtPart<'_>,
+        _text: &Txt,
         _declarations: &[ParamDecl],
     ) -> Result<Seq<u32>, AllocError>
         ensures { IfOk result (λ places. places ≡ []) }
