@@ -1,1 +1,10 @@
+pub mod Answers
+pub mod BindWords
 pub mod BoundOn
+pub mod BoundWords
+pub mod Descriptions
+pub mod ServedRows
+pub mod ServedSteps
+pub mod StatementWords
+pub mod TreeWords
+pub mod Words
