@@ -3,6 +3,7 @@ pub mod BindSent
 pub mod PlainInserts
 pub mod PlainRows
 pub mod PlainWorlds
+pub mod Printing
 pub mod Requests
 pub mod ScriptBatches
 pub mod SentParams

@@ -2,6 +2,7 @@ pub mod Answers
 pub mod BindWords
 pub mod BoundOn
 pub mod BoundWords
+pub mod Collected
 pub mod Descriptions
 pub mod ServedRows
 pub mod ServedSteps

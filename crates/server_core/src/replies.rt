@@ -14,6 +14,16 @@ use std::alloc::{AllocError, Global};
 use wire_frames::messages::{AtomPart, Done, Reply, SentColumn};
 use wire_frames::parts::TxtPart;
 
+fn sent_column(column: &ResultColumn) -> Result<SentColumn<'static>, AllocError>
+    ensures { IfOk result (λ sent. views.column_of sent ≡ serve.column_of column.now) }
+{
+    Ok(SentColumn {
+        name: TxtPart::own(column.name.copy()?),
+        ty: column.ty,
+        enc: column.enc,
+    })
+}
+
 fn sent_columns(
     alloc: Global,
     columns: &[ResultColumn],
@@ -22,11 +32,7 @@ fn sent_columns(
 {
     let mut sent = Seq::new(alloc);
     for column in columns {
-        sent.push(SentColumn {
-            name: TxtPart::own(column.name.copy()?),
-            ty: column.ty,
-            enc: column.enc,
-        })?;
+        sent.push(sent_column(column)?)?;
     }
     Ok(sent)
 }

@@ -1,6 +1,6 @@
 //! The server: one world, and requests that are served whole.
 
-ghost use Rattle.std.specs.Prelude.{◌≡◌, ℕ, [], IfOk, map};
+ghost use Rattle.std.specs.Prelude.{◌≡◌, ◌∷◌, ℕ, [], IfOk, map};
 ghost use Rattle.engine.specs.Worlds.{empty_world};
 ghost use Rattle.wire_frames.specs.Conditions.{IsRequest};
 ghost use Rattle.wire_frames.specs.Messages as message;
