@@ -5,6 +5,7 @@ pub mod Laws
 pub mod Outcomes
 pub mod Programs
 pub mod Reference
+pub mod RowReads
 pub mod RunWorked
 pub mod Runs
 pub mod Statuses

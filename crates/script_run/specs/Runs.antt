@@ -42,9 +42,9 @@ pub record IsAsked (request : Request) (replies : List Reply) (old new : Wire) :
   pub world : WhereTold (λ before after. serve before request ≡ record { replies = replies; world = after }) old.world new.world
 
 -- asked, and the frames of the exchange stand on the tap
-pub record AskedWhole (request : Request) (replies : List Reply) (size : ℕ) (old new : Wire) : Type 0 where
+pub record AskedWhole (request : Request) (replies : List Reply) (bytes : ℕ) (old new : Wire) : Type 0 where
   pub asked : IsAsked request replies old new
-  pub size : size ≡ bytes_of_replies replies
+  pub size : bytes ≡ bytes_of_replies replies
   pub tap : Adds (exchange_frames (exchange request replies)) old.tap new.tap
 
 -- asked, and a front of the frames stands on the tap
@@ -81,12 +81,12 @@ pub record Comes (driven : Driving) (passing : World → Passed) (outcomes : Lis
   pub world : WhereTold (λ x y. passing x ≡ record { exchanges = exchanges; world = y }) old.world new.world
 
 -- it meets a reply that isn't awaited, at that place among the bytes of the reply frames
-pub record Stops (driven : Driving) (passing : World → Passed) (before place : ℕ) (old new : Wire) : Type 0 where
+pub record Stops (driven : Driving) (passing : World → Passed) (before at : ℕ) (old new : Wire) : Type 0 where
   pub exchanges : List Exchange
   pub count : ℕ
   pub within : count ≤ length (replies_in exchanges)
   pub is : (onward : Onward) (taken : ℕ) (more : List Reply) → driven onward taken (replies_in exchanges ++ more) ≡ asking_all (requests_in exchanges) (bad_reply (taken + count))
-  pub place : place ≡ before + bytes_of_replies (take count (replies_in exchanges))
+  pub place : at ≡ before + bytes_of_replies (take count (replies_in exchanges))
   pub tap : Adds (flat_map exchange_frames exchanges) old.tap new.tap
   pub log : Adds exchanges old.log new.log
   pub world : WhereTold (λ x y. IsFront exchanges (passing x).exchanges) old.world new.world
@@ -136,10 +136,10 @@ passing_step (step.TheVariants.Half number batch) world = nothing_passed world
 passing_step (step.TheVariants.Execute number) world = nothing_passed world
 
 -- its frames are on the tap, and its text is put
-pub record StepIsDone (refusals : Bool) (step : Step) (before after : ℕ) (oldout newout : Option (List ℕ)) (old new : Wire) : Type 0 where
+pub record StepIsDone (refused : Bool) (step : Step) (before after : ℕ) (oldout newout : Option (List ℕ)) (old new : Wire) : Type 0 where
   pub outcomes : List Outcome
   pub comes : Comes (driven_step step) (passing_step step) outcomes before after old new
-  pub refusals : has_refusal outcomes ≡ refusals
+  pub refusals : has_refusal outcomes ≡ refused
   pub out : Adds (print outcomes) oldout newout
 
 -- it broke off, perhaps inside its text
@@ -185,20 +185,20 @@ pub record RunEnds (steps : List Step) (outcomes : List Outcome) (end : End) (ex
   pub world : WhereTold (λ before after. IsFront exchanges (exchanges_from before steps)) old.world new.world
 
 -- to the end of the steps: then the exchanges are all that pass
-pub record RunIsDone (refusals : Bool) (steps : List Step) (oldout newout : Option (List ℕ)) (old new : Wire) : Type 0 where
+pub record RunIsDone (refused : Bool) (steps : List Step) (oldout newout : Option (List ℕ)) (old new : Wire) : Type 0 where
   pub outcomes : List Outcome
   pub exchanges : List Exchange
   pub ends : RunEnds steps outcomes Done exchanges oldout newout old new
-  pub refusals : has_refusal outcomes ≡ refusals
+  pub refusals : has_refusal outcomes ≡ refused
   pub whole : WhereTold (λ before after. exchanges_from before steps ≡ exchanges) old.world new.world
 
 -- up to the reply at this place among the bytes of the reply frames
-pub record RunStops (place : ℕ) (steps : List Step) (oldout newout : Option (List ℕ)) (old new : Wire) : Type 0 where
+pub record RunStops (at : ℕ) (steps : List Step) (oldout newout : Option (List ℕ)) (old new : Wire) : Type 0 where
   pub outcomes : List Outcome
   pub exchanges : List Exchange
   pub count : ℕ
   pub ends : RunEnds steps outcomes (BadReply count) exchanges oldout newout old new
-  pub place : place ≡ bytes_of_replies (take count (replies_in exchanges))
+  pub place : at ≡ bytes_of_replies (take count (replies_in exchanges))
 
 -- the run broke off: text and tap hold fronts of what they hold however the peer goes on
 pub record RunBreaks (steps : List Step) (oldout newout : Option (List ℕ)) (old new : Wire) : Type 0 where

@@ -86,7 +86,6 @@ fn run_source<S: Source, W: Sink, T: Sink, P: Peer>(
 /// `out`, and every frame to `tap` in the order in which they passed, a step's frames before its
 /// text. A script that can't be read, has a bad line or is too long leaves both as they were; where
 /// a device fails or memory ends, both hold fronts of the whole.
-#[tactic(auto, using(crate::proofs::PlainRuns::plain_from, crate::proofs::PlainRuns::complete_from))]
 pub fn run<S: Source, W: Sink, T: Sink, P: Peer>(
     alloc: Global,
     script: &mut S,

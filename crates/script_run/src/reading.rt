@@ -5,15 +5,17 @@ ghost use Rattle.wire_frames.specs.Messages.{Reply as reply};
 ghost use Rattle.wire_frames.specs.Views.{reply_of};
 ghost use Rattle.driver.specs.Calls.{session_at, IsOnlyAt};
 ghost use Rattle.driver.specs.Sessions.{Sent};
+ghost use Rattle.script_run.specs.RowReads.{IsRow, IsRowsEnd, RowIsRead, EndIsRead};
 ghost use Rattle.script_run.specs.Answers.{AreRepliesToExecute, AreRows, AnswerIsRead, RowsAreRead, IsIdleAfter};
 
 use crate::outcomes::Outcome;
 use ae_base::lists::Seq;
 use ae_base::texts::Txt;
+use ae_base::values::Value;
 use driver::Driver;
 use driver::answers::ReplyAnswer;
 use driver::errors::CallError;
-use std::alloc::Global;
+use std::alloc::{AllocError, Global};
 use wire_frames::messages::Reply;
 
 /// What the replies to a request come to.
@@ -75,22 +77,63 @@ fn read_rows(
     };
     let mut values = Seq::new(alloc);
     for (i, row) in rows.iter().enumerate() {
-        match driver.replied(alloc, number, row) {
-            Ok(ReplyAnswer::Values(row)) => {
+        match next_row(alloc, driver, number, row) {
+            Ok(Some(row)) => {
                 if values.push(row).is_err() {
                     return Answered::OutOfMemory;
                 }
             }
-            Ok(_) | Err(CallError::Fault(_)) => return Answered::BadReply(i + 1),
-            Err(CallError::OutOfMemory) => return Answered::OutOfMemory,
+            Ok(None) => return Answered::BadReply(i + 1),
+            Err(AllocError) => return Answered::OutOfMemory,
         }
     }
-    match driver.replied(alloc, number, end) {
-        Ok(ReplyAnswer::RowCount(_)) => Answered::Came(Outcome::Rows {
+    match rows_end(alloc, driver, number, end) {
+        Ok(true) => Answered::Came(Outcome::Rows {
             names,
             rows: values,
         }),
-        Ok(_) | Err(CallError::Fault(_)) => Answered::BadReply(rows.len() + 1),
-        Err(CallError::OutOfMemory) => Answered::OutOfMemory,
+        Ok(false) => Answered::BadReply(rows.len() + 1),
+        Err(AllocError) => Answered::OutOfMemory,
+    }
+}
+
+// The values of a row, or none where it isn't awaited.
+fn next_row(
+    alloc: Global,
+    driver: &mut Driver,
+    number: u16,
+    reply: &Reply<'_>,
+) -> Result<Option<Seq<Value>>, AllocError>
+    requires from_one { 1 ≤ number }
+    requires within { number ≤ 64 }
+    requires kind { IsRow (reply_of reply.now) }
+    ensures read { RowIsRead (session_at driver.old number) (reply_of reply.now) result (session_at driver.new number) }
+    ensures others { IsOnlyAt number driver.old driver.new }
+{
+    match driver.replied(alloc, number, reply) {
+        Ok(ReplyAnswer::Values(values)) => Ok(Some(values)),
+        Ok(_) => Ok(None),
+        Err(CallError::Fault(_)) => Ok(None),
+        Err(CallError::OutOfMemory) => Err(AllocError),
+    }
+}
+
+// Whether the end of the rows is awaited. The session holds nothing then.
+fn rows_end(
+    alloc: Global,
+    driver: &mut Driver,
+    number: u16,
+    end: &Reply<'_>,
+) -> Result<bool, AllocError>
+    requires from_one { 1 ≤ number }
+    requires within { number ≤ 64 }
+    requires kind { IsRowsEnd (reply_of end.now) }
+    ensures read { EndIsRead (session_at driver.old number) (reply_of end.now) result (session_at driver.new number) }
+    ensures others { IsOnlyAt number driver.old driver.new }
+{
+    match driver.replied(alloc, number, end) {
+        Ok(_) => Ok(true),
+        Err(CallError::Fault(_)) => Ok(false),
+        Err(CallError::OutOfMemory) => Err(AllocError),
     }
 }
