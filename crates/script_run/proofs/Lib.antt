@@ -1,6 +1,8 @@
 pub mod Agreement
+pub mod BatchTalk
 pub mod BindSent
 pub mod FirstReply
+pub mod Framing
 pub mod PlainInserts
 pub mod PlainRows
 pub mod PlainRuns
@@ -16,3 +18,4 @@ pub mod ServedIsPlain
 pub mod StatementSent
 pub mod StepEnds
 pub mod StepSent
+pub mod Talking

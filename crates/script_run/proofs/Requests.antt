@@ -194,7 +194,7 @@ describes-step batch used us pending version below are true h =
     }
 describes-step batch used us pending version below are false h = absurd cc
 
-describes : (batch : Batch) (reply : Reply) (used : List UsedParam) (pending : Session) → IsReply reply
+pub describes : (batch : Batch) (reply : Reply) (used : List UsedParam) (pending : Session) → IsReply reply
     → described (Begun batch) reply ≡ Some (Ready used, pending) → Describes batch used pending
 describes batch (Described version keys us) used pending good h =
     describes-step batch used us pending version good.0 good.2 (in_order (map (λ u. u.name) us) batch.params) h

@@ -5,6 +5,7 @@ pub mod faults;
 mod params;
 pub mod peers;
 mod replies;
+mod requests;
 pub mod server;
 mod statements;
 #[cfg(test)]

@@ -1,7 +1,7 @@
 //! Parameters: their declarations, which of them are used, and their values as they come.
 
 ghost use Rattle.std.specs.Prelude.{◌≡◌, IfOk, map};
-ghost use Rattle.ae_base.specs.Atoms.{atom_of};
+ghost use Rattle.ae_base.specs.declared.types.Enc.TheVariants.{Plain};
 ghost use Rattle.sql_tree.specs.Bound.{bound_of};
 ghost use Rattle.wire_frames.specs.Views as views;
 ghost use Rattle.wire_frames.specs.Views.{sent_of, used_of};
@@ -60,13 +60,19 @@ pub fn used(
     let mut used = Seq::new(alloc);
     for (place, declaration) in declarations.iter().enumerate() {
         if uses(place, statement) {
-            used.push(UsedParam {
-                name: NamePart::own(declaration.name.copy()?),
-                enc: Enc::Plain,
-            })?;
+            used.push(used_param(declaration)?)?;
         }
     }
     Ok(used)
+}
+
+fn used_param(declaration: &ParamDecl) -> Result<UsedParam<'static>, AllocError>
+    ensures { IfOk result (λ used. used_of used ≡ record { name = declaration.now.name; enc = Plain }) }
+{
+    Ok(UsedParam {
+        name: NamePart::own(declaration.name.copy()?),
+        enc: Enc::Plain,
+    })
 }
 
 fn is_plain_within(atom: &Atom<Cell>, ty: Ty) -> bool

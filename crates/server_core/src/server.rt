@@ -1,28 +1,22 @@
 //! The server: one world, and requests that are served whole.
 
-ghost use Rattle.std.specs.Prelude.{◌≡◌, ◌∷◌, ℕ, [], IfOk, map};
+ghost use Rattle.std.specs.Prelude.{◌≡◌, [], IfOk, map};
 ghost use Rattle.engine.specs.Worlds.{empty_world};
 ghost use Rattle.wire_frames.specs.Conditions.{IsRequest};
-ghost use Rattle.wire_frames.specs.Messages as message;
-ghost use Rattle.wire_frames.specs.Views.{declaration_of, reply_of, request_of, sent_of};
-ghost use Rattle.server_core.specs.Calls.{Serves, ServesOrFails};
+ghost use Rattle.wire_frames.specs.Views.{reply_of, request_of};
+ghost use Rattle.server_core.specs.Calls.{Serves};
 ghost use Rattle.server_core.specs.Exchanges.{IsAnswer};
 
 use crate::faults::{ServeFault, so_far};
-use crate::params::{declared, declared_by, suited, used};
-use crate::replies::rows_replies;
-use crate::statements::understood;
+use crate::requests::{describe, execute, one_reply};
 use ae_base::batches::ParamDecl;
 use ae_base::cells::Cell;
-use ae_base::faults::SqlFault;
 use ae_base::lists::Seq;
 use ae_base::texts::Txt;
-use engine::answers::Answer;
 use engine::worlds::World;
 use std::alloc::{AllocError, Global};
 use std::marker::Model;
-use wire_frames::messages::{Declaration, Done, Reply, Request, SentParam};
-use wire_frames::parts::TxtPart;
+use wire_frames::messages::{Reply, Request};
 
 /// The server's end, which contracts see as its world: the catalog, and the rows of each table.
 #[derive(Drop)]
@@ -64,70 +58,19 @@ impl Server {
         let served = match request {
             Request::Describe {
                 text, declarations, ..
-            } => self.describe(alloc, text, declarations.as_slice()),
+            } => describe(alloc, &self.world, text, declarations.as_slice()),
             Request::Execute {
                 version,
                 text,
                 params,
                 ..
-            } => self.execute(alloc, *version, text, params.as_slice()),
+            } => execute(alloc, &mut self.world, *version, text, params.as_slice()),
         };
         match served {
             Ok(replies) => Ok(replies),
             Err(ServeFault::Refused(fault)) => one_reply(alloc, Reply::Refused(so_far(fault))),
             Err(ServeFault::OutOfMemory) => Err(AllocError),
         }
-    }
-
-    fn describe(
-        &self,
-        alloc: Global,
-        text: &TxtPart<'_>,
-        declarations: &[Declaration<'_>],
-    ) -> Result<Seq<Reply<'static>>, ServeFault>
-        ensures { (session : ℕ) → ServesOrFails result (message.Describe session text.now (map declaration_of declarations.now)) self.now self.now }
-    {
-        let declarations = declared(alloc, declarations)?;
-        let statement = understood(alloc, &self.world, text, declarations.as_slice())?;
-        let params = used(alloc, &statement, declarations.as_slice())?;
-        let replies = one_reply(
-            alloc,
-            Reply::Described {
-                version: self.world.catalog().version(),
-                keys: Seq::new(alloc),
-                params,
-            },
-        )?;
-        Ok(replies)
-    }
-
-    fn execute(
-        &mut self,
-        alloc: Global,
-        version: u64,
-        text: &TxtPart<'_>,
-        params: &[SentParam<'_>],
-    ) -> Result<Seq<Reply<'static>>, ServeFault>
-        ensures { (session : ℕ) → ServesOrFails result (message.Execute session version text.now (map sent_of params.now)) self.old self.new }
-    {
-        let now = self.world.catalog().version();
-        if version != now {
-            return Err(ServeFault::Refused(SqlFault::Moved { seen: version, now }));
-        }
-        let declarations = declared_by(alloc, params)?;
-        let statement = understood(alloc, &self.world, text, declarations.as_slice())?;
-        let atoms = suited(alloc, params)?;
-        let mut replies = Vec::with_capacity(alloc, 1)?;
-        let answer = self.world.execute(alloc, &statement, atoms.as_slice())?;
-        let done = match answer {
-            Answer::Rows { columns, rows } => {
-                return Ok(rows_replies(alloc, columns.as_slice(), rows)?);
-            }
-            Answer::Changed(count) => Done::Changed(count),
-            Answer::Defined => Done::Defined,
-        };
-        replies.push_reserved(Reply::Ended(done));
-        Ok(Seq::from_vec(replies))
     }
 
     /// The places of the rules that show why a text has no encryption typing; so far no text needs
@@ -142,12 +85,4 @@ impl Server {
     {
         Ok(Seq::new(alloc))
     }
-}
-
-fn one_reply(alloc: Global, reply: Reply<'static>) -> Result<Seq<Reply<'static>>, AllocError>
-    ensures { IfOk result (λ replies. map reply_of replies ≡ reply_of reply ∷ []) }
-{
-    let mut replies = Seq::new(alloc);
-    replies.push(reply)?;
-    Ok(replies)
 }
