@@ -3,7 +3,9 @@ pub mod BindWords
 pub mod BoundOn
 pub mod BoundWords
 pub mod Collected
+pub mod Describing
 pub mod Descriptions
+pub mod Served
 pub mod ServedRows
 pub mod ServedSteps
 pub mod StatementWords

@@ -4,11 +4,12 @@ ghost use Rattle.std.specs.Prelude.{◌≡◌, ◌∷◌, [], IfOk, map};
 ghost use Rattle.sql_tree.specs.Bound.{bound_of};
 ghost use Rattle.engine.specs.BoundOn.{IsBoundOn};
 ghost use Rattle.engine.specs.Step as engine;
-ghost use Rattle.wire_frames.specs.Views.{declaration_of, reply_of, sent_of, used_of};
-ghost use Rattle.server_core.specs.Calls.{Gets, ServesOrFails, described_params};
+ghost use Rattle.engine.specs.Worlds.{IsWellTyped};
+ghost use Rattle.wire_frames.specs.Views.{declaration_of, reply_of, request_of, sent_of, used_of};
+ghost use Rattle.server_core.specs.Calls.{Gets, Serves, ServesOrFails, described_params};
 ghost use Rattle.server_core.specs.Serve as serve;
 
-use crate::faults::ServeFault;
+use crate::faults::{ServeFault, so_far};
 use crate::params::{declared, declared_by, suited, used};
 use crate::replies::rows_replies;
 use crate::statements::understood;
@@ -20,20 +21,49 @@ use engine::answers::Answer;
 use engine::worlds::World;
 use sql_tree::bound::Bound;
 use std::alloc::{AllocError, Global};
-use wire_frames::messages::{Declaration, Done, Reply, SentParam, UsedParam};
+use wire_frames::messages::{Declaration, Done, Reply, Request, SentParam, UsedParam};
 use wire_frames::parts::TxtPart;
 
-/// The description of a text: the version of the catalog, and its used parameters.
-pub fn describe(
+/// Serves a request: the replies to it, and the world after it. A refusal leaves the world as
+/// before, and so does want of memory.
+pub fn serve(
+    alloc: Global,
+    world: &mut World<Cell>,
+    request: &Request<'_>,
+) -> Result<Seq<Reply<'static>>, AllocError>
+    ensures served { Serves result (request_of request.now) world.old world.new }
+    ensures well_typed { IsWellTyped world.old }
+{
+    let served = match request {
+        Request::Describe {
+            text, declarations, ..
+        } => describe(alloc, world, text, declarations.as_slice()),
+        Request::Execute {
+            version,
+            text,
+            params,
+            ..
+        } => execute(alloc, world, *version, text, params.as_slice()),
+    };
+    match served {
+        Ok(replies) => Ok(replies),
+        Err(ServeFault::Refused(fault)) => one_reply(alloc, Reply::Refused(so_far(fault))),
+        Err(ServeFault::OutOfMemory) => Err(AllocError),
+    }
+}
+
+// The description of a text: the version of the catalog, and its used parameters.
+fn describe(
     alloc: Global,
     world: &World<Cell>,
     text: &TxtPart<'_>,
     declarations: &[Declaration<'_>],
 ) -> Result<Seq<Reply<'static>>, ServeFault>
-    ensures { ServesOrFails result (serve.describe world.now (map declaration_of declarations.now) (serve.understood world.now text.now (map declaration_of declarations.now))) world.now world.now }
+    ensures served { ServesOrFails result (serve.describe world.now (map declaration_of declarations.now) (serve.understood world.now text.now (map declaration_of declarations.now))) world.now world.now }
+    ensures well_typed { IsWellTyped world.now }
 {
-    let params = described_params(alloc, world, text, declarations)?;
     let version = world.catalog().version();
+    let params = described_params(alloc, world, text, declarations)?;
     let keys = Seq::new(alloc);
     Ok(one_reply(
         alloc,
@@ -58,17 +88,17 @@ fn described_params(
     Ok(used(alloc, &statement, declarations.as_slice())?)
 }
 
-/// The replies to the execution of a text that was described at that version of the catalog, with
-/// the values of its parameters, and the world after it. A refusal leaves the world as before, and
-/// so does want of memory.
-pub fn execute(
+// Executes a text that was described at that version of the catalog, with the values of its
+// parameters.
+fn execute(
     alloc: Global,
     world: &mut World<Cell>,
     version: u64,
     text: &TxtPart<'_>,
     params: &[SentParam<'_>],
 ) -> Result<Seq<Reply<'static>>, ServeFault>
-    ensures { ServesOrFails result (serve.execute world.old (serve.prepared world.old version text.now (map sent_of params.now))) world.old world.new }
+    ensures served { ServesOrFails result (serve.execute world.old (serve.prepared world.old version text.now (map sent_of params.now))) world.old world.new }
+    ensures well_typed { IsWellTyped world.old }
 {
     let ready = prepared(alloc, world, version, text, params)?;
     step(alloc, world, &ready)
@@ -88,7 +118,8 @@ fn prepared(
     text: &TxtPart<'_>,
     params: &[SentParam<'_>],
 ) -> Result<Ready, ServeFault>
-    ensures { Gets (λ ready. (bound_of ready.statement, ready.atoms)) result (serve.prepared world.now version text.now (map sent_of params.now)) }
+    ensures ready { Gets (λ ready. (bound_of ready.statement, ready.atoms)) result (serve.prepared world.now version text.now (map sent_of params.now)) }
+    ensures well_typed { IsWellTyped world.now }
 {
     let now = world.catalog().version();
     if version != now {
@@ -132,8 +163,7 @@ fn step(
     Ok(Seq::from_vec(replies))
 }
 
-/// One reply.
-pub fn one_reply(alloc: Global, reply: Reply<'static>) -> Result<Seq<Reply<'static>>, AllocError>
+fn one_reply(alloc: Global, reply: Reply<'static>) -> Result<Seq<Reply<'static>>, AllocError>
     ensures { IfOk result (λ replies. map reply_of replies ≡ reply_of reply.entry ∷ []) }
 {
     let mut replies = Seq::new(alloc);

@@ -7,8 +7,7 @@ ghost use Rattle.wire_frames.specs.Views.{reply_of, request_of};
 ghost use Rattle.server_core.specs.Calls.{Serves};
 ghost use Rattle.server_core.specs.Exchanges.{IsAnswer};
 
-use crate::faults::{ServeFault, so_far};
-use crate::requests::{describe, execute, one_reply};
+use crate::requests::serve;
 use ae_base::batches::ParamDecl;
 use ae_base::cells::Cell;
 use ae_base::lists::Seq;
@@ -55,22 +54,7 @@ impl Server {
         ensures served { Serves result (request_of request.now) self.old self.new }
         ensures answer { IsRequest (request_of request.now) → IfOk result (λ replies. IsAnswer (request_of request.now) (map reply_of replies)) }
     {
-        let served = match request {
-            Request::Describe {
-                text, declarations, ..
-            } => describe(alloc, &self.world, text, declarations.as_slice()),
-            Request::Execute {
-                version,
-                text,
-                params,
-                ..
-            } => execute(alloc, &mut self.world, *version, text, params.as_slice()),
-        };
-        match served {
-            Ok(replies) => Ok(replies),
-            Err(ServeFault::Refused(fault)) => one_reply(alloc, Reply::Refused(so_far(fault))),
-            Err(ServeFault::OutOfMemory) => Err(AllocError),
-        }
+        serve(alloc, &mut self.world, request)
     }
 
     /// The places of the rules that show why a text has no encryption typing; so far no text needs
