@@ -1,17 +1,63 @@
-//! The program `ae`: the words of its command line, and how it ends.
+//! The program `ae`: Always Encrypted SQL, both ends in one process.
 #![tactic(auto)]
 
-mod usage;
+mod commands;
+mod files;
+mod words;
 
+use ae_base::lists::Seq;
+use ae_base::texts::Txt;
+use ae_edge::adapters::entropy::RngEntropy;
+use ae_edge::adapters::folder::FolderVault;
+use ae_edge::adapters::sink::StdSink;
+use ae_edge::adapters::source::StdSource;
+use commands::ae_main;
+use files::{FileSink, FileSource};
+use rand::rngs::SysRng;
 use script_run::status::Status;
+use server_core::server::Server;
+use std::env;
 use std::io;
 use std::process::ExitCode;
 
 fn main(rt: HostRuntime) -> io::Result<ExitCode> {
-    let status = match usage::usage(rt.alloc()) {
-        Ok(status) => status,
-        Err(_) => Status::OutOfMemory,
+    let status = match words_of(&rt) {
+        Ok(words) => status_of(&rt, words.as_slice()),
+        Err(_) => words::usage(rt.alloc()),
     };
     eprint!(rt; "{status}")?;
     Ok(ExitCode::from(status.number()))
+}
+
+// The words of the command line. A word that isn't UTF-8 is an error.
+fn words_of(rt: &HostRuntime) -> io::Result<Seq<Txt>> {
+    let mut words = Seq::new(rt.alloc());
+    for word in env::args(rt)? {
+        words.push(Txt::from_string(word))?;
+    }
+    Ok(words)
+}
+
+fn status_of(rt: &HostRuntime, words: &[Txt]) -> Status {
+    let alloc = rt.alloc();
+    let Ok(mut vault) = FolderVault::new(alloc, rt, "keys") else {
+        return Status::OutOfMemory;
+    };
+    let mut script = StdSource::new(rt.stdin());
+    let mut entropy = RngEntropy::new(SysRng::new(rt));
+    let mut replies = FileSource::new(rt, "replies.bin");
+    let mut out = StdSink::new(rt.stdout());
+    let mut tap = FileSink::new(rt, "tap.bin");
+    let mut peer = Server::new(alloc);
+    ae_main(
+        alloc,
+        words,
+        &mut script,
+        &mut vault,
+        &mut entropy,
+        &mut replies,
+        &mut out,
+        &mut tap,
+        &mut peer,
+    )
 }

@@ -1,0 +1,28 @@
+-- The words of the command line.
+use Rattle.std.specs.Prelude.{ℕ, List, [], ◌∷◌, codes, Bool, true, false}
+use Rattle.std.specs.Str.{bytes_eq}
+use Rattle.script_run.specs.declared.status.Status.{Status}
+use Rattle.script_run.specs.declared.status.Status.TheVariants as status
+
+-- the program's name and `run`
+abbrev pub is_run : List (List ℕ) → Bool
+is_run [] = false
+is_run (name ∷ []) = false
+is_run (name ∷ word ∷ []) = bytes_eq word (codes "run")
+is_run (name ∷ word ∷ more ∷ others) = false
+
+-- the words are no command, or there was no memory to say so
+abbrev pub IsRefusedUsage : Status → Type 0
+IsRefusedUsage (status.Usage text) = Unit {0}
+IsRefusedUsage status.OutOfMemory = Unit {0}
+IsRefusedUsage status.Done = ⊥
+IsRefusedUsage status.Refusals = ⊥
+IsRefusedUsage status.ReadFault = ⊥
+IsRefusedUsage status.WriteFault = ⊥
+IsRefusedUsage status.EntropyFault = ⊥
+IsRefusedUsage status.VaultFault = ⊥
+IsRefusedUsage (status.BadScript line) = ⊥
+IsRefusedUsage status.TooLong = ⊥
+IsRefusedUsage (status.BadFrame place) = ⊥
+IsRefusedUsage (status.BadReply place) = ⊥
+IsRefusedUsage (status.NoMasterKey path) = ⊥
