@@ -1,14 +1,14 @@
 -- The words of the command line.
-use Rattle.std.specs.Prelude.{ℕ, List, [], ◌∷◌, codes, Bool, true, false}
+use Rattle.std.specs.Prelude.{ℕ, List, [], ◌∷◌, codes, encode_utf8_all, Bool, true, false}
 use Rattle.std.specs.Str.{bytes_eq}
 use Rattle.script_run.specs.declared.status.Status.{Status}
 use Rattle.script_run.specs.declared.status.Status.TheVariants as status
 
--- the program's name and `run`
+-- the program's name and `run`, in UTF-8
 abbrev pub is_run : List (List ℕ) → Bool
 is_run [] = false
 is_run (name ∷ []) = false
-is_run (name ∷ word ∷ []) = bytes_eq word (codes "run")
+is_run (name ∷ word ∷ []) = bytes_eq (encode_utf8_all word) (codes "run")
 is_run (name ∷ word ∷ more ∷ others) = false
 
 -- the words are no command, or there was no memory to say so

@@ -1,6 +1,6 @@
 //! Files that are opened at their first use.
 
-ghost use Rattle.std.specs.Prelude.{None};
+ghost use Rattle.std.specs.Prelude.{◌≡◌, None};
 
 use ae_edge::adapters::sink::StdSink;
 use ae_edge::adapters::source::StdSource;
@@ -30,7 +30,10 @@ impl<R: Files + Drop> FileSink<R> {
         }
     }
 
-    fn open(&mut self) {
+    // Opens the file, unless it is open or can't be opened.
+    fn open(&mut self)
+        ensures { self.new.faults ≡ self.old.faults }
+    {
         if self.file.is_none() {
             if let Ok(file) = File::create(&self.files, self.name) {
                 self.file = Some(StdSink::new(file));
@@ -77,7 +80,10 @@ impl<R: Files + Drop> FileSource<R> {
         }
     }
 
-    fn open(&mut self) {
+    // Opens the file, unless it is open or can't be opened.
+    fn open(&mut self)
+        ensures { self.new.faults ≡ self.old.faults }
+    {
         if self.file.is_none() {
             if let Ok(file) = File::open(&self.files, self.name) {
                 self.file = Some(StdSource::new(file));

@@ -82,3 +82,19 @@ IsDoneOrFault status.TooLong = ⊥
 IsDoneOrFault (status.BadFrame place) = ⊥
 IsDoneOrFault (status.BadReply place) = ⊥
 IsDoneOrFault (status.NoMasterKey path) = ⊥
+
+-- the statuses that a run can have
+abbrev pub IsOfRun : Status → Type 0
+IsOfRun status.Done = Unit {0}
+IsOfRun status.Refusals = Unit {0}
+IsOfRun status.ReadFault = Unit {0}
+IsOfRun status.WriteFault = Unit {0}
+IsOfRun status.OutOfMemory = Unit {0}
+IsOfRun (status.BadScript line) = Unit {0}
+IsOfRun status.TooLong = Unit {0}
+IsOfRun (status.BadReply place) = Unit {0}
+IsOfRun (status.Usage text) = ⊥
+IsOfRun status.EntropyFault = ⊥
+IsOfRun status.VaultFault = ⊥
+IsOfRun (status.BadFrame place) = ⊥
+IsOfRun (status.NoMasterKey path) = ⊥
