@@ -1,3 +1,5 @@
+mod MemAnswers
+mod ReplyKinds
 pub mod Answers
 pub mod BindWords
 pub mod BoundOn
