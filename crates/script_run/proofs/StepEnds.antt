@@ -1,9 +1,9 @@
 -- What a step leaves, by what its batch leaves and what is printed.
-use Rattle.std.proofs.Common.{◌≡◌, ℕ, ◌+◌, List, [], ◌∷◌, Option, false, refl, sym, ◌∙◌, ap, subst, arith, append-nil}
+use Rattle.std.proofs.Common.{◌≡◌, ℕ, ◌+◌, List, [], ◌∷◌, Option, false, refl, sym, ◌∙◌, ap, subst, arith, append-nil, inl, inr}
 use Rattle.std.proofs.Math.Bool.{or-false}
 use Rattle.ae_base.specs.declared.batches.Batch.{Batch}
-use Rattle.ae_edge.specs.Devices.{IsFront, Adds}
-use Rattle.ae_edge.proofs.Told.{told_same, told_map, front_same, front_none, front_of, adds_none, adds_front_none}
+use Rattle.ae_edge.specs.Devices.{IsFront, Adds, AddsFront}
+use Rattle.ae_edge.proofs.Told.{told_same, told_map, adds_none}
 use Rattle.engine.specs.Worlds.{World}
 use Rattle.wire_frames.specs.Messages.{Reply}
 use Rattle.server_core.specs.Exchanges.{Exchange}
@@ -11,7 +11,7 @@ use Rattle.script_lang.specs.declared.steps.Step.{Step}
 use Rattle.script_lang.specs.declared.steps.Step.TheVariants.{Whole, Half, Execute}
 use Rattle.script_run.specs.Drive.{Driven, Onward}
 use Rattle.script_run.specs.Transcript.{Passed}
-use Rattle.script_run.specs.Outcomes.{Outcome, is_refusal, printed_outcome, print}
+use Rattle.script_run.specs.Outcomes.{Outcome, is_refusal, printed_outcome}
 use Rattle.script_run.specs.Runs.{Wire, Driving, Comes, Breaks, Prints, StepIsDone, StepBreaks, StepGoes, driven_step, passing_step}
 use Rattle.script_run.specs.declared.runs.Stepped as stepped
 
@@ -25,11 +25,14 @@ printed-part : (step : Step) (outcome : Outcome) (before after : ℕ) (oldout ne
     → StepBreaks step oldout newout old new
 printed-part step outcome before after oldout newout old new comes out = record {
   exchanges = comes.exchanges;
-  text = printed_outcome outcome;
+  at = inr (record {
+    outcomes = outcome ∷ [];
+    is = comes.is;
+    tap = comes.tap;
+    out = subst (λ (xs : List ℕ). AddsFront xs oldout newout) (sym (append-nil (printed_outcome outcome))) out;
+    world = comes.world;
+  });
   requests = λ onward taken more. record { rest = _; is = ap (λ (d : Driven). d.requests) (comes.is onward taken more) };
-  printed = λ onward taken more. record { rest = _; is = ap (λ (d : Driven). print d.outcomes) (comes.is onward taken more) };
-  out = out;
-  tap = front_of _ _ old.tap new.tap comes.tap (front_same _);
   log = comes.log;
   world = told_map _ _ (passed-front (passing_step step) comes.exchanges) old.world new.world comes.world;
 }
@@ -60,11 +63,8 @@ pub step-broken : (step : Step) (number : ℕ) (batch : Batch) (out : Option (Li
     → step ≡ Whole number batch → Breaks (driven_step (Whole number batch)) (passing_step (Whole number batch)) old new → StepBreaks step out out old new
 step-broken step number batch out old new e broke = subst (λ (s : Step). StepBreaks s out out old new) (sym e) (record {
   exchanges = broke.exchanges;
-  text = [];
+  at = inl (record { tap = broke.tap; out = refl });
   requests = broke.is;
-  printed = λ onward taken more. front_none _;
-  out = adds_front_none [] out;
-  tap = broke.tap;
   log = broke.log;
   world = broke.world;
 })

@@ -13,7 +13,7 @@ use Rattle.server_core.specs.Serve.{serve}
 use Rattle.script_lang.specs.declared.steps.Step.{Step}
 use Rattle.script_lang.specs.declared.steps.Step as step
 use Rattle.script_run.specs.Outcomes.{Outcome, print, has_refusal, is_refusal, printed_outcome}
-use Rattle.script_run.specs.Drive.{Driven, End, Done, BadReply, Onward, drive, drive_batch, executing, coming_to, bad_reply}
+use Rattle.script_run.specs.Drive.{Driven, End, Done, BadReply, Onward, drive, drive_batch, executing, bad_reply}
 use Rattle.script_run.specs.Transcript.{Passed, nothing_passed, batch_passes, execution, exchanges_from, exchange_frames, replies_in, requests_in}
 use Rattle.script_run.specs.Views.{outcome_of}
 use Rattle.script_run.specs.declared.asking.Asked as asked
@@ -142,14 +142,25 @@ pub record StepIsDone (refused : Bool) (step : Step) (before after : ℕ) (oldou
   pub refusals : has_refusal outcomes ≡ refused
   pub out : Adds (print outcomes) oldout newout
 
--- it broke off, perhaps inside its text
+-- it broke off while its frames were put: a front of them is on the tap, and nothing of its text is put
+pub record BreaksInFrames (exchanges : List Exchange) (oldout newout : Option (List ℕ)) (old new : Wire) : Type 0 where
+  pub tap : AddsFront (flat_map exchange_frames exchanges) old.tap new.tap
+  pub out : newout ≡ oldout
+
+-- it broke off in its text: it came to these outcomes, all its frames are on the tap, and a front of its text is put
+pub record BreaksInText (step : Step) (exchanges : List Exchange) (oldout newout : Option (List ℕ)) (old new : Wire) : Type 0 where
+  pub outcomes : List Outcome
+  pub is : (onward : Onward) (taken : ℕ) (more : List Reply)
+      → driven_step step onward taken (replies_in exchanges ++ more) ≡ asking_all (requests_in exchanges) (coming_to_all outcomes (onward (taken + length (replies_in exchanges)) more))
+  pub tap : Adds (flat_map exchange_frames exchanges) old.tap new.tap
+  pub out : AddsFront (print outcomes) oldout newout
+  pub world : WhereTold (λ x y. passing_step step x ≡ record { exchanges = exchanges; world = y }) old.world new.world
+
+-- it broke off, in its frames or in its text
 pub record StepBreaks (step : Step) (oldout newout : Option (List ℕ)) (old new : Wire) : Type 0 where
   pub exchanges : List Exchange
-  pub text : List ℕ
+  pub at : BreaksInFrames exchanges oldout newout old new ⊎ BreaksInText step exchanges oldout newout old new
   pub requests : (onward : Onward) (taken : ℕ) (more : List Reply) → IsFront (requests_in exchanges) (driven_step step onward taken (replies_in exchanges ++ more)).requests
-  pub printed : (onward : Onward) (taken : ℕ) (more : List Reply) → IsFront text (print (driven_step step onward taken (replies_in exchanges ++ more)).outcomes)
-  pub out : AddsFront text oldout newout
-  pub tap : AddsFront (flat_map exchange_frames exchanges) old.tap new.tap
   pub log : Adds exchanges old.log new.log
   pub world : WhereTold (λ x y. IsFront exchanges (passing_step step x).exchanges) old.world new.world
 
@@ -200,10 +211,24 @@ pub record RunStops (at : ℕ) (steps : List Step) (oldout newout : Option (List
   pub ends : RunEnds steps outcomes (BadReply count) exchanges oldout newout old new
   pub place : at ≡ bytes_of_replies (take count (replies_in exchanges))
 
--- the run broke off: text and tap hold fronts of what they hold however the peer goes on
+-- some first steps were run to their end, their frames and their text whole, and the next one broke off
+pub record BreaksAfter (steps : List Step) (oldout newout : Option (List ℕ)) (old new : Wire) : Type 0 where
+  pub first : List Step
+  pub step : Step
+  pub rest : List Step
+  pub are : steps ≡ first ++ step ∷ rest
+  pub refused : Bool
+  pub outthen : Option (List ℕ)
+  pub wirethen : Wire
+  pub done : RunIsDone refused first oldout outthen old wirethen
+  pub breaks : StepBreaks step outthen newout wirethen new
+
+-- the run broke off: text and tap hold fronts of what they hold however the peer goes on, and each step's frames were put
+-- before its text, and both before the next step began
 pub record RunBreaks (steps : List Step) (oldout newout : Option (List ℕ)) (old new : Wire) : Type 0 where
   pub exchanges : List Exchange
   pub text : List ℕ
+  pub at : BreaksAfter steps oldout newout old new
   pub requests : (more : List Reply) → IsFront (requests_in exchanges) (drive steps (replies_in exchanges ++ more)).requests
   pub printed : (more : List Reply) → IsFront text (print (drive steps (replies_in exchanges ++ more)).outcomes)
   pub out : AddsFront text oldout newout
@@ -211,10 +236,10 @@ pub record RunBreaks (steps : List Step) (oldout newout : Option (List ℕ)) (ol
   pub log : Adds exchanges old.log new.log
   pub world : WhereTold (λ before after. IsFront exchanges (exchanges_from before steps)) old.world new.world
 
--- what a run does, by how it ended
+-- what a run does, by how it ended: where memory ends before the first step, nothing has changed
 abbrev pub RunGoes : List Step → ended.Ended → Option (List ℕ) → Option (List ℕ) → Wire → Wire → Type 0
 RunGoes steps ended.TheVariants.Done oldout newout old new = RunIsDone false steps oldout newout old new
 RunGoes steps ended.TheVariants.Refusals oldout newout old new = RunIsDone true steps oldout newout old new
 RunGoes steps (ended.TheVariants.BadReply place) oldout newout old new = RunStops place steps oldout newout old new
 RunGoes steps ended.TheVariants.WriteFault oldout newout old new = RunBreaks steps oldout newout old new
-RunGoes steps ended.TheVariants.OutOfMemory oldout newout old new = RunBreaks steps oldout newout old new
+RunGoes steps ended.TheVariants.OutOfMemory oldout newout old new = ((newout ≡ oldout) × (new ≡ old)) ⊎ RunBreaks steps oldout newout old new

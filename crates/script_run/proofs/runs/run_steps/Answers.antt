@@ -1,11 +1,11 @@
 -- Each turn adds a step, or ends the run.
-use Rattle.std.proofs.Common.{◌≡◌, ◌||◌, arith}
-use Rattle.script_run.proofs.Progress.{start, more, stops, breaks, unbegun, finish, met-before, met-now}
+use Rattle.std.proofs.Common.{◌≡◌, ◌||◌, refl, inl, inr, arith}
+use Rattle.script_run.proofs.Progress.{start, more, stops, breaks, finish, met-before, met-now}
 use Rattle.script_run.proofs.runs.run_steps.Goals.{then-refusals, else-refusals}
 use Rattle.script_run.proofs.runs.run_steps.Goals as goal
 
 pub returns-in_default-clause-content : goal.returns-in_default-clause-content
-returns-in_default-clause-content g c = unbegun _ _ _
+returns-in_default-clause-content g c = inl (refl, refl)
 
 pub loop-step-init : goal.loop-step-init
 loop-step-init g c = record { so_far = start _ _ _; idle = c.in-Ok.ensures.idle; out_count = omega arith; tap_count = omega arith }
@@ -20,7 +20,7 @@ returns-in-WriteFault-clause-content g c =
 
 pub returns-in-OutOfMemory-clause-content : goal.returns-in-OutOfMemory-clause-content
 returns-in-OutOfMemory-clause-content g c =
-    breaks _ _ _ _ _ _ _ _ _ _ _ _ c.loop-step-test.true c.step-item.is c.loop-step.invariant.so_far c.in-OutOfMemory.ensures.content
+    inr (breaks _ _ _ _ _ _ _ _ _ _ _ _ c.loop-step-test.true c.step-item.is c.loop-step.invariant.so_far c.in-OutOfMemory.ensures.content)
 
 pub loop-step-preserved : goal.loop-step-preserved
 loop-step-preserved g c =
