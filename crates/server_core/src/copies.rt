@@ -271,13 +271,25 @@ mod tests {
         Ok(())
     }
 
+    fn is_text(atom: &AtomPart<'_>, text: &str) -> bool {
+        matches!(atom, AtomPart::Plain(DatumPart::Text(part)) if part.as_str() == text)
+    }
+
+    fn is_binary(atom: &AtomPart<'_>, bytes: &[u8]) -> bool {
+        matches!(atom, AtomPart::Plain(DatumPart::Bin(part)) if part.as_slice() == bytes)
+    }
+
+    fn is_sealed(atom: &AtomPart<'_>, bytes: &[u8]) -> bool {
+        matches!(atom, AtomPart::Sealed(part) if part.bytes() == bytes)
+    }
+
     fn has_atoms(reply: &Reply<'_>) -> bool {
         let Reply::Row(atoms) = reply else {
             return false;
         };
         match atoms.as_slice() {
-            [AtomPart::Plain(DatumPart::Text(text)), AtomPart::Plain(DatumPart::Bin(bytes)), AtomPart::Sealed(cell)] => {
-                text.as_str() == "a" && bytes.as_slice() == b"b".as_slice() && cell.bytes() == b"c".as_slice()
+            [first, second, third] => {
+                is_text(first, "a") && is_binary(second, b"b") && is_sealed(third, b"c")
             }
             _ => false,
         }

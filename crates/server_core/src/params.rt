@@ -103,8 +103,6 @@ fn suited_atom(alloc: Global, param: &SentParam<'_>) -> Result<Atom<Cell>, Serve
     if matches!(param.enc, Enc::Plain) && is_plain_within(&atom, param.ty) {
         Ok(atom)
     } else {
-        Err(ServeFault::Refused(SqlFault::ParamClash(
-            param.name.to_name(alloc)?,
-        )))
+        Err(ServeFault::Refused(SqlFault::ParamClash(param.name.to_name(alloc)?)))
     }
 }

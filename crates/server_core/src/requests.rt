@@ -36,7 +36,9 @@ pub fn serve(
 {
     let served = match request {
         Request::Describe {
-            text, declarations, ..
+            text,
+            declarations,
+            ..
         } => describe(alloc, world, text, declarations.as_slice()),
         Request::Execute {
             version,

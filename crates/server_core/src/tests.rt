@@ -34,11 +34,17 @@ fn a_table_is_defined_filled_and_read(rt: HostRuntime) -> Result<(), Fail> {
         &executed(alloc, 1, "INSERT INTO t (a) VALUES (7), (NULL)"),
     )?;
     assert!(rt; matches!(changed.as_slice(), [Reply::Ended(Done::Changed(2))]));
-    let answered = server.ask(
-        alloc,
-        &executed(alloc, 1, "SELECT a FROM t WHERE a < 8"),
-    )?;
-    assert!(rt; matches!(answered.as_slice(), [Reply::Columns { .. }, Reply::Row(_), Reply::Ended(Done::Answered(1))]));
+    let answered = server.ask(alloc, &executed(alloc, 1, "SELECT a FROM t WHERE a < 8"))?;
+    assert!(rt;
+        matches!(
+            answered.as_slice(),
+            [
+                Reply::Columns { .. },
+                Reply::Row(_),
+                Reply::Ended(Done::Answered(1))
+            ]
+        )
+    );
     Ok(())
 }
 
