@@ -67,7 +67,9 @@ impl Exchange {
     }
 }
 
-/// A peer in memory, which gives listed answers in order, and keeps what was asked and answered.
+/// A peer in memory. It gives listed answers in order, each to the first request that it suits, and
+/// keeps what was asked and answered. A request that the next answer doesn't suit, or that comes
+/// when none is left, is refused as `Syntax`. For want of memory nothing has happened.
 #[derive(Drop)]
 pub struct MemPeer {
     answers: VecDeque<Seq<Reply<'static>>>,
@@ -143,7 +145,7 @@ impl MemPeer {
         }
     }
 
-    // Refuses a request, and keeps that.
+    // Refuses a request, and keeps the refusal with it.
     fn refuse(
         &mut self,
         alloc: Global,
@@ -154,8 +156,8 @@ impl MemPeer {
             (λ _. self.new ≡ self.old) }
     {
         let replies = refusal(alloc)?;
-        let exchange = Exchange::copied(alloc, request, replies.as_slice())?;
-        self.exchanges.push(exchange)?;
+        let refused = Exchange::copied(alloc, request, replies.as_slice())?;
+        self.exchanges.push(refused)?;
         Ok(replies)
     }
 }
