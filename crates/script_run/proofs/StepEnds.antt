@@ -63,7 +63,7 @@ pub step-broken : (step : Step) (number : ℕ) (batch : Batch) (out : Option (Li
     → step ≡ Whole number batch → Breaks (driven_step (Whole number batch)) (passing_step (Whole number batch)) old new → StepBreaks step out out old new
 step-broken step number batch out old new e broke = subst (λ (s : Step). StepBreaks s out out old new) (sym e) (record {
   exchanges = broke.exchanges;
-  at = inl (record { tap = broke.tap; out = refl });
+  at = inl (record { tap = broke.tap; out = refl; cut = broke.cut });
   requests = broke.is;
   log = broke.log;
   world = broke.world;

@@ -36,6 +36,7 @@ no_more driven passing w = record {
   tap = adds_front_none [] w.tap;
   log = adds_none w.log;
   world = told_same (λ x y. IsFront [] (passing x).exchanges) (λ x. front_none (passing x).exchanges) w.world;
+  cut = record { whole = []; last = []; is = refl; one = omega arith; now = w.tap; before = adds_none w.tap; cut = adds_front_none [] w.tap };
 }
 
 -- it comes to an outcome without a request
@@ -77,6 +78,15 @@ part request tail follow old new a =
       tap = subst (λ xs. AddsFront xs old.tap new.tap) frames a.tap;
       log = a.asked.log;
       world = world_first request a.replies follow old new a.asked;
+      cut = record {
+        whole = [];
+        last = exchange request a.replies ∷ [];
+        is = refl;
+        one = omega arith;
+        now = old.tap;
+        before = adds_none old.tap;
+        cut = subst (λ xs. AddsFront xs old.tap new.tap) frames a.tap;
+      };
     }
 
 pub part_of : (request : Request) (replies : List Reply) (size : ℕ) (old new : Wire) → AskedWhole request replies size old new → AskedPart request old new
@@ -191,6 +201,15 @@ module _ (request : Request) (replies : List Reply) (size : ℕ) (tail : Driving
         tap = adds_then_front (exchange_frames (exchange request replies)) (flat_map exchange_frames c.exchanges) old.tap mid.tap new.tap a.tap c.tap;
         log = adds_then (exchange request replies ∷ []) c.exchanges old.log mid.log new.log a.asked.log c.log;
         world = told_then _ _ _ (world_on request replies tail follow next passing l c.exchanges) old.world mid.world new.world a.asked.world c.world;
+        cut = record {
+          whole = exchange request replies ∷ c.cut.whole;
+          last = c.cut.last;
+          is = ap (λ (es : List Exchange). exchange request replies ∷ es) c.cut.is;
+          one = c.cut.one;
+          now = c.cut.now;
+          before = adds_then (exchange_frames (exchange request replies)) (flat_map exchange_frames c.cut.whole) old.tap mid.tap c.cut.now a.tap c.cut.before;
+          cut = c.cut.cut;
+        };
       }
 
   pub then_goes : (result : batched.Batched) (before between after : ℕ) → between ≡ before + size → TalkGoes next passing result between after mid new

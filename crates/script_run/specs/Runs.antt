@@ -91,13 +91,24 @@ pub record Stops (driven : Driving) (passing : World → Passed) (before at : �
   pub log : Adds exchanges old.log new.log
   pub world : WhereTold (λ x y. IsFront exchanges (passing x).exchanges) old.world new.world
 
--- it breaks off, for a device or for want of memory
+-- the frames of all exchanges stand on the tap, of the last perhaps only a front
+pub record LastIsCut (exchanges : List Exchange) (old new : Option (List ℕ)) : Type 0 where
+  pub whole : List Exchange
+  pub last : List Exchange
+  pub is : exchanges ≡ whole ++ last
+  pub one : length last ≤ 1
+  pub now : Option (List ℕ)
+  pub before : Adds (flat_map exchange_frames whole) old now
+  pub cut : AddsFront (flat_map exchange_frames last) now new
+
+-- it breaks off, for a device or for want of memory: no request follows one whose frames don't stand whole
 pub record Breaks (driven : Driving) (passing : World → Passed) (old new : Wire) : Type 0 where
   pub exchanges : List Exchange
   pub is : (onward : Onward) (taken : ℕ) (more : List Reply) → IsFront (requests_in exchanges) (driven onward taken (replies_in exchanges ++ more)).requests
   pub tap : AddsFront (flat_map exchange_frames exchanges) old.tap new.tap
   pub log : Adds exchanges old.log new.log
   pub world : WhereTold (λ x y. IsFront exchanges (passing x).exchanges) old.world new.world
+  pub cut : LastIsCut exchanges old.tap new.tap
 
 -- the place after it is told where it comes to an outcome
 abbrev pub TalkGoes : Driving → (World → Passed) → batched.Batched → ℕ → ℕ → Wire → Wire → Type 0
@@ -146,6 +157,7 @@ pub record StepIsDone (refused : Bool) (step : Step) (before after : ℕ) (oldou
 pub record BreaksInFrames (exchanges : List Exchange) (oldout newout : Option (List ℕ)) (old new : Wire) : Type 0 where
   pub tap : AddsFront (flat_map exchange_frames exchanges) old.tap new.tap
   pub out : newout ≡ oldout
+  pub cut : LastIsCut exchanges old.tap new.tap
 
 -- it broke off in its text: it came to these outcomes, all its frames are on the tap, and a front of its text is put
 pub record BreaksInText (step : Step) (exchanges : List Exchange) (oldout newout : Option (List ℕ)) (old new : Wire) : Type 0 where

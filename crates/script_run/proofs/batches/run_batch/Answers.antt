@@ -10,6 +10,9 @@ returns-in-Err-Fault-clause-content g c =
 pub returns-in-Err-OutOfMemory-clause-content : goal.returns-in-Err-OutOfMemory-clause-content
 returns-in-Err-OutOfMemory-clause-content g c = no_more _ _ _
 
+pub returns-in-WriteFault-clause-content : goal.returns-in-WriteFault-clause-content
+returns-in-WriteFault-clause-content g c = batch_breaks c.args.number c.args.batch.now _ c.requires.idle _ _ c.in-Ok.ensures.asked _ _ c.in-WriteFault.ensures.content
+
 pub returns-in-OutOfMemory-clause-content : goal.returns-in-OutOfMemory-clause-content
 returns-in-OutOfMemory-clause-content g c = batch_perhaps_breaks c.args.number c.args.batch.now _ c.requires.idle _ _ c.in-Ok.ensures.asked _ _ c.in-OutOfMemory.ensures.content
 

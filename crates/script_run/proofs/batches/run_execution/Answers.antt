@@ -9,6 +9,9 @@ use Rattle.script_run.proofs.batches.run_execution.Goals as goal
 pub returns-in-Err-OutOfMemory-clause-content : goal.returns-in-Err-OutOfMemory-clause-content
 returns-in-Err-OutOfMemory-clause-content g c = no_more _ _ _
 
+pub returns-in-WriteFault-clause-content : goal.returns-in-WriteFault-clause-content
+returns-in-WriteFault-clause-content g c = execution_breaks _ _ _ _ _ _ c.in-Ok.ensures.asked c.in-WriteFault.ensures.content
+
 pub returns-in-OutOfMemory-clause-content : goal.returns-in-OutOfMemory-clause-content
 returns-in-OutOfMemory-clause-content g c = execution_perhaps_breaks _ _ _ _ _ _ c.in-Ok.ensures.asked c.in-OutOfMemory.ensures.content
 
