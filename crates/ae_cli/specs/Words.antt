@@ -1,5 +1,5 @@
 -- The words of the command line.
-use Rattle.std.specs.Prelude.{ℕ, List, [], ◌∷◌, codes, encode_utf8_all, Bool, true, false}
+use Rattle.std.specs.Prelude.{◌≡◌, ℕ, List, [], ◌∷◌, ◌++◌, codes, encode_utf8_all, Bool, true, false}
 use Rattle.std.specs.Str.{bytes_eq}
 use Rattle.script_run.specs.declared.status.Status.{Status}
 use Rattle.script_run.specs.declared.status.Status.TheVariants as status
@@ -11,9 +11,13 @@ is_run (name ∷ []) = false
 is_run (name ∷ word ∷ []) = bytes_eq (encode_utf8_all word) (codes "run")
 is_run (name ∷ word ∷ more ∷ others) = false
 
--- the words are no command, or there was no memory to say so
+-- how the program is called
+abbrev pub usage_line : List ℕ
+usage_line = codes "usage: ae run < SCRIPT" ++ 10 ∷ []
+
+-- the words are no command, and it is said how they are written, or there was no memory to say so
 abbrev pub IsRefusedUsage : Status → Type 0
-IsRefusedUsage (status.Usage text) = Unit {0}
+IsRefusedUsage (status.Usage text) = encode_utf8_all text ≡ usage_line
 IsRefusedUsage status.OutOfMemory = Unit {0}
 IsRefusedUsage status.Done = ⊥
 IsRefusedUsage status.Refusals = ⊥

@@ -1,6 +1,10 @@
 //! Files that are opened at their first use.
 
-ghost use Rattle.std.specs.Prelude.{◌≡◌, None};
+ghost use Rattle.std.specs.Prelude.{◌≡◌, ◌≤◌, None};
+ghost use Rattle.ae_edge.specs.Devices.{Rose};
+ghost use Rattle.ae_edge.specs.Sinks.{IsPut, PutsKnown};
+ghost use Rattle.ae_edge.specs.Sources.{IsPiece, TakesKnown};
+ghost use Rattle.ae_cli.specs.Files.{IsKept, OpensThen};
 
 use ae_edge::adapters::sink::StdSink;
 use ae_edge::adapters::source::StdSource;
@@ -21,7 +25,12 @@ pub struct FileSink<R: Files> {
 
 impl<R: Files + Drop> FileSink<R> {
     /// A sink for the file of that name in the folder where the program runs.
-    pub fn new(files: R, name: &'static str) -> FileSink<R> {
+    pub fn new(files: R, name: &'static str) -> FileSink<R>
+        ensures files { result.files ≡ files }
+        ensures name { result.name ≡ name.entry }
+        ensures shut { result.file ≡ None }
+        ensures faults { result.faults ≡ 0 }
+    {
         FileSink {
             files,
             name,
@@ -32,7 +41,10 @@ impl<R: Files + Drop> FileSink<R> {
 
     // Opens the file, unless it is open or can't be opened.
     fn open(&mut self)
-        ensures { self.new.faults ≡ self.old.faults }
+        ensures faults { self.new.faults ≡ self.old.faults }
+        ensures files { self.new.files ≡ self.old.files }
+        ensures name { self.new.name ≡ self.old.name }
+        ensures open { IsKept self.old.file self.new.file }
     {
         if self.file.is_none() {
             if let Ok(file) = File::create(&self.files, self.name) {
@@ -47,7 +59,18 @@ impl<R: Files + Drop> Sink for FileSink<R> {
 
     ghost faults = { λ s. s.faults };
 
-    fn put(&mut self, bytes: &[u8]) -> Put {
+    fn put(&mut self, bytes: &[u8]) -> Put
+        ensures piece { IsPut bytes.now result }
+        ensures count { self.old.faults ≤ self.new.faults }
+        ensures failed { result ≡ Put.Failed → Rose self.old.faults self.new.faults }
+        ensures files { self.new.files ≡ self.old.files }
+        ensures name { self.new.name ≡ self.old.name }
+        ensures shut { self.new.file ≡ None → result ≡ Put.Failed }
+        // The file stays open once it is, and each piece is put behind what was put before.
+        ensures known { OpensThen
+            (λ old new. PutsKnown bytes.now result (R.File.contents old.writer) (R.File.contents new.writer))
+            self.old.file self.new.file }
+    {
         self.open();
         let put = match &mut self.file {
             Some(file) => file.put(bytes),
@@ -71,7 +94,12 @@ pub struct FileSource<R: Files> {
 
 impl<R: Files + Drop> FileSource<R> {
     /// A source of the file of that name in the folder where the program runs.
-    pub fn new(files: R, name: &'static str) -> FileSource<R> {
+    pub fn new(files: R, name: &'static str) -> FileSource<R>
+        ensures files { result.files ≡ files }
+        ensures name { result.name ≡ name.entry }
+        ensures shut { result.file ≡ None }
+        ensures faults { result.faults ≡ 0 }
+    {
         FileSource {
             files,
             name,
@@ -82,7 +110,10 @@ impl<R: Files + Drop> FileSource<R> {
 
     // Opens the file, unless it is open or can't be opened.
     fn open(&mut self)
-        ensures { self.new.faults ≡ self.old.faults }
+        ensures faults { self.new.faults ≡ self.old.faults }
+        ensures files { self.new.files ≡ self.old.files }
+        ensures name { self.new.name ≡ self.old.name }
+        ensures open { IsKept self.old.file self.new.file }
     {
         if self.file.is_none() {
             if let Ok(file) = File::open(&self.files, self.name) {
@@ -97,7 +128,19 @@ impl<R: Files + Drop> Source for FileSource<R> {
 
     ghost faults = { λ s. s.faults };
 
-    fn take(&mut self, alloc: Global, max: usize) -> Taken {
+    fn take(&mut self, alloc: Global, max: usize) -> Taken
+        requires { 1 ≤ max }
+        ensures piece { IsPiece max result }
+        ensures count { self.old.faults ≤ self.new.faults }
+        ensures failed { result ≡ Taken.Failed → Rose self.old.faults self.new.faults }
+        ensures files { self.new.files ≡ self.old.files }
+        ensures name { self.new.name ≡ self.old.name }
+        ensures shut { self.new.file ≡ None → result ≡ Taken.Failed }
+        // The file stays open once it is, and each piece comes behind those before it.
+        ensures known { OpensThen
+            (λ old new. TakesKnown result (R.File.remaining old.reader) (R.File.remaining new.reader))
+            self.old.file self.new.file }
+    {
         self.open();
         let taken = match &mut self.file {
             Some(file) => file.take(alloc, max),

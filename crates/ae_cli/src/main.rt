@@ -3,7 +3,13 @@
 
 mod commands;
 mod files;
+#[cfg(test)]
+mod tests;
 mod words;
+
+ghost use Rattle.std.specs.Prelude.{◌≡◌, true, false};
+ghost use Rattle.script_run.specs.Programs.{IsOfRun};
+ghost use Rattle.ae_cli.specs.Words.{IsRefusedUsage, is_run};
 
 use ae_base::lists::Seq;
 use ae_base::texts::Txt;
@@ -16,9 +22,8 @@ use files::{FileSink, FileSource};
 use rand::rngs::SysRng;
 use script_run::status::Status;
 use server_core::server::Server;
-use std::env;
-use std::io;
 use std::process::ExitCode;
+use std::{env, io};
 
 fn main(rt: HostRuntime) -> io::Result<ExitCode> {
     let status = match words_of(&rt) {
@@ -38,7 +43,10 @@ fn words_of(rt: &HostRuntime) -> io::Result<Seq<Txt>> {
     Ok(words)
 }
 
-fn status_of(rt: &HostRuntime, words: &[Txt]) -> Status {
+fn status_of(rt: &HostRuntime, words: &[Txt]) -> Status
+    ensures usage { is_run words.now ≡ false → IsRefusedUsage result }
+    ensures run { is_run words.now ≡ true → IsOfRun result }
+{
     let alloc = rt.alloc();
     let Ok(mut vault) = FolderVault::new(alloc, rt, "keys") else {
         return Status::OutOfMemory;

@@ -12,7 +12,6 @@ use Rattle.ae_base.specs.declared.atoms.AtomOf.TheVariants.{Null, Plain, Sealed}
 use Rattle.ae_base.specs.declared.tables.ColumnDef.{ColumnDef}
 use Rattle.ae_base.specs.declared.faults.SqlFault.TheVariants as fault
 use Rattle.ae_base.specs.Values.{is_within}
-use Rattle.sql_tree.specs.Operands as operands
 use Rattle.sql_tree.specs.Bound.{BoundOperand, BoundInsert}
 use Rattle.driver.specs.Sessions.{is_of_base, plain_atom}
 use Rattle.resolve.specs.Bind.{column_types}

@@ -10,8 +10,6 @@ use Rattle.ae_base.specs.declared.faults.SqlFault.{SqlFault}
 use Rattle.sql_tree.specs.declared.bound.ResultColumn.{ResultColumn}
 use Rattle.sql_tree.specs.declared.statements.ColumnSpec.{ColumnSpec}
 use Rattle.sql_tree.specs.declared.statements.UniqueSpec.{UniqueSpec}
-use Rattle.sql_tree.specs.Operands as operands
-use Rattle.sql_tree.specs.Conditions as conditions
 use Rattle.sql_tree.specs.Statements.{Operand, Condition, ValueRow, Query, Statement, Items}
 use Rattle.sql_tree.specs.Statements as tree
 use Rattle.sql_tree.specs.Bound.{Bound, BoundOperand, BoundCondition, BoundInsert, BoundQuery}

@@ -4,8 +4,6 @@ use Rattle.std.specs.List.{slice_get}
 use Rattle.ae_base.specs.declared.batches.Param.{Param}
 use Rattle.ae_base.specs.declared.atoms.AtomOf.{AtomOf}
 use Rattle.ae_base.specs.declared.tables.ColumnDef.{ColumnDef}
-use Rattle.sql_tree.specs.Operands as operands
-use Rattle.sql_tree.specs.Conditions as conditions
 use Rattle.sql_tree.specs.Bound.{Bound, BoundOperand, BoundCondition, BoundInsert, BoundQuery}
 use Rattle.sql_tree.specs.Bound as bound
 use Rattle.scalar.specs.Eval.{eval, truth, atom_at}

@@ -1,5 +1,5 @@
 -- What a script that is read and run leaves.
-use Rattle.std.specs.Prelude.{◌≡◌, ◌⊎◌, ◌≤◌, ◌<◌, ℕ, List, length, Option, Some, Ok, Err, Bool, true, false}
+use Rattle.std.specs.Prelude.{◌≡◌, ◌⊎◌, ◌≤◌, ◌<◌, ℕ, List, length, Option, Ok, Err, Bool, true, false}
 use Rattle.ae_edge.specs.Devices.{Adds, AddsFront}
 use Rattle.script_lang.specs.declared.steps.Step.{Step}
 use Rattle.script_lang.specs.Script.{steps_of}

@@ -1,0 +1,12 @@
+use Rattle.std.proofs.Common.{◌≡◌, refl, ap, ◌∙◌, encode_utf8_all}
+use Rattle.std.specs.Str.{chars}
+use lib.Utf8.{encode}
+use Rattle.ae_cli.specs.Words.{usage_line}
+use Rattle.ae_cli.proofs.words.usage.Goals as goal
+
+usage-characters : encode_utf8_all (chars usage_line) ≡ usage_line
+unfolding encode chars
+usage-characters = refl
+
+pub returns-in-Ok : goal.returns-in-Ok
+returns-in-Ok c = ap encode_utf8_all c.in-Ok.ensures ∙ usage-characters
