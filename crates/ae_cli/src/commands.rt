@@ -5,7 +5,7 @@ ghost use Rattle.ae_cli.specs.Words.{IsRefusedUsage, is_run};
 ghost use Rattle.ae_edge.specs.Devices.{Rose, WhereTold};
 ghost use Rattle.engine.specs.Worlds.{empty_world};
 ghost use Rattle.script_lang.specs.declared.steps.Step.{Step};
-ghost use Rattle.script_run.specs.Programs.{IsDoneOrFault, IsOfRun, IsScript, Outside, RunsPlain, RunsScript};
+ghost use Rattle.script_run.specs.Programs.{IsDoneOrFault, IsOfRun, IsScript, Outside, RunsPlain, RunsScript, TakesScript};
 ghost use Rattle.script_run.specs.Runs.{Wire};
 
 use crate::words::{is_run, usage};
@@ -52,6 +52,9 @@ pub fn ae_main<S: Source, V: Vault, E: Entropy, L: Source, W: Sink, T: Sink, P: 
     // There a good script is run to its end, unless memory or a device fails.
     ensures complete { is_run words.now ≡ true → P.world peer.old ≡ Some empty_world → (bytes : List ℕ) (steps : List Step) →
         S.left script.old ≡ Some bytes → IsScript bytes steps → IsDoneOrFault result }
+    // What was taken of the script, by the status.
+    ensures taken { is_run words.now ≡ true → WhereTold (TakesScript result) (S.left script.old) (S.left script.new) }
+    // The faults of the outside come only where a count rose.
     ensures read { result ≡ Status.ReadFault → Rose (S.faults script.old) (S.faults script.new) }
     ensures write { result ≡ Status.WriteFault → Rose (W.faults out.old) (W.faults out.new) ⊎ Rose (T.faults tap.old) (T.faults tap.new) }
     ensures vault { vault.new ≡ vault.old }

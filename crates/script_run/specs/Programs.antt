@@ -1,6 +1,7 @@
 -- What a script that is read and run leaves.
-use Rattle.std.specs.Prelude.{◌≡◌, ◌⊎◌, ◌≤◌, ◌<◌, ℕ, List, length, Option, Ok, Err, Bool, true, false}
+use Rattle.std.specs.Prelude.{◌≡◌, ◌⊎◌, ◌≤◌, ◌<◌, ◌+◌, ℕ, List, [], length, Option, Ok, Err, Bool, true, false}
 use Rattle.ae_edge.specs.Devices.{Adds, AddsFront}
+use Rattle.ae_edge.specs.Streams.{HasTaken}
 use Rattle.script_lang.specs.declared.steps.Step.{Step}
 use Rattle.script_lang.specs.Script.{steps_of}
 use Rattle.script_run.specs.Outcomes.{has_refusal}
@@ -39,6 +40,23 @@ RunsScript status.TooLong old new bytes = (most_script_bytes < length bytes) × 
 RunsScript (status.BadFrame place) old new bytes = ⊥
 RunsScript (status.BadReply place) old new bytes = (steps : List Step) × IsScript bytes steps × RunStops place steps old.out new.out old.wire new.wire
 RunsScript (status.NoMasterKey path) old new bytes = ⊥
+
+-- what a run has taken of the script's bytes, by its status: all of them, unless a call failed, memory ran out, or there
+-- were more than the limit
+abbrev pub TakesScript : Status → List ℕ → List ℕ → Type 0
+TakesScript status.Done bytes left = left ≡ []
+TakesScript status.Refusals bytes left = left ≡ []
+TakesScript (status.Usage text) bytes left = ⊥
+TakesScript status.ReadFault bytes left = HasTaken (λ n. n ≤ most_script_bytes) bytes left
+TakesScript status.WriteFault bytes left = left ≡ []
+TakesScript status.OutOfMemory bytes left = HasTaken (λ n. n ≤ most_script_bytes + 1) bytes left
+TakesScript status.EntropyFault bytes left = ⊥
+TakesScript status.VaultFault bytes left = ⊥
+TakesScript (status.BadScript line) bytes left = left ≡ []
+TakesScript status.TooLong bytes left = HasTaken (λ n. n ≡ most_script_bytes + 1) bytes left
+TakesScript (status.BadFrame place) bytes left = ⊥
+TakesScript (status.BadReply place) bytes left = left ≡ []
+TakesScript (status.NoMasterKey path) bytes left = ⊥
 
 -- ---- over a peer that serves from the empty world
 

@@ -4,7 +4,7 @@ ghost use Rattle.std.specs.Prelude.{◌≡◌, ◌≢◌, ◌≤◌, ◌⊎◌, 
 ghost use Rattle.ae_edge.specs.Devices.{Rose, WhereTold};
 ghost use Rattle.engine.specs.Worlds.{empty_world};
 ghost use Rattle.script_lang.specs.declared.steps.Step.{Step};
-ghost use Rattle.script_run.specs.Programs.{IsDoneOrFault, IsOfRun, IsScript, Outside, RunsPlain, RunsScript, most_script_bytes};
+ghost use Rattle.script_run.specs.Programs.{IsDoneOrFault, IsOfRun, IsScript, Outside, RunsPlain, RunsScript, TakesScript, most_script_bytes};
 ghost use Rattle.script_run.specs.Runs.{Wire};
 
 use crate::runs::{Ended, run_steps};
@@ -71,6 +71,7 @@ fn run_source<S: Source, W: Sink, T: Sink, P: Peer>(
         (record { out = W.held out.old; wire = record { tap = T.held tap.old; log = P.log peer.old; world = P.world peer.old } })
         (record { out = W.held out.new; wire = record { tap = T.held tap.new; log = P.log peer.new; world = P.world peer.new } }) bytes)
         (S.left script.old) (S.left script.new) }
+    ensures taken { WhereTold (TakesScript result) (S.left script.old) (S.left script.new) }
     ensures named { IsOfRun result }
     ensures read { result ≡ Status.ReadFault → Rose (S.faults script.old) (S.faults script.new) }
     ensures write { result ≡ Status.WriteFault → Rose (W.faults out.old) (W.faults out.new) ⊎ Rose (T.faults tap.old) (T.faults tap.new) }
@@ -108,6 +109,8 @@ pub fn run<S: Source, W: Sink, T: Sink, P: Peer>(
     // There a good script is run to its end, unless memory or a device fails.
     ensures complete { P.world peer.old ≡ Some empty_world → (bytes : List ℕ) (steps : List Step) →
         S.left script.old ≡ Some bytes → IsScript bytes steps → IsDoneOrFault result }
+    // What was taken of the script, by the status.
+    ensures taken { WhereTold (TakesScript result) (S.left script.old) (S.left script.new) }
     // It has no other status than these, and the faults of the outside only where a count rose.
     ensures named { IsOfRun result }
     ensures read { result ≡ Status.ReadFault → Rose (S.faults script.old) (S.faults script.new) }
