@@ -22,16 +22,19 @@ use files::{FileSink, FileSource};
 use rand::rngs::SysRng;
 use script_run::status::Status;
 use server_core::server::Server;
+use std::io::ErrorKind;
 use std::process::ExitCode;
 use std::{env, io};
 
-fn main(rt: HostRuntime) -> io::Result<ExitCode> {
+fn main(rt: HostRuntime) -> ExitCode {
     let status = match words_of(&rt) {
         Ok(words) => status_of(&rt, words.as_slice()),
+        Err(error) if error.kind() == ErrorKind::OutOfMemory => Status::OutOfMemory,
         Err(_) => words::usage(rt.alloc()),
     };
-    eprint!(rt; "{status}")?;
-    Ok(ExitCode::from(status.number()))
+    // The number stands, also where nothing can be said on standard error.
+    let _ = eprint!(rt; "{status}");
+    ExitCode::from(status.number())
 }
 
 // The words of the command line. A word that isn't UTF-8 is an error.
