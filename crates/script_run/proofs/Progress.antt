@@ -189,6 +189,7 @@ done-so-far steps i at refused oldout nowout old now so_far =
       };
       refusals = so_far.refusals;
       whole = told_map _ _ (whole-so-far first so_far.exchanges) _ _ so_far.world;
+      onward = so_far.world;
     }
 
 -- what a step that breaks off leaves, wherever it does: fronts of its text and its frames

@@ -207,13 +207,14 @@ pub record RunEnds (steps : List Step) (outcomes : List Outcome) (end : End) (ex
   pub log : Adds exchanges old.log new.log
   pub world : WhereTold (λ before after. IsFront exchanges (exchanges_from before steps)) old.world new.world
 
--- to the end of the steps: then the exchanges are all that pass
+-- to the end of the steps: then the exchanges are all that pass, and the world after them is where any further steps go on
 pub record RunIsDone (refused : Bool) (steps : List Step) (oldout newout : Option (List ℕ)) (old new : Wire) : Type 0 where
   pub outcomes : List Outcome
   pub exchanges : List Exchange
   pub ends : RunEnds steps outcomes Done exchanges oldout newout old new
   pub refusals : has_refusal outcomes ≡ refused
   pub whole : WhereTold (λ before after. exchanges_from before steps ≡ exchanges) old.world new.world
+  pub onward : WhereTold (λ before after. (others : List Step) → exchanges_from before (steps ++ others) ≡ exchanges ++ exchanges_from after others) old.world new.world
 
 -- up to the reply at this place among the bytes of the reply frames
 pub record RunStops (at : ℕ) (steps : List Step) (oldout newout : Option (List ℕ)) (old new : Wire) : Type 0 where
