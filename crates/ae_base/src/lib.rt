@@ -11,8 +11,6 @@ pub mod lists;
 pub mod names;
 pub mod sameness;
 pub mod tables;
-#[cfg(test)]
-mod tests;
 pub mod texts;
 pub mod types;
 pub mod values;
