@@ -3,8 +3,6 @@
 
 mod commands;
 mod files;
-#[cfg(test)]
-mod tests;
 mod words;
 
 ghost use Rattle.std.specs.Prelude.{◌≡◌, true, false};
