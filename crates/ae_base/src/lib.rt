@@ -7,12 +7,14 @@ pub mod batches;
 pub mod blobs;
 pub mod cells;
 pub mod faults;
+pub mod keys;
 pub mod lists;
 pub mod names;
+pub mod params;
+pub mod refusals;
 pub mod sameness;
+pub mod sessions;
 pub mod tables;
-#[cfg(test)]
-mod tests;
 pub mod texts;
 pub mod types;
 pub mod values;
