@@ -8,6 +8,4 @@ pub mod memory;
 pub mod sinks;
 pub mod sources;
 pub mod streams;
-#[cfg(test)]
-mod tests;
 pub mod vaults;

@@ -4,5 +4,3 @@
 pub mod catalogs;
 pub mod faults;
 pub mod keys;
-#[cfg(test)]
-mod tests;

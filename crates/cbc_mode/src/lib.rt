@@ -10,9 +10,6 @@ use aes_block::Aes256;
 use std::alloc::{AllocError, Global};
 use thiserror::Error;
 
-#[cfg(test)]
-mod tests;
-
 /// Why a ciphertext is not decrypted.
 #[derive(Debug, Drop, PartialEq, Eq, Error)]
 pub enum CbcFault {

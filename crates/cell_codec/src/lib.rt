@@ -7,8 +7,6 @@ mod laws;
 mod sealing;
 mod shapes;
 mod tags;
-#[cfg(test)]
-mod tests;
 mod unsealing;
 
 pub use faults::CellFault;

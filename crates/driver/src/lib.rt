@@ -8,7 +8,5 @@ pub mod errors;
 pub mod faults;
 mod reading;
 mod sessions;
-#[cfg(test)]
-mod tests;
 
 pub use client::Driver;

@@ -5,6 +5,4 @@ pub mod answers;
 mod inserts;
 mod queries;
 pub mod tables;
-#[cfg(test)]
-mod tests;
 pub mod worlds;

@@ -4,8 +4,6 @@
 
 pub mod keys;
 pub mod mac;
-#[cfg(test)]
-mod tests;
 
 pub use keys::CellKeys;
 pub use mac::Mac;

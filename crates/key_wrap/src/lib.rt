@@ -10,9 +10,6 @@ ghost use Rattle.key_wrap.specs.Wrap.{AreBytes, initial_value, register, step_nu
 
 use aes_block::Aes256;
 
-#[cfg(test)]
-mod tests;
-
 // The initial value of the register A (section 2.2.3.1).
 const INITIAL_VALUE: [u8; 8] = [0xA6; 8];
 

@@ -9,6 +9,4 @@ mod queries;
 mod scopes;
 pub mod statements;
 mod tables;
-#[cfg(test)]
-mod tests;
 pub mod uses;

@@ -5,6 +5,4 @@ pub mod conditions;
 pub mod faults;
 mod lent;
 pub mod operands;
-#[cfg(test)]
-mod tests;
 pub mod truth;

@@ -9,5 +9,3 @@ pub mod programs;
 mod reading;
 pub mod runs;
 pub mod status;
-#[cfg(test)]
-mod tests;

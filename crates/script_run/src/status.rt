@@ -82,25 +82,3 @@ impl fmt::Display for Status {
         }
     }
 }
-
-#[cfg(test)]
-mod tests {
-    use super::*;
-    use std::test::Fail;
-
-    #[test]
-    fn each_status_has_its_line(rt: HostRuntime) -> Result<(), Fail> {
-        let cases = [
-            (Status::Refusals, 1, ""),
-            (Status::ReadFault, 3, "ae: read fault\n"),
-            (Status::BadScript(129), 8, "ae: bad script line 129\n"),
-            (Status::TooLong, 9, "ae: too long\n"),
-        ];
-        for (status, number, said) in cases {
-            assert_eq!(rt; status.number(), number);
-            let line = format!(in rt.alloc(); "{status}")?;
-            assert_eq!(rt; line.as_str(), said);
-        }
-        Ok(())
-    }
-}

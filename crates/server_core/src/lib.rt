@@ -10,5 +10,3 @@ mod replies;
 mod requests;
 pub mod server;
 mod statements;
-#[cfg(test)]
-mod tests;

@@ -8,9 +8,6 @@ ghost use Rattle.server_core.specs.Exchanges.{HasKinds, IsAnswer};
 ghost use Rattle.server_core.specs.MemPeers.{MemAsks, NextSuits, syntax_refusal};
 ghost use Rattle.server_core.specs.MemPeers as kinds;
 
-#[cfg(test)]
-mod tests;
-
 use crate::copies::{copied_replies, copied_request};
 use crate::peers::Peer;
 use ae_base::faults::SqlFault;

@@ -8,8 +8,6 @@ mod limits;
 pub mod parsing;
 mod parts;
 mod statements;
-#[cfg(test)]
-mod tests;
 
 pub use faults::ParseFault;
 pub use parsing::parse;

@@ -8,7 +8,5 @@ mod fronts;
 pub mod lexemes;
 pub mod operands;
 pub mod statements;
-#[cfg(test)]
-mod tests;
 pub mod tokens;
 pub mod words;

@@ -12,8 +12,6 @@ ghost use Rattle.value_norm.specs.Reading.{value_of, ValueIsTheOne};
 ghost use Rattle.value_norm.specs.Norm.{HasCellBytes, HasKindBytes, norm, number_bytes};
 
 mod errors;
-#[cfg(test)]
-mod tests;
 mod utf16;
 
 use crate::utf16::{text_of, utf16le};

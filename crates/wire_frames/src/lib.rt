@@ -10,8 +10,6 @@ pub mod messages;
 mod naming;
 pub mod parts;
 mod reading;
-#[cfg(test)]
-mod tests;
 mod writing;
 
 pub use decoding::{Decoded, Way, decode_reply, decode_request};
