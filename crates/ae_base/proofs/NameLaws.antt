@@ -17,8 +17,8 @@ among_called called name (x ∷ xs) = ap (λ b. bytes_eq name (called x) || b) (
 
 pub bytes_eq-sym : (a b : List ℕ) → bytes_eq a b ≡ bytes_eq b a
 bytes_eq-sym a b = one_answer (bytes_eq a b) (bytes_eq b a) (bytes_eq-Decides a b) (
-    (λ e. sym ((bytes_eq-Decides b a).0 e)),
-    (λ e. (bytes_eq-Decides b a).1 (sym e)),
+  (λ e. sym ((bytes_eq-Decides b a).0 e)),
+  (λ e. (bytes_eq-Decides b a).1 (sym e)),
 )
 
 neither : (a b : Bool) → not (a || b) ≡ true → (a ≡ false) × (b ≡ false)

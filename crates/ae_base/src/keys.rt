@@ -41,6 +41,14 @@ impl KeyPath {
         Some(KeyPath { text })
     }
 
+    /// The path as a text, by value. It takes no memory.
+    pub fn into_txt(self) -> Txt
+        ensures text { result ≡ self }
+        ensures path { IsKeyPath self }
+    {
+        self.text
+    }
+
     /// The path as a text.
     pub fn as_txt(&self) -> &Txt
         ensures text { result.now ≡ self.now }
@@ -98,6 +106,14 @@ impl WrappedKey {
             return None;
         }
         Some(WrappedKey { bytes })
+    }
+
+    /// The bytes, by value. It takes no memory.
+    pub fn into_blob(self) -> Blob
+        ensures bytes { result ≡ self }
+        ensures key { IsWrappedKey self }
+    {
+        self.bytes
     }
 
     /// The bytes.

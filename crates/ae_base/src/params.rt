@@ -1,4 +1,4 @@
-ghost use Rattle.std.specs.Prelude.{◌≡◌, ◌∷◌, ◌++◌, [], ◌≤◌, List, ℕ, IfOk, OnErr, IsTrue, length, map, if◌then◌else◌};
+ghost use Rattle.std.specs.Prelude.{◌≡◌, ◌∷◌, ◌++◌, [], ◌≤◌, ◌↔◌, List, ℕ, IfOk, IfSome, IsSome, OnErr, IsTrue, length, map, if◌then◌else◌};
 ghost use Rattle.std.specs.List.{list_any};
 ghost use Rattle.std.specs.Str.{bytes_eq};
 ghost use Rattle.ae_base.specs.Names.{admits, all_differ};
@@ -46,6 +46,18 @@ impl<P: Named> ParamList<P> {
         ParamList {
             items: Seq::new(alloc),
         }
+    }
+
+    /// The parameters that are listed, where they are at most 128 and their names differ. It takes no
+    /// memory.
+    pub fn from_seq(items: Seq<P>) -> Option<ParamList<P>>
+        ensures items { IfSome result (λ list. list ≡ items) }
+        ensures exactly { IsSome result ↔ ((length items ≤ 128) × IsTrue (all_differ (map P.called items))) }
+    {
+        if items.len() > MOST_PARAMS || !all_differ(items.as_slice()) {
+            return None;
+        }
+        Some(ParamList { items })
     }
 
     /// The parameters as a slice.
@@ -102,6 +114,16 @@ fn is_among<P: Named>(item: &P, others: &[P]) -> bool
     match others {
         [] => false,
         [other, rest @ ..] => item.same_name(other) || is_among(item, rest),
+    }
+}
+
+/// Whether no two names are the same.
+fn all_differ<P: Named>(items: &[P]) -> bool
+    ensures { result ≡ all_differ (map P.called items.now) }
+{
+    match items {
+        [] => true,
+        [item, rest @ ..] => !is_among(item, rest) && all_differ(rest),
     }
 }
 
