@@ -2,5 +2,4 @@
 #![tactic(auto)]
 
 pub mod catalogs;
-pub mod faults;
 pub mod keys;
