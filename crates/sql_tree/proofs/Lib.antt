@@ -1,3 +1,4 @@
 mod Capitals
 mod Digits
 mod Progress
+pub mod Trees
