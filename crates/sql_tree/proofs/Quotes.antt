@@ -63,14 +63,17 @@ byte_read quote bytes text at read r h within = record {
   within = within;
 }
 
+abbrev byte_found : ℕ → ℕ → Option (ℕ × ℕ)
+byte_found b len = Some (b, len)
+
 closed_last : (quote x : ℕ) (same : Bool) → (x == quote) ≡ same → quoted_byte quote (x ∷ []) ≡ None → quoted quote (x ∷ []) ≡ Some ([], 1)
 closed_last quote x true e h = rw e refl
-closed_last quote x false e h = let none : Some (x, 1) ≡ None = rw e at h in absurd cc
+closed_last quote x false e h = let none : byte_found x 1 ≡ None = rw e at h in absurd cc
 
 closed_before : (quote x y : ℕ) (bytes : List ℕ) (same twice : Bool) → (x == quote) ≡ same → (y == quote) ≡ twice → quoted_byte quote (x ∷ y ∷ bytes) ≡ None
     → quoted quote (x ∷ y ∷ bytes) ≡ Some ([], 1)
-closed_before quote x y bytes false twice e f h = let none : Some (x, 1) ≡ None = rw e at h in absurd cc
-closed_before quote x y bytes true true e f h = let none : Some (quote, 2) ≡ None = rw (e, f) at h in absurd cc
+closed_before quote x y bytes false twice e f h = let none : byte_found x 1 ≡ None = rw e at h in absurd cc
+closed_before quote x y bytes true true e f h = let none : byte_found quote 2 ≡ None = rw (e, f) at h in absurd cc
 closed_before quote x y bytes true false e f h = rw (e, f) refl
 
 closed : (quote : ℕ) (bytes : List ℕ) → quoted_byte quote bytes ≡ None → 1 ≤ length bytes → quoted quote bytes ≡ Some ([], 1)

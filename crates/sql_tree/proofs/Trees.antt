@@ -1,5 +1,5 @@
 -- Sums and junctions as they lie in memory.
-use Rattle.std.proofs.Common.{◌≡◌, List, refl, ap, ◌∙◌, Box, Vec, Global}
+use Rattle.std.proofs.Common.{◌≡◌, refl, ap, ◌∙◌, Box, Vec, Global}
 use mathlib.Core.Former.{Count}
 use Rattle.sql_tree.specs.Operands as operands
 use Rattle.sql_tree.specs.Conditions as conditions

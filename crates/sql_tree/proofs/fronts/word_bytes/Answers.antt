@@ -1,7 +1,5 @@
-use Rattle.std.proofs.Common.{◌≡◌, IsTrue, subst, sym, ◌∙◌, take, take_while, arith}
+use Rattle.std.proofs.Common.{◌≡◌, subst, sym, ◌∙◌, take, take_while, arith}
 use Rattle.std.specs.Str.{IsAscii}
-use Rattle.std.specs.List.{list_all}
-use Rattle.ae_base.specs.Names.{is_param_char}
 use Rattle.sql_tree.specs.Tokens.{is_word_byte}
 use Rattle.sql_tree.proofs.Digits.{take_while_is, word_ascii, word_param}
 use Rattle.sql_tree.proofs.fronts.word_bytes.Goals as goal
