@@ -1,5 +1,5 @@
 -- AND and OR over a list, from left to right.
-use Rattle.std.proofs.Common.{◌≡◌, ℕ, zero, suc, ◌+◌, ◌<◌, List, [], ◌∷◌, length, get_or, drop, map, refl, ap, sym, subst, ◌∙◌, arith, Option, Some, None, Vec, Global}
+use Rattle.std.proofs.Common.{◌≡◌, ℕ, zero, suc, ◌+◌, ◌<◌, List, [], ◌∷◌, length, get_or, drop, map, refl, ap, sym, subst, ◌∙◌, arith, Result, Ok, Err, Vec, Global}
 use Rattle.std.specs.List.{All}
 use Rattle.std.proofs.lemmas.List.{at_drop_more}
 use Rattle.std.proofs.lemmas.List.Elements.{All-head, All-tail}
@@ -13,13 +13,15 @@ use Rattle.sql_tree.specs.Conditions as conditions
 use Rattle.sql_tree.specs.Conditions.{condition_of, conditions_of}
 use Rattle.scalar.specs.declared.truth.Truth.{Truth}
 use Rattle.scalar.specs.declared.truth.Truth.TheVariants.{True, False, Unknown}
-use Rattle.scalar.specs.Eval.{◌>>=◌, eval, compare, conjunction, disjunction, in_list, truth, truth_all, truth_any}
+use Rattle.ae_base.specs.Results.{◌>>=◌}
+use Rattle.scalar.specs.declared.faults.Overflow.{Overflow}
+use Rattle.scalar.specs.Eval.{eval, compare, conjunction, disjunction, in_list, truth, truth_all, truth_any}
 use Rattle.scalar.specs.Listed.{conditions_listed}
 use Rattle.scalar.specs.Places.{IsOperandWithin, IsConditionWithin, AreConditionsWithin}
 
 -- a truth so far, and that of the rest
-abbrev pub joined : (Truth → Truth → Truth) → Truth → Option Truth → Option Truth
-joined f so_far rest = rest >>= λ t. Some (f so_far t)
+abbrev pub joined : (Truth → Truth → Truth) → Truth → Result Truth Overflow → Result Truth Overflow
+joined f so_far rest = rest >>= λ t. Ok (f so_far t)
 
 -- ---- conditions as they lie in memory
 

@@ -3,4 +3,3 @@ pub mod EvalWorked
 pub mod Lent
 pub mod Listed
 pub mod Places
-pub mod Results

@@ -5,4 +5,5 @@ pub mod conditions;
 pub mod faults;
 mod lent;
 pub mod operands;
+pub mod rows;
 pub mod truth;

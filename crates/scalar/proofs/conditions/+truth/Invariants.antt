@@ -3,7 +3,7 @@ use Rattle.std.proofs.Common.{◌≡◌, drop}
 use Rattle.scalar.specs.Eval.{conjunction, disjunction, truth_all, truth_any}
 use Rattle.scalar.specs.Listed.{conditions_listed}
 use Rattle.scalar.proofs.Junctions.{joined}
-use Rattle.scalar.proofs.conditions.+judge.Given as goal
+use Rattle.scalar.proofs.conditions.+truth.Given as goal
 
 abbrev pub invariant-all_of-loop-condition : goal.invariant-all_of-loop-condition
 invariant-all_of-loop-condition g l =

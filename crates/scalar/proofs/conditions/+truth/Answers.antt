@@ -6,36 +6,36 @@ use Rattle.scalar.specs.Eval.{truth}
 use Rattle.scalar.specs.Listed.{conditions_listed}
 use Rattle.scalar.specs.Places.{IsConditionWithin, AreConditionsWithin}
 use Rattle.scalar.proofs.Junctions.{condition_of-AllOf, condition_of-AnyOf, condition_within}
-use Rattle.scalar.proofs.conditions.+judge.Goals as goal
+use Rattle.scalar.proofs.conditions.+truth.Goals as goal
 
-pub all_of-judge-requires : goal.all_of-judge-requires
-all_of-judge-requires g t c =
+pub all_of-truth-requires : goal.all_of-truth-requires
+all_of-truth-requires g t c =
     let h : IsConditionWithin (length c.args.row.now) (length c.args.params.now) (condition_of c.condition-item.result) =
     condition_within _ _ c.args.conditions.now c.loop-condition.condition-index c.condition-item.result (omega arith) c.condition-item.is c.requires in
     λ κs le. (search (rules, the_lemmas), (search rules, h))
 
-pub any_of-judge-requires : goal.any_of-judge-requires
-any_of-judge-requires g t c =
+pub any_of-truth-requires : goal.any_of-truth-requires
+any_of-truth-requires g t c =
     let h : IsConditionWithin (length c.args.row.now) (length c.args.params.now) (condition_of c.condition-item.result) =
     condition_within _ _ c.args.conditions.now c.loop-condition.condition-index c.condition-item.result (omega arith) c.condition-item.is c.requires in
     λ κs le. (search (rules, the_lemmas), (search rules, h))
 
-pub judge-all_of-requires : goal.judge-all_of-requires
-judge-all_of-requires g t c =
+pub truth-all_of-requires : goal.truth-all_of-requires
+truth-all_of-requires g t c =
     let h : AreConditionsWithin (length c.args.row.now) (length c.args.params.now) (conditions_listed c.deref-in-AllOf.result.now) =
     subst (IsConditionWithin (length c.args.row.now) (length c.args.params.now)) (condition_of-AllOf c.args.condition.now c.in-AllOf.conditions c.deref-in-AllOf.result.now c.in-AllOf.is c.deref-in-AllOf.ensures.value) c.requires in
     λ κs le. (search (rules, the_lemmas), (search rules, h))
 
-pub judge-any_of-requires : goal.judge-any_of-requires
-judge-any_of-requires g t c =
+pub truth-any_of-requires : goal.truth-any_of-requires
+truth-any_of-requires g t c =
     let h : AreConditionsWithin (length c.args.row.now) (length c.args.params.now) (conditions_listed c.deref-in-AnyOf.result.now) =
     subst (IsConditionWithin (length c.args.row.now) (length c.args.params.now)) (condition_of-AnyOf c.args.condition.now c.in-AnyOf.conditions c.deref-in-AnyOf.result.now c.in-AnyOf.is c.deref-in-AnyOf.ensures.value) c.requires in
     λ κs le. (search (rules, the_lemmas), (search rules, h))
 
-pub judge-returns-in-AllOf : goal.judge-returns-in-AllOf
-judge-returns-in-AllOf g t c =
+pub truth-returns-in-AllOf : goal.truth-returns-in-AllOf
+truth-returns-in-AllOf g t c =
     c.all_of.ensures ∙ sym (ap (truth c.args.row.now c.args.params.now) (condition_of-AllOf c.args.condition.now c.in-AllOf.conditions c.deref-in-AllOf.result.now c.in-AllOf.is c.deref-in-AllOf.ensures.value))
 
-pub judge-returns-in-AnyOf : goal.judge-returns-in-AnyOf
-judge-returns-in-AnyOf g t c =
+pub truth-returns-in-AnyOf : goal.truth-returns-in-AnyOf
+truth-returns-in-AnyOf g t c =
     c.any_of.ensures ∙ sym (ap (truth c.args.row.now c.args.params.now) (condition_of-AnyOf c.args.condition.now c.in-AnyOf.conditions c.deref-in-AnyOf.result.now c.in-AnyOf.is c.deref-in-AnyOf.ensures.value))
