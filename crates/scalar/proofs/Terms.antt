@@ -1,5 +1,5 @@
 -- The terms of a sum one by one.
-use Rattle.std.proofs.Common.{◌≡◌, ℕ, zero, suc, ◌+◌, ◌<◌, List, [], ◌∷◌, length, get_or, drop, refl, ap, sym, subst, ◌∙◌, arith, Option, Some, None, Result, Ok, Err, unwrap_or, Box, Vec, Global}
+use Rattle.std.proofs.Common.{◌≡◌, ℕ, zero, suc, ◌+◌, ◌<◌, List, [], ◌∷◌, length, get_or, drop, refl, ap, sym, subst, ◌∙◌, arith, Result, Ok, Err, unwrap_or, Box, Vec, Global}
 use Rattle.std.proofs.lemmas.Option.{slice_get_read}
 use mathlib.Core.Former.{Count}
 use Rattle.std.proofs.lemmas.List.{at_drop_more}
@@ -11,8 +11,8 @@ use Rattle.sql_tree.specs.declared.operands.Term as code_term
 use Rattle.ae_base.specs.Results.{◌>>=◌}
 use Rattle.scalar.specs.declared.faults.Overflow.{Overflow}
 use Rattle.scalar.specs.Eval.{atom_at, eval, eval_terms}
-use Rattle.scalar.specs.Listed.{terms_listed}
-use Rattle.scalar.specs.Places.{IsOperandWithin, AreTermsWithin}
+use Rattle.sql_tree.specs.Listed.{terms_listed}
+use Rattle.sql_tree.specs.Placed.{IsPlaced, ArePlaced}
 
 terms_of-row : {C P : Type 0} (m : _) (row : code.Row_of-Term C P m) → operands.terms_of row ≡ terms_listed (code.items-the_row-Term C P m row)
 terms_of-row m code.end_of-Term = refl
@@ -30,10 +30,10 @@ operand_of-Sum first terms =
 
 -- the terms of a sum lie within the places where the sum does
 pub terms_within : (width count : ℕ) (operand : code.Operand ℕ ℕ) (first : Box (code.Operand ℕ ℕ) Global) (terms : Vec (code_term.Term ℕ ℕ) Global) (items : List (code_term.Term ℕ ℕ))
-    → operand ≡ code.Sum first terms → items ≡ terms.items → IsOperandWithin width count (operands.operand_of operand) → AreTermsWithin width count (terms_listed items)
+    → operand ≡ code.Sum first terms → items ≡ terms.items → IsPlaced width count (operands.operand_of operand) → ArePlaced width count (terms_listed items)
 terms_within width count operand first terms items e f h =
-    let g : IsOperandWithin width count (operands.Sum (operands.operand_of first.value) (terms_listed items)) =
-    subst (IsOperandWithin width count) (ap operands.operand_of e ∙ operand_of-Sum first terms ∙ ap (λ x. operands.Sum (operands.operand_of first.value) (terms_listed x)) (sym f)) h in
+    let g : IsPlaced width count (operands.Sum (operands.operand_of first.value) (terms_listed items)) =
+    subst (IsPlaced width count) (ap operands.operand_of e ∙ operand_of-Sum first terms ∙ ap (λ x. operands.Sum (operands.operand_of first.value) (terms_listed x)) (sym f)) h in
     g.1
 
 -- a sum is its first value and then its terms
@@ -54,7 +54,7 @@ sum_of_fault row params operand one first terms fault e f h =
 
 -- a term lies within the places where all do
 within_there : (width count : ℕ) (terms : List (code_term.Term ℕ ℕ)) (i : ℕ) (default : code_term.Term ℕ ℕ) → i < length terms
-    → AreTermsWithin width count (terms_listed terms) → AreTermsWithin width count (operands.term_before (get_or terms i default) operands.NoMore)
+    → ArePlaced width count (terms_listed terms) → ArePlaced width count (operands.term_before (get_or terms i default) operands.NoMore)
 within_there width count [] i default lt h = absurd (omega arith)
 within_there width count (code_term.Plus at operand ∷ terms) zero default lt h = (h.0, tt)
 within_there width count (code_term.Minus at operand ∷ terms) zero default lt h = (h.0, tt)
@@ -62,9 +62,9 @@ within_there width count (code_term.Plus at operand ∷ terms) (suc i) default l
 within_there width count (code_term.Minus at operand ∷ terms) (suc i) default lt h = within_there width count terms i default (omega arith) h.1
 
 pub term_within : (width count : ℕ) (terms : List (code_term.Term ℕ ℕ)) (i : ℕ) (term : code_term.Term ℕ ℕ) → i < length terms → term ≡ get_or terms i term
-    → AreTermsWithin width count (terms_listed terms) → AreTermsWithin width count (operands.term_before term operands.NoMore)
+    → ArePlaced width count (terms_listed terms) → ArePlaced width count (operands.term_before term operands.NoMore)
 term_within width count terms i term lt e h =
-    subst (λ x. AreTermsWithin width count (operands.term_before x operands.NoMore)) (sym e) (within_there width count terms i term lt h)
+    subst (λ x. ArePlaced width count (operands.term_before x operands.NoMore)) (sym e) (within_there width count terms i term lt h)
 
 last_then : {A B E : Type 0} (o : Result A E) (g : A → Result B E) → (o >>= g) ≡ ((o >>= λ a. Ok a) >>= g)
 last_then (Err e) g = refl

@@ -4,8 +4,8 @@ ghost use Rattle.sql_tree.specs.Operands.{operand_of};
 ghost use Rattle.sql_tree.specs.Conditions as conditions;
 ghost use Rattle.sql_tree.specs.Conditions.{condition_of};
 ghost use Rattle.scalar.specs.Eval.{in_list, truth, truth_all, truth_any};
-ghost use Rattle.scalar.specs.Listed.{conditions_listed};
-ghost use Rattle.scalar.specs.Places.{IsOperandWithin, IsConditionWithin, AreConditionsWithin};
+ghost use Rattle.sql_tree.specs.Listed.{conditions_listed};
+ghost use Rattle.sql_tree.specs.Placed.{IsPlaced, IsPlacedCondition, ArePlacedConditions};
 
 use crate::faults::Overflow;
 use crate::lent::Lent;
@@ -25,7 +25,7 @@ pub fn truth<'a, K: Same>(
     row: &LentRow<'a, K>,
     params: &'a [Atom<K>],
 ) -> Result<Truth, Overflow>
-    requires { IsConditionWithin (length row.now) (length params.now) (condition_of condition.now) }
+    requires { IsPlacedCondition (length row.now) (length params.now) (condition_of condition.now) }
     ensures { result ≡ truth row.now params.now (condition_of condition.now) }
 {
     match condition {
@@ -55,8 +55,8 @@ fn compare<'a, K: Same>(
     row: &LentRow<'a, K>,
     params: &'a [Atom<K>],
 ) -> Result<Truth, Overflow>
-    requires left { IsOperandWithin (length row.now) (length params.now) (operand_of left.now) }
-    requires right { IsOperandWithin (length row.now) (length params.now) (operand_of right.now) }
+    requires left { IsPlaced (length row.now) (length params.now) (operand_of left.now) }
+    requires right { IsPlaced (length row.now) (length params.now) (operand_of right.now) }
     ensures { result ≡ truth row.now params.now (conditions.Compare 0 comparison (operand_of left.now) (operand_of right.now)) }
 {
     match (lend(left, row, params), lend(right, row, params)) {
@@ -71,7 +71,7 @@ fn is_null<'a, K: Same>(
     row: &LentRow<'a, K>,
     params: &'a [Atom<K>],
 ) -> Result<Truth, Overflow>
-    requires { IsOperandWithin (length row.now) (length params.now) (operand_of operand.now) }
+    requires { IsPlaced (length row.now) (length params.now) (operand_of operand.now) }
     ensures { result ≡ truth row.now params.now (conditions.IsNull negated (operand_of operand.now)) }
 {
     match lend(operand, row, params) {
@@ -87,8 +87,8 @@ fn is_in<'a, K: Same>(
     row: &LentRow<'a, K>,
     params: &'a [Atom<K>],
 ) -> Result<Truth, Overflow>
-    requires operand { IsOperandWithin (length row.now) (length params.now) (operand_of operand.now) }
-    requires list { All (IsOperandWithin (length row.now) (length params.now)) (map operand_of list.now) }
+    requires operand { IsPlaced (length row.now) (length params.now) (operand_of operand.now) }
+    requires list { All (IsPlaced (length row.now) (length params.now)) (map operand_of list.now) }
     ensures { result ≡ truth row.now params.now (conditions.In 0 negated (operand_of operand.now) (map operand_of list.now)) }
 {
     match lend(operand, row, params) {
@@ -104,7 +104,7 @@ fn equals_one<'a, K: Same>(
     row: &LentRow<'a, K>,
     params: &'a [Atom<K>],
 ) -> Result<Truth, Overflow>
-    requires { All (IsOperandWithin (length row.now) (length params.now)) (map operand_of list.now) }
+    requires { All (IsPlaced (length row.now) (length params.now)) (map operand_of list.now) }
     ensures { result ≡ in_list row.now params.now value.now (map operand_of list.now) }
 {
     let mut found = Truth::False;
@@ -123,7 +123,7 @@ fn all_of<'a, K: Same>(
     row: &LentRow<'a, K>,
     params: &'a [Atom<K>],
 ) -> Result<Truth, Overflow>
-    requires { AreConditionsWithin (length row.now) (length params.now) (conditions_listed conditions.now) }
+    requires { ArePlacedConditions (length row.now) (length params.now) (conditions_listed conditions.now) }
     ensures { result ≡ truth_all row.now params.now (conditions_listed conditions.now) }
 {
     let mut all = Truth::True;
@@ -139,7 +139,7 @@ fn any_of<'a, K: Same>(
     row: &LentRow<'a, K>,
     params: &'a [Atom<K>],
 ) -> Result<Truth, Overflow>
-    requires { AreConditionsWithin (length row.now) (length params.now) (conditions_listed conditions.now) }
+    requires { ArePlacedConditions (length row.now) (length params.now) (conditions_listed conditions.now) }
     ensures { result ≡ truth_any row.now params.now (conditions_listed conditions.now) }
 {
     let mut any = Truth::False;

@@ -3,6 +3,7 @@
 
 pub mod conditions;
 pub mod faults;
+pub mod laws;
 mod lent;
 pub mod operands;
 pub mod rows;

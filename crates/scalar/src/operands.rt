@@ -1,8 +1,8 @@
 ghost use Rattle.std.specs.Prelude.{◌≡◌, ◌∷◌, [], length};
 ghost use Rattle.sql_tree.specs.Operands.{operand_of};
 ghost use Rattle.scalar.specs.Eval.{eval, eval_terms};
-ghost use Rattle.scalar.specs.Listed.{terms_listed};
-ghost use Rattle.scalar.specs.Places.{IsOperandWithin, AreTermsWithin};
+ghost use Rattle.sql_tree.specs.Listed.{terms_listed};
+ghost use Rattle.sql_tree.specs.Placed.{IsPlaced, ArePlaced};
 ghost use Rattle.ae_base.specs.Results.{Answers};
 
 use crate::faults::Overflow;
@@ -20,7 +20,7 @@ pub fn eval<K: Same>(
     row: &LentRow<'_, K>,
     params: &[Atom<K>],
 ) -> Result<Atom<K>, Refusal<Overflow>>
-    requires { IsOperandWithin (length row.now) (length params.now) (operand_of operand.now) }
+    requires { IsPlaced (length row.now) (length params.now) (operand_of operand.now) }
     ensures { Answers result (eval row.now params.now (operand_of operand.now)) }
 {
     match lend(operand, row, params) {
@@ -36,7 +36,7 @@ pub(crate) fn lend<'a, K: Same>(
     row: &LentRow<'a, K>,
     params: &'a [Atom<K>],
 ) -> Result<Lent<'a, K>, Overflow>
-    requires { IsOperandWithin (length row.now) (length params.now) (operand_of operand.now) }
+    requires { IsPlaced (length row.now) (length params.now) (operand_of operand.now) }
     ensures { result ≡ eval row.now params.now (operand_of operand.now) }
 {
     match operand {
@@ -62,7 +62,7 @@ fn add_terms<'a, K: Same>(
     row: &LentRow<'a, K>,
     params: &'a [Atom<K>],
 ) -> Result<Lent<'a, K>, Overflow>
-    requires { AreTermsWithin (length row.now) (length params.now) (terms_listed terms.now) }
+    requires { ArePlaced (length row.now) (length params.now) (terms_listed terms.now) }
     ensures { result ≡ eval_terms row.now params.now first.entry (terms_listed terms.now) }
 {
     let mut sum = first;
@@ -80,7 +80,7 @@ fn add_term<'a, K: Same>(
     row: &LentRow<'a, K>,
     params: &'a [Atom<K>],
 ) -> Result<Lent<'a, K>, Overflow>
-    requires { AreTermsWithin (length row.now) (length params.now) (terms_listed (term.now ∷ [])) }
+    requires { ArePlaced (length row.now) (length params.now) (terms_listed (term.now ∷ [])) }
     ensures { result ≡ eval_terms row.now params.now sum.entry (terms_listed (term.now ∷ [])) }
 {
     match term {

@@ -1,7 +1,7 @@
 -- The truth so far, with that of the conditions that are left, is the whole.
 use Rattle.std.proofs.Common.{◌≡◌, drop}
 use Rattle.scalar.specs.Eval.{conjunction, disjunction, truth_all, truth_any}
-use Rattle.scalar.specs.Listed.{conditions_listed}
+use Rattle.sql_tree.specs.Listed.{conditions_listed}
 use Rattle.scalar.proofs.Junctions.{joined}
 use Rattle.scalar.proofs.conditions.+truth.Given as goal
 

@@ -3,20 +3,20 @@ use Rattle.std.proofs.Common.{rules, length, sym, ◌∙◌, arith}
 use Rattle.std.proofs.lemmas.Result.{err_from_is_err_and}
 use Rattle.sql_tree.specs.declared.operands.Operand.{the_lemmas}
 use Rattle.sql_tree.specs.Operands.{term_before, NoMore}
-use Rattle.scalar.specs.Listed.{terms_listed}
-use Rattle.scalar.specs.Places.{AreTermsWithin}
+use Rattle.sql_tree.specs.Listed.{terms_listed}
+use Rattle.sql_tree.specs.Placed.{ArePlaced}
 use Rattle.scalar.proofs.Terms.{term_within, terms_within, sum_of_parts, sum_more, sum_fault, atom_read}
 use Rattle.scalar.proofs.operands.+lend.Goals as goal
 
 pub add_terms-add_term-requires : goal.add_terms-add_term-requires
 add_terms-add_term-requires g t c =
-    let h : AreTermsWithin (length c.args.row.now) (length c.args.params.now) (term_before c.term-item.result NoMore) =
+    let h : ArePlaced (length c.args.row.now) (length c.args.params.now) (term_before c.term-item.result NoMore) =
     term_within _ _ c.args.terms.now c.loop-term.term-index c.term-item.result (omega arith) c.term-item.is c.requires in
     λ κs le. (search (rules, the_lemmas), (search rules, h))
 
 pub lend-add_terms-requires : goal.lend-add_terms-requires
 lend-add_terms-requires g t c =
-    let h : AreTermsWithin (length c.args.row.now) (length c.args.params.now) (terms_listed c.deref-in-Ok-lend.result.now) =
+    let h : ArePlaced (length c.args.row.now) (length c.args.params.now) (terms_listed c.deref-in-Ok-lend.result.now) =
     terms_within _ _ c.args.operand.now c.in-Sum.first c.in-Sum.terms _ c.in-Sum.is c.deref-in-Ok-lend.ensures.value c.requires in
     λ κs le. (search (rules, the_lemmas), (search rules, h))
 
