@@ -3,3 +3,4 @@
 
 pub mod catalogs;
 pub mod keys;
+pub mod laws;
