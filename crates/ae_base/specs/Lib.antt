@@ -1,4 +1,5 @@
 pub mod Atoms
+pub mod Batches
 pub mod Faults
 pub mod Keys
 pub mod Names

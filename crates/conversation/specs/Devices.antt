@@ -1,0 +1,73 @@
+-- What a driver touches by itself, a source of random bytes and a vault, and what each has of a path.
+use Rattle.std.specs.Prelude.{◌≡◌, ℕ, ◌≤◌, List, [], ◌∷◌, ◌++◌, flat_map, Option, IfSome}
+use Rattle.std.specs.Borrow.{GName}
+use Rattle.ae_edge.specs.Devices.{WhereTold}
+use Rattle.ae_edge.specs.Vaults.{KeyMap}
+use Rattle.conversation.specs.Talk.{Talk, Ends, Stops, Asks, Hears, Draws, Opens, Prints}
+use Rattle.conversation.specs.Paths.{Event, Asked, Took, Strayed, Drew, Opened, Printed, Follows, drawn_in, OpensAll}
+
+-- the bytes to come and the keys, where they are told, the counts of faults, and the names of what the devices are lent
+pub record Devices : Type 0 where
+  pub entropy : Option (List ℕ)
+  pub keys : Option KeyMap
+  pub entropy_faults : ℕ
+  pub vault_faults : ℕ
+  pub entropy_names : List GName
+  pub vault_names : List GName
+
+-- bytes are drawn and keys opened, and nothing else happens
+abbrev pub AreOwn : List Event → Type 0
+AreOwn [] = Unit {0}
+AreOwn (Drew bytes ∷ events) = AreOwn events
+AreOwn (Opened meta key ∷ events) = AreOwn events
+AreOwn (Asked request replies ∷ events) = ⊥
+AreOwn (Took reply ∷ events) = ⊥
+AreOwn (Strayed next ∷ events) = ⊥
+AreOwn (Printed comes ∷ events) = ⊥
+
+-- each device has its share of the events
+pub record HasShare (events : List Event) (old new : Devices) : Type 0 where
+  pub entropy : WhereTold (λ before after. before ≡ flat_map drawn_in events ++ after) old.entropy new.entropy
+  pub keys : new.keys ≡ old.keys
+  pub opened : IfSome old.keys (OpensAll events)
+  pub entropy_count : old.entropy_faults ≤ new.entropy_faults
+  pub vault_count : old.vault_faults ≤ new.vault_faults
+  pub entropy_same : new.entropy_names ≡ old.entropy_names
+  pub vault_same : new.vault_names ≡ old.vault_names
+
+-- from t the conversation was followed to u, and the devices have their share
+pub record Goes (t u : Talk) (old new : Devices) : Type 0 where
+  pub events : List Event
+  pub follows : Follows t events u
+  pub own : AreOwn events
+  pub share : HasShare events old new
+
+-- it was followed to a place of this kind, and no further
+pub record Halts (P : Talk → Type 0) (t : Talk) (old new : Devices) : Type 0 where
+  pub rest : Talk
+  pub goes : Goes t rest old new
+  pub place : P rest
+
+-- 16 bytes are to be drawn
+abbrev pub IsAtDraw : Talk → Type 0
+IsAtDraw (Draws f) = Unit {0}
+IsAtDraw (Ends sessions) = ⊥
+IsAtDraw (Stops comes) = ⊥
+IsAtDraw (Asks request t) = ⊥
+IsAtDraw (Hears session shown f) = ⊥
+IsAtDraw (Opens meta f) = ⊥
+IsAtDraw (Prints comes t) = ⊥
+
+-- a key is to be opened
+abbrev pub IsAtKey : Talk → Type 0
+IsAtKey (Opens meta f) = Unit {0}
+IsAtKey (Draws f) = ⊥
+IsAtKey (Ends sessions) = ⊥
+IsAtKey (Stops comes) = ⊥
+IsAtKey (Asks request t) = ⊥
+IsAtKey (Hears session shown f) = ⊥
+IsAtKey (Prints comes t) = ⊥
+
+-- anywhere on its way
+abbrev pub IsAnywhere : Talk → Type 0
+IsAnywhere t = Unit {0}
