@@ -7,6 +7,7 @@ use Rattle.std.proofs.lemmas.List.{get_or_past}
 use Rattle.std.proofs.lemmas.List.Elements.{All-from_get_or, All-map, All-nil}
 use Rattle.std.proofs.lemmas.List.FromFn.{fill_by_all, length-map-range_with_len}
 use Rattle.std.proofs.lemmas.Nat.{xor_lt}
+use Rattle.aes_block.specs.Bytes.{AreBytes}
 use Rattle.aes_block.specs.Field.{product}
 use Rattle.aes_block.specs.Aes.{IsBlock, IsKey, add_round_key, cell, column, from_columns, inv_mix_columns, inv_mix_polynomial, inv_shift_rows, inv_sub_byte, inv_sub_bytes, mix_columns, mix_polynomial, shift_rows, sub_byte, sub_bytes, sum_of_four, word, word_product}
 use Rattle.aes_block.proofs.Computed.{same_below, SameBelow}
@@ -14,11 +15,7 @@ use Rattle.aes_block.proofs.Inverses.{inv_sub_byte-lt, inv_sub_byte-sub_byte, su
 use Rattle.aes_block.proofs.Linear.{product-lt}
 use Rattle.aes_block.proofs.Mixing.{inv_mix-undoes-mix, mix-undoes-inv_mix, sum_of_four-lt, Undoes, word_back}
 
--- numbers below 256
-abbrev pub AreBytes : List ℕ → Type 0
-AreBytes bytes = All (λ byte. byte < 256) bytes
-
--- words of such numbers
+-- words of bytes
 abbrev pub AreWords : List (List ℕ) → Type 0
 AreWords words = All AreBytes words
 

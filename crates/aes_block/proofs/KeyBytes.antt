@@ -8,7 +8,8 @@ use Rattle.std.proofs.lemmas.List.FromFn.{fill_by_all}
 use Rattle.std.proofs.lemmas.Nat.{xor_lt}
 use Rattle.aes_block.specs.Field.{power}
 use Rattle.aes_block.specs.Aes.{changed_word, key_of, key_word, key_words, next_word, rot_word, round_constant, sub_byte, sub_word, word, word_sum}
-use Rattle.aes_block.proofs.Blocks.{AreBytes, AreBytes-map, AreWords, byte_at, word_at}
+use Rattle.aes_block.specs.Bytes.{AreBytes}
+use Rattle.aes_block.proofs.Blocks.{AreBytes-map, AreWords, byte_at, word_at}
 use Rattle.aes_block.proofs.Inverses.{sub_byte-lt}
 use Rattle.aes_block.proofs.Linear.{power_2-lt}
 

@@ -9,3 +9,4 @@ mod Mixing
 mod Products
 mod RoundSteps
 mod Vectors
+pub mod Xoring

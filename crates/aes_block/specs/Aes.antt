@@ -1,18 +1,19 @@
 -- AES-256 (FIPS 197) as functions on lists of bytes. Section numbers are the standard's.
-use Rattle.std.specs.Prelude.{◌≡◌, ℕ, zero, suc, ◌+◌, ◌-◌, ◌*◌, ◌/◌, ◌%◌, ◌^◌, ◌<◌, ◌==◌, if◌then◌else◌, bit_xor, List, [], ◌∷◌, ◌++◌, length, map, All, take, slice_index, slice_index_or}
+use Rattle.std.specs.Prelude.{◌≡◌, ℕ, zero, suc, ◌+◌, ◌-◌, ◌*◌, ◌/◌, ◌%◌, ◌^◌, ◌==◌, if◌then◌else◌, bit_xor, List, [], ◌∷◌, ◌++◌, length, map, take, slice_index, slice_index_or}
 use Rattle.std.specs.Int.{bit_at}
 use Rattle.std.specs.List.{concat, range_with_len, sum_by}
+use Rattle.aes_block.specs.Bytes.{AreBytes}
 use Rattle.aes_block.specs.Field.{inverse, power, product}
 
 -- ---- blocks and keys
 
 -- 16 bytes
 abbrev pub IsBlock : List ℕ → Type 0
-IsBlock block = (length block ≡ 16) × All (λ byte. byte < 256) block
+IsBlock block = (length block ≡ 16) × AreBytes block
 
 -- 32 bytes
 abbrev pub IsKey : List ℕ → Type 0
-IsKey key = (length key ≡ 32) × All (λ byte. byte < 256) key
+IsKey key = (length key ≡ 32) × AreBytes key
 
 -- ---- the state: four rows and four columns, the block's bytes filling column after column (3.4)
 

@@ -1,2 +1,3 @@
-pub mod Field
 pub mod Aes
+pub mod Bytes
+pub mod Field

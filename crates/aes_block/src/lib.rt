@@ -2,6 +2,7 @@
 //! both ways. Nothing here takes memory or fails.
 #![tactic(auto)]
 
+mod bytes;
 mod cipher;
 mod field;
 mod key;
@@ -10,5 +11,6 @@ mod rounds;
 mod state;
 mod tables;
 
+pub use bytes::xor;
 pub use cipher::Aes256;
 pub use laws::each_undoes_the_other;

@@ -3,7 +3,8 @@ use Rattle.std.proofs.Common.{◌≡◌, ℕ, ◌+◌, ◌*◌, ◌/◌, ◌<◌
 use Rattle.std.proofs.lemmas.List.{length-append, drop_more, drop_all}
 use Rattle.std.specs.List.{concat}
 use Rattle.aes_block.specs.Aes.{encrypted}
-use Rattle.cbc_mode.specs.Cbc.{xored, chained, blocks_of, padded, cbc}
+use Rattle.aes_block.specs.Bytes.{xored}
+use Rattle.cbc_mode.specs.Cbc.{chained, blocks_of, padded, cbc}
 use Rattle.cbc_mode.proofs.Blocks.{blocks_of-padded}
 
 -- the ciphertext so far, whatever blocks come after those given, and what goes into the next block

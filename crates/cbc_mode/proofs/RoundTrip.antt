@@ -1,31 +1,24 @@
 -- decrypting what was encrypted, and the other way round
 use Rattle.std.proofs.Common.{◌≡◌, ℕ, zero, suc, ◌+◌, ◌-◌, ◌*◌, ◌/◌, ◌%◌, ◌<◌, ◌≤◌, List, [], ◌∷◌, length, take, drop, replicate, Ok, arith, ◌∙◌, sym, ap, subst, refl}
-use Rattle.std.proofs.lemmas.Nat.{xor_of_8}
 use Rattle.std.proofs.lemmas.List.{length-append, length-replicate, length-take-le, length-drop, take_at}
-use Rattle.std.proofs.lemmas.List.Elements.{All-take, All-drop, All-append, All-replicate, All-from_get_or, All-get_or, All-same}
+use Rattle.std.proofs.lemmas.List.Elements.{All-take, All-drop, All-append, All-replicate, All-same}
 use Rattle.std.specs.List.{concat, AllByRecursion}
 use Rattle.std.specs.Option.{ok_or}
 use Rattle.std.specs.Simd.{first_chunks}
 use Rattle.aes_block.specs.Aes.{encrypted, decrypted, IsBlock}
 use Rattle.cbc_mode.specs.declared.CbcFault.TheVariants.{NotPadded}
-use Rattle.cbc_mode.specs.Cbc.{xored, padded, chained, unchained, blocks_of, cbc, decrypted_cbc, AreBytes}
-use Rattle.cbc_mode.proofs.Bytes.{length-xored, get_or-xored}
+use Rattle.aes_block.specs.Bytes.{AreBytes, xored}
+use Rattle.aes_block.proofs.Xoring.{length-xored, AreBytes-xored, xored-xored}
+use Rattle.cbc_mode.specs.Cbc.{padded, chained, unchained, blocks_of, cbc, decrypted_cbc}
 use Rattle.cbc_mode.proofs.Blocks.{length-concat, concat-blocks_of, blocks_of-concat}
-use Rattle.cbc_mode.proofs.Unchaining.{xored-xored, IsUndone, IsUnchained-undone}
+use Rattle.cbc_mode.proofs.Unchaining.{IsUndone, IsUnchained-undone}
 use Rattle.cbc_mode.proofs.Padding.{unpadded-padded, padded-unpadded, cbc-unpadded}
 use Rattle.cbc_mode.proofs.Decrypting.{decrypted_cbc-whole, decrypted_cbc-IsDecrypted, IsWhole, to_whole_test}
 
 IsBlock-xored : (xs ys : List ℕ) → IsBlock xs → IsBlock ys → IsBlock (xored xs ys)
 IsBlock-xored xs ys x y =
-    let long = length-xored xs ys (x.0 ∙ sym y.0) in (
-      long ∙ x.0,
-      All-from_get_or (λ (byte : ℕ). byte < 256) (xored xs ys) 0
-          (λ i lt.
-          let in_xs : i < length xs = omega (arith, long) in
-          let in_ys : i < length ys = omega (arith, x.0, y.0) in
-          subst (λ (byte : ℕ). byte < 256) (sym (get_or-xored xs ys i in_xs in_ys))
-          (xor_of_8 _ _ (All-get_or (λ (byte : ℕ). byte < 256) xs i 0 in_xs x.1) (All-get_or (λ (byte : ℕ). byte < 256) ys i 0 in_ys y.1))),
-    )
+    let same = x.0 ∙ sym y.0 in
+    (length-xored xs ys same ∙ x.0, AreBytes-xored xs ys same x.1 y.1)
 
 first_chunks-are_blocks : (k : ℕ) (xs : List ℕ) → k * 16 ≤ length xs → AreBytes xs → AllByRecursion IsBlock (first_chunks 16 k xs)
 first_chunks-are_blocks zero xs le bytes = tt

@@ -1,24 +1,13 @@
 -- decrypting block after block
-use Rattle.std.proofs.Common.{◌≡◌, ℕ, suc, ◌+◌, ◌*◌, ◌%◌, ◌<◌, ◌≤◌, List, [], ◌∷◌, ◌++◌, length, get_or, take, drop, arith, ◌∙◌, sym, ap, subst, refl, append_assoc, append-nil}
+use Rattle.std.proofs.Common.{◌≡◌, ℕ, suc, ◌+◌, ◌*◌, ◌%◌, ◌<◌, ◌≤◌, List, [], ◌∷◌, ◌++◌, length, get_or, take, drop, ◌∙◌, sym, ap, subst, refl, append_assoc, append-nil}
 use Rattle.std.proofs.lemmas.List.{drop_more, drop_all, take_all}
 use Rattle.std.proofs.lemmas.List.Elements.{All-more, recursion_from_All}
-use Rattle.std.proofs.lemmas.Grind.{same_number_lists, common_steps}
 use Rattle.std.specs.List.{concat, All, AllByRecursion}
 use Rattle.aes_block.specs.Aes.{encrypted, decrypted}
-use Rattle.cbc_mode.specs.Cbc.{xored, chained, unchained, blocks_of}
+use Rattle.aes_block.specs.Bytes.{xored}
+use Rattle.aes_block.proofs.Xoring.{length-xored, xored-xored}
+use Rattle.cbc_mode.specs.Cbc.{chained, unchained, blocks_of}
 use Rattle.cbc_mode.proofs.Blocks.{length-concat, concat-blocks_of, blocks_of-concat, blocks_of-long}
-use Rattle.cbc_mode.proofs.Bytes.{length-xored, get_or-xored}
-
--- exclusive or with the same bytes again
-pub xored-xored : (xs ys : List ℕ) → length xs ≡ length ys → xored (xored xs ys) ys ≡ xs
-xored-xored xs ys e =
-    let once = length-xored xs ys e in
-    let twice = length-xored (xored xs ys) ys (once ∙ e) in
-    same_number_lists _ _ (twice ∙ once)
-    (λ k h.
-    let inner = get_or-xored xs ys k (omega arith) (omega arith) in
-    let outer = get_or-xored (xored xs ys) ys k (omega arith) (omega arith) in
-    grind (arith, common_steps))
 
 -- a block that encrypting gives back when it is decrypted
 pub record IsUndone (key block : List ℕ) : Type 0 where

@@ -1,23 +1,16 @@
-use Rattle.std.specs.Prelude.{◌≡◌, ℕ, ◌-◌, ◌/◌, ◌%◌, ◌<◌, ◌&&◌, ◌==◌, ◌≢◌, ◌⊎◌, Bool, nat_lt, nat_le, if◌then◌else◌, List, [], ◌∷◌, ◌++◌, map, length, take, drop, replicate, slice_index, bit_xor, Option, Some, None, Result, Ok, Err}
+use Rattle.std.specs.Prelude.{◌≡◌, ℕ, ◌-◌, ◌/◌, ◌%◌, ◌&&◌, ◌==◌, ◌≢◌, ◌⊎◌, Bool, nat_lt, nat_le, if◌then◌else◌, List, [], ◌∷◌, ◌++◌, length, take, drop, replicate, slice_index, Option, Some, None, Result, Ok, Err}
 use Rattle.std.specs.Global.{Vec}
-use Rattle.std.specs.List.{All, concat, list_all, zip}
+use Rattle.std.specs.List.{concat, list_all}
 use Rattle.std.specs.Option.{ok_or}
 use Rattle.std.specs.Simd.{first_chunks}
 use Rattle.aes_block.specs.Aes.{encrypted, decrypted}
+use Rattle.aes_block.specs.Bytes.{xored}
 use Rattle.cbc_mode.specs.declared.CbcFault.{CbcFault}
 use Rattle.cbc_mode.specs.declared.CbcFault.TheVariants.{BadLength, NotPadded, OutOfMemory}
-
--- a list of bytes
-abbrev pub AreBytes : List ℕ → Type 0
-AreBytes bytes = All (λ byte. byte < 256) bytes
 
 -- the whole blocks of 16 bytes that bytes begin with, in order
 abbrev pub blocks_of : List ℕ → List (List ℕ)
 blocks_of bytes = first_chunks 16 (length bytes / 16) bytes
-
--- exclusive or, byte by byte
-unfoldable pub xored : List ℕ → List ℕ → List ℕ
-xored xs ys = map (λ pair. bit_xor pair.0 pair.1) (zip xs ys)
 
 -- RFC 5652 section 6.3: 1 to 16 bytes are added, up to whole blocks, and each of them is their number
 abbrev pub padded : List ℕ → List ℕ

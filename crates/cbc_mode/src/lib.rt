@@ -4,9 +4,10 @@
 ghost use Rattle.std.specs.Prelude.{◌≡◌, ◌==◌, ℕ, ◌+◌, ◌-◌, ◌*◌, ◌/◌, ◌%◌, ◌<◌, ◌≤◌, ◌↔◌, List, length, take, None, Some, Ok, IfOk, IsErrOf, MatchOption};
 ghost use Rattle.std.specs.List.{concat, list_all};
 ghost use Rattle.aes_block.specs.Aes.{IsBlock, IsKey};
-ghost use Rattle.cbc_mode.specs.Cbc.{AreBytes, xored, padded, unpadded, unchained, blocks_of, chained, cbc, decrypted_cbc, is_whole_blocks, DecryptsTo, IsBadLength};
+ghost use Rattle.aes_block.specs.Bytes.{AreBytes};
+ghost use Rattle.cbc_mode.specs.Cbc.{padded, unpadded, unchained, blocks_of, chained, cbc, decrypted_cbc, is_whole_blocks, DecryptsTo, IsBadLength};
 
-use aes_block::Aes256;
+use aes_block::{Aes256, xor};
 use std::alloc::{AllocError, Global};
 use thiserror::Error;
 
@@ -32,17 +33,6 @@ impl From<AllocError> for CbcFault {
     fn from(_error: AllocError) -> CbcFault {
         CbcFault::OutOfMemory
     }
-}
-
-// Exclusive or, byte by byte.
-fn xor(a: &[u8; 16], b: &[u8; 16]) -> [u8; 16]
-    ensures { result ≡ xored a.now b.now }
-{
-    let mut mixed = *a;
-    for i in 0..16 {
-        mixed[i] ^= b[i];
-    }
-    mixed
 }
 
 // A last block: fewer than 16 bytes, and their padding.

@@ -5,8 +5,7 @@ use Rattle.std.proofs.lemmas.Bool.{and_parts}
 use Rattle.std.proofs.lemmas.Bool.Decides.{nat_tests}
 use Rattle.std.specs.Cmp.Derive.{both_true}
 use Rattle.ae_base.specs.declared.types.Ty.{Ty}
-use Rattle.ae_base.specs.declared.types.Ty.TheVariants.{Int, BigInt, NVarChar, VarBinary}
-use Rattle.cell_codec.specs.Laws.{most_bytes}
+use Rattle.value_norm.specs.Norm.{most_bytes}
 use Rattle.cell_codec.specs.Cells.{version, is_cell_length, is_length_of, most_blocks, IsShape}
 
 is_cell_length-parts : (count : ℕ) → is_cell_length count ≡ true → (65 ≤ count) × ((count - 49) % 16 ≡ 0)
@@ -38,7 +37,4 @@ is_length_of-shape cell ty shape =
 
 -- no more bytes than a type has at most make no more blocks than its cells have
 pub blocks-bound : (count : ℕ) (ty : Ty) → count ≤ most_bytes ty → count / 16 + 1 ≤ most_blocks ty
-blocks-bound count Int below = omega arith
-blocks-bound count BigInt below = omega arith
-blocks-bound count (NVarChar most) below = omega arith
-blocks-bound count (VarBinary most) below = omega arith
+blocks-bound count ty below = omega arith

@@ -4,10 +4,12 @@ use Rattle.std.proofs.lemmas.List.Elements.{All-cons, All-append}
 use Rattle.std.proofs.lemmas.Slice.Eq.{bytes_eq-Decides}
 use Rattle.ae_base.specs.declared.types.Ty.{Ty}
 use Rattle.aes_block.specs.Aes.{IsKey, IsBlock}
-use Rattle.cbc_mode.specs.Cbc.{AreBytes, cbc, decrypted_cbc}
+use Rattle.aes_block.specs.Bytes.{AreBytes}
+use Rattle.cbc_mode.specs.Cbc.{cbc, decrypted_cbc}
 use Rattle.hmac_kdf.specs.Keys.{Keys}
+use Rattle.value_norm.specs.Norm.{most_bytes}
 use Rattle.cell_codec.specs.Cells.{version, tag_of, tag_in, iv_in, ciphertext_in, is_cell_length, is_authentic, sealed, iv_of, unsealed, IsShape}
-use Rattle.cell_codec.specs.Laws.{SealedIsReadBack, SealedDetIsReadBack, SealedIsCell, SealedHasShape, IsCellOf, most_bytes}
+use Rattle.cell_codec.specs.Laws.{SealedIsReadBack, SealedDetIsReadBack, SealedIsCell, SealedHasShape, IsCellOf}
 use Rattle.cell_codec.proofs.Codes.{hmac-IsKey, iv_of-IsBlock}
 use Rattle.cell_codec.proofs.Forms.{is_cell_length-blocks, blocks-bound}
 use Rattle.cell_codec.proofs.Opening.{unsealed-opened}

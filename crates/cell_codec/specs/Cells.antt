@@ -3,12 +3,12 @@ use Rattle.std.specs.Prelude.{◌≡◌, ℕ, ◌+◌, ◌-◌, ◌*◌, ◌/◌
 use Rattle.std.specs.Global.{Vec}
 use Rattle.std.specs.Str.{bytes_eq}
 use Rattle.ae_base.specs.declared.types.Ty.{Ty}
-use Rattle.ae_base.specs.declared.types.Ty.TheVariants.{Int, BigInt, NVarChar, VarBinary}
 use Rattle.cbc_mode.specs.Cbc.{cbc, decrypted_cbc}
 use Rattle.cbc_mode.specs.declared.CbcFault.{CbcFault}
 use Rattle.cbc_mode.specs.declared.CbcFault.TheVariants as cbc_fault
 use Rattle.hmac_kdf.specs.Hmac.{hmac}
 use Rattle.hmac_kdf.specs.Keys.{Keys}
+use Rattle.value_norm.specs.Norm.{most_bytes}
 use Rattle.cell_codec.specs.declared.faults.CellFault.{CellFault}
 use Rattle.cell_codec.specs.declared.faults.CellFault.TheVariants as fault
 
@@ -82,10 +82,7 @@ UnsealsTo (Err fault.OutOfMemory) answer = Unit {0}
 
 -- the most blocks of ciphertext that the cell of a value of the type has
 abbrev pub most_blocks : Ty → ℕ
-most_blocks Int = 1
-most_blocks BigInt = 1
-most_blocks (NVarChar most) = 2 * most / 16 + 1
-most_blocks (VarBinary most) = most / 16 + 1
+most_blocks ty = most_bytes ty / 16 + 1
 
 -- so many bytes are a cell's, with no more blocks than that
 abbrev pub is_length_of : ℕ → Ty → Bool

@@ -1,10 +1,10 @@
 -- Laws of cells.
 use Rattle.std.specs.Prelude.{◌≡◌, ℕ, ◌+◌, ◌*◌, ◌/◌, ◌≤◌, List, length, Ok}
 use Rattle.ae_base.specs.declared.types.Ty.{Ty}
-use Rattle.ae_base.specs.declared.types.Ty.TheVariants.{Int, BigInt, NVarChar, VarBinary}
 use Rattle.aes_block.specs.Aes.{IsKey, IsBlock}
-use Rattle.cbc_mode.specs.Cbc.{AreBytes}
+use Rattle.aes_block.specs.Bytes.{AreBytes}
 use Rattle.hmac_kdf.specs.Keys.{Keys, keys_of}
+use Rattle.value_norm.specs.Norm.{most_bytes}
 use Rattle.cell_codec.specs.Cells.{sealed, sealed_det, iv_of, unsealed, IsShape}
 
 -- what is sealed is read back: under a key of 32 bytes and a vector of 16, any bytes
@@ -25,13 +25,6 @@ pub record IsCellOf (cell bytes : List ℕ) : Type 0 where
 abbrev pub SealedIsCell : Type 0
 SealedIsCell = (keys : Keys) (iv bytes : List ℕ) → IsKey keys.enc_key → IsBlock iv → AreBytes bytes
     → IsCellOf (sealed keys iv bytes) bytes
-
--- the most bytes that the cell of a value of the type holds
-abbrev pub most_bytes : Ty → ℕ
-most_bytes Int = 8
-most_bytes BigInt = 8
-most_bytes (NVarChar most) = 2 * most
-most_bytes (VarBinary most) = most
 
 -- a cell of no more bytes than the type has at most is of the type's shape
 abbrev pub SealedHasShape : Type 0

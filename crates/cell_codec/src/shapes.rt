@@ -1,9 +1,10 @@
-ghost use Rattle.std.specs.Prelude.{◌≡◌, ◌↔◌, IsTrue};
+ghost use Rattle.std.specs.Prelude.{◌≡◌, ◌^◌, ◌<◌, ◌↔◌, IsTrue};
 ghost use Rattle.cell_codec.specs.Cells.{IsShape, is_shape, is_cell_length, is_length_of, most_blocks};
 
 use crate::{BLOCK_LENGTH, HEAD_LENGTH, VERSION};
 use ae_base::cells::Cell;
 use ae_base::types::Ty;
+use value_norm::most_bytes;
 
 /// Whether a cell has the first byte and a length of the cells of a type's values. Nothing else of
 /// it is read.
@@ -30,11 +31,8 @@ pub(crate) fn is_cell_length(count: usize) -> bool
 
 /// The most blocks of ciphertext that the cell of a value of the type has.
 fn most_blocks(ty: Ty) -> usize
-    ensures { result ≡ most_blocks ty }
+    ensures value { result ≡ most_blocks ty }
+    ensures below { result < 2 ^ 14 }
 {
-    match ty {
-        Ty::Int | Ty::BigInt => 1,
-        Ty::NVarChar(most) => 2 * most as usize / BLOCK_LENGTH + 1,
-        Ty::VarBinary(most) => most as usize / BLOCK_LENGTH + 1,
-    }
+    most_bytes(ty) / BLOCK_LENGTH + 1
 }

@@ -13,9 +13,11 @@ use hmac_kdf::CellKeys;
 use std::alloc::Global;
 
 /// The bytes that a cell holds, or the first fault that applies, in the order of `CellFault`.
-/// Nothing is decrypted, and no memory taken, before the tag is right.
+/// Only where the tag is right is the padding refused, or does memory run out.
 pub fn unseal(alloc: Global, keys: &CellKeys, cell: &Cell) -> Result<Vec<u8>, CellFault>
     ensures exact { UnsealsTo result (unsealed keys.now cell.now) }
+    ensures padding_after_tag { result ≡ Err CellFault.BadPadding
+        → IsTrue (is_authentic keys.now cell.now) }
     ensures memory_after_tag { result ≡ Err CellFault.OutOfMemory
         → IsTrue (is_authentic keys.now cell.now) }
 {

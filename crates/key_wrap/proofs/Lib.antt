@@ -1,4 +1,4 @@
-pub mod Bytes
+pub mod Joining
 pub mod Steps
 pub mod Rounds
 pub mod Registers

@@ -1,13 +1,13 @@
 -- steps and rounds over well-formed registers, under a cipher whose two ways undo each other
-use Rattle.std.proofs.Common.{◌≡◌, ℕ, zero, suc, ◌+◌, ◌*◌, ◌<◌, ◌≤◌, List, [], ◌++◌, length, set, take, drop, arith, ◌∙◌, sym, ap, subst, refl}
-use Rattle.std.proofs.lemmas.Nat.{xor_of_8}
+use Rattle.std.proofs.Common.{◌≡◌, ℕ, zero, suc, ◌+◌, ◌*◌, ◌<◌, ◌≤◌, List, [], ◌++◌, length, set, take, drop, arith, ◌∙◌, sym, ap, refl}
 use Rattle.std.proofs.lemmas.List.{length-append, length-drop, length-take-le, length-set}
-use Rattle.std.proofs.lemmas.List.Elements.{All-cons, All-take, All-drop, All-append, All-set, All-get_or, All-from_get_or}
+use Rattle.std.proofs.lemmas.List.Elements.{All-cons, All-take, All-drop, All-append, All-set, All-get_or}
 use Rattle.std.specs.List.{All}
 use Rattle.std.specs.Int.{byte_at, bytes_high_first}
 use Rattle.aes_block.specs.Aes.{encrypted, decrypted, IsBlock}
-use Rattle.key_wrap.specs.Wrap.{AreBytes, xored, step_number, register, wrap_step, wrap_steps, wrap_rounds, unwrap_step, unwrap_steps, unwrap_rounds}
-use Rattle.key_wrap.proofs.Bytes.{length-xored, get_or-xored, xored-xored}
+use Rattle.aes_block.specs.Bytes.{AreBytes, xored}
+use Rattle.aes_block.proofs.Xoring.{length-xored, AreBytes-xored, xored-xored}
+use Rattle.key_wrap.specs.Wrap.{step_number, register, wrap_step, wrap_steps, wrap_rounds, unwrap_step, unwrap_steps, unwrap_rounds}
 use Rattle.key_wrap.proofs.Steps.{wrap_step-undoes, unwrap_step-wrap_step}
 
 -- 64 bits
@@ -39,15 +39,8 @@ IsHalf-step_number j i = (refl, AreBytes-high_first 8 (4 * j + i))
 
 IsHalf-xored : (xs ys : List ℕ) → IsHalf xs → IsHalf ys → IsHalf (xored xs ys)
 IsHalf-xored xs ys x y =
-    let long = length-xored xs ys (x.0 ∙ sym y.0) in (
-      long ∙ x.0,
-      All-from_get_or (λ (byte : ℕ). byte < 256) (xored xs ys) 0
-          (λ i lt.
-          let in_xs : i < length xs = omega (arith, long) in
-          let in_ys : i < length ys = omega (arith, x.0, y.0) in
-          subst (λ (byte : ℕ). byte < 256) (sym (get_or-xored xs ys i in_xs in_ys))
-          (xor_of_8 _ _ (All-get_or (λ (byte : ℕ). byte < 256) xs i 0 in_xs x.1) (All-get_or (λ (byte : ℕ). byte < 256) ys i 0 in_ys y.1))),
-    )
+    let same = x.0 ∙ sym y.0 in
+    (length-xored xs ys same ∙ x.0, AreBytes-xored xs ys same x.1 y.1)
 
 IsBlock-halves : (high low : List ℕ) → IsHalf high → IsHalf low → IsBlock (high ++ low)
 IsBlock-halves high low h l =

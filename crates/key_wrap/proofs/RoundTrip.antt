@@ -8,7 +8,8 @@ use Rattle.std.specs.List.{All, AllByRecursion, concat}
 use Rattle.std.specs.Simd.{first_chunks}
 use Rattle.std.specs.Str.{bytes_eq}
 use Rattle.aes_block.specs.Aes.{IsKey}
-use Rattle.key_wrap.specs.Wrap.{AreBytes, initial_value, register, wrap_rounds, wrapped, unwrap_rounds, unwrapped_registers, unwrapped}
+use Rattle.aes_block.specs.Bytes.{AreBytes}
+use Rattle.key_wrap.specs.Wrap.{initial_value, register, wrap_rounds, wrapped, unwrap_rounds, unwrapped_registers, unwrapped}
 use Rattle.key_wrap.proofs.Rounds.{concat-first_chunks, first_chunks-concat, unwrapped-some, wrapped-again}
 use Rattle.key_wrap.proofs.Registers.{IsHalf, AreRegisters, IsCipher, wrap_rounds-AreRegisters, unwrap_rounds-AreRegisters, rounds_unwrapped, rounds_wrapped}
 

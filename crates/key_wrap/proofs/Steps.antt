@@ -2,8 +2,9 @@
 use Rattle.std.proofs.Common.{◌≡◌, ◌≢◌, ℕ, ◌<◌, ◌≤◌, List, [], ◌++◌, length, set, take, drop, arith, ◌∙◌, sym, ap}
 use Rattle.std.proofs.lemmas.List.{get_or-set_same, get_or-set_other, set-set, set_comm, set-get_or, length-set, take_at, drop_at, take-append-drop, length-take-le}
 use Rattle.aes_block.specs.Aes.{encrypted, decrypted}
-use Rattle.key_wrap.specs.Wrap.{xored, step_number, register, wrap_step, unwrap_step}
-use Rattle.key_wrap.proofs.Bytes.{xored-xored}
+use Rattle.aes_block.specs.Bytes.{xored}
+use Rattle.aes_block.proofs.Xoring.{xored-xored}
+use Rattle.key_wrap.specs.Wrap.{step_number, register, wrap_step, unwrap_step}
 
 -- both registers of a step set and set back
 set_back : (s : List (List ℕ)) (i : ℕ) (x y a r : List ℕ) → 1 ≤ i → a ≡ register s 0 → r ≡ register s i → set (set (set (set s 0 x) i y) 0 a) i r ≡ s

@@ -1,22 +1,15 @@
 -- RFC 3394 section 2.2, by indices: a key of four blocks of 64 bits, wrapped under a key of AES-256
-use Rattle.std.specs.Prelude.{ℕ, zero, suc, ◌+◌, ◌*◌, ◌<◌, ◌&&◌, ◌==◌, if◌then◌else◌, List, [], ◌∷◌, ◌++◌, map, length, take, drop, replicate, slice_index_or, slice_set, bit_xor, Option, Some, None}
-use Rattle.std.specs.List.{All, concat, zip}
+use Rattle.std.specs.Prelude.{ℕ, zero, suc, ◌+◌, ◌*◌, ◌&&◌, ◌==◌, if◌then◌else◌, List, [], ◌∷◌, ◌++◌, length, take, drop, replicate, slice_index_or, slice_set, Option, Some, None}
+use Rattle.std.specs.List.{concat}
 use Rattle.std.specs.Int.{w64, to_be_bytes}
 use Rattle.std.specs.Simd.{first_chunks}
 use Rattle.std.specs.Str.{bytes_eq}
 use Rattle.aes_block.specs.Aes.{encrypted, decrypted}
-
--- a list of bytes
-abbrev pub AreBytes : List ℕ → Type 0
-AreBytes bytes = All (λ byte. byte < 256) bytes
+use Rattle.aes_block.specs.Bytes.{xored}
 
 -- section 2.2.3.1: the initial value of the register A
 abbrev pub initial_value : List ℕ
 initial_value = replicate 8 0xA6
-
--- exclusive or, byte by byte
-unfoldable pub xored : List ℕ → List ℕ → List ℕ
-xored xs ys = map (λ pair. bit_xor pair.0 pair.1) (zip xs ys)
 
 -- t = 4 j + i, as 64 bits, the highest byte first
 abbrev pub step_number : ℕ → ℕ → List ℕ

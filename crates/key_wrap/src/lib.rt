@@ -6,24 +6,13 @@ ghost use Rattle.std.specs.Int.{w64, to_be_bytes};
 ghost use Rattle.std.specs.List.{concat};
 ghost use Rattle.std.specs.Simd.{first_chunks};
 ghost use Rattle.aes_block.specs.Aes.{IsKey};
-ghost use Rattle.key_wrap.specs.Wrap.{AreBytes, initial_value, register, step_number, unwrap_step, unwrap_steps, unwrapped, unwrapped_registers, wrap_rounds, wrap_step, wrap_steps, wrapped, xored};
+ghost use Rattle.aes_block.specs.Bytes.{AreBytes};
+ghost use Rattle.key_wrap.specs.Wrap.{initial_value, register, step_number, unwrap_step, unwrap_steps, unwrapped, unwrapped_registers, wrap_rounds, wrap_step, wrap_steps, wrapped};
 
-use aes_block::Aes256;
+use aes_block::{Aes256, xor};
 
 // The initial value of the register A (section 2.2.3.1).
 const INITIAL_VALUE: [u8; 8] = [0xA6; 8];
-
-// Exclusive or, byte by byte.
-fn xor(a: &[u8; 8], b: &[u8; 8]) -> [u8; 8]
-    ensures value { result ≡ xored a.now b.now }
-    ensures undoes { xored result b.now ≡ a.now }
-{
-    let mut mixed = *a;
-    for i in 0..8 {
-        mixed[i] ^= b[i];
-    }
-    mixed
-}
 
 // The block of two halves.
 fn joined(high: &[u8; 8], low: &[u8; 8]) -> [u8; 16]

@@ -1,23 +1,15 @@
 -- Laws of cell bytes.
-use Rattle.std.specs.Prelude.{◌≡◌, ℕ, ◌*◌, ◌<◌, ◌≤◌, length}
+use Rattle.std.specs.Prelude.{◌≡◌, ◌<◌, ◌≤◌, length}
 use Rattle.std.specs.List.{All}
 use Rattle.ae_base.specs.Values.{DatumFits}
 use Rattle.ae_base.specs.declared.values.Datum.{Datum}
 use Rattle.ae_base.specs.declared.types.Ty.{Ty}
-use Rattle.ae_base.specs.declared.types.Ty.TheVariants.{Int, BigInt, NVarChar, VarBinary}
-use Rattle.value_norm.specs.Norm.{norm}
+use Rattle.value_norm.specs.Norm.{norm, most_bytes}
 
 -- for one type, two data with the same cell bytes are one
 abbrev pub NormIsOneToOne : Type 0
 NormIsOneToOne = (ty : Ty) (v w : Datum) → DatumFits v ty → DatumFits w ty
     → norm v ty ≡ norm w ty → v ≡ w
-
--- the most cell bytes that a datum of the type has
-abbrev pub most_bytes : Ty → ℕ
-most_bytes Int = 8
-most_bytes BigInt = 8
-most_bytes (NVarChar most) = 2 * most
-most_bytes (VarBinary most) = most
 
 -- cell bytes are bytes, and no more than the type has at most
 abbrev pub NormIsBounded : Type 0

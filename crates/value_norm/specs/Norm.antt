@@ -1,5 +1,5 @@
 -- The bytes of values inside cells.
-use Rattle.std.specs.Prelude.{◌≡◌, ℕ, ℤ, ◌/◌, ◌%◌, List, [], ◌∷◌}
+use Rattle.std.specs.Prelude.{◌≡◌, ℕ, ℤ, ◌*◌, ◌/◌, ◌%◌, List, [], ◌∷◌}
 use Rattle.std.specs.Int.{w64, cast_unsigned, to_le_bytes}
 use Rattle.std.specs.List.{flat_map}
 use Rattle.std.specs.Char.Escape.{encode_utf16}
@@ -26,6 +26,13 @@ abbrev pub norm : Datum → Ty → List ℕ
 norm (Num n) ty = number_bytes n
 norm (Text characters) ty = utf16le characters
 norm (Bin bytes) ty = bytes
+
+-- the most cell bytes that a datum of the type has
+abbrev pub most_bytes : Ty → ℕ
+most_bytes Int = 8
+most_bytes BigInt = 8
+most_bytes (NVarChar most) = 2 * most
+most_bytes (VarBinary most) = most
 
 -- the datum is of the type's kind: a number, a text or bytes
 abbrev pub IsOfKind : Datum → Ty → Type 0

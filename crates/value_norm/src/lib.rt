@@ -2,14 +2,14 @@
 //! in UTF-16LE, binary values as they are. This form is the project's own.
 #![tactic(auto)]
 
-ghost use Rattle.std.specs.Prelude.{◌≡◌, ◌↔◌, IfOk, IfSome, MatchResult, IsErrOf, IsSome, length};
+ghost use Rattle.std.specs.Prelude.{◌≡◌, ◌^◌, ◌<◌, ◌↔◌, IfOk, IfSome, MatchResult, IsErrOf, IsSome, length};
 ghost use Rattle.ae_base.specs.Values.{DatumFits};
 ghost use Rattle.ae_base.specs.declared.types.Ty.{Ty};
 ghost use Rattle.ae_base.specs.declared.values.Datum.{Datum};
 ghost use Rattle.ae_base.specs.declared.values.Datum.TheVariants.{Num};
 ghost use Rattle.value_norm.specs.Laws.{NormIsOneToOne, NormIsBounded};
 ghost use Rattle.value_norm.specs.Reading.{value_of, ValueIsTheOne};
-ghost use Rattle.value_norm.specs.Norm.{HasCellBytes, HasKindBytes, norm, number_bytes};
+ghost use Rattle.value_norm.specs.Norm.{HasCellBytes, HasKindBytes, most_bytes, norm, number_bytes};
 
 mod errors;
 mod utf16;
@@ -53,7 +53,7 @@ pub fn from_cell_bytes(alloc: Global, bytes: &[u8], ty: Ty) -> Result<Datum, Rea
     ensures computed { MatchResult result (λ datum. value_of bytes.now ty ≡ Some datum)
         (λ error. error ≡ ReadError.NotNormal → value_of bytes.now ty ≡ None) }
 {
-    let datum = datum_of(alloc, bytes, ty)?;
+    let datum = datum_of(alloc, bytes, &ty)?;
     if datum.fits(ty) {
         Ok(datum)
     } else {
@@ -62,10 +62,10 @@ pub fn from_cell_bytes(alloc: Global, bytes: &[u8], ty: Ty) -> Result<Datum, Rea
 }
 
 /// The value of the type's kind that has these cell bytes, also past the type's bound.
-fn datum_of(alloc: Global, bytes: &[u8], ty: Ty) -> Result<Datum, ReadError>
-    ensures value { IfOk result (λ datum. HasKindBytes datum ty bytes.now) }
+fn datum_of(alloc: Global, bytes: &[u8], ty: &Ty) -> Result<Datum, ReadError>
+    ensures value { IfOk result (λ datum. HasKindBytes datum ty.now bytes.now) }
     ensures not_normal { result ≡ Err ReadError.NotNormal
-        → (datum : Datum) → ¬ (HasCellBytes datum ty bytes.now) }
+        → (datum : Datum) → ¬ (HasCellBytes datum ty.now bytes.now) }
 {
     match ty {
         Ty::Int | Ty::BigInt => match number_of(bytes) {
@@ -86,6 +86,18 @@ fn number_of(bytes: &[u8]) -> Option<i64>
         return None;
     };
     Some(i64::from_le_bytes(word))
+}
+
+/// The most cell bytes that a value of the type has.
+pub fn most_bytes(ty: Ty) -> usize
+    ensures value { result ≡ most_bytes ty }
+    ensures below { result < 2 ^ 17 }
+{
+    match ty {
+        Ty::Int | Ty::BigInt => 8,
+        Ty::NVarChar(most) => 2 * most.number() as usize,
+        Ty::VarBinary(most) => most.number() as usize,
+    }
 }
 
 /// For one type, two values with the same cell bytes are one.

@@ -6,7 +6,7 @@ pub loop-block-preserved : goal.loop-block-preserved
 loop-block-preserved c =
     rw c.in_ok-extend_from_slice.ensures.items
     (IsUnchainedBelow-more _ _ _ _ _ _ _ _ _ c.loop-block.invariant c.loop-block-test.true refl
-    c.decrypt-decrypted.ensures.value c.decrypt-decrypted.ensures.undoes (omega arith) c.xor.ensures)
+    c.decrypt-decrypted.ensures.value c.decrypt-decrypted.ensures.undoes (omega arith) c.xor.ensures.value)
 
 pub returns-clause-undoes : goal.returns-clause-undoes
 returns-clause-undoes c =

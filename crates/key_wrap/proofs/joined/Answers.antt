@@ -1,5 +1,5 @@
 use Rattle.std.proofs.Common.{refl}
-use Rattle.key_wrap.proofs.Bytes.{halves_written}
+use Rattle.key_wrap.proofs.Joining.{halves_written}
 use Rattle.key_wrap.proofs.joined.Goals as goal
 
 pub returns : goal.returns

@@ -1,9 +1,12 @@
-use Rattle.std.proofs.Common.{◌≡◌, ℕ, ◌+◌, ◌<◌, ◌≤◌, List, ◌++◌, length, get_or, set, take, drop, bit_xor, arith, ◌∙◌, sym, ap, refl, add-zero, append-nil}
-use Rattle.std.proofs.lemmas.List.{get_or-map, length-map, take_more, take_more_set, take_all, get_or-drop, length-set, drop-set-lt, take_at, drop_at, drop_all}
+-- Exclusive or, byte by byte.
+use Rattle.std.proofs.Common.{◌≡◌, ℕ, ◌+◌, ◌<◌, ◌≤◌, List, length, get_or, set, take, drop, bit_xor, arith, ◌∙◌, sym, ap, subst, refl, add-zero}
+use Rattle.std.proofs.lemmas.List.{get_or-map, length-map, take_more, take_more_set, take_all, get_or-drop, length-set, drop-set-lt}
+use Rattle.std.proofs.lemmas.List.Elements.{All-get_or, All-from_get_or}
 use Rattle.std.proofs.lemmas.Grind.{drop_more_same, same_number_lists, common_steps}
+use Rattle.std.proofs.lemmas.Nat.{xor_of_8}
 use Rattle.std.proofs.lemmas.Slice.Zip.{get_or-zip, length-zip}
 use Rattle.std.specs.List.{zip}
-use Rattle.key_wrap.specs.Wrap.{xored}
+use Rattle.aes_block.specs.Bytes.{AreBytes, xored}
 
 pub length-xored : (xs ys : List ℕ) → length xs ≡ length ys → length (xored xs ys) ≡ length xs
 unfolding xored
@@ -50,14 +53,6 @@ IsXoredBelow-all xs ys i mixed m same le =
     let long = m.long in
     sym (take_all i mixed (omega arith)) ∙ m.done ∙ take_all i (xored xs ys) (omega (arith, length-xored xs ys same))
 
--- two halves that are written to a block of zeros
-pub halves_written : (n : ℕ) (high low zeros : List ℕ) → length high ≡ n → length zeros ≡ n → take n (high ++ zeros) ++ (low ++ drop n (drop n (high ++ zeros))) ≡ high ++ low
-halves_written n high low zeros high_long zeros_long =
-    let front = take_at high zeros n high_long in
-    let back = drop_at high zeros n high_long in
-    let none = drop_all n zeros (omega arith) in
-    rw (front, back, none, append-nil low) refl
-
 -- exclusive or with the same bytes again
 pub xored-xored : (xs ys : List ℕ) → length xs ≡ length ys → xored (xored xs ys) ys ≡ xs
 xored-xored xs ys e =
@@ -68,3 +63,13 @@ xored-xored xs ys e =
     let inner = get_or-xored xs ys k (omega arith) (omega arith) in
     let outer = get_or-xored (xored xs ys) ys k (omega arith) (omega arith) in
     grind (arith, common_steps))
+
+-- of bytes are bytes
+pub AreBytes-xored : (xs ys : List ℕ) → length xs ≡ length ys → AreBytes xs → AreBytes ys → AreBytes (xored xs ys)
+AreBytes-xored xs ys same x y =
+    All-from_get_or (λ (byte : ℕ). byte < 256) (xored xs ys) 0
+    (λ i lt.
+    let in_xs : i < length xs = omega (arith, length-xored xs ys same) in
+    let in_ys : i < length ys = omega arith in
+    subst (λ (byte : ℕ). byte < 256) (sym (get_or-xored xs ys i in_xs in_ys))
+    (xor_of_8 _ _ (All-get_or (λ (byte : ℕ). byte < 256) xs i 0 in_xs x) (All-get_or (λ (byte : ℕ). byte < 256) ys i 0 in_ys y)))

@@ -1,0 +1,11 @@
+CREATE TABLE t (a INT, b INT)
+GO
+INSERT INTO t (a, b) VALUES (1, 1), (1, NULL), (NULL, NULL), (2, 1)
+GO
+SELECT a, b FROM t WHERE a = b
+GO
+SELECT a, b FROM t WHERE a <> b
+GO
+DECLARE @p INT = NULL
+SELECT a FROM t WHERE a = @p
+GO

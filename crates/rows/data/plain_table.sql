@@ -1,0 +1,8 @@
+CREATE TABLE t (a INT)
+GO
+DECLARE @p INT = 5
+INSERT INTO t (a) VALUES (@p), (7), (NULL)
+GO
+DECLARE @p INT = 6
+SELECT a FROM t WHERE a < @p
+GO

@@ -1,0 +1,52 @@
+//! Runs each script of the folder that it is started in, in the order of their names, over devices in memory and an
+//! empty server, and prints what it comes to: its name, its text, its status, and the kinds of the frames that passed.
+#![tactic(auto)]
+
+mod kinds;
+mod runs;
+
+use ae_edge::memory::sink::MemSink;
+use kinds::kinds_of;
+use runs::{Came, come_to};
+use std::io::Write;
+use std::{fs, io};
+
+fn main(rt: HostRuntime) -> io::Result<()> {
+    for name in &script_names(&rt)? {
+        let script = fs::read(&rt, name.as_str())?;
+        let came = come_to(rt.alloc(), script);
+        println!(rt; "== {name}")?;
+        print_came(&rt, &came)?;
+    }
+    Ok(())
+}
+
+// The names of the scripts that the folder holds, sorted.
+fn script_names(rt: &HostRuntime) -> io::Result<Vec<String>> {
+    let mut names = Vec::new(rt.alloc());
+    for entry in fs::read_dir(rt, ".")? {
+        let entry = entry?;
+        if entry.file_name().ends_with(".sql") {
+            names.push(String::from_str(rt.alloc(), entry.file_name())?)?;
+        }
+    }
+    names.sort()?;
+    Ok(names)
+}
+
+fn print_came(rt: &HostRuntime, came: &Came) -> io::Result<()> {
+    rt.stdout().write_all(came.text.bytes())?;
+    println!(rt; "status {}", came.status.number())?;
+    print!(rt; "{}", came.status)?;
+    print_kinds(rt, &came.tap)
+}
+
+// How many frames a tap holds, and the kind of each.
+fn print_kinds(rt: &HostRuntime, tap: &MemSink) -> io::Result<()> {
+    let kinds = kinds_of(rt.alloc(), tap.bytes())?;
+    print!(rt; "frames {}", kinds.len())?;
+    for kind in &kinds {
+        print!(rt; " {kind:02x}")?;
+    }
+    println!(rt)
+}
