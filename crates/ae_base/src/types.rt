@@ -37,6 +37,15 @@ impl TextSize {
         Some(TextSize { units })
     }
 
+    /// The largest size, of 4,000 units.
+    pub fn largest() -> TextSize
+        ensures { result ≡ 4000 }
+    {
+        TextSize {
+            units: TextSize::MOST,
+        }
+    }
+
     /// The number of units.
     pub fn number(self) -> u16
         ensures value { result ≡ self }
@@ -78,6 +87,15 @@ impl BinarySize {
             return None;
         }
         Some(BinarySize { bytes })
+    }
+
+    /// The largest size, of 8,000 bytes.
+    pub fn largest() -> BinarySize
+        ensures { result ≡ 8000 }
+    {
+        BinarySize {
+            bytes: BinarySize::MOST,
+        }
     }
 
     /// The number of bytes.

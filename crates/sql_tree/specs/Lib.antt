@@ -1,6 +1,7 @@
 pub mod Bound
 pub mod Conditions
 pub mod Listed
+pub mod Literals
 pub mod Operands
 pub mod Placed
 pub mod Reading
