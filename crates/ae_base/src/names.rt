@@ -121,6 +121,14 @@ impl ParamName {
         self.name
     }
 
+    /// The parameter's name as a borrowed name.
+    pub fn as_name(&self) -> &Name
+        ensures name { result.now ≡ self.now }
+        ensures param { IsParamName self.now }
+    {
+        &self.name
+    }
+
     /// The name as a borrowed text.
     pub fn as_str(&self) -> &str
         ensures bytes { result.now ≡ encode_utf8_all self.now }
@@ -133,7 +141,7 @@ impl ParamName {
 }
 
 /// Whether a text has letters of ASCII, digits and `_` alone.
-fn has_param_chars(text: &str) -> bool
+pub fn has_param_chars(text: &str) -> bool
     ensures { result ≡ list_all is_param_char (chars text.now) }
 {
     text.chars().all(|c| c.is_ascii_alphanumeric() || c == '_')

@@ -1,5 +1,6 @@
 pub mod AtomBounds
 pub mod Atoms
+pub mod Conditions
 pub mod KeyLists
 pub mod Messages
 pub mod Sources

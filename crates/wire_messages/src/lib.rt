@@ -4,6 +4,8 @@
 
 pub mod atoms;
 pub mod columns;
+pub mod copies;
+pub mod key_lists;
 pub mod keys;
 pub mod params;
 pub mod parts;

@@ -72,6 +72,23 @@ impl<'a> TxtPart<'a> {
     {
         Txt::copied(alloc, self.as_str())
     }
+
+    /// The text, which is copied where it is borrowed.
+    pub fn into_txt(self, alloc: Global) -> Result<Txt, AllocError>
+        ensures { IfOk result (λ text. text ≡ self.entry) }
+    {
+        match self.source {
+            TxtSource::Own(text) => Ok(text),
+            TxtSource::Lent(text) => Txt::copied(alloc, text),
+        }
+    }
+
+    /// A copy that borrows nothing.
+    pub fn to_own<'b>(&self, alloc: Global) -> Result<TxtPart<'b>, AllocError>
+        ensures { IfOk result (λ copy. copy ≡ self.now) }
+    {
+        Ok(TxtPart::own(self.to_txt(alloc)?))
+    }
 }
 
 #[derive(Drop)]
@@ -130,6 +147,23 @@ impl<'a> BlobPart<'a> {
     {
         Blob::copied(alloc, self.as_slice())
     }
+
+    /// The bytes, which are copied where they are borrowed.
+    pub fn into_blob(self, alloc: Global) -> Result<Blob, AllocError>
+        ensures { IfOk result (λ bytes. bytes ≡ self.entry) }
+    {
+        match self.source {
+            BlobSource::Own(bytes) => Ok(bytes),
+            BlobSource::Lent(bytes) => Blob::copied(alloc, bytes),
+        }
+    }
+
+    /// A copy that borrows nothing.
+    pub fn to_own<'b>(&self, alloc: Global) -> Result<BlobPart<'b>, AllocError>
+        ensures { IfOk result (λ copy. copy ≡ self.now) }
+    {
+        Ok(BlobPart::own(self.to_blob(alloc)?))
+    }
 }
 
 #[derive(Drop)]
@@ -187,5 +221,22 @@ impl<'a> CellPart<'a> {
         ensures { IfOk result (λ cell. cell ≡ self.now) }
     {
         Cell::from_bytes(alloc, self.bytes())
+    }
+
+    /// The cell, which is copied where it is borrowed.
+    pub fn into_cell(self, alloc: Global) -> Result<Cell, AllocError>
+        ensures { IfOk result (λ cell. cell ≡ self.entry) }
+    {
+        match self.source {
+            CellSource::Own(cell) => Ok(cell),
+            CellSource::Lent(bytes) => Cell::from_bytes(alloc, bytes),
+        }
+    }
+
+    /// A copy that borrows nothing.
+    pub fn to_own<'b>(&self, alloc: Global) -> Result<CellPart<'b>, AllocError>
+        ensures { IfOk result (λ copy. copy ≡ self.now) }
+    {
+        Ok(CellPart::own(self.to_cell(alloc)?))
     }
 }
