@@ -1,0 +1,4 @@
+mod Walks
+mod Trees
+mod Sorting
+pub mod Merging

@@ -1,0 +1,4 @@
+pub mod Sites
+pub mod Rules
+pub mod Typing
+pub mod Least

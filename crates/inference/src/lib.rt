@@ -1,0 +1,2 @@
+//! The least encryption typing of a statement, or the first rule at which its rules clash.
+#![tactic(auto)]
