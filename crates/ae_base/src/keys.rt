@@ -1,5 +1,7 @@
 ghost use Rattle.std.specs.Prelude.{◌≡◌, IfSome, IsSome, ◌↔◌, IsTrue, encode_utf8_all};
-ghost use Rattle.std.specs.Str.{chars, all_scalars};
+ghost use Rattle.std.specs.Cmp.Lexicographic.{nat_list_eq_equiv};
+ghost use Rattle.std.specs.Cmp.{partial_equiv_from_equiv};
+ghost use Rattle.std.specs.Str.{bytes_eq, chars, all_scalars};
 ghost use Rattle.ae_base.specs.Keys.{IsKeyPath, IsWrappedKey};
 
 use crate::blobs::Blob;
@@ -68,6 +70,20 @@ impl KeyPath {
     }
 }
 
+impl PartialEq for KeyPath {
+    ghost eq = { bytes_eq };
+
+    ghost laws = { partial_equiv_from_equiv nat_list_eq_equiv };
+
+    fn eq(&self, other: &KeyPath) -> bool {
+        self.text == other.text
+    }
+}
+
+impl Eq for KeyPath {
+    ghost laws = { nat_list_eq_equiv };
+}
+
 impl Duplicate for KeyPath {
     fn copy(&self) -> Result<KeyPath, AllocError> {
         Ok(KeyPath {
@@ -123,6 +139,20 @@ impl WrappedKey {
     {
         self.bytes.as_slice()
     }
+}
+
+impl PartialEq for WrappedKey {
+    ghost eq = { bytes_eq };
+
+    ghost laws = { partial_equiv_from_equiv nat_list_eq_equiv };
+
+    fn eq(&self, other: &WrappedKey) -> bool {
+        self.bytes == other.bytes
+    }
+}
+
+impl Eq for WrappedKey {
+    ghost laws = { nat_list_eq_equiv };
 }
 
 impl Duplicate for WrappedKey {
