@@ -1,6 +1,9 @@
 pub mod Answers
 pub mod BoundOn
-pub mod Faults
+pub mod Columns
+pub mod Executes
+pub mod Keys
+pub mod Queries
+pub mod Rows
 pub mod Step
-pub mod Walks
 pub mod Worlds

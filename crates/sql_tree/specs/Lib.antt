@@ -2,6 +2,7 @@ pub mod Bound
 pub mod Conditions
 pub mod Listed
 pub mod Literals
+pub mod OnTables
 pub mod Operands
 pub mod Placed
 pub mod Reading

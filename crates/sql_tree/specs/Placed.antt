@@ -83,11 +83,12 @@ pub record IsPlacedQuery (columns params : ℕ) (query : BoundQuery) : Type 0 wh
 abbrev pub site_of : ColumnDef → ColumnSite
 site_of column = record { ty = column.ty; enc = column.enc }
 
--- the columns of CREATE TABLE are the new ones, and those of its unique keys are among them
+-- the columns of CREATE TABLE are the new ones, and those of its unique keys, of which there are at most 8, are among them
 pub record IsPlacedTable (columns : List ColumnSite) (table : BoundTable) : Type 0 where
   pub new : columns ≡ map site_of table.def.columns
   pub keyed : map (λ key. key.place) table.keyed ≡ flat_map (λ unique. unique) table.def.uniques
   pub within : All (λ key. key.place < length columns) table.keyed
+  pub few : length table.def.uniques ≤ 8
 
 abbrev pub IsPlacedStatement : List ColumnSite → ℕ → BoundStatement → Type 0
 IsPlacedStatement columns params (bound.CreateMaster name path) = IsKeyPath path

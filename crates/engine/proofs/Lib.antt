@@ -1,4 +1,0 @@
-pub mod Collected
-pub mod Contents
-pub mod Rows
-pub mod Walking

@@ -1,0 +1,29 @@
+-- Unique keys: no two rows are alike on one.
+use Rattle.std.specs.Prelude.{ℕ, ◌+◌, List, [], ◌∷◌, Option, Some, None, Result, Ok, Err, Bool, false, ◌||◌, if◌then◌else◌}
+use Rattle.std.specs.List.{list_all, list_any}
+use Rattle.ae_base.specs.Atoms.{Atom, alike}
+use Rattle.ae_base.specs.declared.faults.SqlFault.{SqlFault}
+use Rattle.ae_base.specs.declared.faults.SqlFault.TheVariants as fault
+use Rattle.scalar.specs.Eval.{atom_at}
+
+-- two rows are alike on the columns of these places
+abbrev pub alike_on : List ℕ → List Atom → List Atom → Bool
+alike_on places row other = list_all (λ place. alike (atom_at row place) (atom_at other place)) places
+
+-- two of the rows are
+abbrev pub has_twins : List ℕ → List (List Atom) → Bool
+has_twins places [] = false
+has_twins places (row ∷ rows) = list_any (alike_on places row) rows || has_twins places rows
+
+-- the number of the first key on which two rows are alike
+abbrev pub first_twins : ℕ → List (List ℕ) → List (List Atom) → Option ℕ
+first_twins number [] rows = None
+first_twins number (key ∷ keys) rows = if has_twins key rows then Some number else first_twins (number + 1) keys rows
+
+abbrev pub or_duplicate : Option ℕ → List (List Atom) → Result (List (List Atom)) SqlFault
+or_duplicate None rows = Ok rows
+or_duplicate (Some number) rows = Err (fault.DuplicateKey number)
+
+-- the rows of a table with these unique keys, numbered from 1, or DuplicateKey of the first that they break
+abbrev pub keyed : List (List ℕ) → List (List Atom) → Result (List (List Atom)) SqlFault
+keyed keys rows = or_duplicate (first_twins 1 keys rows) rows
