@@ -3,13 +3,13 @@ use Rattle.std.specs.Prelude.{◌≡◌, ℕ, List, Option, Result, Ok, Err}
 use Rattle.std.specs.Option.{option_and_then}
 use Rattle.ae_base.specs.Results.{◌>>=◌, or_fault}
 use Rattle.ae_base.specs.declared.batches.KeyMeta.{KeyMeta}
-use Rattle.ae_base.specs.declared.refusals.Refusal.{Refusal}
-use Rattle.ae_base.specs.declared.refusals.Refusal.TheVariants.{Fault, OutOfMemory}
 use Rattle.ae_edge.specs.Vaults.{KeyMap, key_at}
 use Rattle.hmac_kdf.specs.Keys.{Keys, keys_of}
 use Rattle.key_wrap.specs.Wrap.{unwrapped}
 use Rattle.key_store.specs.declared.faults.KeyFault.{KeyFault}
-use Rattle.key_store.specs.declared.faults.KeyFault.TheVariants.{NoMasterKey, KeyRefused, VaultFault}
+use Rattle.key_store.specs.declared.faults.KeyFault.TheVariants.{NoMasterKey, KeyRefused}
+use Rattle.key_store.specs.declared.faults.OpenFault.{OpenFault}
+use Rattle.key_store.specs.declared.faults.OpenFault.TheVariants.{Fault, VaultFault, OutOfMemory}
 
 -- the column key: NoMasterKey where the map lacks the path, else KeyRefused where the wrapped bytes aren't 40 or don't
 -- unwrap
@@ -27,9 +27,8 @@ abbrev pub opened : KeyMap → List ℕ → List ℕ → Option (List ℕ)
 opened map path wrapped = option_and_then (λ master. unwrapped master wrapped) (key_at map path)
 
 -- a call answers what is defined, its value or its fault; a vault that fails and want of memory say nothing of it
-abbrev pub Opens : {A : Type 0} → Result A (Refusal KeyFault) → Result A KeyFault → Type 0
+abbrev pub Opens : {A : Type 0} → Result A OpenFault → Result A KeyFault → Type 0
 Opens (Ok x) defined = defined ≡ Ok x
-Opens (Err (Fault (NoMasterKey path))) defined = defined ≡ Err (NoMasterKey path)
-Opens (Err (Fault (KeyRefused name))) defined = defined ≡ Err (KeyRefused name)
-Opens (Err (Fault VaultFault)) defined = Unit {0}
+Opens (Err (Fault fault)) defined = defined ≡ Err fault
+Opens (Err VaultFault) defined = Unit {0}
 Opens (Err OutOfMemory) defined = Unit {0}

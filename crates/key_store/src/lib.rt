@@ -8,6 +8,6 @@ mod opening;
 mod origins;
 mod stores;
 
-pub use faults::KeyFault;
+pub use faults::{KeyFault, OpenFault};
 pub use laws::opened_are_keys;
 pub use stores::KeyStore;

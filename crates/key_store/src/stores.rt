@@ -1,15 +1,13 @@
 ghost use Rattle.std.specs.Prelude.{◌≡◌, ◌≤◌, ℕ, List, Option, Contains, Err, IfOk, IfSome, length};
-ghost use Rattle.ae_base.specs.declared.refusals.Refusal.TheVariants.{Fault};
 ghost use Rattle.ae_edge.specs.Devices.{Rose};
 ghost use Rattle.ae_edge.specs.Vaults.{KeyMap};
 ghost use Rattle.key_store.specs.Opening.{open_key, Opens};
 ghost use Rattle.key_store.specs.Stores.{IsOf, AreKept, AreKeptWith};
 
-use crate::faults::KeyFault;
+use crate::faults::OpenFault;
 use crate::opening::open;
 use crate::origins::Origin;
 use ae_base::batches::KeyMeta;
-use ae_base::refusals::Refusal;
 use ae_edge::vaults::Vault;
 use hmac_kdf::CellKeys;
 use lru::LruCache;
@@ -63,13 +61,13 @@ impl KeyStore {
         &mut self,
         vault: &mut V,
         meta: &KeyMeta,
-    ) -> Result<CellKeys, Refusal<KeyFault>>
+    ) -> Result<CellKeys, OpenFault>
         requires { IsOf (V.keys vault.old) self.old }
         ensures opens { IfSome (V.keys vault.old) (λ map. Opens result (open_key map meta.now)) }
         ensures of_vault { IsOf (V.keys vault.new) self.new }
         ensures unchanged { V.keys vault.new ≡ V.keys vault.old }
         ensures count { V.faults vault.old ≤ V.faults vault.new }
-        ensures failed { result ≡ Err (Fault KeyFault.VaultFault) → Rose (V.faults vault.old) (V.faults vault.new) }
+        ensures failed { result ≡ Err OpenFault.VaultFault → Rose (V.faults vault.old) (V.faults vault.new) }
     {
         let origin = Origin::of_meta(meta)?;
         if let Some(key) = self.kept(&origin) {
