@@ -1,7 +1,4 @@
-pub mod Calls
+pub mod Describing
 pub mod Exchanges
-pub mod Faults
-pub mod MemPeers
+pub mod Params
 pub mod Serve
-pub mod ServeWorked
-pub mod ServedWorlds
