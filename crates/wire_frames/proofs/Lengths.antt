@@ -1,14 +1,11 @@
 -- How long the spelling of a message can be.
-use Rattle.std.proofs.Common.{◌≡◌, ℕ, ◌+◌, ◌*◌, ◌≤◌, ◌<◌, List, [], ◌∷◌, ◌++◌, length, map, arith, length-append, encode_utf8_all, refl, ap}
+use Rattle.std.proofs.Common.{◌≡◌, ℕ, ◌+◌, ◌*◌, ◌≤◌, List, [], ◌∷◌, ◌++◌, length, arith, length-append, encode_utf8_all}
 use lib.Utf8.{encode}
-use Rattle.std.specs.List.{All, flat_map, sum_by}
-use Rattle.std.proofs.lemmas.List.{length-map}
+use Rattle.std.specs.List.{All, flat_map}
 use Rattle.std.proofs.lemmas.List.Concat.{length-flat_map}
 use Rattle.std.proofs.lemmas.List.Elements.{All-weaker}
 use Rattle.std.proofs.lemmas.List.Sums.{sum_by-le}
 use Rattle.std.proofs.lemmas.Str.{length-encode, len_utf8_bounds}
-use Rattle.std.proofs.Math.Nat.{mul-le-mul_right}
-use Rattle.ae_base.specs.Faults.{code_of}
 use Rattle.ae_base.specs.declared.types.Ty.{Ty}
 use Rattle.ae_base.specs.declared.types.Ty.TheVariants as ty
 use Rattle.ae_base.specs.declared.types.Enc.{Enc}
@@ -21,8 +18,16 @@ use Rattle.ae_base.specs.declared.batches.KeyMeta.{KeyMeta}
 use Rattle.ae_base.specs.declared.faults.SqlFault.{SqlFault}
 use Rattle.ae_base.specs.declared.faults.SqlFault.TheVariants as fault
 use Rattle.ae_base.specs.Names.{IsName}
-use Rattle.wire_frames.specs.Messages.{Request, Describe, Execute, Reply, Described, Columns, Row, Ended, Refused, Done, Defined, Changed, Answered, SentParam, UsedParam, SentColumn}
-use Rattle.wire_frames.specs.Conditions.{IsRequest, IsReply, IsAtom, IsDeclaration, IsSent, IsUsed, IsColumn, IsKey, IsFault}
+use Rattle.wire_messages.specs.declared.columns.SentColumn.{SentColumn}
+use Rattle.wire_messages.specs.declared.params.SentParam.{SentParam}
+use Rattle.wire_messages.specs.declared.params.UsedParam.{UsedParam}
+use Rattle.wire_messages.specs.declared.replies.Done.{Done}
+use Rattle.wire_messages.specs.declared.replies.Done.TheVariants.{Defined, Changed, Answered}
+use Rattle.wire_messages.specs.declared.replies.Reply.{Reply}
+use Rattle.wire_messages.specs.declared.replies.Reply.TheVariants.{Described, Columns, Row, Ended, Refused}
+use Rattle.wire_messages.specs.declared.requests.Request.{Request}
+use Rattle.wire_messages.specs.declared.requests.Request.TheVariants.{Describe, Execute}
+use Rattle.wire_messages.specs.Conditions.{IsRequest, IsReply, IsAtom, IsDeclaration, IsSent, IsUsed, IsColumn, IsKey, IsFault}
 use Rattle.wire_frames.specs.Spelling as spell
 
 -- a character has at most four bytes
@@ -57,7 +62,7 @@ atom_within (Plain (Bin bytes)) h = omega (arith, blob_length bytes, h.1)
 atom_within (Sealed cell) h = omega (arith, blob_length cell, h.1)
 
 declaration_within : (d : ParamDecl) → IsDeclaration d → length (spell.declaration d) ≤ 517
-declaration_within d h = omega (arith, length-append (spell.str d.name) (spell.type d.ty), name_within d.name h.0.0, type_within d.ty)
+declaration_within d h = omega (arith, length-append (spell.str d.name) (spell.type d.ty), name_within d.name h.name.1.0, type_within d.ty)
 
 sent_within : (p : SentParam) → IsSent p → length (spell.sent p) ≤ 16909
 sent_within p h = omega (
@@ -65,23 +70,23 @@ sent_within p h = omega (
   length-append (spell.str p.name ++ spell.type p.ty ++ spell.encryption p.enc) (spell.atom p.atom),
   length-append (spell.str p.name ++ spell.type p.ty) (spell.encryption p.enc),
   length-append (spell.str p.name) (spell.type p.ty),
-  name_within p.name h.name.0,
+  name_within p.name h.name.1.0,
   type_within p.ty,
   encryption_within p.enc,
   atom_within p.atom h.atom,
 )
 
 used_within : (p : UsedParam) → IsUsed p → length (spell.used p) ≤ 519
-used_within p h = omega (arith, length-append (spell.str p.name) (spell.encryption p.enc), name_within p.name h.0.0, encryption_within p.enc)
+used_within p h = omega (arith, length-append (spell.str p.name) (spell.encryption p.enc), name_within p.name h.name.1.0, encryption_within p.enc)
 
 column_within : (c : SentColumn) → IsColumn c → length (spell.column c) ≤ 522
 column_within c h = omega (
   arith,
-  length-append (spell.str c.name ++ spell.type c.ty) (spell.encryption c.enc),
-  length-append (spell.str c.name) (spell.type c.ty),
-  blob_length (encode_utf8_all c.name),
-  encoded_within c.name,
-  h.name.1,
+  length-append (spell.str c.title ++ spell.type c.ty) (spell.encryption c.enc),
+  length-append (spell.str c.title) (spell.type c.ty),
+  blob_length (encode_utf8_all c.title),
+  encoded_within c.title,
+  h.title.1,
   type_within c.ty,
   encryption_within c.enc,
 )
@@ -92,11 +97,11 @@ key_within k h = omega (
   length-append (spell.u32 k.id ++ spell.str k.name ++ spell.str k.path) (spell.blob k.wrapped),
   length-append (spell.u32 k.id ++ spell.str k.name) (spell.str k.path),
   length-append (spell.u32 k.id) (spell.str k.name),
-  name_within k.name h.name.0,
+  name_within k.name h.name.1,
   blob_length (encode_utf8_all k.path),
-  h.path.2,
+  h.path.1.1,
   blob_length k.wrapped,
-  h.wrapped.2,
+  h.wrapped.1.1,
 )
 
 -- ---- lists
@@ -127,26 +132,26 @@ fields_within fault.Syntax h = omega arith
 fields_within (fault.NumberTooWide at) h = omega arith
 fields_within fault.TooDeep h = omega arith
 fields_within fault.TooLong h = omega arith
-fields_within (fault.NoTable name) h = name_within name h.0
-fields_within (fault.NoColumn name) h = name_within name h.0
-fields_within (fault.Ambiguous name) h = name_within name h.0
-fields_within (fault.NoParam name) h = name_within name h.0
-fields_within (fault.NoKey name) h = name_within name h.0
+fields_within (fault.NoTable name) h = name_within name h.1
+fields_within (fault.NoColumn name) h = name_within name h.1
+fields_within (fault.Ambiguous name) h = name_within name h.1
+fields_within (fault.NoParam name) h = name_within name h.1.0
+fields_within (fault.NoKey name) h = name_within name h.1
 fields_within (fault.NotGrouped at) h = omega arith
 fields_within (fault.TypeClash at) h = omega arith
 fields_within (fault.EncryptionClash at) h = omega arith
-fields_within (fault.Moved seen now) h = omega (arith, length-append (spell.u64 seen) (spell.u64 now))
-fields_within (fault.ParamClash name) h = name_within name h.0
-fields_within (fault.BadCell name) h = name_within name h.0
+fields_within (fault.Moved versions) h = omega (arith, length-append (spell.u64 versions.seen) (spell.u64 versions.now))
+fields_within (fault.ParamClash name) h = name_within name h.1.0
+fields_within (fault.BadCell name) h = name_within name h.1.0
 fields_within fault.Overflow h = omega arith
-fields_within (fault.NullNotAllowed name) h = name_within name h.0
-fields_within (fault.Truncated name) h = name_within name h.0
+fields_within (fault.NullNotAllowed name) h = name_within name h.1
+fields_within (fault.Truncated name) h = name_within name h.1
 fields_within fault.TooManyRows h = omega arith
 fields_within fault.TableFull h = omega arith
 fields_within (fault.DuplicateKey number) h = omega arith
-fields_within (fault.Exists name) h = name_within name h.0
-fields_within (fault.NoSuch name) h = name_within name h.0
-fields_within (fault.KeyInUse name) h = name_within name h.0
+fields_within (fault.Exists name) h = name_within name h.1
+fields_within (fault.NoSuch name) h = name_within name h.1
+fields_within (fault.KeyInUse name) h = name_within name h.1
 fields_within fault.Full h = omega arith
 
 done_within : (d : Done) → length (spell.done d) ≤ 9
@@ -159,7 +164,7 @@ done_within (Answered count) = omega arith
 -- a body has at most 16,777,216 bytes
 pub request_within : (request : Request) → IsRequest request → length (spell.request_body request) ≤ 16777216
 request_within (Describe session characters declarations) h =
-    let f = few_within IsDeclaration spell.declaration 517 128 declarations declaration_within h.2.1 h.2.0 in
+    let f = few_within IsDeclaration spell.declaration 517 128 declarations declaration_within h.2.0 h.2.1 in
     omega (
       arith,
       length-append (spell.u16 session ++ spell.text characters) (spell.few spell.declaration declarations),
@@ -168,7 +173,7 @@ request_within (Describe session characters declarations) h =
       h.1.1,
     )
 request_within (Execute session version characters params) h =
-    let f = few_within IsSent spell.sent 16909 128 params sent_within h.3.1 h.3.0 in
+    let f = few_within IsSent spell.sent 16909 128 params sent_within h.3.0 h.3.1 in
     omega (
       arith,
       length-append (spell.u16 session ++ spell.u64 version ++ spell.text characters) (spell.few spell.sent params),
@@ -179,18 +184,18 @@ request_within (Execute session version characters params) h =
     )
 
 pub reply_within : (reply : Reply) → IsReply reply → length (spell.reply_body reply) ≤ 16777216
-reply_within (Described version keys params) h =
-    let k = few_within IsKey spell.key 2570 64 keys key_within h.1.1 h.1.0 in
-    let p = few_within IsUsed spell.used 519 128 params used_within h.2.1 h.2.0 in
+reply_within (Described d) h =
+    let k = few_within IsKey spell.key 2570 64 d.keys key_within h.1 h.3.1 in
+    let p = few_within IsUsed spell.used 519 128 d.params used_within h.2.0 h.2.1 in
     omega (
       arith,
-      length-append (spell.u64 version ++ spell.few spell.key keys) (spell.few spell.used params),
-      length-append (spell.u64 version) (spell.few spell.key keys),
+      length-append (spell.u64 d.version ++ spell.few spell.key d.keys) (spell.few spell.used d.params),
+      length-append (spell.u64 d.version) (spell.few spell.key d.keys),
     )
-reply_within (Columns keys columns) h =
-    let k = few_within IsKey spell.key 2570 64 keys key_within h.0.1 h.0.0 in
-    let c = many_within IsColumn spell.column 522 512 columns column_within h.2 h.1.1 in
-    omega (arith, length-append (spell.few spell.key keys) (spell.many spell.column columns))
-reply_within (Row atoms) h = let a = many_within IsAtom spell.atom 16387 512 atoms atom_within h.1 h.0.1 in omega arith
+reply_within (Columns header) h =
+    let k = few_within IsKey spell.key 2570 64 header.keys key_within h.0 h.2.0.1 in
+    let c = many_within IsColumn spell.column 522 512 header.columns column_within h.1 h.2.1.1 in
+    omega (arith, length-append (spell.few spell.key header.keys) (spell.many spell.column header.columns))
+reply_within (Row atoms) h = let a = many_within IsAtom spell.atom 16387 512 atoms atom_within h.0 h.1.1 in omega arith
 reply_within (Ended what) h = omega (arith, done_within what)
 reply_within (Refused f) h = omega (arith, fields_within f h)

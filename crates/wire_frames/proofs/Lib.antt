@@ -1,11 +1,2 @@
-pub mod BodyLaws
-pub mod Directions
-pub mod FieldLaws
-pub mod FrameLaws
 pub mod Lengths
-pub mod ListingLemmas
-pub mod Lists
-pub mod NameLists
-pub mod PartLaws
-pub mod Takes
-pub mod Utf8Tests
+mod Mending

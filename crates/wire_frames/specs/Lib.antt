@@ -1,11 +1,3 @@
-pub mod Conditions
-pub mod Decoding
-pub mod Frames
-pub mod Laws
-pub mod Listing
-pub mod Messages
 pub mod Reading
-pub mod Sources
 pub mod Spelling
 pub mod SpellingWorked
-pub mod Views

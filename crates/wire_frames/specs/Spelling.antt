@@ -1,6 +1,6 @@
 -- The one spelling of each message, version 1: a version byte, a kind, the length of the body in four bytes, and the
 -- body. All numbers are big-endian.
-use Rattle.std.specs.Prelude.{ℕ, List, [], ◌∷◌, ◌++◌, length, flat_map, encode_utf8_all}
+use Rattle.std.specs.Prelude.{◌≡◌, ℕ, List, [], ◌∷◌, ◌++◌, length, flat_map, encode_utf8_all}
 use Rattle.std.specs.Int.{w16, w32, w64, to_be_bytes, cast_unsigned}
 use Rattle.ae_base.specs.Faults.{code_of}
 use Rattle.ae_base.specs.declared.types.Ty.{Ty}
@@ -14,7 +14,16 @@ use Rattle.ae_base.specs.declared.batches.ParamDecl.{ParamDecl}
 use Rattle.ae_base.specs.declared.batches.KeyMeta.{KeyMeta}
 use Rattle.ae_base.specs.declared.faults.SqlFault.{SqlFault}
 use Rattle.ae_base.specs.declared.faults.SqlFault.TheVariants as fault
-use Rattle.wire_frames.specs.Messages.{Request, Describe, Execute, Reply, Described, Columns, Row, Ended, Refused, Done, Defined, Changed, Answered, SentParam, UsedParam, SentColumn}
+use Rattle.wire_messages.specs.Conditions.{IsRequest, IsReply}
+use Rattle.wire_messages.specs.declared.columns.SentColumn.{SentColumn}
+use Rattle.wire_messages.specs.declared.params.SentParam.{SentParam}
+use Rattle.wire_messages.specs.declared.params.UsedParam.{UsedParam}
+use Rattle.wire_messages.specs.declared.replies.Done.{Done}
+use Rattle.wire_messages.specs.declared.replies.Done.TheVariants.{Defined, Changed, Answered}
+use Rattle.wire_messages.specs.declared.replies.Reply.{Reply}
+use Rattle.wire_messages.specs.declared.replies.Reply.TheVariants.{Described, Columns, Row, Ended, Refused}
+use Rattle.wire_messages.specs.declared.requests.Request.{Request}
+use Rattle.wire_messages.specs.declared.requests.Request.TheVariants.{Describe, Execute}
 
 abbrev pub u16 : ℕ → List ℕ
 u16 n = to_be_bytes w16 n
@@ -70,7 +79,7 @@ abbrev pub used : UsedParam → List ℕ
 used p = str p.name ++ encryption p.enc
 
 abbrev pub column : SentColumn → List ℕ
-column c = str c.name ++ type c.ty ++ encryption c.enc
+column c = str c.title ++ type c.ty ++ encryption c.enc
 
 -- a count in one byte, or in two, and so many parts
 abbrev pub few : {A : Type 0} → (A → List ℕ) → List A → List ℕ
@@ -93,7 +102,7 @@ fields (fault.NoKey name) = str name
 fields (fault.NotGrouped at) = u32 at
 fields (fault.TypeClash at) = u32 at
 fields (fault.EncryptionClash at) = u32 at
-fields (fault.Moved seen now) = u64 seen ++ u64 now
+fields (fault.Moved versions) = u64 versions.seen ++ u64 versions.now
 fields (fault.ParamClash name) = str name
 fields (fault.BadCell name) = str name
 fields fault.Overflow = []
@@ -123,15 +132,15 @@ request_body (Describe session characters declarations) = u16 session ++ text ch
 request_body (Execute session version characters params) = u16 session ++ u64 version ++ text characters ++ few sent params
 
 abbrev pub reply_kind : Reply → ℕ
-reply_kind (Described version keys params) = 0x81
-reply_kind (Columns keys columns) = 0x82
+reply_kind (Described d) = 0x81
+reply_kind (Columns h) = 0x82
 reply_kind (Row atoms) = 0x83
 reply_kind (Ended what) = 0x84
 reply_kind (Refused f) = 0x85
 
 abbrev pub reply_body : Reply → List ℕ
-reply_body (Described version keys params) = u64 version ++ few key keys ++ few used params
-reply_body (Columns keys columns) = few key keys ++ many column columns
+reply_body (Described d) = u64 d.version ++ few key d.keys ++ few used d.params
+reply_body (Columns h) = few key h.keys ++ many column h.columns
 reply_body (Row atoms) = many atom atoms
 reply_body (Ended what) = done what
 reply_body (Refused f) = code_of f ∷ fields f
@@ -145,3 +154,10 @@ request_frame request = frame (request_kind request) (request_body request)
 
 abbrev pub reply_frame : Reply → List ℕ
 reply_frame reply = frame (reply_kind reply) (reply_body reply)
+
+-- the frame of a message that meets its conditions
+abbrev pub SpellsRequest : Request → List ℕ → Type 0
+SpellsRequest request bytes = IsRequest request × (bytes ≡ request_frame request)
+
+abbrev pub SpellsReply : Reply → List ℕ → Type 0
+SpellsReply reply bytes = IsReply reply × (bytes ≡ reply_frame reply)

@@ -2,7 +2,9 @@
 use Rattle.std.specs.Prelude.{◌≡◌, [], ◌∷◌, codes, refl}
 use lib.Utf8.{encodes, encode}
 use Rattle.ae_base.specs.declared.faults.SqlFault.TheVariants as fault
-use Rattle.wire_frames.specs.Messages.{Describe, Execute, Described, Ended, Refused, Defined}
+use Rattle.wire_messages.specs.declared.replies.Done.TheVariants.{Defined}
+use Rattle.wire_messages.specs.declared.replies.Reply.TheVariants.{Described, Ended, Refused}
+use Rattle.wire_messages.specs.declared.requests.Request.TheVariants.{Describe, Execute}
 use Rattle.wire_frames.specs.Spelling.{request_frame, reply_frame}
 
 pub describe : request_frame (Describe 1 (codes "CREATE TABLE t (a INT)") [])
@@ -11,7 +13,7 @@ pub describe : request_frame (Describe 1 (codes "CREATE TABLE t (a INT)") [])
 unfolding encodes encode
 describe = refl
 
-pub described : reply_frame (Described 0 [] [])
+pub described : reply_frame (Described (record { version = 0; keys = []; params = [] }))
     ≡ 0x01 ∷ 0x81 ∷ 0x00 ∷ 0x00 ∷ 0x00 ∷ 0x0a ∷ 0x00 ∷ 0x00 ∷ 0x00 ∷ 0x00 ∷ 0x00 ∷ 0x00 ∷ 0x00 ∷ 0x00 ∷ 0x00 ∷ 0x00 ∷ []
 described = refl
 

@@ -1,32 +1,34 @@
 //! The fields of messages as bytes. All numbers are big-endian.
 
-ghost use Rattle.std.specs.Prelude.{◌≡◌, ◌<◌, ◌++◌, ◌∷◌, [], ◌^◌, List, ℕ, OnOk, All, length, encode_utf8_all};
+ghost use Rattle.std.specs.Prelude.{◌≡◌, ◌<◌, ◌≤◌, ◌++◌, ◌^◌, List, ℕ, OnOk, All, length, encode_utf8_all};
 ghost use Rattle.std.specs.List.{flat_map};
+ghost use Rattle.std.specs.Str.{chars, all_scalars};
+ghost use Rattle.ae_base.specs.Types.{IsType};
+ghost use Rattle.wire_messages.specs.Conditions.{IsBytes, IsScalars, IsStatement, IsEnc};
 ghost use Rattle.wire_frames.specs.Spelling as spell;
 
-use crate::parts::{NamePart, TxtPart};
-use ae_base::names::Name;
 use ae_base::types::{Enc, Ty};
 use std::alloc::AllocError;
+use wire_messages::texts::StatementPart;
 
 /// A part of a message that has a spelling of its own.
 pub trait Part {
     /// The bytes that spell a part.
     ghost spelling: { Self → List ℕ };
 
-    /// Which parts have a spelling.
-    ghost fits: { Self → Type 0 };
+    /// What each part meets.
+    ghost meets: { Self → Type 0 };
 
     /// Puts the spelling at the end.
     fn push(&self, out: &mut Vec<u8>) -> Result<(), AllocError>
-        requires { fits self.now }
-        ensures { OnOk result (out.new.items ≡ out.old.items ++ spelling self.now) };
+        ensures bytes { OnOk result (out.new.items ≡ out.old.items ++ spelling self.now) }
+        ensures meets { OnOk result (meets self.now) };
 }
 
 /// Puts the spellings of parts at the end, one after another.
 fn push_all<P: Part>(out: &mut Vec<u8>, parts: &[P]) -> Result<(), AllocError>
-    requires { All P.fits parts.now }
-    ensures { OnOk result (out.new.items ≡ out.old.items ++ flat_map P.spelling parts.now) }
+    ensures bytes { OnOk result (out.new.items ≡ out.old.items ++ flat_map P.spelling parts.now) }
+    ensures meet { OnOk result (All P.meets parts.now) }
 {
     for part in parts {
         part.push(out)?;
@@ -37,8 +39,8 @@ fn push_all<P: Part>(out: &mut Vec<u8>, parts: &[P]) -> Result<(), AllocError>
 /// A count in one byte, and so many parts.
 pub fn push_few<P: Part>(out: &mut Vec<u8>, parts: &[P]) -> Result<(), AllocError>
     requires count { length parts.now < 256 }
-    requires parts { All P.fits parts.now }
-    ensures { OnOk result (out.new.items ≡ out.old.items ++ spell.few P.spelling parts.now) }
+    ensures bytes { OnOk result (out.new.items ≡ out.old.items ++ spell.few P.spelling parts.now) }
+    ensures meet { OnOk result (All P.meets parts.now) }
 {
     out.push(parts.len() as u8)?;
     push_all(out, parts)
@@ -47,8 +49,8 @@ pub fn push_few<P: Part>(out: &mut Vec<u8>, parts: &[P]) -> Result<(), AllocErro
 /// A count in two bytes, and so many parts.
 pub fn push_many<P: Part>(out: &mut Vec<u8>, parts: &[P]) -> Result<(), AllocError>
     requires count { length parts.now < 2 ^ 16 }
-    requires parts { All P.fits parts.now }
-    ensures { OnOk result (out.new.items ≡ out.old.items ++ spell.many P.spelling parts.now) }
+    ensures bytes { OnOk result (out.new.items ≡ out.old.items ++ spell.many P.spelling parts.now) }
+    ensures meet { OnOk result (All P.meets parts.now) }
 {
     out.extend_from_slice(&(parts.len() as u16).to_be_bytes())?;
     push_all(out, parts)
@@ -57,7 +59,8 @@ pub fn push_many<P: Part>(out: &mut Vec<u8>, parts: &[P]) -> Result<(), AllocErr
 /// A length in two bytes, and that many bytes.
 pub fn push_blob(out: &mut Vec<u8>, bytes: &[u8]) -> Result<(), AllocError>
     requires { length bytes.now < 2 ^ 16 }
-    ensures { OnOk result (out.new.items ≡ out.old.items ++ spell.blob bytes.now) }
+    ensures bytes { OnOk result (out.new.items ≡ out.old.items ++ spell.blob bytes.now) }
+    ensures meets { IsBytes bytes.now }
 {
     out.extend_from_slice(&(bytes.len() as u16).to_be_bytes())?;
     out.extend_from_slice(bytes)?;
@@ -65,31 +68,25 @@ pub fn push_blob(out: &mut Vec<u8>, bytes: &[u8]) -> Result<(), AllocError>
 }
 
 /// A text behind a length in two bytes.
-pub fn push_txt(out: &mut Vec<u8>, text: &TxtPart<'_>) -> Result<(), AllocError>
-    requires { length (encode_utf8_all text.now) < 2 ^ 16 }
-    ensures { OnOk result (out.new.items ≡ out.old.items ++ spell.str text.now) }
+pub fn push_str(out: &mut Vec<u8>, text: &str) -> Result<(), AllocError>
+    requires { length text.now < 2 ^ 16 }
+    ensures { OnOk result (out.new.items ≡ out.old.items ++ spell.str (chars text.now)) }
 {
-    push_blob(out, text.as_str().as_bytes())
+    push_blob(out, text.as_bytes())
 }
 
-/// A name behind a length in two bytes.
-pub fn push_name(out: &mut Vec<u8>, name: &NamePart<'_>) -> Result<(), AllocError>
-    ensures { OnOk result (out.new.items ≡ out.old.items ++ spell.str name.now) }
+/// A text of at most 128 characters behind a length in two bytes.
+pub fn push_short(out: &mut Vec<u8>, text: &str) -> Result<(), AllocError>
+    requires { length (chars text.now) ≤ 128 }
+    ensures { OnOk result (out.new.items ≡ out.old.items ++ spell.str (chars text.now)) }
 {
-    push_blob(out, name.as_str().as_bytes())
-}
-
-/// An own name behind a length in two bytes.
-pub fn push_own_name(out: &mut Vec<u8>, name: &Name) -> Result<(), AllocError>
-    ensures { OnOk result (out.new.items ≡ out.old.items ++ spell.str name.now) }
-{
-    push_blob(out, name.as_str().as_bytes())
+    push_blob(out, text.as_bytes())
 }
 
 /// A statement's text, behind a length in four bytes.
-pub fn push_text(out: &mut Vec<u8>, text: &TxtPart<'_>) -> Result<(), AllocError>
-    requires { length (encode_utf8_all text.now) < 2 ^ 32 }
-    ensures { OnOk result (out.new.items ≡ out.old.items ++ spell.text text.now) }
+pub fn push_text(out: &mut Vec<u8>, text: &StatementPart<'_>) -> Result<(), AllocError>
+    ensures bytes { OnOk result (out.new.items ≡ out.old.items ++ spell.text text.now) }
+    ensures meets { OnOk result (IsStatement text.now) }
 {
     let bytes = text.as_str().as_bytes();
     out.extend_from_slice(&(bytes.len() as u32).to_be_bytes())?;
@@ -99,18 +96,19 @@ pub fn push_text(out: &mut Vec<u8>, text: &TxtPart<'_>) -> Result<(), AllocError
 
 /// A type.
 pub fn push_ty(out: &mut Vec<u8>, ty: Ty) -> Result<(), AllocError>
-    ensures { OnOk result (out.new.items ≡ out.old.items ++ spell.type ty) }
+    ensures bytes { OnOk result (out.new.items ≡ out.old.items ++ spell.type ty) }
+    ensures meets { OnOk result (IsType ty) }
 {
     match ty {
         Ty::Int => out.push(1)?,
         Ty::BigInt => out.push(2)?,
         Ty::NVarChar(most) => {
             out.push(3)?;
-            out.extend_from_slice(&most.to_be_bytes())?;
+            out.extend_from_slice(&most.number().to_be_bytes())?;
         }
         Ty::VarBinary(most) => {
             out.push(4)?;
-            out.extend_from_slice(&most.to_be_bytes())?;
+            out.extend_from_slice(&most.number().to_be_bytes())?;
         }
     }
     Ok(())
@@ -118,7 +116,8 @@ pub fn push_ty(out: &mut Vec<u8>, ty: Ty) -> Result<(), AllocError>
 
 /// How something is encrypted, and under which key.
 pub fn push_enc(out: &mut Vec<u8>, enc: Enc) -> Result<(), AllocError>
-    ensures { OnOk result (out.new.items ≡ out.old.items ++ spell.encryption enc) }
+    ensures bytes { OnOk result (out.new.items ≡ out.old.items ++ spell.encryption enc) }
+    ensures meets { OnOk result (IsEnc enc) }
 {
     match enc {
         Enc::Plain => out.push(0)?,
