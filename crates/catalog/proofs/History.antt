@@ -2,6 +2,7 @@
 use Rattle.std.proofs.Common.{◌≡◌, ◌<◌, ◌≤◌, ℕ, zero, suc, ◌+◌, List, [], ◌∷◌, ◌++◌, length, get_or, Bool, true, false, cond, ◌==◌, inl, inr, Option, Some, None, IsSome, Ok, Contains, refl, sym, ◌∙◌, ap, subst, arith, length-append, append_assoc}
 use Rattle.std.specs.List.{All, AllPairs, find, remove}
 use Rattle.std.specs.Option.{is_some, option_map, option_and_then}
+use Rattle.std.specs.Str.{bytes_eq}
 use Rattle.std.proofs.lemmas.Bool.{eqb-true}
 use Rattle.std.proofs.lemmas.Bool.Decides.{nat_tests}
 use Rattle.std.proofs.lemmas.List.Elements.{All-weaker, All-contains, All-contains_itself, Contains-append_left, Contains-append_right, Contains-append_cases}
@@ -159,6 +160,11 @@ not-reused old new id key w f lt e =
     ]
 
 -- ---- keys are told
+
+pub numbered-alike : (catalog : Catalog) (name : List ℕ) (key : ColumnKey) → IsCatalog catalog → key_named catalog name ≡ Some key → key_of catalog key.id ≡ Some key
+numbered-alike catalog name key w e =
+    let there = found (λ other. bytes_eq other.name name) catalog.keys key e in
+    unique catalog.keys there.there.0 key w.ids_ascend there.there.1 there.there.2
 
 mapped : {A B : Type 0} (f : A → B) (o : Option A) → IsSome o → IsSome (option_map f o)
 mapped f None h = cc

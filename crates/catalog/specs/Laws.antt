@@ -1,7 +1,7 @@
 -- Laws of definitions.
 use Rattle.std.specs.Prelude.{◌≡◌, ◌<◌, ◌+◌, ℕ, List, Some, Ok, IsSome}
 use Rattle.ae_base.specs.declared.tables.TableDef.{TableDef}
-use Rattle.catalog.specs.Catalogs.{Catalog, nothing_defined, master_named, key_of, key_meta, with_master, with_key, with_table, without_master, without_key, without_table}
+use Rattle.catalog.specs.Catalogs.{Catalog, nothing_defined, master_named, key_named, key_of, key_meta, with_master, with_key, with_table, without_master, without_key, without_table}
 use Rattle.catalog.specs.WellFormed.{IsCatalog, AreKeysThere, Follows}
 use Rattle.catalog.specs.declared.keys.ColumnKey.{ColumnKey}
 
@@ -38,3 +38,8 @@ IdsAreNotReused = (old new : Catalog) (id : ℕ) (key : ColumnKey) → IsCatalog
 -- a key that is there can be told
 abbrev pub KeysAreTold : Type 0
 KeysAreTold = (catalog : Catalog) (id : ℕ) → IsCatalog catalog → IsSome (key_of catalog id) → IsSome (key_meta catalog id)
+
+-- a key that is found by its name is found by its number
+abbrev pub NamedAreNumbered : Type 0
+NamedAreNumbered = (catalog : Catalog) (name : List ℕ) (key : ColumnKey) → IsCatalog catalog → key_named catalog name ≡ Some key
+    → key_of catalog key.id ≡ Some key

@@ -1,4 +1,4 @@
-ghost use Rattle.catalog.specs.Laws.{DefinitionsKeepCatalogs, DefinitionsAreFollowed, EachFollowsItself, FollowingIsTransitive, IdsAreNotReused, KeysAreTold};
+ghost use Rattle.catalog.specs.Laws.{DefinitionsKeepCatalogs, DefinitionsAreFollowed, EachFollowsItself, FollowingIsTransitive, IdsAreNotReused, KeysAreTold, NamedAreNumbered};
 
 /// Each definition keeps what a catalog is: that of a column key under a master key that is there,
 /// that of a table whose columns' keys are there, and any other.
@@ -20,7 +20,9 @@ pub fn ids_are_not_reused()
     ensures { IdsAreNotReused }
 {}
 
-/// A column key that is there has its master key there, so that a client can be told of it.
+/// A column key that is found by its name is found by its number, and has its master key there, so
+/// that a client can be told of it.
 pub fn keys_are_told()
-    ensures { KeysAreTold }
+    ensures numbered { NamedAreNumbered }
+    ensures told { KeysAreTold }
 {}
