@@ -1,0 +1,11 @@
+pub mod Agreement
+pub mod Conditions
+pub mod Counting
+pub mod Definitions
+pub mod Going
+pub mod Operands
+pub mod Pieces
+pub mod Sets
+pub mod Statements
+pub mod Whole
+pub mod Words
