@@ -1,8 +1,10 @@
 -- What a driver touches by itself, a source of random bytes and a vault, and what each has of a path.
-use Rattle.std.specs.Prelude.{◌≡◌, ℕ, ◌≤◌, List, [], ◌∷◌, ◌++◌, flat_map, Option, IfSome}
+use Rattle.std.specs.Prelude.{◌≡◌, ℕ, ◌≤◌, List, [], ◌∷◌, ◌++◌, flat_map, Option, IfSome, Result, Ok, Err}
 use Rattle.std.specs.Borrow.{GName}
-use Rattle.ae_edge.specs.Devices.{WhereTold}
+use Rattle.ae_edge.specs.Devices.{Rose, WhereTold}
 use Rattle.ae_edge.specs.Vaults.{KeyMap}
+use Rattle.conversation.specs.declared.faults.Halt.{Halt}
+use Rattle.conversation.specs.declared.faults.Halt.TheVariants as halt
 use Rattle.conversation.specs.Talk.{Talk, Ends, Stops, Asks, Hears, Draws, Opens, Prints}
 use Rattle.conversation.specs.Paths.{Event, Asked, Took, Strayed, Drew, Opened, Printed, Follows, drawn_in, OpensAll}
 
@@ -71,3 +73,30 @@ IsAtKey (Prints comes t) = ⊥
 -- anywhere on its way
 abbrev pub IsAnywhere : Talk → Type 0
 IsAnywhere t = Unit {0}
+
+-- each way to halt with its cause
+abbrev pub Fails : Halt → Talk → Devices → Devices → Type 0
+Fails halt.EntropyFault t old new = Halts IsAtDraw t old new × Rose old.entropy_faults new.entropy_faults
+Fails halt.VaultFault t old new = Halts IsAtKey t old new × Rose old.vault_faults new.vault_faults
+Fails halt.OutOfMemory t old new = Halts IsAnywhere t old new
+Fails halt.BadReply t old new = ⊥
+
+-- what a call does on the way from t: it goes on to what its result gives, or it halts
+abbrev pub Leads : {A : Type 0} → Result A Halt → Talk → (A → Talk) → Devices → Devices → Type 0
+Leads (Ok x) t onward old new = Goes t (onward x) old new
+Leads (Err h) t onward old new = Fails h t old new
+
+-- keys alone are opened: no random bytes fail
+abbrev pub IsOfKeys : Halt → Type 0
+IsOfKeys halt.VaultFault = Unit {0}
+IsOfKeys halt.OutOfMemory = Unit {0}
+IsOfKeys halt.EntropyFault = ⊥
+IsOfKeys halt.BadReply = ⊥
+
+abbrev pub KeyLeads : {A : Type 0} → Result A Halt → Talk → (A → Talk) → Devices → Devices → Type 0
+KeyLeads (Ok x) t onward old new = Goes t (onward x) old new
+KeyLeads (Err h) t onward old new = IsOfKeys h × Fails h t old new
+
+-- a vault beside a source of random bytes
+abbrev pub with_vault : Devices → Option KeyMap → ℕ → List GName → Devices
+with_vault beside keys faults names = record beside { keys = keys; vault_faults = faults; vault_names = names }

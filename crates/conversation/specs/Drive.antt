@@ -1,6 +1,7 @@
 -- A conversation over given replies, and over a server.
 use Rattle.std.specs.Prelude.{ℕ, suc, List, [], ◌∷◌, ◌++◌, map, flat_map, length, take, drop, Option, Some, None, Bool, true, false, nat_lt}
 use Rattle.ae_edge.specs.Vaults.{KeyMap}
+use Rattle.wire_messages.specs.Exchanges.{Exchange, Served}
 use Rattle.wire_messages.specs.declared.requests.Request.{Request}
 use Rattle.wire_messages.specs.declared.replies.Reply.{Reply}
 use Rattle.conversation.specs.declared.outcomes.Listing.{Listing}
@@ -80,14 +81,6 @@ drive keys (Opens meta f) taken entropy replies = drive keys (f (open_key keys m
 drive keys (Prints comes t) taken entropy replies = printed_first comes (drive keys t taken entropy replies)
 
 -- ---- over a server, which is a function of its state
-
-pub record Served (State : Type 0) : Type 0 where
-  pub replies : List Reply
-  pub after : State
-
-pub record Exchange : Type 0 where
-  pub request : Request
-  pub replies : List Reply
 
 -- what passed, what it came to, the random bytes that are left, the server's state and the end
 pub record Passed (State : Type 0) : Type 0 where

@@ -1,7 +1,6 @@
 -- One session of the driver: what it answers to each call, and what it holds after it.
 use Rattle.std.specs.Prelude.{ℕ, ◌+◌, ◌-◌, List, [], ◌∷◌, length, map, encode_utf8_all, slice_index_or, slice_set, replicate, Option, Some, None, Result, Ok, Err, nat_lt, ◌==◌, if◌then◌else◌}
 use Rattle.std.specs.Str.{bytes_eq}
-use Rattle.ae_base.specs.Batches.{first_unfit}
 use Rattle.ae_base.specs.declared.batches.Batch.{Batch}
 use Rattle.ae_base.specs.declared.batches.Param.{Param}
 use Rattle.ae_base.specs.declared.batches.KeyMeta.{KeyMeta}
@@ -26,11 +25,13 @@ use Rattle.conversation.specs.declared.answers.DescribeAnswer.{DescribeAnswer}
 use Rattle.conversation.specs.declared.answers.DescribeAnswer.TheVariants.{Ready, Refused}
 use Rattle.conversation.specs.declared.answers.ReplyAnswer.{ReplyAnswer}
 use Rattle.conversation.specs.declared.answers.ReplyAnswer.TheVariants as answer
-use Rattle.conversation.specs.declared.sessions.Use.{Use}
+use Rattle.conversation.specs.declared.sessions.Turn.{Turn}
 use Rattle.conversation.specs.declared.sessions.ColumnType.{ColumnType}
 use Rattle.conversation.specs.declared.sessions.Session.{Session}
 use Rattle.conversation.specs.declared.sessions.Session.TheVariants.{Idle, Begun, Pending, Sent, Reading, Skipping}
+use Rattle.conversation.specs.Batches.{fitted}
 use Rattle.conversation.specs.Keys.{meta_of}
+use Rattle.conversation.specs.Pending.{Use, uses_in}
 use Rattle.conversation.specs.Cells.{is_row_of, read_atoms}
 
 -- ---- the sessions of a client, numbered from 1 to 64
@@ -44,23 +45,15 @@ session_at sessions number = slice_index_or sessions (number - 1) Idle
 abbrev pub with_session : List Session → ℕ → Session → List Session
 with_session sessions number session = slice_set sessions (number - 1) session
 
--- an answer, and the session after it
-pub record Turn (A : Type 0) : Type 0 where
-  pub answer : A
-  pub after : Session
-
 -- ---- a batch is begun
 
-abbrev pub begin_fit : ℕ → Batch → Option (List ℕ) → Turn (Result Request DriverFault)
-begin_fit number batch (Some name) = record { answer = Err (fault.DoesNotFit name); after = Idle }
-begin_fit number batch None =
-    if nat_lt 65536 (length (encode_utf8_all batch.text))
-    then record { answer = Err fault.TooLong; after = Idle }
-    else record { answer = Ok (Describe number batch.text (map (λ p. p.declaration) batch.params)); after = Begun batch }
+abbrev pub begun : ℕ → Result Batch DriverFault → Turn (Result Request DriverFault)
+begun number (Ok batch) = record { answer = Ok (Describe number batch.text (map (λ p. p.declaration) batch.params)); after = Begun batch }
+begun number (Err f) = record { answer = Err f; after = Idle }
 
 -- a session has one batch; its values fit their types; its text has at most 65,536 bytes
 abbrev pub begin : Session → ℕ → Batch → Turn (Result Request DriverFault)
-begin Idle number batch = begin_fit number batch (first_unfit batch.params)
+begin Idle number batch = begun number (fitted batch)
 begin (Begun other) number batch = record { answer = Err fault.StillPending; after = Begun other }
 begin (Pending pending) number batch = record { answer = Err fault.StillPending; after = Pending pending }
 begin Sent number batch = record { answer = Err fault.StillPending; after = Sent }
@@ -69,18 +62,19 @@ begin (Skipping columns count) number batch = record { answer = Err fault.StillP
 
 -- ---- the answer to its description
 
-abbrev pub one_more : Use → Option (List Use) → Option (List Use)
-one_more u (Some us) = Some (u ∷ us)
-one_more u None = None
+abbrev pub with_enc : Option Enc → Option (List (Option Enc)) → Option (List (Option Enc))
+with_enc enc (Some encs) = Some (enc ∷ encs)
+with_enc enc None = None
 
--- the parameters that are used, where their names are declared ones in the order of declaration
-abbrev pub uses_of : List Param → List UsedParam → Option (List Use)
-uses_of params [] = Some []
-uses_of [] (used ∷ more) = None
-uses_of (param ∷ params) (used ∷ more) =
+-- how each declared parameter is to be encrypted, where it is used; none where the used ones aren't declared ones in the order of declaration
+abbrev pub encs_of : List Param → List UsedParam → Option (List (Option Enc))
+encs_of [] [] = Some []
+encs_of [] (used ∷ more) = None
+encs_of (param ∷ params) [] = with_enc None (encs_of params [])
+encs_of (param ∷ params) (used ∷ more) =
     if bytes_eq used.name param.declaration.name
-    then one_more (record { param = param; enc = used.enc }) (uses_of params more)
-    else uses_of params (used ∷ more)
+    then with_enc (Some used.enc) (encs_of params more)
+    else with_enc None (encs_of params (used ∷ more))
 
 -- the encryption with the name of its key
 abbrev pub named_enc : List KeyMeta → Enc → NamedEnc
@@ -91,16 +85,16 @@ named_enc keys (enc.Rnd key) = named.Rnd (meta_of keys key).name
 abbrev pub described_params : List KeyMeta → List Use → List DescribedParam
 described_params keys uses = map (λ u. record { name = u.param.declaration.name; enc = named_enc keys u.enc }) uses
 
-abbrev pub described_as : Batch → Description → Option (List Use) → Option (Turn DescribeAnswer)
-described_as batch description (Some uses) = Some (record {
-  answer = Ready (described_params description.keys uses);
-  after = Pending (record { text = batch.text; version = description.version; keys = description.keys; uses = uses });
+abbrev pub described_as : Batch → Description → Option (List (Option Enc)) → Option (Turn DescribeAnswer)
+described_as batch description (Some encs) = Some (record {
+  answer = Ready (described_params description.keys (uses_in batch.params encs));
+  after = Pending (record { batch = batch; version = description.version; keys = description.keys; encs = encs });
 })
 described_as batch description None = None
 
 -- after Describe a Refused is awaited, or a Described of declared parameters; None stands for a reply that isn't, which leaves the session
 abbrev pub described : Session → Reply → Option (Turn DescribeAnswer)
-described (Begun batch) (reply.Described description) = described_as batch description (uses_of batch.params description.params)
+described (Begun batch) (reply.Described description) = described_as batch description (encs_of batch.params description.params)
 described (Begun batch) (reply.Refused f) = Some (record { answer = Refused f; after = Idle })
 described (Begun batch) (reply.Columns header) = None
 described (Begun batch) (reply.Row atoms) = None

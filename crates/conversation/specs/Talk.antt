@@ -15,7 +15,8 @@ use Rattle.conversation.specs.declared.answers.DescribeAnswer.TheVariants as des
 use Rattle.conversation.specs.declared.answers.ReplyAnswer.TheVariants as answer
 use Rattle.conversation.specs.declared.sessions.Session.{Session}
 use Rattle.conversation.specs.declared.sessions.Session.TheVariants.{Idle, Begun, Pending, Sent, Reading, Skipping}
-use Rattle.conversation.specs.Sessions.{Turn, described, Told, Tells, Shows, Stray, replied}
+use Rattle.conversation.specs.declared.sessions.Turn.{Turn}
+use Rattle.conversation.specs.Sessions.{described, Told, Tells, Shows, Stray, replied}
 
 -- what was heard: it may come to an outcome, and leaves the session so; or columns came
 pub data Heard : Type 0 where

@@ -1,5 +1,5 @@
 -- The turns of a session: a whole batch, half a batch, and the execution of what is pending.
-use Rattle.std.specs.Prelude.{ℕ, List, [], ◌∷◌, Option, Some, None, Result, Ok, Err}
+use Rattle.std.specs.Prelude.{ℕ, List, [], ◌∷◌, map, Option, Some, None, Result, Ok, Err}
 use Rattle.ae_base.specs.Atoms.{plain_atom}
 use Rattle.ae_base.specs.declared.atoms.AtomOf.{AtomOf}
 use Rattle.ae_base.specs.declared.atoms.AtomOf.TheVariants as atom
@@ -15,53 +15,54 @@ use Rattle.wire_messages.specs.Messages.{Header}
 use Rattle.wire_messages.specs.declared.params.SentParam.{SentParam}
 use Rattle.wire_messages.specs.declared.requests.Request.{Request}
 use Rattle.wire_messages.specs.declared.requests.Request.TheVariants.{Execute}
+use Rattle.conversation.specs.declared.answers.ReplyAnswer.{ReplyAnswer}
+use Rattle.conversation.specs.declared.answers.ReplyAnswer.TheVariants as answer
 use Rattle.conversation.specs.declared.faults.DriverFault.{DriverFault}
 use Rattle.conversation.specs.declared.faults.DriverFault.TheVariants.{NothingPending}
+use Rattle.conversation.specs.declared.outcomes.Outcome.{Outcome}
 use Rattle.conversation.specs.declared.outcomes.Outcome.TheVariants.{Failed, Described}
 use Rattle.conversation.specs.declared.sessions.ColumnType.{ColumnType}
-use Rattle.conversation.specs.declared.sessions.Use.{Use}
 use Rattle.conversation.specs.declared.sessions.Session.{Session}
 use Rattle.conversation.specs.declared.sessions.Session.TheVariants as session
 use Rattle.conversation.specs.Cells.{det_atom, rnd_atom}
 use Rattle.conversation.specs.Keys.{meta_of}
-use Rattle.conversation.specs.Pending.{Pending}
+use Rattle.conversation.specs.Pending.{Pending, Use, uses_of}
 use Rattle.conversation.specs.Sessions.{begin, described_params, titles_of, types_of}
 use Rattle.conversation.specs.Talk.{Talk, Asks, Hears, Draws, Opens, Prints, Heard, Said, Shown, printing, nothing_shown}
 
--- ---- keys of columns
+-- it goes on with a value, or with a fault
+abbrev pub on : {A E : Type 0} → (A → Talk) → (E → Talk) → Result A E → Talk
+on k fails (Ok x) = k x
+on k fails (Err e) = fails e
 
-abbrev pub with_key : (Option Keys → Talk) → (DriverFault → Talk) → Result Keys DriverFault → Talk
-with_key k fails (Ok keys) = k (Some keys)
-with_key k fails (Err f) = fails f
+-- each in turn; the first that fails ends it
+abbrev pub each_on : {A B E : Type 0} → (A → (B → Talk) → (E → Talk) → Talk) → List A → (List B → Talk) → (E → Talk) → Talk
+each_on one [] k fails = k []
+each_on one (x ∷ xs) k fails = one x (λ y. each_on one xs (λ ys. k (y ∷ ys)) fails) fails
+
+-- ---- keys of columns
 
 abbrev pub opening_one : List KeyMeta → Enc → (Option Keys → Talk) → (DriverFault → Talk) → Talk
 opening_one metas enc.Plain k fails = k None
-opening_one metas (enc.Det key) k fails = Opens (meta_of metas key) (with_key k fails)
-opening_one metas (enc.Rnd key) k fails = Opens (meta_of metas key) (with_key k fails)
+opening_one metas (enc.Det key) k fails = Opens (meta_of metas key) (on (λ keys. k (Some keys)) fails)
+opening_one metas (enc.Rnd key) k fails = Opens (meta_of metas key) (on (λ keys. k (Some keys)) fails)
 
 -- the keys of the encrypted columns are opened, from left to right
 abbrev pub opening : List KeyMeta → List ColumnType → (List (Option Keys) → Talk) → (DriverFault → Talk) → Talk
-opening metas [] k fails = k []
-opening metas (column ∷ columns) k fails =
-    opening_one metas column.enc (λ key. opening metas columns (λ keys. k (key ∷ keys)) fails) fails
+opening metas columns k fails = each_on (λ column. opening_one metas column.enc) columns k fails
 
 -- ---- the atoms of parameters
 
+-- 16 bytes are drawn where the value isn't NULL
+abbrev pub drawing : Keys → Ty → Value → (AtomOf (List ℕ) → Talk) → Talk
+drawing keys ty value.Null k = k atom.Null
+drawing keys ty (value.Is datum) k = Draws (λ iv. k (rnd_atom keys ty datum iv))
+
 -- the key is opened, also for NULL
-abbrev pub with_det : Ty → Value → (AtomOf (List ℕ) → Talk) → (DriverFault → Talk) → Result Keys DriverFault → Talk
-with_det ty v k fails (Ok keys) = k (det_atom keys ty v)
-with_det ty v k fails (Err f) = fails f
-
--- and 16 bytes are drawn where it isn't NULL
-abbrev pub with_rnd : Ty → Value → (AtomOf (List ℕ) → Talk) → (DriverFault → Talk) → Result Keys DriverFault → Talk
-with_rnd ty value.Null k fails (Ok keys) = k atom.Null
-with_rnd ty (value.Is datum) k fails (Ok keys) = Draws (λ iv. k (rnd_atom keys ty datum iv))
-with_rnd ty v k fails (Err f) = fails f
-
 abbrev pub sealing_value : List KeyMeta → Enc → Ty → Value → (AtomOf (List ℕ) → Talk) → (DriverFault → Talk) → Talk
 sealing_value metas enc.Plain ty v k fails = k (plain_atom v)
-sealing_value metas (enc.Det key) ty v k fails = Opens (meta_of metas key) (with_det ty v k fails)
-sealing_value metas (enc.Rnd key) ty v k fails = Opens (meta_of metas key) (with_rnd ty v k fails)
+sealing_value metas (enc.Det key) ty v k fails = Opens (meta_of metas key) (on (λ keys. k (det_atom keys ty v)) fails)
+sealing_value metas (enc.Rnd key) ty v k fails = Opens (meta_of metas key) (on (λ keys. drawing keys ty v k) fails)
 
 abbrev pub sent_param : Use → AtomOf (List ℕ) → SentParam
 sent_param u a = record { name = u.param.declaration.name; ty = u.param.declaration.ty; enc = u.enc; atom = a }
@@ -71,13 +72,12 @@ sealing_one metas u k fails = sealing_value metas u.enc u.param.declaration.ty u
 
 -- the parameters are sealed in the order of their declarations
 abbrev pub sealing : List KeyMeta → List Use → (List SentParam → Talk) → (DriverFault → Talk) → Talk
-sealing metas [] k fails = k []
-sealing metas (u ∷ us) k fails = sealing_one metas u (λ p. sealing metas us (λ ps. k (p ∷ ps)) fails) fails
+sealing metas uses k fails = each_on (sealing_one metas) uses k fails
 
 -- what is pending is executed: its parameters are sealed and it is sent; where a key can't be opened the batch is gone
 abbrev pub execute : ℕ → Session → (Result Request DriverFault → Session → Talk) → Talk
 execute number (session.Pending p) k =
-    sealing p.keys p.uses (λ params. k (Ok (Execute number p.version p.text params)) session.Sent) (λ f. k (Err f) session.Idle)
+    sealing p.keys (uses_of p) (λ params. k (Ok (Execute number p.version p.batch.text params)) session.Sent) (λ f. k (Err f) session.Idle)
 execute number session.Idle k = k (Err NothingPending) session.Idle
 execute number (session.Begun batch) k = k (Err NothingPending) (session.Begun batch)
 execute number session.Sent k = k (Err NothingPending) session.Sent
@@ -127,7 +127,7 @@ abbrev pub rows_on : (Session → Talk) → Heard → Talk
 rows_on k (Said comes after) = printing comes (rested k after)
 rows_on k (Shown header) = k session.Idle
 
--- the keys of the columns are opened, and the rows read; or the rows are skipped
+-- the keys of the columns are opened, and the rows read; or the fault is printed, and the rows are skipped
 abbrev pub reading : Header → (Session → Talk) → Talk
 reading header k =
     opening header.keys (types_of header)
@@ -151,4 +151,4 @@ whole number batch before k = describing number batch before (λ p. executing nu
 -- half a batch is described
 abbrev pub half : ℕ → Batch → Session → (Session → Talk) → Talk
 half number batch before k =
-    describing number batch before (λ p. Prints (Described (described_params p.keys p.uses)) (k (session.Pending p))) k
+    describing number batch before (λ p. Prints (Described (described_params p.keys (uses_of p))) (k (session.Pending p))) k

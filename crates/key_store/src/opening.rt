@@ -13,6 +13,7 @@ use aes_block::Aes256;
 pub(crate) fn open<V: Vault>(vault: &mut V, meta: &KeyMeta) -> Result<[u8; 32], OpenFault>
     ensures opens { IfSome (V.keys vault.old) (λ map. Opens result (column_key map meta.now)) }
     ensures unchanged { V.keys vault.new ≡ V.keys vault.old }
+    ensures same { V.names vault.new ≡ V.names vault.old }
     ensures count { V.faults vault.old ≤ V.faults vault.new }
     ensures failed { result ≡ Err OpenFault.VaultFault → Rose (V.faults vault.old) (V.faults vault.new) }
 {

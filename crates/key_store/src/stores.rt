@@ -66,6 +66,7 @@ impl KeyStore {
         ensures opens { IfSome (V.keys vault.old) (λ map. Opens result (open_key map meta.now)) }
         ensures of_vault { IsOf (V.keys vault.new) self.new }
         ensures unchanged { V.keys vault.new ≡ V.keys vault.old }
+        ensures same { V.names vault.new ≡ V.names vault.old }
         ensures count { V.faults vault.old ≤ V.faults vault.new }
         ensures failed { result ≡ Err OpenFault.VaultFault → Rose (V.faults vault.old) (V.faults vault.new) }
     {
