@@ -1,4 +1,3 @@
 pub mod Describing
-pub mod Exchanges
 pub mod Params
 pub mod Serve

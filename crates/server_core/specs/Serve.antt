@@ -16,6 +16,7 @@ use Rattle.wire_messages.specs.declared.replies.Reply.{Reply}
 use Rattle.wire_messages.specs.declared.replies.Reply.TheVariants.{Described, Columns, Row, Ended, Refused}
 use Rattle.wire_messages.specs.declared.requests.Request.{Request}
 use Rattle.wire_messages.specs.declared.requests.Request.TheVariants.{Describe, Execute}
+use Rattle.wire_messages.specs.Exchanges.{Served}
 use Rattle.wire_messages.specs.Messages.{Description, Header}
 use Rattle.server_core.specs.Describing.{Meant, understood, describe, keys_of}
 use Rattle.server_core.specs.Params.{declaration_of, suited}
@@ -27,13 +28,8 @@ State = World
 abbrev pub empty_state : State
 empty_state = empty_world
 
--- the replies to a request, and the state after it
-pub record Served : Type 0 where
-  pub replies : List Reply
-  pub state : State
-
-abbrev pub refused : State → SqlFault → Served
-refused state f = record { replies = Refused f ∷ []; state = state }
+abbrev pub refused : State → SqlFault → Served State
+refused state f = record { replies = Refused f ∷ []; after = state }
 
 -- ---- answers
 
@@ -49,14 +45,14 @@ replies_of catalog (engine.Rows columns rows) = Columns (header catalog columns)
 replies_of catalog (engine.Changed count) = Ended (Changed count) ∷ []
 replies_of catalog engine.Defined = Ended Defined ∷ []
 
-abbrev pub answered : State → State → Result Answer SqlFault → Served
-answered old new (Ok answer) = record { replies = replies_of old.catalog answer; state = new }
+abbrev pub answered : State → State → Result Answer SqlFault → Served State
+answered old new (Ok answer) = record { replies = replies_of old.catalog answer; after = new }
 answered old new (Err f) = refused old f
 
 -- ---- requests
 
-abbrev pub described : State → Result Description SqlFault → Served
-described state (Ok description) = record { replies = Described description ∷ []; state = state }
+abbrev pub described : State → Result Description SqlFault → Served State
+described state (Ok description) = record { replies = Described description ∷ []; after = state }
 described state (Err f) = refused state f
 
 -- Moved where the versions differ, then the faults of the text, then those of the parameters
@@ -67,11 +63,11 @@ prepared catalog version text params =
     Ok (meant, atoms)
 
 -- then those of the statement
-abbrev pub executed : State → Result (Meant × List Atom) SqlFault → Served
+abbrev pub executed : State → Result (Meant × List Atom) SqlFault → Served State
 executed state (Ok ready) = let done = step state ready.0.bound ready.0.encs ready.1 in answered state done.world done.answer
 executed state (Err f) = refused state f
 
-abbrev pub serve : State → Request → Served
+abbrev pub serve : State → Request → Served State
 serve state (Describe session text declarations) = described state (describe state.catalog text declarations)
 serve state (Execute session version text params) = executed state (prepared state.catalog version text params)
 
@@ -80,5 +76,5 @@ abbrev pub serve_all : State → List Request → List Reply × State
 serve_all state [] = ([], state)
 serve_all state (request ∷ requests) =
     let first = serve state request in
-    let rest = serve_all first.state requests in
+    let rest = serve_all first.after requests in
     (first.replies ++ rest.0, rest.1)
