@@ -8,8 +8,8 @@ use Rattle.sql_grammar.specs.Readers.{Reading, Terminal}
 use Rattle.sql_grammar.specs.Readers as terminal
 use Rattle.sql_grammar.specs.Spelling.{Spelling, Both, Made, Either}
 use Rattle.sql_grammar.specs.Making as make
-use Rattle.sql_grammar.specs.Grammar.{Word, Sign, Reads, Name, Text, IsText, SpellsType, SpellsMasterSetting, SpellsKeySetting, SpellsKind, SpellsEncryption, SpellsNullity, SpellsColumn, SpellsUnique, SpellsParts, SpellsCreateTable, SpellsCreateMaster, SpellsCreateKey, SpellsCreate, SpellsDrop}
-use Rattle.sql_grammar.specs.Parse.{type, master_setting, key_setting, encryption_kind, encryption, nullity, column, unique, table_parts, create_table, create_master, create_key, create, drop, next_reads}
+use Rattle.sql_grammar.specs.Grammar.{Word, Sign, Reads, Name, Text, IsText, SpellsType, SpellsMasterSetting, SpellsKeySetting, SpellsKind, SpellsColumnSetting, SpellsWrappedSetting, SpellsPart, SpellsDropColumn, SpellsEncryption, SpellsNullity, SpellsColumn, SpellsUnique, SpellsParts, SpellsCreateTable, SpellsCreateMaster, SpellsCreateKey, SpellsCreate, SpellsDrop}
+use Rattle.sql_grammar.specs.Parse.{type, master_setting, key_setting, encryption_kind, column_setting, wrapped_setting, table_part, drop_column, encryption, nullity, column, unique, table_parts, create_table, create_master, create_key, create, drop, next_reads}
 use Rattle.sql_grammar.proofs.Sets.{disjoint, subset, narrower}
 use Rattle.sql_grammar.proofs.Agreement.{Agrees, Tells, both_agrees, made_agrees, choice_agrees, choice_by_agrees, optional_agrees, wider}
 use Rattle.sql_grammar.proofs.Pieces.{word_agrees, sign_agrees, reads_agrees, name_agrees, placed_name_agrees, number_agrees, text_agrees, is_text_agrees, binary_agrees, in_parens_agrees, listed_agrees}
@@ -56,8 +56,11 @@ key_setting_agrees {S = S} key algorithm value p d n e f = wider (terminal.Ident
 pub encryption_kind_agrees : Agrees (terminal.Ident ∷ []) false [] encryption_kind SpellsKind
 encryption_kind_agrees = wider (terminal.Ident ∷ []) [] (made_agrees make.kind_of name_agrees) refl refl
 
+pub column_setting_agrees : Agrees (terminal.Ident ∷ []) false [] column_setting SpellsColumnSetting
+column_setting_agrees = wider (terminal.Ident ∷ []) [] (key_setting_agrees (codes "COLUMN_ENCRYPTION_KEY") (codes "AEAD_AES_256_CBC_HMAC_SHA256") (codes "ENCRYPTION_TYPE") encryption_kind_agrees refl refl refl refl) refl refl
+
 pub encryption_agrees : Agrees (terminal.Ident ∷ []) false [] encryption SpellsEncryption
-encryption_agrees = wider (terminal.Ident ∷ []) [] (made_agrees make.encryption (made_agrees make.key_in (made_agrees make.behind (both_agrees (reads_agrees (codes "ENCRYPTED")) (made_agrees make.behind (both_agrees (word_agrees keyword.With) (in_parens_agrees (listed_agrees (key_setting_agrees (codes "COLUMN_ENCRYPTION_KEY") (codes "AEAD_AES_256_CBC_HMAC_SHA256") (codes "ENCRYPTION_TYPE") encryption_kind_agrees refl refl refl refl) refl refl) refl refl) refl)) refl)))) refl refl
+encryption_agrees = wider (terminal.Ident ∷ []) [] (made_agrees make.encryption (made_agrees make.key_in (made_agrees make.behind (both_agrees (reads_agrees (codes "ENCRYPTED")) (made_agrees make.behind (both_agrees (word_agrees keyword.With) (in_parens_agrees (listed_agrees column_setting_agrees refl refl) refl refl) refl)) refl)))) refl refl
 
 pub nullity_agrees : Agrees (terminal.Word keyword.Null ∷ terminal.Word keyword.Not ∷ []) false [] nullity SpellsNullity
 nullity_agrees = wider (terminal.Word keyword.Null ∷ terminal.Word keyword.Not ∷ []) [] (choice_agrees (terminal.Word keyword.Null ∷ []) (made_agrees make.nullable (word_agrees keyword.Null)) (made_agrees make.not_nullable (both_agrees (word_agrees keyword.Not) (word_agrees keyword.Null) refl)) refl refl) refl refl
@@ -68,8 +71,11 @@ column_agrees = wider (terminal.Ident ∷ []) (terminal.Sign symbol.Open ∷ ter
 pub unique_agrees : Agrees (terminal.Word keyword.Unique ∷ []) false [] unique SpellsUnique
 unique_agrees = wider (terminal.Word keyword.Unique ∷ []) [] (made_agrees make.unique_of (made_agrees make.behind (both_agrees (word_agrees keyword.Unique) (in_parens_agrees (listed_agrees placed_name_agrees refl refl) refl refl) refl))) refl refl
 
+pub table_part_agrees : Agrees (terminal.Word keyword.Unique ∷ terminal.Ident ∷ []) false (terminal.Sign symbol.Open ∷ terminal.Word keyword.Collate ∷ terminal.Ident ∷ terminal.Word keyword.Null ∷ terminal.Word keyword.Not ∷ terminal.Word keyword.Unique ∷ []) table_part SpellsPart
+table_part_agrees = wider (terminal.Word keyword.Unique ∷ terminal.Ident ∷ []) (terminal.Sign symbol.Open ∷ terminal.Word keyword.Collate ∷ terminal.Ident ∷ terminal.Word keyword.Null ∷ terminal.Word keyword.Not ∷ terminal.Word keyword.Unique ∷ []) (choice_agrees (terminal.Word keyword.Unique ∷ []) (made_agrees make.unique_part unique_agrees) (made_agrees make.column_part column_agrees) refl refl) refl refl
+
 pub table_parts_agrees : Agrees (terminal.Word keyword.Unique ∷ terminal.Ident ∷ []) false (terminal.Sign symbol.Open ∷ terminal.Word keyword.Collate ∷ terminal.Ident ∷ terminal.Word keyword.Null ∷ terminal.Word keyword.Not ∷ terminal.Word keyword.Unique ∷ terminal.Sign symbol.Comma ∷ []) table_parts SpellsParts
-table_parts_agrees = wider (terminal.Word keyword.Unique ∷ terminal.Ident ∷ []) (terminal.Sign symbol.Open ∷ terminal.Word keyword.Collate ∷ terminal.Ident ∷ terminal.Word keyword.Null ∷ terminal.Word keyword.Not ∷ terminal.Word keyword.Unique ∷ terminal.Sign symbol.Comma ∷ []) (made_agrees make.table_of (listed_agrees (choice_agrees (terminal.Word keyword.Unique ∷ []) (made_agrees make.unique_part unique_agrees) (made_agrees make.column_part column_agrees) refl refl) refl refl)) refl refl
+table_parts_agrees = wider (terminal.Word keyword.Unique ∷ terminal.Ident ∷ []) (terminal.Sign symbol.Open ∷ terminal.Word keyword.Collate ∷ terminal.Ident ∷ terminal.Word keyword.Null ∷ terminal.Word keyword.Not ∷ terminal.Word keyword.Unique ∷ terminal.Sign symbol.Comma ∷ []) (made_agrees make.table_of (listed_agrees table_part_agrees refl refl)) refl refl
 
 pub create_table_agrees : Agrees (terminal.Word keyword.Table ∷ []) false [] create_table SpellsCreateTable
 create_table_agrees = wider (terminal.Word keyword.Table ∷ []) [] (made_agrees make.create_table (made_agrees make.behind (both_agrees (word_agrees keyword.Table) (both_agrees name_agrees (in_parens_agrees table_parts_agrees refl refl) refl) refl))) refl refl
@@ -77,8 +83,11 @@ create_table_agrees = wider (terminal.Word keyword.Table ∷ []) [] (made_agrees
 pub create_master_agrees : Agrees (terminal.Ident ∷ []) false [] create_master SpellsCreateMaster
 create_master_agrees = wider (terminal.Ident ∷ []) [] (made_agrees make.create_master (made_agrees make.behind (both_agrees (reads_agrees (codes "MASTER")) (made_agrees make.behind (both_agrees (word_agrees keyword.Key) (both_agrees name_agrees (made_agrees make.behind (both_agrees (word_agrees keyword.With) (made_agrees make.path_in (in_parens_agrees (listed_agrees master_setting_agrees refl refl) refl refl)) refl)) refl) refl)) refl))) refl refl
 
+pub wrapped_setting_agrees : Agrees (terminal.Ident ∷ []) false [] wrapped_setting SpellsWrappedSetting
+wrapped_setting_agrees = wider (terminal.Ident ∷ []) [] (key_setting_agrees (codes "COLUMN_MASTER_KEY") (codes "AES_256_KW") (codes "ENCRYPTED_VALUE") binary_agrees refl refl refl refl) refl refl
+
 pub create_key_agrees : Agrees (terminal.Ident ∷ []) false [] create_key SpellsCreateKey
-create_key_agrees = wider (terminal.Ident ∷ []) [] (made_agrees make.create_key (made_agrees make.behind (both_agrees (reads_agrees (codes "ENCRYPTION")) (made_agrees make.behind (both_agrees (word_agrees keyword.Key) (both_agrees name_agrees (made_agrees make.behind (both_agrees (word_agrees keyword.With) (made_agrees make.behind (both_agrees (word_agrees keyword.Values) (made_agrees make.key_in (in_parens_agrees (listed_agrees (key_setting_agrees (codes "COLUMN_MASTER_KEY") (codes "AES_256_KW") (codes "ENCRYPTED_VALUE") binary_agrees refl refl refl refl) refl refl) refl refl)) refl)) refl)) refl) refl)) refl))) refl refl
+create_key_agrees = wider (terminal.Ident ∷ []) [] (made_agrees make.create_key (made_agrees make.behind (both_agrees (reads_agrees (codes "ENCRYPTION")) (made_agrees make.behind (both_agrees (word_agrees keyword.Key) (both_agrees name_agrees (made_agrees make.behind (both_agrees (word_agrees keyword.With) (made_agrees make.behind (both_agrees (word_agrees keyword.Values) (made_agrees make.key_in (in_parens_agrees (listed_agrees wrapped_setting_agrees refl refl) refl refl)) refl)) refl)) refl) refl)) refl))) refl refl
 
 create_tells : Tells (next_reads (codes "MASTER")) [] SpellsCreateMaster SpellsCreateKey
 create_tells = word_tells (codes "MASTER") (codes "ENCRYPTION" ∷ []) _ _ (λ x front k. reads_front (codes "MASTER") k.2.0.0 front k.2.2.0 k.2.2.1 k.2.2.3 k.2.2.2) (λ x front k. reads_front (codes "ENCRYPTION") k.2.0.0 front k.2.2.0 k.2.2.1 k.2.2.3 k.2.2.2) refl
@@ -90,5 +99,8 @@ drop_tells : Tells (next_reads (codes "MASTER")) [] (Made make.drop_master (Made
     (Made make.drop_key (Made make.behind (Both (Reads (codes "ENCRYPTION")) (Made make.behind (Both (Word keyword.Key) Name)))))
 drop_tells = word_tells (codes "MASTER") (codes "ENCRYPTION" ∷ []) _ _ (λ x front k. reads_front (codes "MASTER") k.2.0.0 front k.2.2.0 k.2.2.1 k.2.2.3 k.2.2.2) (λ x front k. reads_front (codes "ENCRYPTION") k.2.0.0 front k.2.2.0 k.2.2.1 k.2.2.3 k.2.2.2) refl
 
+pub drop_column_agrees : Agrees (terminal.Word keyword.Column ∷ []) false [] drop_column SpellsDropColumn
+drop_column_agrees = wider (terminal.Word keyword.Column ∷ []) [] (made_agrees make.behind (both_agrees (word_agrees keyword.Column) (choice_by_agrees (next_reads (codes "MASTER")) [] (made_agrees make.drop_master (made_agrees make.behind (both_agrees (reads_agrees (codes "MASTER")) (made_agrees make.behind (both_agrees (word_agrees keyword.Key) name_agrees refl)) refl))) (made_agrees make.drop_key (made_agrees make.behind (both_agrees (reads_agrees (codes "ENCRYPTION")) (made_agrees make.behind (both_agrees (word_agrees keyword.Key) name_agrees refl)) refl))) drop_tells) refl)) refl refl
+
 pub drop_agrees : Agrees (terminal.Word keyword.Drop ∷ []) false [] drop SpellsDrop
-drop_agrees = wider (terminal.Word keyword.Drop ∷ []) [] (made_agrees make.behind (both_agrees (word_agrees keyword.Drop) (choice_agrees (terminal.Word keyword.Table ∷ []) (made_agrees make.drop_table (made_agrees make.behind (both_agrees (word_agrees keyword.Table) name_agrees refl))) (made_agrees make.behind (both_agrees (word_agrees keyword.Column) (choice_by_agrees (next_reads (codes "MASTER")) [] (made_agrees make.drop_master (made_agrees make.behind (both_agrees (reads_agrees (codes "MASTER")) (made_agrees make.behind (both_agrees (word_agrees keyword.Key) name_agrees refl)) refl))) (made_agrees make.drop_key (made_agrees make.behind (both_agrees (reads_agrees (codes "ENCRYPTION")) (made_agrees make.behind (both_agrees (word_agrees keyword.Key) name_agrees refl)) refl))) drop_tells) refl)) refl refl) refl)) refl refl
+drop_agrees = wider (terminal.Word keyword.Drop ∷ []) [] (made_agrees make.behind (both_agrees (word_agrees keyword.Drop) (choice_agrees (terminal.Word keyword.Table ∷ []) (made_agrees make.drop_table (made_agrees make.behind (both_agrees (word_agrees keyword.Table) name_agrees refl))) drop_column_agrees refl refl) refl)) refl refl

@@ -1,4 +1,5 @@
 pub mod Agreement
+pub mod Chosen
 pub mod Conditions
 pub mod Counting
 pub mod Definitions

@@ -7,19 +7,25 @@ use Rattle.sql_grammar.specs.Readers.{Reading}
 use Rattle.sql_grammar.specs.Readers as terminal
 use Rattle.sql_grammar.specs.Spelling.{Spelling}
 use Rattle.sql_grammar.specs.Making as make
-use Rattle.sql_grammar.specs.Grammar.{Nowhere, SpellsColumnRef, SpellsPrimary, SpellsTerm, SpellsSigned, SpellsSum, SpellsOperandIn, SpellsOperand, SpellsNullTest, SpellsInTest, SpellsComparison, SpellsTest}
-use Rattle.sql_grammar.specs.Parse.{nowhere, column_ref, primary, term, signed, sum, operand_in, operand, null_test, in_test, compared, test}
+use Rattle.sql_grammar.specs.Grammar.{Nowhere, SpellsColumnRef, SpellsColumnOrLeaf, SpellsPrimary, SpellsMinus, SpellsTerm, SpellsSigned, SpellsSum, SpellsOperandIn, SpellsOperand, SpellsNullTest, SpellsInTest, SpellsComparison, SpellsTest}
+use Rattle.sql_grammar.specs.Parse.{nowhere, column_ref, column_or_leaf, primary, minus_term, term, signed, sum, operand_in, operand, null_test, in_test, compared, test}
 use Rattle.sql_grammar.proofs.Agreement.{Agrees, both_agrees, made_agrees, choice_agrees, optional_agrees, many_agrees, wider}
 use Rattle.sql_grammar.proofs.Pieces.{word_agrees, sign_agrees, name_agrees, placed_name_agrees, leaf_agrees, sign_in_agrees, comparison_agrees, in_parens_agrees, listed_agrees}
 
 pub column_ref_agrees : Agrees (terminal.Ident ∷ []) false (terminal.Sign symbol.Dot ∷ []) column_ref SpellsColumnRef
 column_ref_agrees = wider (terminal.Ident ∷ []) (terminal.Sign symbol.Dot ∷ []) (made_agrees make.column_at (both_agrees placed_name_agrees (optional_agrees (terminal.Sign symbol.Dot ∷ []) (made_agrees make.behind (both_agrees (sign_agrees symbol.Dot) name_agrees refl)) refl) refl)) refl refl
 
+pub column_or_leaf_agrees : Agrees (terminal.Ident ∷ terminal.Word keyword.Null ∷ terminal.Number ∷ terminal.Text ∷ terminal.Binary ∷ terminal.Param ∷ []) false (terminal.Sign symbol.Dot ∷ []) column_or_leaf SpellsColumnOrLeaf
+column_or_leaf_agrees = wider (terminal.Ident ∷ terminal.Word keyword.Null ∷ terminal.Number ∷ terminal.Text ∷ terminal.Binary ∷ terminal.Param ∷ []) (terminal.Sign symbol.Dot ∷ []) (choice_agrees (terminal.Ident ∷ []) (made_agrees make.column_operand column_ref_agrees) leaf_agrees refl refl) refl refl
+
 pub primary_agrees : {r : Reading Operand} {S : Spelling Operand} → Agrees (terminal.Sign symbol.Open ∷ []) false [] r S → Agrees (terminal.Sign symbol.Open ∷ terminal.Ident ∷ terminal.Word keyword.Null ∷ terminal.Number ∷ terminal.Text ∷ terminal.Binary ∷ terminal.Param ∷ []) false (terminal.Sign symbol.Dot ∷ []) (primary r) (SpellsPrimary S)
-primary_agrees p = wider (terminal.Sign symbol.Open ∷ terminal.Ident ∷ terminal.Word keyword.Null ∷ terminal.Number ∷ terminal.Text ∷ terminal.Binary ∷ terminal.Param ∷ []) (terminal.Sign symbol.Dot ∷ []) (choice_agrees (terminal.Sign symbol.Open ∷ []) p (choice_agrees (terminal.Ident ∷ []) (made_agrees make.column_operand column_ref_agrees) leaf_agrees refl refl) refl refl) refl refl
+primary_agrees p = wider (terminal.Sign symbol.Open ∷ terminal.Ident ∷ terminal.Word keyword.Null ∷ terminal.Number ∷ terminal.Text ∷ terminal.Binary ∷ terminal.Param ∷ []) (terminal.Sign symbol.Dot ∷ []) (choice_agrees (terminal.Sign symbol.Open ∷ []) p column_or_leaf_agrees refl refl) refl refl
+
+pub minus_term_agrees : {r : Reading Operand} {S : Spelling Operand} → Agrees (terminal.Sign symbol.Open ∷ []) false [] r S → Agrees (terminal.Sign symbol.Minus ∷ []) false (terminal.Sign symbol.Dot ∷ []) (minus_term r) (SpellsMinus S)
+minus_term_agrees p = wider (terminal.Sign symbol.Minus ∷ []) (terminal.Sign symbol.Dot ∷ []) (made_agrees make.minus (both_agrees (sign_agrees symbol.Minus) (primary_agrees p) refl)) refl refl
 
 pub term_agrees : {r : Reading Operand} {S : Spelling Operand} → Agrees (terminal.Sign symbol.Open ∷ []) false [] r S → Agrees (terminal.Sign symbol.Minus ∷ terminal.Sign symbol.Open ∷ terminal.Ident ∷ terminal.Word keyword.Null ∷ terminal.Number ∷ terminal.Text ∷ terminal.Binary ∷ terminal.Param ∷ []) false (terminal.Sign symbol.Dot ∷ []) (term r) (SpellsTerm S)
-term_agrees p = wider (terminal.Sign symbol.Minus ∷ terminal.Sign symbol.Open ∷ terminal.Ident ∷ terminal.Word keyword.Null ∷ terminal.Number ∷ terminal.Text ∷ terminal.Binary ∷ terminal.Param ∷ []) (terminal.Sign symbol.Dot ∷ []) (choice_agrees (terminal.Sign symbol.Minus ∷ []) (made_agrees make.minus (both_agrees (sign_agrees symbol.Minus) (primary_agrees p) refl)) (primary_agrees p) refl refl) refl refl
+term_agrees p = wider (terminal.Sign symbol.Minus ∷ terminal.Sign symbol.Open ∷ terminal.Ident ∷ terminal.Word keyword.Null ∷ terminal.Number ∷ terminal.Text ∷ terminal.Binary ∷ terminal.Param ∷ []) (terminal.Sign symbol.Dot ∷ []) (choice_agrees (terminal.Sign symbol.Minus ∷ []) (minus_term_agrees p) (primary_agrees p) refl refl) refl refl
 
 pub signed_agrees : {r : Reading Operand} {S : Spelling Operand} → Agrees (terminal.Sign symbol.Open ∷ []) false [] r S → Agrees (terminal.Sign symbol.Plus ∷ terminal.Sign symbol.Minus ∷ []) false (terminal.Sign symbol.Dot ∷ []) (signed r) (SpellsSigned S)
 signed_agrees p = wider (terminal.Sign symbol.Plus ∷ terminal.Sign symbol.Minus ∷ []) (terminal.Sign symbol.Dot ∷ []) (both_agrees sign_in_agrees (term_agrees p) refl) refl refl

@@ -5,8 +5,8 @@ use Rattle.sql_tree.specs.declared.lexemes.Symbol.TheVariants as symbol
 use Rattle.sql_grammar.specs.Readers.{Reading, Terminal}
 use Rattle.sql_grammar.specs.Readers as terminal
 use Rattle.sql_grammar.specs.Making as make
-use Rattle.sql_grammar.specs.Grammar.{SpellsRow, SpellsInsert, SpellsFilter, SpellsAssignment, SpellsUpdate, SpellsDelete, SpellsAlias, SpellsCount, SpellsItem, SpellsItems, SpellsTop, SpellsSource, SpellsJoin, SpellsGroup, SpellsOrderKey, SpellsOrder, SpellsTail, SpellsSelect, SpellsBody, Spells}
-use Rattle.sql_grammar.specs.Parse.{row, insert, filter, assignment, update, delete, alias, count, item, items, top, source, join, group, order_key, order, tail, select, body, statement, counts}
+use Rattle.sql_grammar.specs.Grammar.{SpellsRow, SpellsInsert, SpellsFilter, SpellsAssignment, SpellsUpdate, SpellsDelete, SpellsAlias, SpellsCount, SpellsItemValue, SpellsDirection, SpellsItem, SpellsItems, SpellsTop, SpellsSource, SpellsJoin, SpellsGroup, SpellsOrderKey, SpellsOrder, SpellsTail, SpellsSelect, SpellsBody, Spells}
+use Rattle.sql_grammar.specs.Parse.{row, insert, filter, assignment, update, delete, alias, count, item_value, direction, item, items, top, source, join, group, order_key, order, tail, select, body, statement, counts}
 use Rattle.sql_grammar.proofs.Agreement.{Agrees, both_agrees, made_agrees, choice_agrees, choice_by_agrees, optional_agrees, many_agrees, wider}
 use Rattle.sql_grammar.proofs.Pieces.{word_agrees, sign_agrees, reads_agrees, name_agrees, number_agrees, in_parens_agrees, listed_agrees}
 use Rattle.sql_grammar.proofs.Operands.{operand_agrees, column_ref_agrees}
@@ -38,8 +38,11 @@ alias_agrees = wider (terminal.Word keyword.As ∷ terminal.Ident ∷ []) (termi
 pub count_agrees : Agrees (terminal.Ident ∷ []) false [] count SpellsCount
 count_agrees = wider (terminal.Ident ∷ []) [] (made_agrees make.count_value (both_agrees (reads_agrees (codes "COUNT")) (both_agrees (sign_agrees symbol.Open) (both_agrees (sign_agrees symbol.Star) (sign_agrees symbol.Close) refl) refl) refl)) refl refl
 
+pub item_value_agrees : Agrees (terminal.Ident ∷ terminal.Sign symbol.Minus ∷ terminal.Sign symbol.Open ∷ terminal.Word keyword.Null ∷ terminal.Number ∷ terminal.Text ∷ terminal.Binary ∷ terminal.Param ∷ []) false (terminal.Sign symbol.Dot ∷ terminal.Sign symbol.Plus ∷ terminal.Sign symbol.Minus ∷ terminal.Sign symbol.Open ∷ []) item_value SpellsItemValue
+item_value_agrees = wider (terminal.Ident ∷ terminal.Sign symbol.Minus ∷ terminal.Sign symbol.Open ∷ terminal.Word keyword.Null ∷ terminal.Number ∷ terminal.Text ∷ terminal.Binary ∷ terminal.Param ∷ []) (terminal.Sign symbol.Dot ∷ terminal.Sign symbol.Plus ∷ terminal.Sign symbol.Minus ∷ terminal.Sign symbol.Open ∷ []) (choice_by_agrees counts (terminal.Sign symbol.Open ∷ []) count_agrees (made_agrees make.operand_value operand_agrees) item_tells) refl refl
+
 pub item_agrees : Agrees (terminal.Ident ∷ terminal.Sign symbol.Minus ∷ terminal.Sign symbol.Open ∷ terminal.Word keyword.Null ∷ terminal.Number ∷ terminal.Text ∷ terminal.Binary ∷ terminal.Param ∷ []) false (terminal.Sign symbol.Dot ∷ terminal.Sign symbol.Plus ∷ terminal.Sign symbol.Minus ∷ terminal.Sign symbol.Open ∷ terminal.Word keyword.As ∷ terminal.Ident ∷ []) item SpellsItem
-item_agrees = wider (terminal.Ident ∷ terminal.Sign symbol.Minus ∷ terminal.Sign symbol.Open ∷ terminal.Word keyword.Null ∷ terminal.Number ∷ terminal.Text ∷ terminal.Binary ∷ terminal.Param ∷ []) (terminal.Sign symbol.Dot ∷ terminal.Sign symbol.Plus ∷ terminal.Sign symbol.Minus ∷ terminal.Sign symbol.Open ∷ terminal.Word keyword.As ∷ terminal.Ident ∷ []) (made_agrees make.item_of (both_agrees (choice_by_agrees counts (terminal.Sign symbol.Open ∷ []) count_agrees (made_agrees make.operand_value operand_agrees) item_tells) alias_agrees refl)) refl refl
+item_agrees = wider (terminal.Ident ∷ terminal.Sign symbol.Minus ∷ terminal.Sign symbol.Open ∷ terminal.Word keyword.Null ∷ terminal.Number ∷ terminal.Text ∷ terminal.Binary ∷ terminal.Param ∷ []) (terminal.Sign symbol.Dot ∷ terminal.Sign symbol.Plus ∷ terminal.Sign symbol.Minus ∷ terminal.Sign symbol.Open ∷ terminal.Word keyword.As ∷ terminal.Ident ∷ []) (made_agrees make.item_of (both_agrees item_value_agrees alias_agrees refl)) refl refl
 
 pub items_agrees : Agrees (terminal.Sign symbol.Star ∷ terminal.Ident ∷ terminal.Sign symbol.Minus ∷ terminal.Sign symbol.Open ∷ terminal.Word keyword.Null ∷ terminal.Number ∷ terminal.Text ∷ terminal.Binary ∷ terminal.Param ∷ []) false (terminal.Sign symbol.Dot ∷ terminal.Sign symbol.Plus ∷ terminal.Sign symbol.Minus ∷ terminal.Sign symbol.Open ∷ terminal.Word keyword.As ∷ terminal.Ident ∷ terminal.Sign symbol.Comma ∷ []) items SpellsItems
 items_agrees = wider (terminal.Sign symbol.Star ∷ terminal.Ident ∷ terminal.Sign symbol.Minus ∷ terminal.Sign symbol.Open ∷ terminal.Word keyword.Null ∷ terminal.Number ∷ terminal.Text ∷ terminal.Binary ∷ terminal.Param ∷ []) (terminal.Sign symbol.Dot ∷ terminal.Sign symbol.Plus ∷ terminal.Sign symbol.Minus ∷ terminal.Sign symbol.Open ∷ terminal.Word keyword.As ∷ terminal.Ident ∷ terminal.Sign symbol.Comma ∷ []) (choice_agrees (terminal.Sign symbol.Star ∷ []) (made_agrees make.star (sign_agrees symbol.Star)) (made_agrees make.listed_items (listed_agrees item_agrees refl refl)) refl refl) refl refl
@@ -56,8 +59,11 @@ join_agrees = wider (terminal.Word keyword.Inner ∷ terminal.Word keyword.Join 
 pub group_agrees : Agrees (terminal.Word keyword.Group ∷ []) true (terminal.Sign symbol.Dot ∷ terminal.Sign symbol.Comma ∷ terminal.Word keyword.Group ∷ []) group SpellsGroup
 group_agrees = wider (terminal.Word keyword.Group ∷ []) (terminal.Sign symbol.Dot ∷ terminal.Sign symbol.Comma ∷ terminal.Word keyword.Group ∷ []) (made_agrees make.or_none (optional_agrees (terminal.Word keyword.Group ∷ []) (made_agrees make.behind (both_agrees (word_agrees keyword.Group) (made_agrees make.behind (both_agrees (word_agrees keyword.By) (listed_agrees column_ref_agrees refl refl) refl)) refl)) refl)) refl refl
 
+pub direction_agrees : Agrees (terminal.Word keyword.Asc ∷ terminal.Word keyword.Desc ∷ []) false [] direction SpellsDirection
+direction_agrees = wider (terminal.Word keyword.Asc ∷ terminal.Word keyword.Desc ∷ []) [] (choice_agrees (terminal.Word keyword.Asc ∷ []) (made_agrees make.ascending (word_agrees keyword.Asc)) (made_agrees make.descending (word_agrees keyword.Desc)) refl refl) refl refl
+
 pub order_key_agrees : Agrees (terminal.Ident ∷ []) false (terminal.Sign symbol.Dot ∷ terminal.Word keyword.Asc ∷ terminal.Word keyword.Desc ∷ []) order_key SpellsOrderKey
-order_key_agrees = wider (terminal.Ident ∷ []) (terminal.Sign symbol.Dot ∷ terminal.Word keyword.Asc ∷ terminal.Word keyword.Desc ∷ []) (made_agrees make.key_of (both_agrees column_ref_agrees (optional_agrees (terminal.Word keyword.Asc ∷ terminal.Word keyword.Desc ∷ []) (choice_agrees (terminal.Word keyword.Asc ∷ []) (made_agrees make.ascending (word_agrees keyword.Asc)) (made_agrees make.descending (word_agrees keyword.Desc)) refl refl) refl) refl)) refl refl
+order_key_agrees = wider (terminal.Ident ∷ []) (terminal.Sign symbol.Dot ∷ terminal.Word keyword.Asc ∷ terminal.Word keyword.Desc ∷ []) (made_agrees make.key_of (both_agrees column_ref_agrees (optional_agrees (terminal.Word keyword.Asc ∷ terminal.Word keyword.Desc ∷ []) direction_agrees refl) refl)) refl refl
 
 pub order_agrees : Agrees (terminal.Word keyword.Order ∷ []) true (terminal.Sign symbol.Dot ∷ terminal.Word keyword.Asc ∷ terminal.Word keyword.Desc ∷ terminal.Sign symbol.Comma ∷ terminal.Word keyword.Order ∷ []) order SpellsOrder
 order_agrees = wider (terminal.Word keyword.Order ∷ []) (terminal.Sign symbol.Dot ∷ terminal.Word keyword.Asc ∷ terminal.Word keyword.Desc ∷ terminal.Sign symbol.Comma ∷ terminal.Word keyword.Order ∷ []) (made_agrees make.or_none (optional_agrees (terminal.Word keyword.Order ∷ []) (made_agrees make.behind (both_agrees (word_agrees keyword.Order) (made_agrees make.behind (both_agrees (word_agrees keyword.By) (listed_agrees order_key_agrees refl refl) refl)) refl)) refl)) refl refl

@@ -1,11 +1,12 @@
 -- The grammar: which tokens spell which statement, production by production. A word in capitals is read without regard
 -- to case. The numbers of operands and conditions say how many parentheses may be open in them.
-use Rattle.std.specs.Prelude.{ℕ, zero, suc, List, codes, Option, Bool}
+use Rattle.std.specs.Prelude.{◌≡◌, ℕ, zero, suc, List, [], ◌∷◌, codes, Option, Some, None, Bool, false, ◌&&◌, is_some}
 use Rattle.ae_base.specs.declared.types.Ty.{Ty}
 use Rattle.sql_tree.specs.declared.lexemes.Keyword.{Keyword}
 use Rattle.sql_tree.specs.declared.lexemes.Keyword.TheVariants as keyword
 use Rattle.sql_tree.specs.declared.lexemes.Symbol.{Symbol}
 use Rattle.sql_tree.specs.declared.lexemes.Symbol.TheVariants as symbol
+use Rattle.sql_tree.specs.declared.lexemes.Token.{Token}
 use Rattle.sql_tree.specs.declared.statements.EncryptionKind.{EncryptionKind}
 use Rattle.sql_tree.specs.declared.statements.Encryption.{Encryption}
 use Rattle.sql_tree.specs.declared.statements.ColumnSpec.{ColumnSpec}
@@ -17,6 +18,7 @@ use Rattle.sql_tree.specs.declared.statements.SourceTable.{SourceTable}
 use Rattle.sql_tree.specs.Statements.{Operand, Condition, ValueRow, Assignment, Item, Items, ItemValue, Join, Statement}
 use Rattle.sql_grammar.specs.declared.settings.MasterSetting.{MasterSetting}
 use Rattle.sql_grammar.specs.declared.settings.KeySetting.{KeySetting}
+use Rattle.sql_grammar.specs.declared.parts.TablePart.{TablePart}
 use Rattle.sql_grammar.specs.Readers as terminal
 use Rattle.sql_grammar.specs.Spelling.{Spelling, One, Both, Made, Either, Optional, Many}
 use Rattle.sql_grammar.specs.Making as make
@@ -73,13 +75,19 @@ Nowhere x tokens = ⊥
 abbrev pub SpellsColumnRef : Spelling ColumnAt
 SpellsColumnRef = Made make.column_at (Both PlacedName (Optional (Made make.behind (Both (Sign symbol.Dot) Name))))
 
+abbrev pub SpellsColumnOrLeaf : Spelling Operand
+SpellsColumnOrLeaf = Either (Made make.column_operand SpellsColumnRef) (One make.leaf_in)
+
 -- primary := ( operand ) | colref | number | text | binary | NULL | parameter
 abbrev pub SpellsPrimary : Spelling Operand → Spelling Operand
-SpellsPrimary S = Either S (Either (Made make.column_operand SpellsColumnRef) (One make.leaf_in))
+SpellsPrimary S = Either S SpellsColumnOrLeaf
+
+abbrev pub SpellsMinus : Spelling Operand → Spelling Operand
+SpellsMinus S = Made make.minus (Both (Sign symbol.Minus) (SpellsPrimary S))
 
 -- term := [-] primary
 abbrev pub SpellsTerm : Spelling Operand → Spelling Operand
-SpellsTerm S = Either (Made make.minus (Both (Sign symbol.Minus) (SpellsPrimary S))) (SpellsPrimary S)
+SpellsTerm S = Either (SpellsMinus S) (SpellsPrimary S)
 
 abbrev pub SpellsSigned : Spelling Operand → Spelling Signed
 SpellsSigned S = Both (One make.sign_in) (SpellsTerm S)
@@ -143,16 +151,26 @@ SpellsType = Made make.type_of (Both Name (Optional (InParens Number)))
 abbrev pub SpellsMasterSetting : Spelling MasterSetting
 SpellsMasterSetting = Either (Made make.provider (Both (Reads (codes "KEY_STORE_PROVIDER_NAME")) (Both (Sign symbol.Equal) (IsText (codes "KEYFILE"))))) (Made make.path (Both (Reads (codes "KEY_PATH")) (Both (Sign symbol.Equal) Text)))
 
+abbrev pub KeyName : {V : Type 0} → List ℕ → Spelling (KeySetting V)
+KeyName key = Made make.key_setting (Both (Reads key) (Both (Sign symbol.Equal) Name))
+
+abbrev pub Algorithm : {V : Type 0} → List ℕ → Spelling (KeySetting V)
+Algorithm algorithm = Made make.algorithm_setting (Both (Reads (codes "ALGORITHM")) (Both (Sign symbol.Equal) (IsText algorithm)))
+
 -- KEY = name | ALGORITHM = '..' | VALUE = what it is
 abbrev pub SpellsKeySetting : {V : Type 0} → List ℕ → List ℕ → List ℕ → Spelling V → Spelling (KeySetting V)
-SpellsKeySetting key algorithm value S = Either (Made make.key_setting (Both (Reads key) (Both (Sign symbol.Equal) Name))) (Either (Made make.algorithm_setting (Both (Reads (codes "ALGORITHM")) (Both (Sign symbol.Equal) (IsText algorithm)))) (Made make.value_setting (Both (Reads value) (Both (Sign symbol.Equal) S))))
+SpellsKeySetting key algorithm value S = Either (KeyName key) (Either (Algorithm algorithm) (Made make.value_setting (Both (Reads value) (Both (Sign symbol.Equal) S))))
 
 -- kind := DETERMINISTIC | RANDOMIZED
 abbrev pub SpellsKind : Spelling EncryptionKind
 SpellsKind = Made make.kind_of Name
 
+abbrev pub SpellsColumnSetting : Spelling (KeySetting EncryptionKind)
+SpellsColumnSetting = SpellsKeySetting (codes "COLUMN_ENCRYPTION_KEY") (codes "AEAD_AES_256_CBC_HMAC_SHA256") (codes "ENCRYPTION_TYPE") SpellsKind
+
+-- ENCRYPTED WITH ( .. )
 abbrev pub SpellsEncryption : Spelling Encryption
-SpellsEncryption = Made make.encryption (Made make.key_in (Made make.behind (Both (Reads (codes "ENCRYPTED")) (Made make.behind (Both (Word keyword.With) (InParens (Listed (SpellsKeySetting (codes "COLUMN_ENCRYPTION_KEY") (codes "AEAD_AES_256_CBC_HMAC_SHA256") (codes "ENCRYPTION_TYPE") SpellsKind))))))))
+SpellsEncryption = Made make.encryption (Made make.key_in (Made make.behind (Both (Reads (codes "ENCRYPTED")) (Made make.behind (Both (Word keyword.With) (InParens (Listed SpellsColumnSetting)))))))
 
 -- NULL | NOT NULL
 abbrev pub SpellsNullity : Spelling Bool
@@ -166,9 +184,12 @@ SpellsColumn = Made make.column_of (Both Name (Both SpellsType (Both (Optional (
 abbrev pub SpellsUnique : Spelling UniqueSpec
 SpellsUnique = Made make.unique_of (Made make.behind (Both (Word keyword.Unique) (InParens (Listed PlacedName))))
 
+abbrev pub SpellsPart : Spelling TablePart
+SpellsPart = Either (Made make.unique_part SpellsUnique) (Made make.column_part SpellsColumn)
+
 -- column {, column} {, UNIQUE ( .. )}
 abbrev pub SpellsParts : Spelling (List ColumnSpec × List UniqueSpec)
-SpellsParts = Made make.table_of (Listed (Either (Made make.unique_part SpellsUnique) (Made make.column_part SpellsColumn)))
+SpellsParts = Made make.table_of (Listed SpellsPart)
 
 -- ---- the statements
 
@@ -180,16 +201,22 @@ SpellsCreateTable = Made make.create_table (Made make.behind (Both (Word keyword
 abbrev pub SpellsCreateMaster : Spelling Statement
 SpellsCreateMaster = Made make.create_master (Made make.behind (Both (Reads (codes "MASTER")) (Made make.behind (Both (Word keyword.Key) (Both Name (Made make.behind (Both (Word keyword.With) (Made make.path_in (InParens (Listed SpellsMasterSetting))))))))))
 
+abbrev pub SpellsWrappedSetting : Spelling (KeySetting (List ℕ))
+SpellsWrappedSetting = SpellsKeySetting (codes "COLUMN_MASTER_KEY") (codes "AES_256_KW") (codes "ENCRYPTED_VALUE") Binary
+
 -- CREATE COLUMN ENCRYPTION KEY name WITH VALUES ( .. )
 abbrev pub SpellsCreateKey : Spelling Statement
-SpellsCreateKey = Made make.create_key (Made make.behind (Both (Reads (codes "ENCRYPTION")) (Made make.behind (Both (Word keyword.Key) (Both Name (Made make.behind (Both (Word keyword.With) (Made make.behind (Both (Word keyword.Values) (Made make.key_in (InParens (Listed (SpellsKeySetting (codes "COLUMN_MASTER_KEY") (codes "AES_256_KW") (codes "ENCRYPTED_VALUE") Binary)))))))))))))
+SpellsCreateKey = Made make.create_key (Made make.behind (Both (Reads (codes "ENCRYPTION")) (Made make.behind (Both (Word keyword.Key) (Both Name (Made make.behind (Both (Word keyword.With) (Made make.behind (Both (Word keyword.Values) (Made make.key_in (InParens (Listed SpellsWrappedSetting))))))))))))
 
 abbrev pub SpellsCreate : Spelling Statement
 SpellsCreate = Made make.behind (Both (Word keyword.Create) (Either SpellsCreateTable (Made make.behind (Both (Word keyword.Column) (Either SpellsCreateMaster SpellsCreateKey)))))
 
+abbrev pub SpellsDropColumn : Spelling Statement
+SpellsDropColumn = Made make.behind (Both (Word keyword.Column) (Either (Made make.drop_master (Made make.behind (Both (Reads (codes "MASTER")) (Made make.behind (Both (Word keyword.Key) Name))))) (Made make.drop_key (Made make.behind (Both (Reads (codes "ENCRYPTION")) (Made make.behind (Both (Word keyword.Key) Name)))))))
+
 -- DROP TABLE name | DROP COLUMN MASTER KEY name | DROP COLUMN ENCRYPTION KEY name
 abbrev pub SpellsDrop : Spelling Statement
-SpellsDrop = Made make.behind (Both (Word keyword.Drop) (Either (Made make.drop_table (Made make.behind (Both (Word keyword.Table) Name))) (Made make.behind (Both (Word keyword.Column) (Either (Made make.drop_master (Made make.behind (Both (Reads (codes "MASTER")) (Made make.behind (Both (Word keyword.Key) Name))))) (Made make.drop_key (Made make.behind (Both (Reads (codes "ENCRYPTION")) (Made make.behind (Both (Word keyword.Key) Name))))))))))
+SpellsDrop = Made make.behind (Both (Word keyword.Drop) (Either (Made make.drop_table (Made make.behind (Both (Word keyword.Table) Name))) SpellsDropColumn))
 
 -- row := ( operand {, operand} )
 abbrev pub SpellsRow : Spelling ValueRow
@@ -223,9 +250,12 @@ SpellsAlias = Optional (Either (Made make.behind (Both (Word keyword.As) Name)) 
 abbrev pub SpellsCount : Spelling ItemValue
 SpellsCount = Made make.count_value (Both (Reads (codes "COUNT")) (Both (Sign symbol.Open) (Both (Sign symbol.Star) (Sign symbol.Close))))
 
+abbrev pub SpellsItemValue : Spelling ItemValue
+SpellsItemValue = Either SpellsCount (Made make.operand_value SpellsOperand)
+
 -- item := (COUNT ( * ) | operand) [[AS] name]
 abbrev pub SpellsItem : Spelling Item
-SpellsItem = Made make.item_of (Both (Either SpellsCount (Made make.operand_value SpellsOperand)) SpellsAlias)
+SpellsItem = Made make.item_of (Both SpellsItemValue SpellsAlias)
 
 -- items := * | item {, item}
 abbrev pub SpellsItems : Spelling Items
@@ -247,9 +277,13 @@ SpellsJoin = Made make.join_of (Both (Optional (Word keyword.Inner)) (Both (Word
 abbrev pub SpellsGroup : Spelling (List ColumnAt)
 SpellsGroup = Made make.or_none (Optional (Made make.behind (Both (Word keyword.Group) (Made make.behind (Both (Word keyword.By) (Listed SpellsColumnRef))))))
 
+-- ASC | DESC
+abbrev pub SpellsDirection : Spelling Bool
+SpellsDirection = Either (Made make.ascending (Word keyword.Asc)) (Made make.descending (Word keyword.Desc))
+
 -- key := colref [ASC | DESC]
 abbrev pub SpellsOrderKey : Spelling OrderKey
-SpellsOrderKey = Made make.key_of (Both SpellsColumnRef (Optional (Either (Made make.ascending (Word keyword.Asc)) (Made make.descending (Word keyword.Desc)))))
+SpellsOrderKey = Made make.key_of (Both SpellsColumnRef (Optional SpellsDirection))
 
 -- [ORDER BY key {, key}]
 abbrev pub SpellsOrder : Spelling (List OrderKey)

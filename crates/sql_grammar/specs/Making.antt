@@ -155,6 +155,9 @@ abbrev pub sum_with : Operand → List Signed → Operand
 sum_with first [] = first
 sum_with first (t ∷ ts) = operands.Sum first (terms_from (t ∷ ts))
 
+abbrev pub sum_from : Operand → List Signed → Option Operand
+sum_from first terms = Some (sum_with first terms)
+
 abbrev pub sum_of : Operand × List Signed → Option Operand
 sum_of x = Some (sum_with x.0 x.1)
 
@@ -220,9 +223,12 @@ abbrev pub only_asks : Inner → Option Condition
 only_asks (Asks condition) = Some condition
 only_asks (Computes operand) = None
 
+abbrev pub with_test_of : Operand → Option Test → Inner
+with_test_of left None = Computes left
+with_test_of left (Some test) = Asks (with_test left test)
+
 abbrev pub with_rest : Operand → List Signed × Option Test → Option Inner
-with_rest left (terms, None) = Some (Computes (sum_with left terms))
-with_rest left (terms, Some test) = Some (Asks (with_test (sum_with left terms) test))
+with_rest left x = Some (with_test_of (sum_with left x.0) x.1)
 
 abbrev pub not_asked : ℕ × Condition → Option Inner
 not_asked x = Some (Asks (conditions.Not x.1))
@@ -233,13 +239,19 @@ with_more first x = Some (Asks (any_with (all_with first x.0) x.1))
 -- ---- definitions of keys, columns and tables
 
 -- NVARCHAR(n) has n from 1 to 4000, VARBINARY(n) from 1 to 8000
+abbrev pub text_type : ℕ → Option Ty
+text_type n = if nat_le 1 n && nat_le n 4000 then Some (ty.NVarChar n) else None
+
+abbrev pub binary_type : ℕ → Option Ty
+binary_type n = if nat_le 1 n && nat_le n 8000 then Some (ty.VarBinary n) else None
+
 abbrev pub type_of : List ℕ × Option ℕ → Option Ty
 type_of (word, None) =
     if reads_as (codes "INT") word then Some ty.Int else
     if reads_as (codes "BIGINT") word then Some ty.BigInt else None
 type_of (word, Some n) =
-    if reads_as (codes "NVARCHAR") word then (if nat_le 1 n && nat_le n 4000 then Some (ty.NVarChar n) else None) else
-    if reads_as (codes "VARBINARY") word then (if nat_le 1 n && nat_le n 8000 then Some (ty.VarBinary n) else None) else None
+    if reads_as (codes "NVARCHAR") word then text_type n else
+    if reads_as (codes "VARBINARY") word then binary_type n else None
 
 abbrev pub is_text : Ty → Bool
 is_text ty.Int = false

@@ -1,5 +1,5 @@
 -- The readers of the grammar, production by production.
-use Rattle.std.specs.Prelude.{ℕ, zero, suc, List, [], ◌∷◌, codes, Option, None, Bool, false, ◌&&◌, is_some}
+use Rattle.std.specs.Prelude.{◌≡◌, ℕ, zero, suc, List, [], ◌∷◌, codes, Option, Some, None, Bool, false, ◌&&◌, is_some}
 use Rattle.ae_base.specs.declared.types.Ty.{Ty}
 use Rattle.sql_tree.specs.declared.lexemes.Keyword.{Keyword}
 use Rattle.sql_tree.specs.declared.lexemes.Keyword.TheVariants as keyword
@@ -17,6 +17,7 @@ use Rattle.sql_tree.specs.declared.statements.SourceTable.{SourceTable}
 use Rattle.sql_tree.specs.Statements.{Operand, Condition, ValueRow, Assignment, Item, Items, ItemValue, Join, Statement}
 use Rattle.sql_grammar.specs.declared.settings.MasterSetting.{MasterSetting}
 use Rattle.sql_grammar.specs.declared.settings.KeySetting.{KeySetting}
+use Rattle.sql_grammar.specs.declared.parts.TablePart.{TablePart}
 use Rattle.sql_grammar.specs.Readers as terminal
 use Rattle.sql_grammar.specs.Readers.{◌>>=◌, Reading, Terminal, next_among, is_symbol, one, both, made, after, given, choice_by, choice, optional, many}
 use Rattle.sql_grammar.specs.Making as make
@@ -89,13 +90,19 @@ nowhere tokens = None
 abbrev pub column_ref : Reading ColumnAt
 column_ref = made make.column_at (both placed_name (optional (terminal.Sign symbol.Dot ∷ []) (made make.behind (both (sign symbol.Dot) name))))
 
+abbrev pub column_or_leaf : Reading Operand
+column_or_leaf = choice (terminal.Ident ∷ []) (made make.column_operand column_ref) (one make.leaf_in)
+
 -- primary := ( operand ) | colref | number | text | binary | NULL | parameter
 abbrev pub primary : Reading Operand → Reading Operand
-primary r = choice (terminal.Sign symbol.Open ∷ []) r (choice (terminal.Ident ∷ []) (made make.column_operand column_ref) (one make.leaf_in))
+primary r = choice (terminal.Sign symbol.Open ∷ []) r column_or_leaf
+
+abbrev pub minus_term : Reading Operand → Reading Operand
+minus_term r = made make.minus (both (sign symbol.Minus) (primary r))
 
 -- term := [-] primary
 abbrev pub term : Reading Operand → Reading Operand
-term r = choice (terminal.Sign symbol.Minus ∷ []) (made make.minus (both (sign symbol.Minus) (primary r))) (primary r)
+term r = choice (terminal.Sign symbol.Minus ∷ []) (minus_term r) (primary r)
 
 abbrev pub signed : Reading Operand → Reading Signed
 signed r = both (one make.sign_in) (term r)
@@ -131,11 +138,13 @@ test = choice (terminal.Word keyword.Is ∷ []) null_test (choice (terminal.Word
 
 -- a term that does not begin with a parenthesis
 abbrev pub bare_term : Reading Operand → Reading Operand
-bare_term r = choice (terminal.Sign symbol.Minus ∷ []) (made make.minus (both (sign symbol.Minus) (primary r)))
-    (choice (terminal.Ident ∷ []) (made make.column_operand column_ref) (one make.leaf_in))
+bare_term r = choice (terminal.Sign symbol.Minus ∷ []) (minus_term r) column_or_leaf
 
 abbrev pub first : Reading Operand → Reading Inner → Reading Inner
 first r q = choice (terminal.Sign symbol.Open ∷ []) q (made make.computes (bare_term r))
+
+abbrev pub sum_from : Reading Operand → Operand → Reading Operand
+sum_from r first = made (make.sum_from first) (many (terminal.Sign symbol.Plus ∷ terminal.Sign symbol.Minus ∷ []) (signed r))
 
 -- the rest of a sum, and the test behind it
 abbrev pub rest_of_sum : Reading Operand → Operand → Reading Inner
@@ -154,14 +163,20 @@ asked r q = made make.only_asks (predicate r q)
 abbrev pub literal : Reading Operand → Reading Inner → Reading Condition
 literal r q = made make.literal_of (both (optional (terminal.Word keyword.Not ∷ []) (word keyword.Not)) (asked r q))
 
+abbrev pub and_literal : Reading Operand → Reading Inner → Reading Condition
+and_literal r q = made make.behind (both (word keyword.And) (literal r q))
+
 abbrev pub and_literals : Reading Operand → Reading Inner → Reading (List Condition)
-and_literals r q = many (terminal.Word keyword.And ∷ []) (made make.behind (both (word keyword.And) (literal r q)))
+and_literals r q = many (terminal.Word keyword.And ∷ []) (and_literal r q)
 
 abbrev pub conjunction : Reading Operand → Reading Inner → Reading Condition
 conjunction r q = made make.all_of (both (literal r q) (and_literals r q))
 
+abbrev pub or_conjunction : Reading Operand → Reading Inner → Reading Condition
+or_conjunction r q = made make.behind (both (word keyword.Or) (conjunction r q))
+
 abbrev pub or_conjunctions : Reading Operand → Reading Inner → Reading (List Condition)
-or_conjunctions r q = many (terminal.Word keyword.Or ∷ []) (made make.behind (both (word keyword.Or) (conjunction r q)))
+or_conjunctions r q = many (terminal.Word keyword.Or ∷ []) (or_conjunction r q)
 
 abbrev pub first_literal : Reading Operand → Reading Inner → Reading Inner
 first_literal r q = choice (terminal.Word keyword.Not ∷ []) (made make.not_asked (both (word keyword.Not) (asked r q))) (predicate r q)
@@ -182,6 +197,10 @@ unfoldable pub inner_in : ℕ → Reading Inner
 inner_in zero = inner (operand_parens zero) nowhere
 inner_in (suc depth) = inner (operand_parens (suc depth)) (in_parens (inner_in depth))
 
+abbrev pub inner_parens : ℕ → Reading Inner
+inner_parens zero = nowhere
+inner_parens (suc depth) = in_parens (inner_in depth)
+
 abbrev pub condition : Reading Condition
 condition = made make.only_asks (inner_in 64)
 
@@ -195,16 +214,26 @@ type = made make.type_of (both name (optional (terminal.Sign symbol.Open ∷ [])
 abbrev pub master_setting : Reading MasterSetting
 master_setting = choice_by (next_reads (codes "KEY_STORE_PROVIDER_NAME")) (made make.provider (both (reads (codes "KEY_STORE_PROVIDER_NAME")) (both (sign symbol.Equal) (is_text (codes "KEYFILE"))))) (made make.path (both (reads (codes "KEY_PATH")) (both (sign symbol.Equal) text)))
 
+abbrev pub key_name : {V : Type 0} → List ℕ → Reading (KeySetting V)
+key_name key = made make.key_setting (both (reads key) (both (sign symbol.Equal) name))
+
+abbrev pub algorithm : {V : Type 0} → List ℕ → Reading (KeySetting V)
+algorithm text = made make.algorithm_setting (both (reads (codes "ALGORITHM")) (both (sign symbol.Equal) (is_text text)))
+
 -- KEY = name | ALGORITHM = '..' | VALUE = what it is
 abbrev pub key_setting : {V : Type 0} → List ℕ → List ℕ → List ℕ → Reading V → Reading (KeySetting V)
-key_setting key algorithm value r = choice_by (next_reads key) (made make.key_setting (both (reads key) (both (sign symbol.Equal) name))) (choice_by (next_reads (codes "ALGORITHM")) (made make.algorithm_setting (both (reads (codes "ALGORITHM")) (both (sign symbol.Equal) (is_text algorithm)))) (made make.value_setting (both (reads value) (both (sign symbol.Equal) r))))
+key_setting key text value r = choice_by (next_reads key) (key_name key) (choice_by (next_reads (codes "ALGORITHM")) (algorithm text) (made make.value_setting (both (reads value) (both (sign symbol.Equal) r))))
 
 -- kind := DETERMINISTIC | RANDOMIZED
 abbrev pub encryption_kind : Reading EncryptionKind
 encryption_kind = made make.kind_of name
 
+abbrev pub column_setting : Reading (KeySetting EncryptionKind)
+column_setting = key_setting (codes "COLUMN_ENCRYPTION_KEY") (codes "AEAD_AES_256_CBC_HMAC_SHA256") (codes "ENCRYPTION_TYPE") encryption_kind
+
+-- ENCRYPTED WITH ( .. )
 abbrev pub encryption : Reading Encryption
-encryption = made make.encryption (made make.key_in (made make.behind (both (reads (codes "ENCRYPTED")) (made make.behind (both (word keyword.With) (in_parens (listed (key_setting (codes "COLUMN_ENCRYPTION_KEY") (codes "AEAD_AES_256_CBC_HMAC_SHA256") (codes "ENCRYPTION_TYPE") encryption_kind))))))))
+encryption = made make.encryption (made make.key_in (made make.behind (both (reads (codes "ENCRYPTED")) (made make.behind (both (word keyword.With) (in_parens (listed column_setting)))))))
 
 -- NULL | NOT NULL
 abbrev pub nullity : Reading Bool
@@ -218,9 +247,12 @@ column = made make.column_of (both name (both type (both (optional (terminal.Wor
 abbrev pub unique : Reading UniqueSpec
 unique = made make.unique_of (made make.behind (both (word keyword.Unique) (in_parens (listed placed_name))))
 
+abbrev pub table_part : Reading TablePart
+table_part = choice (terminal.Word keyword.Unique ∷ []) (made make.unique_part unique) (made make.column_part column)
+
 -- column {, column} {, UNIQUE ( .. )}
 abbrev pub table_parts : Reading (List ColumnSpec × List UniqueSpec)
-table_parts = made make.table_of (listed (choice (terminal.Word keyword.Unique ∷ []) (made make.unique_part unique) (made make.column_part column)))
+table_parts = made make.table_of (listed table_part)
 
 -- ---- the statements
 
@@ -232,16 +264,22 @@ create_table = made make.create_table (made make.behind (both (word keyword.Tabl
 abbrev pub create_master : Reading Statement
 create_master = made make.create_master (made make.behind (both (reads (codes "MASTER")) (made make.behind (both (word keyword.Key) (both name (made make.behind (both (word keyword.With) (made make.path_in (in_parens (listed master_setting))))))))))
 
+abbrev pub wrapped_setting : Reading (KeySetting (List ℕ))
+wrapped_setting = key_setting (codes "COLUMN_MASTER_KEY") (codes "AES_256_KW") (codes "ENCRYPTED_VALUE") binary
+
 -- CREATE COLUMN ENCRYPTION KEY name WITH VALUES ( .. )
 abbrev pub create_key : Reading Statement
-create_key = made make.create_key (made make.behind (both (reads (codes "ENCRYPTION")) (made make.behind (both (word keyword.Key) (both name (made make.behind (both (word keyword.With) (made make.behind (both (word keyword.Values) (made make.key_in (in_parens (listed (key_setting (codes "COLUMN_MASTER_KEY") (codes "AES_256_KW") (codes "ENCRYPTED_VALUE") binary)))))))))))))
+create_key = made make.create_key (made make.behind (both (reads (codes "ENCRYPTION")) (made make.behind (both (word keyword.Key) (both name (made make.behind (both (word keyword.With) (made make.behind (both (word keyword.Values) (made make.key_in (in_parens (listed wrapped_setting))))))))))))
 
 abbrev pub create : Reading Statement
 create = made make.behind (both (word keyword.Create) (choice (terminal.Word keyword.Table ∷ []) create_table (made make.behind (both (word keyword.Column) (choice_by (next_reads (codes "MASTER")) create_master create_key)))))
 
+abbrev pub drop_column : Reading Statement
+drop_column = made make.behind (both (word keyword.Column) (choice_by (next_reads (codes "MASTER")) (made make.drop_master (made make.behind (both (reads (codes "MASTER")) (made make.behind (both (word keyword.Key) name))))) (made make.drop_key (made make.behind (both (reads (codes "ENCRYPTION")) (made make.behind (both (word keyword.Key) name)))))))
+
 -- DROP TABLE name | DROP COLUMN MASTER KEY name | DROP COLUMN ENCRYPTION KEY name
 abbrev pub drop : Reading Statement
-drop = made make.behind (both (word keyword.Drop) (choice (terminal.Word keyword.Table ∷ []) (made make.drop_table (made make.behind (both (word keyword.Table) name))) (made make.behind (both (word keyword.Column) (choice_by (next_reads (codes "MASTER")) (made make.drop_master (made make.behind (both (reads (codes "MASTER")) (made make.behind (both (word keyword.Key) name))))) (made make.drop_key (made make.behind (both (reads (codes "ENCRYPTION")) (made make.behind (both (word keyword.Key) name))))))))))
+drop = made make.behind (both (word keyword.Drop) (choice (terminal.Word keyword.Table ∷ []) (made make.drop_table (made make.behind (both (word keyword.Table) name))) drop_column))
 
 -- row := ( operand {, operand} )
 abbrev pub row : Reading ValueRow
@@ -275,9 +313,12 @@ alias = optional (terminal.Word keyword.As ∷ terminal.Ident ∷ []) (choice (t
 abbrev pub count : Reading ItemValue
 count = made make.count_value (both (reads (codes "COUNT")) (both (sign symbol.Open) (both (sign symbol.Star) (sign symbol.Close))))
 
+abbrev pub item_value : Reading ItemValue
+item_value = choice_by counts count (made make.operand_value operand)
+
 -- item := (COUNT ( * ) | operand) [[AS] name]
 abbrev pub item : Reading Item
-item = made make.item_of (both (choice_by counts count (made make.operand_value operand)) alias)
+item = made make.item_of (both item_value alias)
 
 -- items := * | item {, item}
 abbrev pub items : Reading Items
@@ -299,9 +340,13 @@ join = made make.join_of (both (optional (terminal.Word keyword.Inner ∷ []) (w
 abbrev pub group : Reading (List ColumnAt)
 group = made make.or_none (optional (terminal.Word keyword.Group ∷ []) (made make.behind (both (word keyword.Group) (made make.behind (both (word keyword.By) (listed column_ref))))))
 
+-- ASC | DESC
+abbrev pub direction : Reading Bool
+direction = choice (terminal.Word keyword.Asc ∷ []) (made make.ascending (word keyword.Asc)) (made make.descending (word keyword.Desc))
+
 -- key := colref [ASC | DESC]
 abbrev pub order_key : Reading OrderKey
-order_key = made make.key_of (both column_ref (optional (terminal.Word keyword.Asc ∷ terminal.Word keyword.Desc ∷ []) (choice (terminal.Word keyword.Asc ∷ []) (made make.ascending (word keyword.Asc)) (made make.descending (word keyword.Desc)))))
+order_key = made make.key_of (both column_ref (optional (terminal.Word keyword.Asc ∷ terminal.Word keyword.Desc ∷ []) direction))
 
 -- [ORDER BY key {, key}]
 abbrev pub order : Reading (List OrderKey)
