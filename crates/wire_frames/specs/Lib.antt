@@ -1,3 +1,7 @@
+pub mod Decoding
+pub mod Found
+pub mod Frames
+pub mod Laws
 pub mod Reading
 pub mod Spelling
 pub mod SpellingWorked

@@ -1,5 +1,5 @@
 -- Reading from left to right: a reader gives what stands at the front of some bytes, and the bytes after it.
-use Rattle.std.specs.Prelude.{ℕ, zero, suc, List, [], ◌∷◌, length, map, take, drop, encode_utf8_all, Bool, Option, Some, None, nat_lt, nat_le, ◌==◌, ◌&&◌, not, if◌then◌else◌}
+use Rattle.std.specs.Prelude.{◌≡◌, ℕ, zero, suc, List, [], ◌∷◌, length, map, take, drop, encode_utf8_all, Bool, Option, Some, None, nat_lt, nat_le, ◌==◌, ◌&&◌, not, if◌then◌else◌}
 use Rattle.std.specs.Int.{Width, w16, w32, w64, byte_len, from_be_bytes, cast_signed}
 use Rattle.std.specs.List.{list_all}
 use Rattle.std.specs.Str.{chars, is_utf8, bytes_eq}
@@ -58,16 +58,20 @@ tried f r bytes = r bytes >>= λ x. f x.0 >>= λ y. Some (y, x.1)
 abbrev pub when : {A : Type 0} → (A → Bool) → A → Option A
 when test x = if test x then Some x else None
 
+-- what is made of what passes a test
+abbrev pub made_when : {A B : Type 0} → (A → Bool) → (A → B) → A → Option B
+made_when test f x = when test x >>= λ y. Some (f y)
+
 abbrev pub kept : {A : Type 0} → (A → Bool) → Reader A → Reader A
 kept test r = tried (when test) r
 
--- the reader that a list has for a byte
-abbrev pub pick : {A : Type 0} → List (ℕ × Reader A) → ℕ → Reader A
+-- what a table has for a byte
+abbrev pub pick : {R : Type 0} → List (ℕ × (List ℕ → Option R)) → ℕ → List ℕ → Option R
 pick [] tag bytes = None
 pick (entry ∷ entries) tag bytes = if tag == entry.0 then entry.1 bytes else pick entries tag bytes
 
 -- by the first byte
-abbrev pub choice : {A : Type 0} → List (ℕ × Reader A) → Reader A
+abbrev pub choice : {R : Type 0} → List (ℕ × (List ℕ → Option R)) → List ℕ → Option R
 choice entries [] = None
 choice entries (tag ∷ bytes) = pick entries tag bytes
 
@@ -83,6 +87,10 @@ listed count part bytes = count bytes >>= λ n. parts_at part n.0 n.1
 -- what was read, where nothing follows it
 abbrev pub whole : {A : Type 0} → Reader A → List ℕ → Option A
 whole r bytes = r bytes >>= λ x. if length x.1 == 0 then Some x.0 else None
+
+-- what is made of it
+abbrev pub ends : {A B : Type 0} → (A → B) → Reader A → List ℕ → Option B
+ends f r bytes = whole r bytes >>= λ x. Some (f x)
 
 -- ---- fields
 
@@ -112,14 +120,26 @@ str_at w = tried characters_of (blob_at w)
 abbrev pub is_within : ℕ → ℕ → ℕ → Bool
 is_within least most n = nat_le least n && nat_le n most
 
+abbrev pub is_word : List ℕ → Bool
+is_word text = is_within 1 128 (length text)
+
 abbrev pub is_param_name : List ℕ → Bool
-is_param_name text = is_within 1 128 (length text) && list_all is_param_char text
+is_param_name text = is_word text && list_all is_param_char text
+
+abbrev pub is_title : List ℕ → Bool
+is_title text = nat_le (length text) 128
+
+abbrev pub is_wrapped : List ℕ → Bool
+is_wrapped bytes = is_within 1 1024 (length bytes)
 
 abbrev pub is_path : List ℕ → Bool
 is_path text = is_within 1 1024 (length (encode_utf8_all text))
 
 abbrev pub is_text_within : ℕ → List ℕ → Bool
 is_text_within most text = nat_le (length (encode_utf8_all text)) most
+
+abbrev pub is_blob_within : ℕ → List ℕ → Bool
+is_blob_within most bytes = nat_le (length bytes) most
 
 abbrev pub is_nonzero : ℕ → Bool
 is_nonzero n = nat_le 1 n
@@ -145,19 +165,19 @@ is_header h = are_keys (map (λ c. c.enc) h.columns) h.keys && is_few h.columns
 -- ---- words
 
 unfoldable pub name_at : Reader (List ℕ)
-name_at = kept (λ text. is_within 1 128 (length text)) (str_at w16)
+name_at = kept is_word (str_at w16)
 
 unfoldable pub param_name_at : Reader (List ℕ)
 param_name_at = kept is_param_name (str_at w16)
 
 unfoldable pub title_at : Reader (List ℕ)
-title_at = kept (λ text. nat_le (length text) 128) (str_at w16)
+title_at = kept is_title (str_at w16)
 
 unfoldable pub path_at : Reader (List ℕ)
 path_at = kept is_path (str_at w16)
 
 unfoldable pub wrapped_at : Reader (List ℕ)
-wrapped_at = kept (λ bytes. is_within 1 1024 (length bytes)) (blob_at w16)
+wrapped_at = kept is_wrapped (blob_at w16)
 
 unfoldable pub text_at : Reader (List ℕ)
 text_at = kept (is_text_within 65536) (str_at w32)
@@ -192,7 +212,7 @@ unfoldable pub short_text_at : Reader (List ℕ)
 short_text_at = kept (is_text_within 12000) (str_at w16)
 
 unfoldable pub short_blob_at : ℕ → Reader (List ℕ)
-short_blob_at most = kept (λ bytes. nat_le (length bytes) most) (blob_at w16)
+short_blob_at most = kept (is_blob_within most) (blob_at w16)
 
 abbrev pub null : AtomOf (List ℕ)
 null = Null
@@ -270,33 +290,37 @@ versions_at = kept differ (mapped versions_of (number_at w64 and number_at w64))
 unfoldable pub unique_number_at : Reader ℕ
 unique_number_at = kept (is_within 1 8) byte_at
 
+-- nothing follows
+abbrev pub bare : SqlFault → List ℕ → Option SqlFault
+bare f bytes = if length bytes == 0 then Some f else None
+
 -- the fields of each fault, by its code
-abbrev pub faults : List (ℕ × Reader SqlFault)
-faults = (10, only fault.Syntax)
-    ∷ (11, mapped fault.NumberTooWide (number_at w32))
-    ∷ (12, only fault.TooDeep)
-    ∷ (13, only fault.TooLong)
-    ∷ (20, mapped fault.NoTable name_at)
-    ∷ (21, mapped fault.NoColumn name_at)
-    ∷ (22, mapped fault.Ambiguous name_at)
-    ∷ (23, mapped fault.NoParam param_name_at)
-    ∷ (24, mapped fault.NoKey name_at)
-    ∷ (25, mapped fault.NotGrouped (number_at w32))
-    ∷ (26, mapped fault.TypeClash (number_at w32))
-    ∷ (30, mapped fault.EncryptionClash (number_at w32))
-    ∷ (40, mapped fault.Moved versions_at)
-    ∷ (41, mapped fault.ParamClash param_name_at)
-    ∷ (42, mapped fault.BadCell param_name_at)
-    ∷ (50, only fault.Overflow)
-    ∷ (51, mapped fault.NullNotAllowed name_at)
-    ∷ (52, mapped fault.Truncated name_at)
-    ∷ (53, only fault.TooManyRows)
-    ∷ (54, only fault.TableFull)
-    ∷ (55, mapped fault.DuplicateKey unique_number_at)
-    ∷ (60, mapped fault.Exists name_at)
-    ∷ (61, mapped fault.NoSuch name_at)
-    ∷ (62, mapped fault.KeyInUse name_at)
-    ∷ (63, only fault.Full)
+abbrev pub faults : List (ℕ × (List ℕ → Option SqlFault))
+faults = (10, bare fault.Syntax)
+    ∷ (11, ends fault.NumberTooWide (number_at w32))
+    ∷ (12, bare fault.TooDeep)
+    ∷ (13, bare fault.TooLong)
+    ∷ (20, ends fault.NoTable name_at)
+    ∷ (21, ends fault.NoColumn name_at)
+    ∷ (22, ends fault.Ambiguous name_at)
+    ∷ (23, ends fault.NoParam param_name_at)
+    ∷ (24, ends fault.NoKey name_at)
+    ∷ (25, ends fault.NotGrouped (number_at w32))
+    ∷ (26, ends fault.TypeClash (number_at w32))
+    ∷ (30, ends fault.EncryptionClash (number_at w32))
+    ∷ (40, ends fault.Moved versions_at)
+    ∷ (41, ends fault.ParamClash param_name_at)
+    ∷ (42, ends fault.BadCell param_name_at)
+    ∷ (50, bare fault.Overflow)
+    ∷ (51, ends fault.NullNotAllowed name_at)
+    ∷ (52, ends fault.Truncated name_at)
+    ∷ (53, bare fault.TooManyRows)
+    ∷ (54, bare fault.TableFull)
+    ∷ (55, ends fault.DuplicateKey unique_number_at)
+    ∷ (60, ends fault.Exists name_at)
+    ∷ (61, ends fault.NoSuch name_at)
+    ∷ (62, ends fault.KeyInUse name_at)
+    ∷ (63, bare fault.Full)
     ∷ []
 
 -- ---- messages
@@ -304,52 +328,63 @@ faults = (10, only fault.Syntax)
 abbrev pub describe_of : (ℕ × List ℕ) × List ParamDecl → Request
 describe_of d = Describe d.0.0 d.0.1 d.1
 
-unfoldable pub describe_at : Reader Request
-describe_at = mapped describe_of (session_at and text_at and declarations_at)
+unfoldable pub describe_at : List ℕ → Option Request
+describe_at = ends describe_of (session_at and text_at and declarations_at)
 
 abbrev pub execute_of : ((ℕ × ℕ) × List ℕ) × List SentParam → Request
 execute_of e = Execute e.0.0.0 e.0.0.1 e.0.1 e.1
 
-unfoldable pub execute_at : Reader Request
-execute_at = mapped execute_of (session_at and number_at w64 and text_at and sent_params_at)
+unfoldable pub execute_at : List ℕ → Option Request
+execute_at = ends execute_of (session_at and number_at w64 and text_at and sent_params_at)
 
 abbrev pub description_of : (ℕ × List KeyMeta) × List UsedParam → Description
 description_of d = record { version = d.0.0; keys = d.0.1; params = d.1 }
 
-unfoldable pub described_at : Reader Reply
-described_at = mapped Described (kept is_description (mapped description_of (number_at w64 and few_at key_at and used_params_at)))
+unfoldable pub described_at : List ℕ → Option Reply
+described_at = ends Described (kept is_description (mapped description_of (number_at w64 and few_at key_at and used_params_at)))
 
 abbrev pub header_of : List KeyMeta × List SentColumn → Header
 header_of h = record { keys = h.0; columns = h.1 }
 
-unfoldable pub columns_at : Reader Reply
-columns_at = mapped Columns (kept is_header (mapped header_of (few_at key_at and many_at column_at)))
+unfoldable pub columns_at : List ℕ → Option Reply
+columns_at = ends Columns (kept is_header (mapped header_of (few_at key_at and many_at column_at)))
 
-unfoldable pub row_at : Reader Reply
-row_at = mapped Row (kept is_few (many_at atom_at))
+unfoldable pub row_at : List ℕ → Option Reply
+row_at = ends Row (kept is_few (many_at atom_at))
 
 -- a definition has no number
-abbrev pub done_nothing : ℕ → Option Done
-done_nothing n = if n == 0 then Some Defined else None
+abbrev pub defined : ℕ → Option Done
+defined n = if n == 0 then Some Defined else None
 
 abbrev pub dones : List (ℕ × Reader Done)
-dones = (0, tried done_nothing (number_at w64)) ∷ (1, mapped Changed (number_at w64)) ∷ (2, mapped Answered (number_at w64)) ∷ []
+dones = (0, tried defined (number_at w64)) ∷ (1, mapped Changed (number_at w64)) ∷ (2, mapped Answered (number_at w64)) ∷ []
 
-unfoldable pub ended_at : Reader Reply
-ended_at = mapped Ended (choice dones)
+unfoldable pub done_at : Reader Done
+done_at = choice dones
 
-unfoldable pub refused_at : Reader Reply
-refused_at = mapped Refused (choice faults)
+unfoldable pub ended_at : List ℕ → Option Reply
+ended_at = ends Ended done_at
+
+unfoldable pub fault_at : List ℕ → Option SqlFault
+fault_at = choice faults
+
+unfoldable pub refused_at : List ℕ → Option Reply
+refused_at body = fault_at body >>= λ f. Some (Refused f)
 
 -- the messages of each direction, by their kind
-abbrev pub requests : List (ℕ × Reader Request)
+abbrev pub requests : List (ℕ × (List ℕ → Option Request))
 requests = (0x01, describe_at) ∷ (0x02, execute_at) ∷ []
 
-abbrev pub replies : List (ℕ × Reader Reply)
+abbrev pub replies : List (ℕ × (List ℕ → Option Reply))
 replies = (0x81, described_at) ∷ (0x82, columns_at) ∷ (0x83, row_at) ∷ (0x84, ended_at) ∷ (0x85, refused_at) ∷ []
 
 unfoldable pub request_at : ℕ → List ℕ → Option Request
-request_at kind = whole (pick requests kind)
+request_at = pick requests
 
 unfoldable pub reply_at : ℕ → List ℕ → Option Reply
-reply_at kind = whole (pick replies kind)
+reply_at = pick replies
+
+-- What a reader found is what reading gives.
+abbrev pub Gives : {X Y : Type 0} → (X → Y) → Option X → Option Y → Type 0
+Gives view None read = read ≡ None
+Gives view (Some x) read = read ≡ Some (view x)

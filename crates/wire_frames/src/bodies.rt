@@ -1,0 +1,183 @@
+//! Bodies of messages from bytes.
+
+ghost use Rattle.std.specs.Prelude.{◌≡◌};
+ghost use Rattle.wire_frames.specs.Decoding.{GivesBody};
+ghost use Rattle.wire_frames.specs.Reading as read;
+
+use crate::checks;
+use crate::faults::fault_of;
+use crate::listing::{Found, declarations_of, few_of, many_of, sent_params_of, used_params_of};
+use crate::reading::{done_of, session_of, statement_of, u64_of};
+use std::alloc::Global;
+use wire_messages::replies::Reply;
+use wire_messages::requests::Request;
+
+/// The message of a body.
+#[derive(Drop)]
+pub enum Body<M> {
+    One(M),
+    Bad,
+    OutOfMemory,
+}
+
+#[tactic(auto, unfolding(crate::specs::Reading::describe_at))]
+fn describe_of(alloc: Global, body: &[u8]) -> Body<Request<'_>>
+    ensures { GivesBody result (read.describe_at body.now) }
+{
+    let Some((session, rest)) = session_of(body) else {
+        return Body::Bad;
+    };
+    let Some((text, rest)) = statement_of(rest) else {
+        return Body::Bad;
+    };
+    match declarations_of(alloc, rest) {
+        Found::One(declarations, rest) => {
+            if !rest.is_empty() {
+                return Body::Bad;
+            }
+            Body::One(Request::Describe {
+                session,
+                text,
+                declarations,
+            })
+        }
+        Found::Bad => Body::Bad,
+        Found::OutOfMemory => Body::OutOfMemory,
+    }
+}
+
+#[tactic(auto, unfolding(crate::specs::Reading::execute_at))]
+fn execute_of(alloc: Global, body: &[u8]) -> Body<Request<'_>>
+    ensures { GivesBody result (read.execute_at body.now) }
+{
+    let Some((session, rest)) = session_of(body) else {
+        return Body::Bad;
+    };
+    let Some((version, rest)) = u64_of(rest) else {
+        return Body::Bad;
+    };
+    let Some((text, rest)) = statement_of(rest) else {
+        return Body::Bad;
+    };
+    match sent_params_of(alloc, rest) {
+        Found::One(params, rest) => {
+            if !rest.is_empty() {
+                return Body::Bad;
+            }
+            Body::One(Request::Execute {
+                session,
+                version,
+                text,
+                params,
+            })
+        }
+        Found::Bad => Body::Bad,
+        Found::OutOfMemory => Body::OutOfMemory,
+    }
+}
+
+/// The body of a request of a kind.
+#[tactic(auto, unfolding(crate::specs::Reading::request_at))]
+pub fn request_body_of(alloc: Global, kind: u8, body: &[u8]) -> Body<Request<'_>>
+    ensures { GivesBody result (read.request_at kind body.now) }
+{
+    match kind {
+        0x01 => describe_of(alloc, body),
+        0x02 => execute_of(alloc, body),
+        _ => Body::Bad,
+    }
+}
+
+#[tactic(auto, unfolding(crate::specs::Reading::described_at))]
+fn described_of(alloc: Global, body: &[u8]) -> Body<Reply<'_>>
+    ensures { GivesBody result (read.described_at body.now) }
+{
+    let Some((version, rest)) = u64_of(body) else {
+        return Body::Bad;
+    };
+    match few_of(alloc, rest) {
+        Found::One(keys, rest) => match used_params_of(alloc, rest) {
+            Found::One(params, rest) => match checks::description(version, keys, params) {
+                Some(description) if rest.is_empty() => { Body::One(Reply::Described(description)) }
+                _ => Body::Bad,
+            },
+            Found::Bad => Body::Bad,
+            Found::OutOfMemory => Body::OutOfMemory,
+        },
+        Found::Bad => Body::Bad,
+        Found::OutOfMemory => Body::OutOfMemory,
+    }
+}
+
+#[tactic(auto, unfolding(crate::specs::Reading::columns_at))]
+fn columns_of(alloc: Global, body: &[u8]) -> Body<Reply<'_>>
+    ensures { GivesBody result (read.columns_at body.now) }
+{
+    match few_of(alloc, body) {
+        Found::One(keys, rest) => match many_of(alloc, rest) {
+            Found::One(columns, rest) => match checks::header(keys, columns) {
+                Some(header) if rest.is_empty() => Body::One(Reply::Columns(header)),
+                _ => Body::Bad,
+            },
+            Found::Bad => Body::Bad,
+            Found::OutOfMemory => Body::OutOfMemory,
+        },
+        Found::Bad => Body::Bad,
+        Found::OutOfMemory => Body::OutOfMemory,
+    }
+}
+
+#[tactic(auto, unfolding(crate::specs::Reading::row_at))]
+fn row_of(alloc: Global, body: &[u8]) -> Body<Reply<'_>>
+    ensures { GivesBody result (read.row_at body.now) }
+{
+    match many_of(alloc, body) {
+        Found::One(atoms, rest) => match checks::row(atoms) {
+            Some(row) if rest.is_empty() => Body::One(Reply::Row(row)),
+            _ => Body::Bad,
+        },
+        Found::Bad => Body::Bad,
+        Found::OutOfMemory => Body::OutOfMemory,
+    }
+}
+
+#[tactic(auto, unfolding(crate::specs::Reading::ended_at))]
+fn ended_of(body: &[u8]) -> Body<Reply<'_>>
+    ensures { GivesBody result (read.ended_at body.now) }
+{
+    match done_of(body) {
+        Some((done, rest)) => {
+            if !rest.is_empty() {
+                return Body::Bad;
+            }
+            Body::One(Reply::Ended(done))
+        }
+        None => Body::Bad,
+    }
+}
+
+#[tactic(auto, unfolding(crate::specs::Reading::refused_at))]
+fn refused_of(alloc: Global, body: &[u8]) -> Body<Reply<'_>>
+    ensures { GivesBody result (read.refused_at body.now) }
+{
+    match fault_of(alloc, body) {
+        Body::One(fault) => Body::One(Reply::Refused(fault)),
+        Body::Bad => Body::Bad,
+        Body::OutOfMemory => Body::OutOfMemory,
+    }
+}
+
+/// The body of a reply of a kind.
+#[tactic(auto, unfolding(crate::specs::Reading::reply_at))]
+pub fn reply_body_of(alloc: Global, kind: u8, body: &[u8]) -> Body<Reply<'_>>
+    ensures { GivesBody result (read.reply_at kind body.now) }
+{
+    match kind {
+        0x81 => described_of(alloc, body),
+        0x82 => columns_of(alloc, body),
+        0x83 => row_of(alloc, body),
+        0x84 => ended_of(body),
+        0x85 => refused_of(alloc, body),
+        _ => Body::Bad,
+    }
+}
