@@ -21,9 +21,9 @@ HasMaster catalog (bound.Update update) = Unit {0}
 HasMaster catalog (bound.Delete delete) = Unit {0}
 HasMaster catalog (bound.Select query) = Unit {0}
 
-pub record IsBoundOn (catalog : Catalog) (b : Bound) (encs : List Enc) (params : List Atom) : Type 0 where
+pub record IsBoundOn (catalog : Catalog) (b : Bound) (kinds : List Enc) (params : List Atom) : Type 0 where
   pub placed : IsWellPlaced b
   pub tables : IsOnTables catalog.tables b
   pub master : HasMaster catalog b.statement
-  pub encs : length encs ≡ length b.params
+  pub encs : length kinds ≡ length b.params
   pub values : length params ≡ length b.params

@@ -5,9 +5,8 @@ use Rattle.ae_base.specs.declared.types.Ty.{Ty}
 use Rattle.ae_base.specs.declared.types.Ty.TheVariants as ty
 use Rattle.ae_base.specs.declared.types.Enc.{Enc}
 use Rattle.ae_base.specs.declared.types.Enc.TheVariants as enc
-use Rattle.ae_base.specs.declared.values.Value.TheVariants as value
-use Rattle.ae_base.specs.declared.values.Datum.TheVariants as datum
 use Rattle.sql_tree.specs.declared.bound.ColumnSite.{ColumnSite}
+use Rattle.sql_tree.specs.Literals.{literal_type}
 use Rattle.sql_tree.specs.Operands as operands
 use Rattle.sql_tree.specs.Bound.{BoundOperand, BoundItemValue, BoundItem, Bound}
 use Rattle.sql_tree.specs.Bound as bound
@@ -26,13 +25,10 @@ ty_at params place = unwrap_or (slice_get params place) ty.Int
 abbrev pub enc_at : List Enc → ℕ → Enc
 enc_at encs place = unwrap_or (slice_get encs place) enc.Plain
 
--- a column shows its own type and encryption, a parameter its declared type and its encryption by the typing; a sum and a
--- number literal are BIGINT, a text literal NVARCHAR(4000), a binary one VARBINARY(8000), NULL is INT, all plain
+-- a column shows its own type and encryption, a parameter its declared type and its encryption by the typing; all else is
+-- plain: a literal has its own type, and a sum is BIGINT
 abbrev pub shown_by : List ColumnSite → List Ty → List Enc → BoundOperand → ColumnSite
-shown_by columns params encs (operands.Literal at value.Null) = plain ty.Int
-shown_by columns params encs (operands.Literal at (value.Is (datum.Num n))) = plain ty.BigInt
-shown_by columns params encs (operands.Literal at (value.Is (datum.Text characters))) = plain (ty.NVarChar 4000)
-shown_by columns params encs (operands.Literal at (value.Is (datum.Bin bytes))) = plain (ty.VarBinary 8000)
+shown_by columns params encs (operands.Literal at v) = plain (literal_type v)
 shown_by columns params encs (operands.Param at place) = record { ty = ty_at params place; enc = enc_at encs place }
 shown_by columns params encs (operands.Column at place) = site_at columns place
 shown_by columns params encs (operands.Minus at operand) = plain ty.BigInt

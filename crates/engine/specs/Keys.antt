@@ -20,10 +20,7 @@ abbrev pub first_twins : ℕ → List (List ℕ) → List (List Atom) → Option
 first_twins number [] rows = None
 first_twins number (key ∷ keys) rows = if has_twins key rows then Some number else first_twins (number + 1) keys rows
 
-abbrev pub or_duplicate : Option ℕ → List (List Atom) → Result (List (List Atom)) SqlFault
-or_duplicate None rows = Ok rows
-or_duplicate (Some number) rows = Err (fault.DuplicateKey number)
-
--- the rows of a table with these unique keys, numbered from 1, or DuplicateKey of the first that they break
-abbrev pub keyed : List (List ℕ) → List (List Atom) → Result (List (List Atom)) SqlFault
-keyed keys rows = or_duplicate (first_twins 1 keys rows) rows
+-- DuplicateKey of that key, or else what is given
+abbrev pub unless_twins : {A : Type 0} → Option ℕ → A → Result A SqlFault
+unless_twins None x = Ok x
+unless_twins (Some number) x = Err (fault.DuplicateKey number)

@@ -1,9 +1,13 @@
 pub mod Answers
 pub mod BoundOn
 pub mod Columns
+pub mod Correspond
 pub mod Executes
 pub mod Keys
 pub mod Queries
 pub mod Rows
 pub mod Step
+pub mod Typed
+pub mod WellTyped
+pub mod Wide
 pub mod Worlds

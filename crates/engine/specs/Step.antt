@@ -7,6 +7,8 @@ use Rattle.ae_base.specs.declared.faults.SqlFault.{SqlFault}
 use Rattle.ae_base.specs.declared.tables.ColumnDef.{ColumnDef}
 use Rattle.ae_base.specs.declared.tables.TableDef.{TableDef}
 use Rattle.ae_base.specs.declared.types.Enc.{Enc}
+use Rattle.ae_base.specs.declared.types.Ty.{Ty}
+use Rattle.sql_tree.specs.declared.bound.ColumnSite.{ColumnSite}
 use Rattle.sql_tree.specs.Bound.{BoundCondition, BoundInsert, BoundUpdate, BoundDelete, BoundQuery, BoundStatement, Bound}
 use Rattle.sql_tree.specs.Bound as bound
 use Rattle.sql_tree.specs.OnTables.{columns_among, table_among}
@@ -14,7 +16,7 @@ use Rattle.catalog.specs.Catalogs.{Catalog, with_master, with_key, with_table, w
 use Rattle.operators.specs.Events.{asks}
 use Rattle.engine.specs.declared.answers.ResultColumn.{ResultColumn}
 use Rattle.engine.specs.Columns.{result_column}
-use Rattle.engine.specs.Keys.{keyed}
+use Rattle.engine.specs.Keys.{first_twins, unless_twins}
 use Rattle.engine.specs.Queries.{found_in}
 use Rattle.engine.specs.Rows.{new_rows, values_into, replaced}
 use Rattle.engine.specs.Worlds.{World, place_of, rows_of, with_rows}
@@ -66,15 +68,16 @@ uniques_in (Some table) = table.uniques
 abbrev pub uniques_of : World → List ℕ → List (List ℕ)
 uniques_of world name = uniques_in (table_among world.catalog.tables name)
 
--- so many rows are changed, and these are the rows of the table now, if its unique keys admit them
-abbrev pub changed : World → List ℕ → ℕ → List (List Atom) → Result Done SqlFault
-changed world name count rows = keyed (uniques_of world name) rows >>= λ kept. Ok (record { answer = Changed count; world = with_rows world name kept })
+-- the new rows, if the unique keys admit them behind the old ones
+abbrev pub rows_to_insert : World → BoundInsert → List Atom → Result (List (List Atom)) SqlFault
+rows_to_insert world i params =
+    let old = rows_of world i.table in
+    new_rows (columns_of world i.table) i.named params (length old) i.rows >>= λ rows. unless_twins (first_twins 1 (uniques_of world i.table) (old ++ rows)) rows
 
--- the new rows stand at the end
+-- they stand at the end
 abbrev pub insert : World → BoundInsert → List Atom → Result Done SqlFault
 insert world i params =
-    new_rows (columns_of world i.table) i.named params (length (rows_of world i.table)) i.rows >>= λ rows.
-    changed world i.table (length rows) (rows_of world i.table ++ rows)
+    rows_to_insert world i params >>= λ rows. Ok (record { answer = Changed (length rows); world = with_rows world i.table (rows_of world i.table ++ rows) })
 
 -- a row, and whether the filter was true of it
 pub record Tested : Type 0 where
@@ -95,16 +98,20 @@ updated_row world u params row false = Ok (record { hit = false; row = row })
 abbrev pub update : World → BoundUpdate → List Atom → Result Done SqlFault
 update world u params =
     each (λ row. selects params u.filter row >>= updated_row world u params row) (rows_of world u.table) >>= λ tested.
-    changed world u.table (count_by (λ t. t.hit) tested) (map (λ t. t.row) tested)
+    unless_twins (first_twins 1 (uniques_of world u.table) (map (λ t. t.row) tested)) tested >>= λ tested.
+    Ok (record { answer = Changed (count_by (λ t. t.hit) tested); world = with_rows world u.table (map (λ t. t.row) tested) })
+
+abbrev pub tested_row : List Atom → Bool → Result Tested SqlFault
+tested_row row hit = Ok (record { hit = hit; row = row })
 
 abbrev pub delete : World → BoundDelete → List Atom → Result Done SqlFault
 delete world d params =
-    each (λ row. selects params d.filter row >>= λ hit. Ok (record { hit = hit; row = row })) (rows_of world d.table) >>= λ tested.
+    each (λ row. selects params d.filter row >>= tested_row row) (rows_of world d.table) >>= λ tested.
     Ok (record { answer = Changed (count_by (λ t. t.hit) tested); world = with_rows world d.table (map (λ t. t.row) (filter (λ t. not t.hit) tested)) })
 
-abbrev pub select : World → Bound → List Enc → BoundQuery → List Atom → Result Done SqlFault
-select world b encs q params =
-    found_in world q params >>= λ rows. Ok (record { answer = Rows (map (result_column b.columns b.params encs) q.items) rows; world = world })
+abbrev pub select : World → List ColumnSite → List Ty → List Enc → BoundQuery → List Atom → Result Done SqlFault
+select world columns tys encs q params =
+    found_in world q params >>= λ rows. Ok (record { answer = Rows (map (result_column columns tys encs) q.items) rows; world = world })
 
 abbrev pub done_by : World → Bound → List Enc → BoundStatement → List Atom → Result Done SqlFault
 done_by world b encs (bound.CreateMaster name path) params = defined world (with_master world.catalog name path)
@@ -116,7 +123,7 @@ done_by world b encs (bound.DropKey name) params = defined world (without_key wo
 done_by world b encs (bound.Insert i) params = insert world i params
 done_by world b encs (bound.Update u) params = update world u params
 done_by world b encs (bound.Delete d) params = delete world d params
-done_by world b encs (bound.Select q) params = select world b encs q params
+done_by world b encs (bound.Select q) params = select world b.columns b.params encs q params
 
 -- what a statement answers, and the world after it, where its parameters are encrypted so and have these values
 abbrev pub step : World → Bound → List Enc → List Atom → Outcome

@@ -2,7 +2,9 @@
 #![tactic(auto)]
 
 pub mod answers;
+mod columns;
 mod inserts;
+mod keys;
 mod queries;
 pub mod tables;
 pub mod worlds;

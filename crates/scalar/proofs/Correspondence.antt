@@ -27,7 +27,7 @@ use Rattle.sql_tree.specs.Bound.{BoundOperand, BoundCondition}
 use Rattle.scalar.specs.declared.faults.Overflow.{Overflow}
 use Rattle.scalar.specs.declared.truth.Truth.{Truth}
 use Rattle.scalar.specs.declared.truth.Truth.TheVariants as truths
-use Rattle.scalar.specs.Classes.{Class, Open, Det, Rnd, Pairing, class_at, IsNotNull, IsOneToOne, Correspond, RowsCorrespond, BothAnswer}
+use Rattle.scalar.specs.Classes.{Class, Open, Det, Rnd, Pairing, class_at, IsNotNull, IsOneToOne, Correspond, PlacesCorrespond, RowsCorrespond, BothAnswer}
 use Rattle.scalar.specs.Eval.{atom_at, overflow, combined, negated, eval, eval_terms, datum_cmp, holds, truth_of, ordered, same_or_not, compare, negation, conjunction, disjunction, if_negated, null_truth, in_list, truth, truth_all, truth_any}
 use Rattle.scalar.specs.Typed.{StandsAt, AreSumsOpen, AreTermsOpen, IsNotRandomized, MayCompare, AreComparable, IsTypedCondition, AreTypedConditions}
 use Rattle.scalar.proofs.Renaming.{both_same}
@@ -201,7 +201,7 @@ module _ (R : Pairing) (r : IsOneToOne R) where
 
   -- ---- atoms of rows
 
-  pub corresponds_at : (classes : List Class) (row other : List Atom) → RowsCorrespond R classes row other → (place : ℕ) → Correspond R (class_at classes place) (atom_at row place) (atom_at other place)
+  pub corresponds_at : (classes : List Class) (row other : List Atom) → RowsCorrespond R classes row other → PlacesCorrespond R classes row other
   corresponds_at [] [] [] m place = nulls_correspond Open
   corresponds_at [] [] (b ∷ bs) m place = absurd m
   corresponds_at [] (a ∷ xs) bs m place = absurd m
@@ -248,7 +248,7 @@ module _ (R : Pairing) (r : IsOneToOne R) where
   combined_alike f a b c d m n =
       subst (λ x. BothAnswer (Correspond R Open) (combined f a c) (combined f x d)) (sym m.0) (subst (λ x. BothAnswer (Correspond R Open) (combined f a c) (combined f a x)) (sym n.0) (combined_open f a c))
 
-  module _ (columns params : List Class) (row other values others : List Atom) (rows : RowsCorrespond R columns row other) (given : RowsCorrespond R params values others) where
+  module _ (columns params : List Class) (row other values others : List Atom) (rows : PlacesCorrespond R columns row other) (given : PlacesCorrespond R params values others) where
     at_class : (c d : Class) (a b : Atom) → c ≡ d → Correspond R d a b → Correspond R c a b
     at_class c d a b e m = subst (λ x. Correspond R x a b) (sym e) m
 
@@ -260,8 +260,8 @@ module _ (R : Pairing) (r : IsOneToOne R) where
           → BothAnswer (Correspond R c) (eval row values operand) (eval other others operand)
       eval_at (operands.Literal at value.Null) c h s = nulls_correspond c
       eval_at (operands.Literal at (value.Is d)) c h s = at_class c Open (Plain d) (Plain d) s (refl, tt)
-      eval_at (operands.Param at p) c h s = at_class c (class_at params p) (atom_at values p) (atom_at others p) s (corresponds_at params values others given p)
-      eval_at (operands.Column at p) c h s = at_class c (class_at columns p) (atom_at row p) (atom_at other p) s (corresponds_at columns row other rows p)
+      eval_at (operands.Param at p) c h s = at_class c (class_at params p) (atom_at values p) (atom_at others p) s (given p)
+      eval_at (operands.Column at p) c h s = at_class c (class_at columns p) (atom_at row p) (atom_at other p) s (rows p)
       eval_at (operands.Minus at x) c h s =
           open_answers c (eval row values (operands.Minus at x)) (eval other others (operands.Minus at x)) s
           (both_then (Correspond R Open) (Correspond R Open) (eval row values x) (eval other others x) negated negated (eval_at x Open h.1 h.0) negated_alike)
@@ -377,12 +377,24 @@ module _ (R : Pairing) (r : IsOneToOne R) where
           (truth_at c h.0) (λ t. ap (λ r. r >>= λ rest. Ok (disjunction t rest)) (any_at more h.1))
 
 -- an operand's values correspond at its class
+pub eval_places : (R : Pairing) (columns params : List Class) (row other values others : List Atom) (operand : BoundOperand) (c : Class) → IsOneToOne R
+    → PlacesCorrespond R columns row other → PlacesCorrespond R params values others → AreSumsOpen columns params operand → StandsAt columns params c operand
+    → BothAnswer (Correspond R c) (eval row values operand) (eval other others operand)
+eval_places R columns params row other values others operand c r rows given h s = eval_at R r columns params row other values others rows given operand c h s
+
+-- a condition that the rules admit is as true
+pub truth_places : (R : Pairing) (columns params : List Class) (row other values others : List Atom) (condition : BoundCondition) → IsOneToOne R
+    → PlacesCorrespond R columns row other → PlacesCorrespond R params values others → IsTypedCondition columns params condition → truth other others condition ≡ truth row values condition
+truth_places R columns params row other values others condition r rows given h = truth_at R r columns params row other values others rows given condition h
+
+-- the same of rows
 pub eval_alike : (R : Pairing) (columns params : List Class) (row other values others : List Atom) (operand : BoundOperand) (c : Class) → IsOneToOne R
     → RowsCorrespond R columns row other → RowsCorrespond R params values others → AreSumsOpen columns params operand → StandsAt columns params c operand
     → BothAnswer (Correspond R c) (eval row values operand) (eval other others operand)
-eval_alike R columns params row other values others operand c r rows given h s = eval_at R r columns params row other values others rows given operand c h s
+eval_alike R columns params row other values others operand c r rows given h s =
+    eval_places R columns params row other values others operand c r (corresponds_at R r columns row other rows) (corresponds_at R r params values others given) h s
 
--- a condition that the rules admit is as true
 pub truth_alike : (R : Pairing) (columns params : List Class) (row other values others : List Atom) (condition : BoundCondition) → IsOneToOne R
     → RowsCorrespond R columns row other → RowsCorrespond R params values others → IsTypedCondition columns params condition → truth other others condition ≡ truth row values condition
-truth_alike R columns params row other values others condition r rows given h = truth_at R r columns params row other values others rows given condition h
+truth_alike R columns params row other values others condition r rows given h =
+    truth_places R columns params row other values others condition r (corresponds_at R r columns row other rows) (corresponds_at R r params values others given) h

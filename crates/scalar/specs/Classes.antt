@@ -4,6 +4,7 @@ use Rattle.std.specs.List.{Contains}
 use Rattle.std.specs.List.{slice_get}
 use Rattle.ae_base.specs.Atoms.{Atom}
 use Rattle.ae_base.specs.declared.atoms.AtomOf.TheVariants.{Null, Plain, Sealed}
+use Rattle.scalar.specs.Eval.{atom_at}
 use Rattle.ae_base.specs.declared.types.Ty.{Ty}
 use Rattle.ae_base.specs.declared.types.Enc.{Enc}
 use Rattle.ae_base.specs.declared.types.Enc.TheVariants as enc
@@ -68,7 +69,11 @@ Correspond R Open a b = (b ≡ a) × IsNotSealed a
 Correspond R (Det key ty) a b = NullOr (R (Det key ty) a b) a b
 Correspond R (Rnd key ty) a b = NullOr (R (Rnd key ty) a b) a b
 
--- two rows, place by place, at the classes of their columns
+-- two rows at each place, where one that isn't there holds NULL
+abbrev pub PlacesCorrespond : Pairing → List Class → List Atom → List Atom → Type 0
+PlacesCorrespond R classes row other = (place : ℕ) → Correspond R (class_at classes place) (atom_at row place) (atom_at other place)
+
+-- two rows of one length, place by place, at the classes of their columns
 abbrev pub RowsCorrespond : Pairing → List Class → List Atom → List Atom → Type 0
 RowsCorrespond R [] [] [] = Unit {0}
 RowsCorrespond R [] [] (b ∷ bs) = ⊥
