@@ -2,3 +2,4 @@ mod Walks
 mod Trees
 mod Sorting
 pub mod Merging
+pub mod Clashes

@@ -202,3 +202,75 @@ module _ (params : List Ty) (columns : List ColumnSite) where
       go : (unwrap_or (fixed columns (classes_from (λ s. s) rules x)) Plain ≡ other x) ⊎ ((unwrap_or (fixed columns (classes_from (λ s. s) rules x)) Plain ≡ Plain) × (is_open (classes_from (λ s. s) rules x) ≡ true)) → other x ≡ unwrap_or (fixed columns (classes_from (λ s. s) rules x)) Plain
       go (inl e) = sym e
       go (inr (e, o)) = absurd (n e)
+
+  plain_or : (a t : Enc) (alike : Bool) → (a ≡ t) ⊎ (a ≡ Plain) → is_plain t || alike ≡ true → is_plain a || alike ≡ true
+  plain_or a t alike (inl e) h = ap (λ z. is_plain z || alike) e ∙ h
+  plain_or a t alike (inr e) h = ap (λ z. is_plain z || alike) e
+
+  weaker : (a t : Enc) (o : Bool) → (a ≡ t) ⊎ ((a ≡ Plain) × (o ≡ true)) → (a ≡ t) ⊎ (a ≡ Plain)
+  weaker a t o (inl e) = inl e
+  weaker a t o (inr e) = inr e.0
+
+  closed : (a t : Enc) (o : Bool) → (a ≡ t) ⊎ ((a ≡ Plain) × (o ≡ true)) → o ≡ false → a ≡ t
+  closed a t o (inl e) f = e
+  closed a t o (inr e) f = let g : true ≡ false = sym e.1 ∙ f in absurd cc
+
+  module _ (typing : Typing) (classes : Classes) (agrees : Agrees columns typing) (stands : (s : Site) → typing (classes s) ≡ typing s) where
+    equal : (x y : Site) → typing x ≡ typing y → Joined classes x y → enc_of (classes x) ≡ enc_of (classes y)
+    equal x y same (inl e) = ap enc_of e
+    equal x y same (inr e) =
+        closed _ _ _ (known typing classes x agrees (stands x)) e.0 ∙ same ∙ sym (closed _ _ _ (known typing classes y agrees (stands y)) e.1)
+
+    each_holds : (rules : List Rule) → AllJoined classes rules → list_all (holds params columns typing) rules ≡ true
+        → list_all (holds params columns (λ s. enc_of (classes s))) rules ≡ true
+    each_holds [] j h = refl
+    each_holds (Same x y at ∷ rules) j h =
+        let one = and_left _ _ h in
+        let same : typing x ≡ typing y = (enc_eq-Decides (typing x) (typing y)).0 (and_left _ _ one) in
+        and_both _ _
+        (and_both _ _ ((enc_eq-Decides _ _).1 (equal x y same j.0))
+        (plain_or (enc_of (classes x)) (typing x) _ (weaker _ _ _ (known typing classes x agrees (stands x))) (and_right _ _ one)))
+        (each_holds rules j.1 (and_right _ _ h))
+    each_holds (NotRnd x at ∷ rules) j h =
+        and_both _ _ (go (weaker _ _ _ (known typing classes x agrees (stands x)))) (each_holds rules j (and_right _ _ h))
+      where
+        go : (enc_of (classes x) ≡ typing x) ⊎ (enc_of (classes x) ≡ Plain) → isnt_rnd (enc_of (classes x)) ≡ true
+        go (inl e) = ap isnt_rnd e ∙ and_left _ _ h
+        go (inr e) = ap isnt_rnd e
+    each_holds (PlainOnly x at ∷ rules) j h =
+        and_both _ _ (go (weaker _ _ _ (known typing classes x agrees (stands x)))) (each_holds rules j (and_right _ _ h))
+      where
+        go : (enc_of (classes x) ≡ typing x) ⊎ (enc_of (classes x) ≡ Plain) → is_plain (enc_of (classes x)) ≡ true
+        go (inl e) = ap is_plain e ∙ and_left _ _ h
+        go (inr e) = ap is_plain e
+
+  -- where there is a typing, the least one is one
+  pub least_holds : (rules : List Rule) (typing : Typing) → IsTyping params columns rules typing → list_all (holds params columns (least columns rules)) rules ≡ true
+  unfolding least
+  least_holds rules typing h =
+      each_holds typing (classes_from (λ s. s) rules) h.agrees (stand columns params typing rules h.holding (λ s. s) (λ s. refl)) rules (all_joined rules (λ s. s)) h.holding
+
+  pub least_is_typing : (rules : List Rule) → HasTyping params columns rules → IsTyping params columns rules (least columns rules)
+  least_is_typing rules h = record { agrees = least_agrees rules; holding = least_holds rules h.0 h.1 }
+
+  pub least_of : (rules : List Rule) → HasTyping params columns rules → IsLeastTyping params columns rules (least columns rules)
+  least_of rules h = record { typed = least_is_typing rules h; least = least_is_least rules }
+
+  pub has_typing-Decides : (rules : List Rule) → Decides (has_typing params columns rules) (HasTyping params columns rules)
+  unfolding has_typing
+  has_typing-Decides rules = (λ e. (least columns rules, record { agrees = least_agrees rules; holding = e }), λ h. least_holds rules h.0 h.1)
+
+  -- two least typings are one
+  pub one_least : (rules : List Rule) (typing : Typing) → IsLeastTyping params columns rules typing → (x : Site) → typing x ≡ least columns rules x
+  one_least rules typing h x = go (is_plain (typing x)) (is_plain (least columns rules x)) refl refl
+    where
+      plain : (e : Enc) → is_plain e ≡ true → e ≡ Plain
+      plain Plain p = refl
+      plain (Det k) p = absurd cc
+      plain (Rnd k) p = absurd cc
+      not_plain : (e : Enc) → is_plain e ≡ false → ¬ (e ≡ Plain)
+      not_plain e p q = let f : true ≡ false = sym (ap is_plain q) ∙ p in absurd cc
+      go : (a b : Bool) → is_plain (typing x) ≡ a → is_plain (least columns rules x) ≡ b → typing x ≡ least columns rules x
+      go true true p q = plain _ p ∙ sym (plain _ q)
+      go true false p q = least_is_least rules typing h.typed x (not_plain _ q)
+      go false b p q = sym (h.least (least columns rules) (least_is_typing rules (typing, h.typed)) x (not_plain _ p))

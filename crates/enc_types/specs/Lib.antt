@@ -2,3 +2,4 @@ pub mod Sites
 pub mod Rules
 pub mod Typing
 pub mod Least
+pub mod Clash

@@ -5,13 +5,13 @@ use Rattle.sql_tree.specs.declared.bound.PlaceAt.{PlaceAt}
 use Rattle.sql_tree.specs.declared.bound.BoundOrderKey.{BoundOrderKey}
 use Rattle.sql_tree.specs.declared.conditions.Comparison.{Comparison}
 use Rattle.sql_tree.specs.declared.conditions.Comparison.TheVariants as comparison
-use Rattle.sql_tree.specs.Operands.{Operand, Terms}
+use Rattle.sql_tree.specs.Operands.{Operand, Terms, place_of}
 use Rattle.sql_tree.specs.Operands as operands
 use Rattle.sql_tree.specs.Conditions.{Condition, Conditions}
 use Rattle.sql_tree.specs.Conditions as conditions
 use Rattle.sql_tree.specs.Bound.{BoundRow, BoundAssignment, BoundJoin, BoundItem, BoundItemValue, BoundQuery, BoundStatement, Bound}
 use Rattle.sql_tree.specs.Bound as bound
-use Rattle.enc_types.specs.Sites.{site_of, first_at}
+use Rattle.enc_types.specs.Sites.{site_of}
 use Rattle.enc_types.specs.declared.sites.Site.{Site}
 use Rattle.enc_types.specs.declared.sites.Site.TheVariants.{Column, Fixed}
 use Rattle.enc_types.specs.declared.rules.Rule.{Rule}
@@ -85,7 +85,7 @@ key_rule key = NotRnd (Column key.place) key.at
 
 -- a value of VALUES is encrypted as its column is
 abbrev pub value_rule : ℕ → Operand ℕ ℕ → List Rule
-value_rule place value = operand_rules value ++ Same (Column place) (site_of value) (first_at value) ∷ []
+value_rule place value = operand_rules value ++ Same (Column place) (site_of value) (place_of value) ∷ []
 
 abbrev pub value_rules : List ℕ → List (Operand ℕ ℕ) → List Rule
 value_rules [] values = []

@@ -18,11 +18,3 @@ site_of (operands.Param at param) = Param param
 site_of (operands.Column at column) = Column column
 site_of (operands.Minus at operand) = Fixed
 site_of (operands.Sum first terms) = Fixed
-
--- the place of the first token that isn't a parenthesis
-abbrev pub first_at : BoundOperand → ℕ
-first_at (operands.Literal at v) = at
-first_at (operands.Param at param) = at
-first_at (operands.Column at column) = at
-first_at (operands.Minus at operand) = at
-first_at (operands.Sum first terms) = first_at first

@@ -40,16 +40,3 @@ fn site_of_literal(at: u32, value: &Value) -> Site
         Value::Is(_) => Site::Fixed,
     }
 }
-
-/// The place of an operand's first token that isn't a parenthesis.
-pub fn first_at(operand: &BoundOperand) -> u32
-    ensures { result ≡ spec.first_at (operand_of operand.now) }
-{
-    match operand {
-        Operand::Literal { at, .. } => *at,
-        Operand::Param { at, .. } => *at,
-        Operand::Column { at, .. } => *at,
-        Operand::Minus { at, .. } => *at,
-        Operand::Sum { first, .. } => first_at(first),
-    }
-}

@@ -8,10 +8,10 @@ use crate::asks::{Asks, ask_each};
 use crate::operands::of_operand;
 use crate::queries::{of_filter, of_query};
 use crate::rules::Rule;
-use crate::sites::{Site, first_at, site_of};
+use crate::sites::{Site, site_of};
 use ae_base::lists::Seq;
 use sql_tree::bound::{
-    Bound, BoundAssignment, BoundInsert, BoundOperand, BoundRow, BoundStatement, BoundUpdate,
+    Bound, BoundAssignment, BoundInsert, BoundOperand, BoundStatement, BoundUpdate, place_of,
 };
 use std::alloc::{AllocError, Global};
 
@@ -85,7 +85,7 @@ fn of_value(place: usize, value: &BoundOperand, rules: &mut Seq<Rule>) -> Result
     rules.push(Rule::Same {
         x: Site::Column(place),
         y: site_of(value),
-        at: first_at(value),
+        at: place_of(value),
     })
 }
 
