@@ -75,4 +75,3 @@ module _ (params : List Ty) (columns : List ColumnSite) where
   pub first_clash : (before : List Rule) (rule : Rule) (after : List Rule) → typed before ≡ true → typed (before ++ rule ∷ []) ≡ false
       → IsFirstClash params columns (before ++ rule ∷ after) before rule
   first_clash before rule after h k = record { after = after; stands = refl; typed = (has_typing-Decides params columns before).0 h; untyped = untyped (before ++ rule ∷ []) k }
-

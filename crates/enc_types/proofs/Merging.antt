@@ -268,8 +268,10 @@ module _ (params : List Ty) (columns : List ColumnSite) where
       plain Plain p = refl
       plain (Det k) p = absurd cc
       plain (Rnd k) p = absurd cc
+
       not_plain : (e : Enc) → is_plain e ≡ false → ¬ (e ≡ Plain)
       not_plain e p q = let f : true ≡ false = sym (ap is_plain q) ∙ p in absurd cc
+
       go : (a b : Bool) → is_plain (typing x) ≡ a → is_plain (least columns rules x) ≡ b → typing x ≡ least columns rules x
       go true true p q = plain _ p ∙ sym (plain _ q)
       go true false p q = least_is_least rules typing h.typed x (not_plain _ q)

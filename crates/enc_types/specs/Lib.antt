@@ -3,3 +3,4 @@ pub mod Rules
 pub mod Typing
 pub mod Least
 pub mod Clash
+pub mod ResultColumns

@@ -3,9 +3,11 @@
 #![tactic(auto)]
 
 mod asks;
+pub mod columns;
 mod conditions;
 mod operands;
 mod queries;
 pub mod rules;
 pub mod sites;
 pub mod statements;
+pub mod typed;
