@@ -7,32 +7,15 @@ use Rattle.ae_base.specs.declared.types.Ty.{Ty}
 use Rattle.ae_base.specs.declared.types.Enc.{Enc}
 use Rattle.ae_base.specs.declared.types.Enc.TheVariants.{Plain, Det, Rnd}
 use Rattle.sql_tree.specs.declared.bound.ColumnSite.{ColumnSite}
+use Rattle.enc_types.specs.SiteLaws.{site_eq, site_eq-Decides}
 use Rattle.enc_types.specs.Typing.{fixed, type_of, are_alike, enc_eq, is_plain, isnt_rnd, Typing, holds, Agrees, IsTyping, HasTyping, IsLeastTyping}
-use Rattle.enc_types.specs.Least.{site_eq, is_open, Classes, moved, joined, classes_from, least, has_typing}
+use Rattle.enc_types.specs.Least.{is_open, Classes, moved, joined, classes_from, least, has_typing}
 use Rattle.enc_types.specs.declared.sites.Site.{Site}
 use Rattle.enc_types.specs.declared.sites.Site.TheVariants.{Column, Param, Null, Fixed}
 use Rattle.enc_types.specs.declared.rules.Rule.{Rule}
 use Rattle.enc_types.specs.declared.rules.Rule.TheVariants.{Same, NotRnd, PlainOnly}
 
 -- ---- the tests decide
-
-pub site_eq-Decides : (a b : Site) → Decides (site_eq a b) (a ≡ b)
-site_eq-Decides (Column i) (Column j) = (λ e. ap Column ((Decides-eqb i j).0 e), λ e. (Decides-eqb i j).1 cc)
-site_eq-Decides (Column i) (Param j) = (λ e. cc, λ e. cc)
-site_eq-Decides (Column i) (Null j) = (λ e. cc, λ e. cc)
-site_eq-Decides (Column i) Fixed = (λ e. cc, λ e. cc)
-site_eq-Decides (Param i) (Column j) = (λ e. cc, λ e. cc)
-site_eq-Decides (Param i) (Param j) = (λ e. ap Param ((Decides-eqb i j).0 e), λ e. (Decides-eqb i j).1 cc)
-site_eq-Decides (Param i) (Null j) = (λ e. cc, λ e. cc)
-site_eq-Decides (Param i) Fixed = (λ e. cc, λ e. cc)
-site_eq-Decides (Null i) (Column j) = (λ e. cc, λ e. cc)
-site_eq-Decides (Null i) (Param j) = (λ e. cc, λ e. cc)
-site_eq-Decides (Null i) (Null j) = (λ e. ap Null ((Decides-eqb i j).0 e), λ e. (Decides-eqb i j).1 cc)
-site_eq-Decides (Null i) Fixed = (λ e. cc, λ e. cc)
-site_eq-Decides Fixed (Column j) = (λ e. cc, λ e. cc)
-site_eq-Decides Fixed (Param j) = (λ e. cc, λ e. cc)
-site_eq-Decides Fixed (Null j) = (λ e. cc, λ e. cc)
-site_eq-Decides Fixed Fixed = (λ e. refl, λ e. refl)
 
 pub enc_eq-Decides : (a b : Enc) → Decides (enc_eq a b) (a ≡ b)
 enc_eq-Decides Plain Plain = (λ e. refl, λ e. refl)

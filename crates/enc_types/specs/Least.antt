@@ -1,6 +1,6 @@
 -- The least typing of a list of rules: the sites that are to be the same make up classes, a class is encrypted as a fixed site
 -- of it is, and one without a fixed site is plain.
-use Rattle.std.specs.Prelude.{ℕ, suc, List, [], ◌∷◌, ◌++◌, Option, Some, None, Bool, true, false, ◌==◌, if◌then◌else◌, unwrap_or, Result, Ok, Err}
+use Rattle.std.specs.Prelude.{ℕ, suc, List, [], ◌∷◌, ◌++◌, Option, Some, None, Bool, true, false, if◌then◌else◌, unwrap_or, Result, Ok, Err}
 use Rattle.std.specs.List.{list_all}
 use Rattle.ae_base.specs.declared.types.Ty.{Ty}
 use Rattle.ae_base.specs.declared.types.Enc.{Enc}
@@ -8,29 +8,12 @@ use Rattle.ae_base.specs.declared.types.Enc.TheVariants.{Plain}
 use Rattle.sql_tree.specs.declared.bound.ColumnSite.{ColumnSite}
 use Rattle.sql_tree.specs.Bound.{Bound}
 use Rattle.enc_types.specs.Rules.{at_of, rules}
+use Rattle.enc_types.specs.SiteLaws.{site_eq}
 use Rattle.enc_types.specs.Typing.{fixed, Typing, holds}
 use Rattle.enc_types.specs.declared.sites.Site.{Site}
 use Rattle.enc_types.specs.declared.sites.Site.TheVariants.{Column, Param, Null, Fixed}
 use Rattle.enc_types.specs.declared.rules.Rule.{Rule}
 use Rattle.enc_types.specs.declared.rules.Rule.TheVariants.{Same, NotRnd, PlainOnly}
-
-abbrev pub site_eq : Site → Site → Bool
-site_eq (Column i) (Column j) = i == j
-site_eq (Column i) (Param j) = false
-site_eq (Column i) (Null j) = false
-site_eq (Column i) Fixed = false
-site_eq (Param i) (Column j) = false
-site_eq (Param i) (Param j) = i == j
-site_eq (Param i) (Null j) = false
-site_eq (Param i) Fixed = false
-site_eq (Null i) (Column j) = false
-site_eq (Null i) (Param j) = false
-site_eq (Null i) (Null j) = i == j
-site_eq (Null i) Fixed = false
-site_eq Fixed (Column j) = false
-site_eq Fixed (Param j) = false
-site_eq Fixed (Null j) = false
-site_eq Fixed Fixed = true
 
 -- parameters and NULL literals are open
 abbrev pub is_open : Site → Bool

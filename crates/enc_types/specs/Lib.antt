@@ -1,3 +1,4 @@
+pub mod SiteLaws
 pub mod Sites
 pub mod Rules
 pub mod Typing

@@ -7,7 +7,7 @@ use sql_tree::bound::BoundOperand;
 use sql_tree::operands::Operand;
 
 /// Where a statement has an encryption.
-#[derive(Clone, Copy, PartialEq, Eq, Debug)]
+#[derive(Clone, Copy, Hash, Debug)]
 pub enum Site {
     /// A column, by its place among the columns of the statement, from 0.
     Column(usize),
@@ -18,6 +18,32 @@ pub enum Site {
     Null(u32),
     /// Any other literal, a unary minus or a sum, which are plain.
     Fixed,
+}
+
+impl PartialEq for Site {
+    ghost use Rattle.enc_types.specs.SiteLaws.{site_eq, site_eq-Decides};
+    ghost use Rattle.std.specs.Cmp.{partial_equiv_from_equiv, decided};
+
+    ghost eq = { site_eq };
+
+    ghost laws = { partial_equiv_from_equiv (decided site_eq site_eq-Decides) };
+
+    fn eq(&self, other: &Site) -> bool {
+        match (self, other) {
+            (Site::Column(i), Site::Column(j)) => *i == *j,
+            (Site::Param(i), Site::Param(j)) => *i == *j,
+            (Site::Null(i), Site::Null(j)) => *i == *j,
+            (Site::Fixed, Site::Fixed) => true,
+            _ => false,
+        }
+    }
+}
+
+impl Eq for Site {
+    ghost use Rattle.enc_types.specs.SiteLaws.{site_eq, site_eq-Decides};
+    ghost use Rattle.std.specs.Cmp.{decided};
+
+    ghost laws = { decided site_eq site_eq-Decides };
 }
 
 /// The site of an operand.
