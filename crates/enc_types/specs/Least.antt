@@ -64,6 +64,10 @@ abbrev pub encs_or_clash : List Enc → Option ℕ → Result (List Enc) ℕ
 encs_or_clash encs None = Ok encs
 encs_or_clash encs (Some at) = Err at
 
--- the encryptions of the parameters by the least typing of a statement's rules, or where its rules clash
+-- the encryptions of the parameters by the least typing of some rules, or where these clash
+abbrev pub inferred_over : List Ty → List ColumnSite → List Rule → Result (List Enc) ℕ
+inferred_over params columns rules = encs_or_clash (encs_from (least columns rules) 0 params) (clash params columns rules)
+
+-- the same of a statement's rules
 unfoldable pub inferred : Bound → Result (List Enc) ℕ
-inferred bound = encs_or_clash (encs_from (least bound.columns (rules bound)) 0 bound.params) (clash bound.params bound.columns (rules bound))
+inferred bound = inferred_over bound.params bound.columns (rules bound)
