@@ -79,8 +79,9 @@ module _ (params : List Ty) (columns : List ColumnSite) where
           least = least_found h;
           given = same;
           inferred =
-            ap (encs_or_clash (encs_from (least columns rules) 0 params)) (no_clash params columns rules (sym (typed_found h)))
-            ∙ ap Ok (sym (same ∙ encs_same (traced columns (reverse reach.steps.items)) (least columns rules) (one_least params columns rules (traced columns (reverse reach.steps.items)) (least_found h)) 0 params)) }
+              ap (encs_or_clash (encs_from (least columns rules) 0 params)) (no_clash params columns rules (sym (typed_found h)))
+              ∙ ap Ok (sym (same ∙ encs_same (traced columns (reverse reach.steps.items)) (least columns rules) (one_least params columns rules (traced columns (reverse reach.steps.items)) (least_found h)) 0 params));
+        }
 
     -- where a rule doesn't
 
@@ -129,7 +130,8 @@ module _ (params : List Ty) (columns : List ColumnSite) where
           rule = get_or rules k default;
           first = subst P (sym (parted rules k default last.within)) (first_clash params columns (take k rules) (get_or rules k default) (drop (suc k) rules) last.typed no_more);
           place = e;
-          chained = subst Q (taken rules k default last.within) c }
+          chained = subst Q (taken rules k default last.within) c;
+        }
 
   pub is_clash_of : (rules : List Rule) (found : EncryptionClash) → has_typing params columns rules ≡ false → clash params columns rules ≡ Some found.at
       → IsClash params columns rules found.at found.chain → IsClashOf params columns rules found

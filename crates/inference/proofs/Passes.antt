@@ -48,7 +48,8 @@ module _ (params : List Ty) (columns : List ColumnSite) (rules : List Rule) wher
       let P : List Step → Type 0 = λ z. IsTrace params columns rules (reverse z) in
       record {
         trace = subst P (sym e) tt;
-        found = λ s. start_found (fixed columns s) (enc_in reach.encs.found s) (h s) ∙ ap (λ z. traced columns (reverse z) s) (sym e) }
+        found = λ s. start_found (fixed columns s) (enc_in reach.encs.found s) (h s) ∙ ap (λ z. traced columns (reverse z) s) (sym e);
+      }
 
   module _ (old next : Reach) (step : Step) (reached : IsReached params columns rules old)
       (steps : next.steps.items ≡ old.steps.items ++ step ∷ [])
@@ -69,12 +70,14 @@ module _ (params : List Ty) (columns : List ColumnSite) (rules : List Rule) wher
       where
         at_fixed : (e : Enc) → fixed columns s ≡ Some e → typing_of columns next s ≡ traced columns (step ∷ reverse old.steps.items) s
         at_fixed e f = ap (λ o. or_found o (enc_in next.encs.found s)) f ∙ sym (traced_fixed params columns rules (step ∷ reverse old.steps.items) trace s e f)
+
         at_open : fixed columns s ≡ None → typing_of columns next s ≡ traced columns (step ∷ reverse old.steps.items) s
         at_open f =
             ap (λ o. or_found o (enc_in next.encs.found s)) f
             ∙ found s
             ∙ ap (λ e. cond (site_eq step.to s) e (enc_in old.encs.found s)) (reached.found step.from)
             ∙ ap (λ e. cond (site_eq step.to s) (traced columns (reverse old.steps.items) step.from) e) (sym (ap (λ o. or_found o (enc_in old.encs.found s)) f) ∙ reached.found s)
+
         either : ((e : Enc) × (fixed columns s ≡ Some e) × (is_open s ≡ false)) ⊎ ((fixed columns s ≡ None) × (is_open s ≡ true)) → typing_of columns next s ≡ traced columns (step ∷ reverse old.steps.items) s
         either (inl (e, f, o)) = at_fixed e f
         either (inr (f, o)) = at_open f
@@ -123,6 +126,7 @@ passing_more params columns rules initial reach next changed false i rule lt e h
     or_false : (b : Bool) → b || false ≡ true → b ≡ true
     or_false true k = refl
     or_false false k = k
+
     was_false : (b : Bool) → b || false ≡ false → b ≡ false
     was_false true k = k
     was_false false k = refl

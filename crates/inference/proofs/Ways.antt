@@ -109,15 +109,19 @@ module _ (params : List Ty) (columns : List ColumnSite) (rules : List Rule) wher
     where
       kept : (z : Site) → ¬ (traced columns steps z ≡ Plain) → traced columns (step ∷ steps) z ≡ traced columns steps z
       kept z m = traced_kept params columns rules step steps t z m
+
       from_there : ¬ (traced columns steps step.from ≡ Plain)
       from_there = goes_from params columns (traced columns steps) step.from step.to t.2
+
       here : step.to ≡ s → traced columns (step ∷ steps) s ≡ traced columns steps step.from → HasEnds (traced columns (step ∷ steps)) (traced columns (step ∷ steps) s) step.rule
       here e f = ends_of _ _ step.rule step.from step.to t.1 (kept step.from from_there ∙ sym f) (ap (traced columns (step ∷ steps)) e) (goes_alike params columns (traced columns steps) step.from step.to t.2)
+
       first_or_later : ((z : Site) → ¬ (traced columns steps z ≡ Plain) → (q : Rule) → IsAmong (way_back steps z) q → HasEnds (traced columns steps) (traced columns steps z) q)
           → step.to ≡ s → traced columns (step ∷ steps) s ≡ traced columns steps step.from → IsAmong (step.rule ∷ way_back steps step.from) r → HasEnds (traced columns (step ∷ steps)) (traced columns (step ∷ steps) s) r
       first_or_later more e f (inl k) = let P : Rule → Type 0 = HasEnds (traced columns (step ∷ steps)) (traced columns (step ∷ steps) s) in subst P (sym k) (here e f)
       first_or_later more e f (inr k) =
           let P : Enc → Type 0 = λ d. HasEnds (traced columns (step ∷ steps)) d r in subst P (sym f) (ends_kept _ _ _ r from_there kept (more step.from from_there r k))
+
       go : Back step steps s → ((z : Site) → ¬ (traced columns steps z ≡ Plain) → (q : Rule) → IsAmong (way_back steps z) q → HasEnds (traced columns steps) (traced columns steps z) q)
           → HasEnds (traced columns (step ∷ steps)) (traced columns (step ∷ steps) s) r
       go (inl (e, w, f)) more = first_or_later more e f (let P : List Rule → Type 0 = λ z. IsAmong z r in subst P w a)
@@ -134,6 +138,7 @@ module _ (params : List Ty) (columns : List ColumnSite) (rules : List Rule) wher
       here : IsAmong (step.rule ∷ way_back steps step.from) r → ((z : Site) (q : Rule) → IsAmong (way_back steps z) q → IsAmong rules q) → IsAmong rules r
       here (inl k) more = let P : Rule → Type 0 = IsAmong rules in subst P (sym k) t.0
       here (inr k) more = more step.from r k
+
       go : Back step steps s → ((z : Site) (q : Rule) → IsAmong (way_back steps z) q → IsAmong rules q) → IsAmong rules r
       go (inl (e, w, f)) more = here (let P : List Rule → Type 0 = λ z. IsAmong z r in subst P w a) more
       go (inr (w, f)) more = more s r (let P : List Rule → Type 0 = λ z. IsAmong z r in subst P w a)
@@ -144,9 +149,11 @@ module _ (params : List Ty) (columns : List ColumnSite) (rules : List Rule) wher
     where
       from_there : ¬ (traced columns steps step.from ≡ Plain)
       from_there = goes_from params columns (traced columns steps) step.from step.to t.2
+
       new : ¬ (IsAmong (way_back steps step.from) step.rule)
       new a =
           from_there (sym (end_there _ _ step.rule step.from step.to t.1 (ends steps t.3 step.from from_there step.rule a)) ∙ goes_plain params columns (traced columns steps) step.from step.to t.2)
+
       go : Back step steps s → ((z : Site) → NoneTwice (way_back steps z)) → NoneTwice (way_back (step ∷ steps) s)
       go (inl (e, w, f)) more = subst NoneTwice (sym w) (new, more step.from)
       go (inr (w, f)) more = subst NoneTwice (sym w) (more s)
@@ -168,8 +175,10 @@ module _ (params : List Ty) (columns : List ColumnSite) (rules : List Rule) wher
     where
       from_there : ¬ (traced columns steps step.from ≡ Plain)
       from_there = goes_from params columns (traced columns steps) step.from step.to t.2
+
       Root : Enc → List Rule → Site → Type 0
       Root enc way z = (start : Site) × (fixed columns start ≡ Some enc) × ((rule : Rule) (rest : List Rule) → Leads params columns z enc (rule ∷ rest) → Leads params columns start enc (onto way (rule ∷ rest)))
+
       go : Back step steps s
           → ((z : Site) → ¬ (traced columns steps z ≡ Plain) → (start : Site) × (fixed columns start ≡ Some (traced columns steps z)) × ((rule : Rule) (rest : List Rule) → Leads params columns z (traced columns steps z) (rule ∷ rest)
           → Leads params columns start (traced columns steps z) (onto (way_back steps z) (rule ∷ rest))))
@@ -222,13 +231,15 @@ module _ (params : List Ty) (columns : List ColumnSite) (rules : List Rule) wher
   stops : (rule : Rule) (from to : Site) (d e : Enc) → Carries rule from to → fixed columns to ≡ Some e → ¬ (d ≡ e) → Breaks params columns rule from d
   stops rule from to d e c f n = record {
     there = has_site rule from to c;
-    never = λ typing agrees g. is_false _ (λ h. n (sym g ∙ carried_same params columns typing rule from to c h ∙ agrees to e f)) }
+    never = λ typing agrees g. is_false _ (λ h. n (sym g ∙ carried_same params columns typing rule from to c h ∙ agrees to e f));
+  }
 
   -- nor to a site of another type, if it is encrypted
   unlike : (rule : Rule) (from to : Site) (d : Enc) → Carries rule from to → alike from to ≡ false → ¬ (d ≡ Plain) → Breaks params columns rule from d
   unlike (Same x y at) from to d (inl c) a n = record {
     there = inl c.0;
-    never = λ typing agrees g. is_false _ (λ h. never_both typing g (and_right _ _ h)) }
+    never = λ typing agrees g. is_false _ (λ h. never_both typing g (and_right _ _ h));
+  }
     where
       never_both : (typing : Typing) → typing from ≡ d → is_plain (typing x) || alike x y ≡ true → ⊥
       never_both typing g h =
@@ -237,7 +248,8 @@ module _ (params : List Ty) (columns : List ColumnSite) (rules : List Rule) wher
           true_false _ h (ap (λ z. z || alike x y) p ∙ q)
   unlike (Same x y at) from to d (inr c) a n = record {
     there = inr c.0;
-    never = λ typing agrees g. is_false _ (λ h. never_both typing g ((enc_eq-Decides (typing x) (typing y)).0 (and_left _ _ h)) (and_right _ _ h)) }
+    never = λ typing agrees g. is_false _ (λ h. never_both typing g ((enc_eq-Decides (typing x) (typing y)).0 (and_left _ _ h)) (and_right _ _ h));
+  }
     where
       never_both : (typing : Typing) → typing from ≡ d → typing x ≡ typing y → is_plain (typing x) || alike x y ≡ true → ⊥
       never_both typing g same h =
@@ -258,12 +270,14 @@ module _ (params : List Ty) (columns : List ColumnSite) (rules : List Rule) wher
     where
       from_there : ¬ (traced columns steps step.from ≡ Plain)
       from_there = goes_from params columns (traced columns steps) step.from step.to t.2
+
       longer : (way : List Rule) → way_back steps step.from ≡ way → step.to ≡ s → traced columns (step ∷ steps) s ≡ traced columns steps step.from
           → LeadsIfAny step.from d way → Leads params columns s d (step.rule ∷ way)
       longer [] w e f l =
           let C : Site → Type 0 = λ z. Carries step.rule z step.from in
           stops step.rule s step.from d _ (subst C e (carries_back step.rule step.from step.to t.1)) (no_way steps t.3 step.from from_there w) (λ k. o (k ∙ sym f))
       longer (rule ∷ way) w e f l = let C : Site → Type 0 = λ z. Carries step.rule z step.from in (step.from, subst C e (carries_back step.rule step.from step.to t.1), l)
+
       go : Back step steps s → ((z : Site) (c : Enc) → ¬ (traced columns steps z ≡ Plain) → ¬ (c ≡ traced columns steps z) → LeadsIfAny z c (way_back steps z)) → LeadsIfAny s d (way_back (step ∷ steps) s)
       go (inl (e, w, f)) more =
           let P : List Rule → Type 0 = LeadsIfAny s d in
@@ -341,7 +355,8 @@ module _ (params : List Ty) (columns : List ColumnSite) (rules : List Rule) wher
         start = start.0;
         enc = traced columns steps from;
         at_start = start.1;
-        leads = start.2 rule rest l }
+        leads = start.2 rule rest l;
+      }
     where
       go : (r : Rule) → IsAmong (way_back steps from) r ⊎ IsAmong (rule ∷ rest) r → IsAmong rules r
       go r (inl a) = back_among steps t from r a
@@ -370,23 +385,29 @@ module _ (params : List Ty) (columns : List ColumnSite) (rules : List Rule) wher
       where
         new : ¬ (IsAmong (way_back steps from) rule)
         new b = o (sym (end_there found (found from) rule from to c (ends steps t from n rule b)))
+
         here : fixed columns to ≡ Some (found to) → way_back steps to ≡ [] → IsChain params columns rules (onto (way_back steps from) (rule ∷ way_back steps to))
         here f w =
             let P : List Rule → Type 0 = λ z. IsChain params columns rules (onto (way_back steps from) (rule ∷ z)) in
             subst P (sym w) (single steps t from n rule (stops rule from to (found from) (found to) c f o) new a)
+
         among : (r : Rule) → IsAmong (rule ∷ way_back steps to) r → IsAmong rules r
         among r (inl e) = let P : Rule → Type 0 = IsAmong rules in subst P (sym e) a
         among r (inr b) = back_among steps t to r b
+
         apart : ¬ (found to ≡ Plain) → (r : Rule) → IsAmong (way_back steps from) r → IsAmong (rule ∷ way_back steps to) r → ⊥
         apart m r b (inl e) = new (let P : Rule → Type 0 = IsAmong (way_back steps from) in subst P e b)
         apart m r b (inr d) = o (ends_one found (found from) (found to) r (ends steps t from n r b) (ends steps t to m r d))
+
         later : ¬ (found to ≡ Plain) → ¬ (IsAmong (way_back steps to) rule)
         later m b = o (end_there found (found to) rule to from (carries_back rule from to c) (ends steps t to m rule b))
+
         there : ¬ (found to ≡ Plain) → (way : List Rule) → way_back steps to ≡ way → LeadsIfAny to (found from) way → IsChain params columns rules (onto (way_back steps from) (rule ∷ way_back steps to))
         there m [] w l = here (no_way steps t to m w) w
         there m (next ∷ way) w l =
             let P : List Rule → Type 0 = λ z. Leads params columns from (found from) (rule ∷ z) in
             assemble steps t from n rule (way_back steps to) (subst P (sym w) (to, c, l)) (later m, back_none_twice steps t to) (apart m) among
+
         go : (b : Bool) → is_plain (found to) ≡ b → IsChain params columns rules (onto (way_back steps from) (rule ∷ way_back steps to))
         go true p =
             let shut = plain_closed found from to (settled_goes found rule from to c (among_holds _ rules rule settled a)) (isnt_plain _ n) p k in

@@ -64,12 +64,7 @@ fn beyond(alike: bool, steps: &[Step], to: Site, chain: &mut Vec<Rule>) -> Resul
 }
 
 /// The way from a fixed site to one of a rule, and the rule.
-fn way_to(
-    alloc: Global,
-    steps: &[Step],
-    site: Site,
-    rule: &Rule,
-) -> Result<Vec<Rule>, AllocError>
+fn way_to(alloc: Global, steps: &[Step], site: Site, rule: &Rule) -> Result<Vec<Rule>, AllocError>
     ensures { IfOk result (λ chain. chain.items ≡ reverse (spec.way_back (reverse steps.now) site) ++ rule.now ∷ []) }
 {
     let mut chain = Vec::new(alloc);
