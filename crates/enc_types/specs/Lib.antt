@@ -5,3 +5,5 @@ pub mod Typing
 pub mod Least
 pub mod Clash
 pub mod ResultColumns
+pub mod InferenceWorked
+pub mod Renamed
