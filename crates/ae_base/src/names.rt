@@ -1,4 +1,4 @@
-ghost use Rattle.std.specs.Prelude.{◌≡◌, ◌≤◌, List, ℕ, IfOk, IfSome, IsSome, MatchOption, ◌↔◌, IsTrue, length, string_bytes, encode_utf8_all};
+ghost use Rattle.std.specs.Prelude.{◌≡◌, ◌≤◌, [], List, ℕ, IfOk, IfSome, IsSome, MatchOption, ◌↔◌, IsTrue, length, string_bytes, encode_utf8_all};
 ghost use Rattle.std.specs.Str.{bytes_eq, chars, all_scalars};
 ghost use Rattle.std.specs.Cmp.Lexicographic.{nat_list_eq_equiv};
 ghost use Rattle.std.specs.Cmp.{partial_equiv_from_equiv};
@@ -7,7 +7,7 @@ ghost use Rattle.ae_base.specs.Names.{IsName, IsParamName, IsTitle, is_param_cha
 
 use crate::lists::Duplicate;
 use crate::texts::Txt;
-use std::alloc::AllocError;
+use std::alloc::{AllocError, Global};
 use std::marker::Model;
 
 /// An identifier: a text of 1 to 128 characters.
@@ -196,6 +196,15 @@ impl Title {
             return None;
         }
         Some(Title { text })
+    }
+
+    /// The title without characters. It takes no memory.
+    pub fn empty(alloc: Global) -> Title
+        ensures { result ≡ [] }
+    {
+        Title {
+            text: Txt::from_string(String::new(alloc)),
+        }
     }
 
     /// The title that a name is. It takes no memory.

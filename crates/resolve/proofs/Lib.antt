@@ -1,3 +1,3 @@
-pub mod Befores
+pub mod Joins
 pub mod Trees
 pub mod Walks

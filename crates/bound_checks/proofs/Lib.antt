@@ -1,0 +1,3 @@
+pub mod ClashTrees
+pub mod Smallest
+pub mod UsedTrees
