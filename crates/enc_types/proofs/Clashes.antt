@@ -34,11 +34,11 @@ module _ (params : List Ty) (columns : List ColumnSite) where
   pub untyped : (xs : List Rule) → typed xs ≡ false → ¬ (HasTyping params columns xs)
   untyped xs e h = let f : false ≡ true = sym e ∙ (has_typing-Decides params columns xs).1 h in absurd cc
 
-  step_typed : (before : List Rule) (rule : Rule) (rules : List Rule) → typed (before ++ rule ∷ []) ≡ true → clash_behind params columns before (rule ∷ rules) ≡ clash_behind params columns (before ++ rule ∷ []) rules
+  pub step_typed : (before : List Rule) (rule : Rule) (rules : List Rule) → typed (before ++ rule ∷ []) ≡ true → clash_behind params columns before (rule ∷ rules) ≡ clash_behind params columns (before ++ rule ∷ []) rules
   unfolding clash_behind
   step_typed before rule rules e = ap (λ b. cond b (clash_behind params columns (before ++ rule ∷ []) rules) (Some (at_of rule))) e
 
-  step_untyped : (before : List Rule) (rule : Rule) (rules : List Rule) → typed (before ++ rule ∷ []) ≡ false → clash_behind params columns before (rule ∷ rules) ≡ Some (at_of rule)
+  pub step_untyped : (before : List Rule) (rule : Rule) (rules : List Rule) → typed (before ++ rule ∷ []) ≡ false → clash_behind params columns before (rule ∷ rules) ≡ Some (at_of rule)
   unfolding clash_behind
   step_untyped before rule rules e = ap (λ b. cond b (clash_behind params columns (before ++ rule ∷ []) rules) (Some (at_of rule))) e
 
@@ -46,7 +46,7 @@ module _ (params : List Ty) (columns : List ColumnSite) where
   unfolding clash_behind
   nothing_left before = refl
 
-  push_append : (before : List Rule) (rule : Rule) (rules : List Rule) → (before ++ rule ∷ []) ++ rules ≡ before ++ rule ∷ rules
+  pub push_append : (before : List Rule) (rule : Rule) (rules : List Rule) → (before ++ rule ∷ []) ++ rules ≡ before ++ rule ∷ rules
   push_append before rule rules = append_assoc before (rule ∷ []) rules
 
   typed_behind : (before rules : List Rule) → typed (before ++ rules) ≡ true → clash_behind params columns before rules ≡ None

@@ -3,3 +3,7 @@ mod Trees
 mod Sorting
 pub mod Merging
 pub mod Clashes
+pub mod TypedLaws
+pub mod Renaming
+pub mod RenamedTypings
+pub mod UsedParams

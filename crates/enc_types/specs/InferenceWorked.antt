@@ -35,8 +35,15 @@ where_is params columns condition = record {
   params = params;
   columns = columns;
   statement = bound.Select (record {
-    distinct = None; top = None; items = item 1 ∷ []; from = record { table = codes "t"; width = 2 }; joins = [];
-    filter = Some condition; group_by = []; order_by = [] });
+    distinct = None;
+    top = None;
+    items = item 1 ∷ [];
+    from = record { table = codes "t"; width = 2 };
+    joins = [];
+    filter = Some condition;
+    group_by = [];
+    order_by = [];
+  });
 }
 
 -- SELECT b FROM w WHERE a = @p AND b = @p
@@ -74,10 +81,14 @@ other_type = refl
 
 -- INSERT INTO u (id, c) VALUES (1, NULL)
 pub null_value : inferred (record {
-  params = []; columns = u;
+  params = [];
+  columns = u;
   statement = bound.Insert (record {
-    table = codes "u"; named = 0 ∷ 1 ∷ [];
-    rows = record { at = 29; values = operands.Literal 30 (value.Is (Num (pos 1))) ∷ operands.Literal 33 value.Null ∷ [] } ∷ [] }) }) ≡ Ok []
+    table = codes "u";
+    named = 0 ∷ 1 ∷ [];
+    rows = record { at = 29; values = operands.Literal 30 (value.Is (Num (pos 1))) ∷ operands.Literal 33 value.Null ∷ [] } ∷ [];
+  });
+}) ≡ Ok []
 unfolding inferred rules least has_typing clash_behind
 null_value = refl
 
@@ -87,9 +98,16 @@ joined_on right = record {
   params = [];
   columns = record { ty = Int; enc = Plain } ∷ record { ty = text8; enc = Det 1 } ∷ record { ty = Int; enc = Plain } ∷ right ∷ [];
   statement = bound.Select (record {
-    distinct = None; top = None; items = item 0 ∷ []; from = record { table = codes "x"; width = 2 };
+    distinct = None;
+    top = None;
+    items = item 0 ∷ [];
+    from = record { table = codes "x"; width = 2 };
     joins = record { source = record { table = codes "y"; width = 2 }; on = equal 33 (operands.Column 29 1) (operands.Column 35 3) } ∷ [];
-    filter = None; group_by = []; order_by = [] }) }
+    filter = None;
+    group_by = [];
+    order_by = [];
+  });
+}
 
 pub two_keys : inferred (joined_on (record { ty = text8; enc = Det 2 })) ≡ Err 33
 unfolding inferred rules least has_typing clash_behind
@@ -101,18 +119,36 @@ one_key = refl
 
 -- SELECT DISTINCT b FROM w
 pub distinct_randomized : inferred (record {
-  params = []; columns = w;
+  params = [];
+  columns = w;
   statement = bound.Select (record {
-    distinct = Some 7; top = None; items = item 1 ∷ []; from = record { table = codes "w"; width = 2 }; joins = [];
-    filter = None; group_by = []; order_by = [] }) }) ≡ Err 7
+    distinct = Some 7;
+    top = None;
+    items = item 1 ∷ [];
+    from = record { table = codes "w"; width = 2 };
+    joins = [];
+    filter = None;
+    group_by = [];
+    order_by = [];
+  });
+}) ≡ Err 7
 unfolding inferred rules least has_typing clash_behind
 distinct_randomized = refl
 
 -- SELECT c, COUNT(*) AS n FROM u GROUP BY c
 pub grouped : inferred (record {
-  params = []; columns = u;
+  params = [];
+  columns = u;
   statement = bound.Select (record {
-    distinct = None; top = None; items = item 1 ∷ record { title = codes "n"; value = bound.Count 10 } ∷ []; from = record { table = codes "u"; width = 2 }; joins = [];
-    filter = None; group_by = record { at = 40; place = 1 } ∷ []; order_by = [] }) }) ≡ Ok []
+    distinct = None;
+    top = None;
+    items = item 1 ∷ record { title = codes "n"; value = bound.Count 10 } ∷ [];
+    from = record { table = codes "u"; width = 2 };
+    joins = [];
+    filter = None;
+    group_by = record { at = 40; place = 1 } ∷ [];
+    order_by = [];
+  });
+}) ≡ Ok []
 unfolding inferred rules least has_typing clash_behind
 grouped = refl

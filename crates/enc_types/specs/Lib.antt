@@ -7,3 +7,4 @@ pub mod Clash
 pub mod ResultColumns
 pub mod InferenceWorked
 pub mod Renamed
+pub mod Laws

@@ -5,6 +5,7 @@
 mod asks;
 pub mod columns;
 mod conditions;
+pub mod laws;
 mod operands;
 mod queries;
 pub mod rules;

@@ -1,0 +1,22 @@
+ghost use Rattle.enc_types.specs.Laws.{LeastTyping, TypedStatements};
+ghost use Rattle.enc_types.specs.Renamed.{RulesRenamed, InferredRenamed};
+
+/// The least typing of rules that have a typing is one, and it is least.
+pub fn least_typing()
+    ensures { LeastTyping }
+{}
+
+/// Under what is inferred of a statement every rule of it holds.
+pub fn typed_statements()
+    ensures { TypedStatements }
+{}
+
+/// The rules of a statement whose parameters stand at other places are its rules, renamed.
+pub fn rules_renamed()
+    ensures { RulesRenamed }
+{}
+
+/// A statement over other declarations is inferred alike, if those that it uses are among them.
+pub fn inferred_renamed()
+    ensures { InferredRenamed }
+{}
