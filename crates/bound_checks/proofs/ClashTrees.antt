@@ -1,8 +1,7 @@
 -- The clashes of sums and junctions as they lie in memory, put behind those found before.
-use Rattle.std.proofs.Common.{◌≡◌, ℕ, ◌+◌, ◌<◌, List, [], ◌∷◌, ◌++◌, length, get_or, drop, ap, sym, subst, ◌∙◌, arith, Box, Vec, Global, Result, OnOk, append_assoc}
+use Rattle.std.proofs.Common.{◌≡◌, ℕ, ◌+◌, ◌<◌, List, [], ◌∷◌, ◌++◌, length, get_or, drop, ap, sym, subst, ◌∙◌, Box, Vec, Global, Result, OnOk, append_assoc}
 use Rattle.std.proofs.lemmas.List.{at_drop_more, append-nil}
 use Rattle.sql_tree.specs.Operands.{operand_of}
-use Rattle.sql_tree.specs.Operands as operands
 use Rattle.sql_tree.specs.Conditions.{condition_of}
 use Rattle.sql_tree.specs.Listed.{terms_listed, conditions_listed}
 use Rattle.sql_tree.specs.declared.operands.Operand as code

@@ -1,5 +1,5 @@
 -- The items and columns that aren't grouped, at their first tokens.
-use Rattle.std.specs.Prelude.{ℕ, List, [], ◌∷◌, ◌++◌, length, Option, Bool, true, false, ◌||◌, not, ◌==◌, if◌then◌else◌, is_some}
+use Rattle.std.specs.Prelude.{ℕ, List, [], ◌∷◌, ◌++◌, length, Bool, true, false, ◌||◌, not, ◌==◌, if◌then◌else◌, is_some}
 use Rattle.std.specs.List.{flat_map, list_any}
 use Rattle.sql_tree.specs.declared.bound.PlaceAt.{PlaceAt}
 use Rattle.sql_tree.specs.declared.bound.BoundOrderKey.{BoundOrderKey}

@@ -1,3 +1,4 @@
 pub mod Joins
+pub mod Kept
 pub mod Trees
 pub mod Walks

@@ -1,5 +1,5 @@
 -- The names in operands and conditions, in text order: each becomes a place, or the first that can't is the fault.
-use Rattle.std.specs.Prelude.{ℕ, List, map, Option, Some, None, Result, Ok, Err, if◌then◌else◌}
+use Rattle.std.specs.Prelude.{ℕ, List, Option, Some, None, Result, Ok, Err, if◌then◌else◌}
 use Rattle.ae_base.specs.Results.{◌>>=◌, each}
 use Rattle.ae_base.specs.Values.{value_is_within}
 use Rattle.ae_base.specs.declared.batches.ParamDecl.{ParamDecl}

@@ -1,5 +1,5 @@
 -- The scopes of the code, without where they lie in memory.
-use Rattle.std.specs.Prelude.{List, map}
+use Rattle.std.specs.Prelude.{map}
 use Rattle.resolve.specs.declared.scopes.Source as code_source
 use Rattle.resolve.specs.declared.scopes.ScopeColumn as code_column
 use Rattle.resolve.specs.declared.scopes.Scope as code_scope

@@ -5,6 +5,7 @@ mod boxes;
 mod changes;
 mod conditions;
 mod definitions;
+pub mod laws;
 mod operands;
 mod queries;
 mod scopes;

@@ -1,5 +1,5 @@
 -- Those bound so far stand before the others.
-use Rattle.std.proofs.Common.{◌≡◌, drop, map}
+use Rattle.std.proofs.Common.{◌≡◌, drop}
 use Rattle.resolve.specs.Walks.{each_from}
 use Rattle.resolve.proofs.Walks.{onto}
 use Rattle.resolve.specs.Definitions.{bind_key_column}

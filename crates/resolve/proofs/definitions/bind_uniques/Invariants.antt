@@ -1,5 +1,5 @@
 -- Those bound so far stand before the others.
-use Rattle.std.proofs.Common.{◌≡◌, drop, map}
+use Rattle.std.proofs.Common.{◌≡◌, drop}
 use Rattle.ae_base.specs.Results.{each}
 use Rattle.resolve.proofs.Walks.{onto}
 use Rattle.resolve.specs.Definitions.{bind_unique}

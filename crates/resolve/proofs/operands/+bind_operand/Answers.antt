@@ -1,5 +1,5 @@
 -- A sum is bound part by part, and its terms one after another.
-use Rattle.std.proofs.Common.{◌≡◌, rules, subst, sym, arith, Ok, List, [], ◌∷◌, ℕ}
+use Rattle.std.proofs.Common.{subst, sym, arith, [], ◌∷◌}
 use Rattle.std.proofs.lemmas.Result.{err_from_is_err_and}
 use Rattle.ae_base.specs.Results.{AnswersAs}
 use Rattle.sql_tree.specs.Listed.{terms_listed}
