@@ -4,6 +4,7 @@ pub mod Columns
 pub mod Correspond
 pub mod Executes
 pub mod Keys
+pub mod Laws
 pub mod Queries
 pub mod Rows
 pub mod Step

@@ -5,6 +5,7 @@ pub mod answers;
 mod columns;
 mod inserts;
 mod keys;
+pub mod laws;
 mod queries;
 pub mod tables;
 pub mod worlds;
