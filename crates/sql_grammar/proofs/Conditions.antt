@@ -148,16 +148,16 @@ asked_agrees : {r : Reading Operand} {q : Reading Inner} {P : Spelling Operand} 
 asked_agrees {P = P} C between p q = agrees_as (SpellsPredicate (SpellsSum P) C) (made_agrees make.only_asks (predicate_agrees C between p q))
     (λ c tokens k. asked_there P C c tokens k.0 k.1 k.2) (λ c tokens k. (Asks c, refl, k))
 
-abbrev literal_begins : List Terminal
+abbrev pub literal_begins : List Terminal
 literal_begins = terminal.Word keyword.Not ∷ predicate_begins
 
-literal_agrees : {r : Reading Operand} {q : Reading Inner} {P : Spelling Operand} {Q : Spelling Inner} (C : Spelling Condition) → Between P C Q
+pub literal_agrees : {r : Reading Operand} {q : Reading Inner} {P : Spelling Operand} {Q : Spelling Inner} (C : Spelling Condition) → Between P C Q
     → Agrees (terminal.Sign symbol.Open ∷ []) false [] r P → Agrees (terminal.Sign symbol.Open ∷ []) false [] q Q
     → Agrees literal_begins false predicate_goes_on (literal r q) (SpellsLiteral (SpellsSum P) C)
 literal_agrees C between p q = wider literal_begins predicate_goes_on (made_agrees make.literal_of
     (both_agrees (optional_agrees (terminal.Word keyword.Not ∷ []) (word_agrees keyword.Not) refl) (asked_agrees C between p q) refl)) refl refl
 
-abbrev conjunction_goes_on : List Terminal
+abbrev pub conjunction_goes_on : List Terminal
 conjunction_goes_on = terminal.Word keyword.And ∷ predicate_goes_on
 
 and_agrees : {r : Reading Operand} {q : Reading Inner} {P : Spelling Operand} {Q : Spelling Inner} (C : Spelling Condition) → Between P C Q
@@ -166,7 +166,7 @@ and_agrees : {r : Reading Operand} {q : Reading Inner} {P : Spelling Operand} {Q
 and_agrees C between p q = wider (terminal.Word keyword.And ∷ []) conjunction_goes_on (many_agrees (terminal.Word keyword.And ∷ [])
     (made_agrees make.behind (both_agrees (word_agrees keyword.And) (literal_agrees C between p q) refl)) refl refl) refl refl
 
-conjunction_agrees : {r : Reading Operand} {q : Reading Inner} {P : Spelling Operand} {Q : Spelling Inner} (C : Spelling Condition) → Between P C Q
+pub conjunction_agrees : {r : Reading Operand} {q : Reading Inner} {P : Spelling Operand} {Q : Spelling Inner} (C : Spelling Condition) → Between P C Q
     → Agrees (terminal.Sign symbol.Open ∷ []) false [] r P → Agrees (terminal.Sign symbol.Open ∷ []) false [] q Q
     → Agrees literal_begins false conjunction_goes_on (conjunction r q) (SpellsConjunction (SpellsSum P) C)
 conjunction_agrees C between p q = wider literal_begins conjunction_goes_on (made_agrees make.all_of
@@ -261,7 +261,7 @@ abbrev pub SpellsInner : ℕ → Spelling Inner
 SpellsInner depth (Computes operand) = SpellsOperandIn depth operand
 SpellsInner depth (Asks c) = SpellsConditionIn depth c
 
-nowhere_between : Between Nowhere Nowhere Nowhere
+pub nowhere_between : Between Nowhere Nowhere Nowhere
 nowhere_between = record { computes_in = λ o tokens k. k; computes_out = λ o tokens k. k; asks_in = λ c tokens k. k; asks_out = λ c tokens k. k }
 
 parens_computes : (depth : ℕ) (operand : Operand) (tokens : List Token) → InParens (SpellsInner depth) (Computes operand) tokens → InParens (SpellsOperandIn depth) operand tokens
@@ -274,7 +274,7 @@ parens_asks depth c tokens k =
     let is : k.0.1.0 ≡ Asks c = some_is k.0.1.0 (Asks c) k.1 in
     ((k.0.0, (c, k.0.1.1)), refl, (k.2.0, k.2.1, k.2.2, k.2.3, (k.2.4.0, k.2.4.1, k.2.4.2, subst (λ (j : Inner). SpellsInner depth j k.2.4.0) is k.2.4.3, k.2.4.4)))
 
-parens_between : (depth : ℕ) → Between (InParens (SpellsOperandIn depth)) (InParens (SpellsConditionIn depth)) (InParens (SpellsInner depth))
+pub parens_between : (depth : ℕ) → Between (InParens (SpellsOperandIn depth)) (InParens (SpellsConditionIn depth)) (InParens (SpellsInner depth))
 parens_between depth = record {
   computes_in = parens_computes depth;
   computes_out = λ o tokens k. ((k.0.0, (Computes k.0.1.0, k.0.1.1)), ap (λ (p : Operand). Some (Computes p)) (some_is k.0.1.0 o k.1), k.2);

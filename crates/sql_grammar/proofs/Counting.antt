@@ -1,6 +1,8 @@
 -- COUNT before a parenthesis begins no operand.
-use Rattle.std.proofs.Common.{◌≡◌, ℕ, zero, suc, Bool, true, false, ◌&&◌, List, [], ◌∷◌, ◌++◌, codes, Option, Some, None, is_some, inl, inr, refl, sym, ◌∙◌, ap, append_assoc}
+use Rattle.std.proofs.Common.{◌≡◌, ℕ, zero, suc, Bool, true, false, cond, ◌&&◌, List, [], ◌∷◌, ◌++◌, codes, Option, Some, None, is_some, inl, inr, refl, sym, ◌∙◌, ap, append_assoc}
 use Rattle.sql_tree.specs.declared.lexemes.Symbol.TheVariants as symbol
+use Rattle.sql_tree.specs.declared.lexemes.Lexeme.{Lexeme}
+use Rattle.sql_tree.specs.declared.lexemes.Lexeme.TheVariants as lexeme
 use Rattle.sql_tree.specs.declared.lexemes.Token.{Token}
 use Rattle.sql_tree.specs.Statements.{Operand, ItemValue}
 use Rattle.sql_grammar.specs.Readers.{◌>>=◌, Reading, Terminal, member, next_among, is_symbol, matches}
@@ -26,13 +28,16 @@ before_nothing : (t : Token) (ts : List Token) → next_among opening ts ≡ fal
 before_nothing t [] e = refl
 before_nothing t (u ∷ ts) e = and_false (is_some (make.word_in (codes "COUNT") t)) (is_symbol symbol.Open u.lexeme) (or_false (is_symbol symbol.Open u.lexeme) false e).0
 
-no_word : (t : Token) (o : Option (List ℕ)) → make.ident_of t.lexeme ≡ o → member (terminal.Ident ∷ []) t.lexeme ≡ false → is_some (make.word_in (codes "COUNT") t) ≡ false
-no_word t None e h = rw e refl
-no_word t (Some name) e h = absurd (let found = ident_kind t.lexeme name e in let wrong : true ≡ false = sym found ∙ h in cc)
+no_word_in : (l : Lexeme) (at : ℕ) → member (terminal.Ident ∷ []) l ≡ false → is_some (cond (make.lexeme_reads (codes "COUNT") l) (Some at) None) ≡ false
+no_word_in (lexeme.Ident name) at h = absurd (cc)
+no_word_in l at h = refl
+
+no_word : (t : Token) → member (terminal.Ident ∷ []) t.lexeme ≡ false → is_some (make.word_in (codes "COUNT") t) ≡ false
+no_word t h = no_word_in t.lexeme t.at h
 
 other_begin : (set : List Terminal) (front rest : List Token) → Starts set false front → disjoint set (terminal.Ident ∷ []) ≡ true → counts (front ++ rest) ≡ false
 other_begin set [] rest s d = absurd (cc)
-other_begin set (t ∷ ts) rest s d = no_count t (ts ++ rest) (no_word t (make.ident_of t.lexeme) refl (apart set (terminal.Ident ∷ []) t.lexeme d s))
+other_begin set (t ∷ ts) rest s d = no_count t (ts ++ rest) (no_word t (apart set (terminal.Ident ∷ []) t.lexeme d s))
   where
     no_count : (t : Token) (ts : List Token) → is_some (make.word_in (codes "COUNT") t) ≡ false → counts (t ∷ ts) ≡ false
     no_count t [] e = refl

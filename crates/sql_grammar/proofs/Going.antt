@@ -151,3 +151,6 @@ listed_shortens {r = r} p =
     let item = made_shorter make.behind (both (sign symbol.Comma) r) (both_shorter (sign symbol.Comma) r (sign_shortens symbol.Comma) p) in
     made_shorter make.list_of (both r (many (terminal.Sign symbol.Comma ∷ []) (behind_comma r))) (first_shorter r (many (terminal.Sign symbol.Comma ∷ []) (behind_comma r)) p
     (λ tokens xs rest e. repeated_shorter (terminal.Sign symbol.Comma ∷ []) (behind_comma r) item (length tokens) tokens xs rest e))
+
+pub behind_comma_shortens : {A : Type 0} {r : Reading A} → Shortens r → Shortens (behind_comma r)
+behind_comma_shortens {r = r} p = made_shorter make.behind (both (sign symbol.Comma) r) (both_shorter (sign symbol.Comma) r (sign_shortens symbol.Comma) p)

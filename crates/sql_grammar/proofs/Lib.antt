@@ -3,6 +3,7 @@ pub mod Chosen
 pub mod Conditions
 pub mod Counting
 pub mod Definitions
+pub mod Depths
 pub mod Going
 pub mod Operands
 pub mod Pieces

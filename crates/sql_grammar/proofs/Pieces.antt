@@ -49,9 +49,13 @@ pub placed_name_agrees : Agrees (terminal.Ident ∷ []) false [] placed_name Pla
 placed_name_agrees = one_agrees (terminal.Ident ∷ []) make.name_at (λ t x e.
     let b = bind_some (make.ident_of t.lexeme) _ x e in ident_kind t.lexeme b.value b.read)
 
+reads_kind : (capitals : List ℕ) (l : Lexeme) → make.lexeme_reads capitals l ≡ true → member (terminal.Ident ∷ []) l ≡ true
+reads_kind capitals (lexeme.Ident w) e = refl
+reads_kind capitals l e = absurd (cc)
+
 pub reads_agrees : (capitals : List ℕ) → Agrees (terminal.Ident ∷ []) false [] (reads capitals) (Reads capitals)
 reads_agrees capitals = one_agrees (terminal.Ident ∷ []) (make.word_in capitals) (λ t x e.
-    let b = bind_some (make.ident_of t.lexeme) _ x e in ident_kind t.lexeme b.value b.read)
+    reads_kind capitals t.lexeme (chosen (make.lexeme_reads capitals t.lexeme) t.at x e).0)
 
 number_kind : (l : Lexeme) (x : ℕ) → make.number_of l ≡ Some x → member (terminal.Number ∷ []) l ≡ true
 number_kind (lexeme.Number n) x e = refl
@@ -67,9 +71,13 @@ text_kind l x e = absurd (cc)
 pub text_agrees : Agrees (terminal.Text ∷ []) false [] text Text
 text_agrees = one_agrees (terminal.Text ∷ []) make.text_in (λ t x e. text_kind t.lexeme x e)
 
-pub is_text_agrees : (characters : List ℕ) → Agrees (terminal.Text ∷ []) false [] (parse.is_text characters) (IsText characters)
-is_text_agrees characters = one_agrees (terminal.Text ∷ []) (make.is_text_in characters) (λ t x e.
-    let b = bind_some (make.text_of t.lexeme) _ x e in text_kind t.lexeme b.value b.read)
+one_text_kind : (text : List ℕ) (l : Lexeme) → make.lexeme_is_text text l ≡ true → member (terminal.Text ∷ []) l ≡ true
+one_text_kind text (lexeme.Text characters) e = refl
+one_text_kind text l e = absurd (cc)
+
+pub is_text_agrees : (text : List ℕ) → Agrees (terminal.Text ∷ []) false [] (parse.is_text text) (IsText text)
+is_text_agrees text = one_agrees (terminal.Text ∷ []) (make.is_text_in text) (λ t x e.
+    one_text_kind text t.lexeme (chosen (make.lexeme_is_text text t.lexeme) t.at x e).0)
 
 binary_kind : (l : Lexeme) (x : List ℕ) → make.binary_of l ≡ Some x → member (terminal.Binary ∷ []) l ≡ true
 binary_kind (lexeme.Binary bytes) x e = refl

@@ -4,6 +4,8 @@ use Rattle.std.specs.List.{list_any, list_all}
 use Rattle.std.specs.Str.{bytes_eq}
 use Rattle.std.proofs.lemmas.Slice.Eq.{bytes_eq-Decides}
 use Rattle.std.proofs.lemmas.List.Folds.{list_any-append}
+use Rattle.sql_tree.specs.declared.lexemes.Lexeme.{Lexeme}
+use Rattle.sql_tree.specs.declared.lexemes.Lexeme.TheVariants as lexeme
 use Rattle.sql_tree.specs.declared.lexemes.Token.{Token}
 use Rattle.sql_tree.specs.Tokens.{in_capitals}
 use Rattle.sql_grammar.specs.Readers.{next_among}
@@ -45,23 +47,18 @@ reads_more a b (t ∷ ts) (inl k) = list_any-append (reads_word t) a b ∙ or_le
 reads_more a b (t ∷ ts) (inr k) = list_any-append (reads_word t) a b ∙ or_right (list_any (reads_word t) a) (list_any (reads_word t) b) k
 
 -- a name reads as one word alone
-word_known : (word name : List ℕ) (t : Token) → make.ident_of t.lexeme ≡ Some name → reads_word t word ≡ true → word ≡ in_capitals name
-word_known word name t e h =
-    let here : is_some (cond (bytes_eq word (in_capitals name)) (Some t.at) None) ≡ true = rw e at h in
-    (bytes_eq-Decides word (in_capitals name)).0 (given_true (bytes_eq word (in_capitals name)) t.at here)
-  where
-    given_true : (b : Bool) (at : ℕ) → is_some (cond b (Some at) None) ≡ true → b ≡ true
-    given_true true at h = refl
-    given_true false at h = absurd (cc)
+word_read : (t : Token) (word : List ℕ) (b : Bool) → make.lexeme_reads word t.lexeme ≡ b → is_some (cond b (Some t.at) None) ≡ true → make.lexeme_reads word t.lexeme ≡ true
+word_read t word true e h = e
+word_read t word false e h = absurd (cc)
 
-named_by : (o : Option (List ℕ)) (t : Token) (word : List ℕ) → make.ident_of t.lexeme ≡ o → reads_word t word ≡ true → (name : List ℕ) × (make.ident_of t.lexeme ≡ Some name)
-named_by (Some name) t word e h = (name, e)
-named_by None t word e h = absurd (let none : false ≡ true = rw e at h in cc)
+same_word : (l : Lexeme) (word other : List ℕ) → make.lexeme_reads word l ≡ true → make.lexeme_reads other l ≡ true → bytes_eq word other ≡ true
+same_word (lexeme.Ident name) word other h k =
+    (bytes_eq-Decides word other).1 ((bytes_eq-Decides word (in_capitals name)).0 h ∙ sym ((bytes_eq-Decides other (in_capitals name)).0 k))
+same_word l word other h k = absurd (cc)
 
 two_words : (word other : List ℕ) (t : Token) → reads_word t word ≡ true → reads_word t other ≡ true → bytes_eq word other ≡ true
 two_words word other t h k =
-    let n = named_by (make.ident_of t.lexeme) t word refl h in
-    (bytes_eq-Decides word other).1 (word_known word n.0 t n.1 h ∙ sym (word_known other n.0 t n.1 k))
+    same_word t.lexeme word other (word_read t word (make.lexeme_reads word t.lexeme) refl h) (word_read t other (make.lexeme_reads other t.lexeme) refl k)
 
 not_and : (x y : Bool) → (not x && y) ≡ true → (x ≡ false) × (y ≡ true)
 not_and true y e = absurd (cc)

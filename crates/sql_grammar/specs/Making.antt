@@ -1,5 +1,5 @@
 -- What the parts of a statement make.
-use Rattle.std.specs.Prelude.{ℕ, pos, List, [], ◌∷◌, codes, Option, Some, None, unwrap_or, is_some, Bool, true, false, ◌&&◌, ◌||◌, not, nat_le, ◌==◌, length, if◌then◌else◌}
+use Rattle.std.specs.Prelude.{ℕ, pos, List, [], ◌∷◌, codes, Option, Some, None, unwrap_or, is_some, Bool, true, false, ◌&&◌, ◌||◌, not, nat_le, ◌==◌, length, if◌then◌else◌, encode_utf8_all}
 use Rattle.std.specs.List.{list_any}
 use Rattle.std.specs.Str.{bytes_eq}
 use Rattle.ae_base.specs.declared.values.Value.TheVariants as value
@@ -56,8 +56,12 @@ name_at t = ident_of t.lexeme >>= λ name. Some (record { at = t.at; name = name
 abbrev pub reads_as : List ℕ → List ℕ → Bool
 reads_as word name = bytes_eq word (in_capitals name)
 
+abbrev pub lexeme_reads : List ℕ → Lexeme → Bool
+lexeme_reads word (lexeme.Ident name) = reads_as word name
+lexeme_reads word other = false
+
 abbrev pub word_in : List ℕ → Token → Option ℕ
-word_in word t = ident_of t.lexeme >>= λ name. if reads_as word name then Some t.at else None
+word_in word t = if lexeme_reads word t.lexeme then Some t.at else None
 
 abbrev pub number_of : Lexeme → Option ℕ
 number_of (lexeme.Number n) = Some n
@@ -260,8 +264,12 @@ is_text (ty.NVarChar most) = true
 is_text (ty.VarBinary most) = false
 
 -- a text that is the one
+abbrev pub lexeme_is_text : List ℕ → Lexeme → Bool
+lexeme_is_text text (lexeme.Text characters) = bytes_eq (encode_utf8_all characters) text
+lexeme_is_text text other = false
+
 abbrev pub is_text_in : List ℕ → Token → Option ℕ
-is_text_in text t = text_of t.lexeme >>= λ characters. if bytes_eq text characters then Some t.at else None
+is_text_in text t = if lexeme_is_text text t.lexeme then Some t.at else None
 
 abbrev pub kind_of : List ℕ → Option EncryptionKind
 kind_of name =

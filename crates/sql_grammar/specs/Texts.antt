@@ -18,8 +18,8 @@ use Rattle.sql_grammar.specs.Parse.{statement}
 
 -- all the tokens are read
 abbrev pub whole : Statement × List Token → Option Statement
-whole (statement, []) = Some statement
-whole (statement, t ∷ ts) = None
+whole (read, []) = Some read
+whole (read, t ∷ ts) = None
 
 -- the statement that the tokens spell
 unfoldable pub tree_of : List Token → Option Statement
