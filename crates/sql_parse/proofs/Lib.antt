@@ -1,6 +1,3 @@
-mod Again
-mod Fronts
-mod Going
-mod Listing
-mod Spelled
-mod Whole
+pub mod Joined
+pub mod Listing
+pub mod There
