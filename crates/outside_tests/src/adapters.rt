@@ -119,12 +119,6 @@ fn draws_from_a_generator(rt: HostRuntime) {
     assert!(rt; is_drawn(entropy.draw(), 2));
 }
 
-const DIGITS: &str = "000102030405060708090a0b0c0d0e0f101112131415161718191a1b1c1d1e1f";
-
-const SHORT: &str = "000102030405060708090a0b0c0d0e0f101112131415161718191a1b1c1d1e1";
-
-const CAPITALS: &str = "000102030405060708090A0B0C0D0E0F101112131415161718191A1B1C1D1E1F";
-
 #[derive(Clone, Copy)]
 enum Want {
     Key,
@@ -132,39 +126,105 @@ enum Want {
     Fault,
 }
 
+struct KeyFile {
+    path: &'static str,
+    content: &'static str,
+    want: Want,
+}
+
+const KEY_FILES: [KeyFile; 9] = [
+    KeyFile {
+        path: "plain",
+        content: "000102030405060708090a0b0c0d0e0f101112131415161718191a1b1c1d1e1f",
+        want: Want::Key,
+    },
+    KeyFile {
+        path: "line_end",
+        content: "000102030405060708090a0b0c0d0e0f101112131415161718191a1b1c1d1e1f\n",
+        want: Want::Key,
+    },
+    KeyFile {
+        path: "CAPITALS-1",
+        content: "000102030405060708090A0B0C0D0E0F101112131415161718191A1B1C1D1E1F",
+        want: Want::Key,
+    },
+    KeyFile {
+        path: "short",
+        content: "000102030405060708090a0b0c0d0e0f101112131415161718191a1b1c1d1e1",
+        want: Want::Fault,
+    },
+    KeyFile {
+        path: "cr_lf",
+        content: "000102030405060708090a0b0c0d0e0f101112131415161718191a1b1c1d1e1f\r\n",
+        want: Want::Fault,
+    },
+    KeyFile {
+        path: "two_lines",
+        content: "000102030405060708090a0b0c0d0e0f101112131415161718191a1b1c1d1e1f\n\n",
+        want: Want::Fault,
+    },
+    KeyFile {
+        path: "blank",
+        content: " 000102030405060708090a0b0c0d0e0f101112131415161718191a1b1c1d1e1f",
+        want: Want::Fault,
+    },
+    KeyFile {
+        path: "empty",
+        content: "",
+        want: Want::Fault,
+    },
+    KeyFile {
+        path: "a.b",
+        content: "000102030405060708090a0b0c0d0e0f101112131415161718191a1b1c1d1e1f",
+        want: Want::Nothing,
+    },
+];
+
+fn is_wanted(found: MasterKey, want: Want) -> bool {
+    match want {
+        Want::Key => is_key(found, &KEY),
+        Want::Nothing => matches!(found, MasterKey::NotThere),
+        Want::Fault => matches!(found, MasterKey::Failed),
+    }
+}
+
+fn write_key_files(rt: &HostRuntime, folder: &str) -> Result<(), Fail> {
+    for file in &KEY_FILES {
+        let name = format!(in rt.alloc(); "{folder}/{}.key", file.path)?;
+        fs::write(rt, name.as_str(), file.content.as_bytes())?;
+    }
+    Ok(())
+}
+
+fn finds(rt: &HostRuntime, folder: &str, path: &str, want: Want) -> Result<bool, Fail> {
+    let mut vault = FolderVault::new(rt.alloc(), rt, folder)?;
+    let found = vault.master(&Txt::copied(rt.alloc(), path)?);
+    Ok(is_wanted(found, want))
+}
+
+fn folder_name(rt: &HostRuntime) -> Result<String, Fail> {
+    let parent = env::temp_dir(rt)?;
+    let number = process::id(rt.process());
+    Ok(format!(in rt.alloc(); "{}/outside_tests_{number}", parent.display())?)
+}
+
 #[test]
 fn finds_the_keys_of_a_folder(rt: HostRuntime) -> Result<(), Fail> {
-    let alloc = rt.alloc();
-    let parent = env::temp_dir(&rt)?;
-    let number = process::id(rt.process());
-    let folder = format!(in alloc; "{}/outside_tests_{number}", parent.display())?;
+    let folder = folder_name(&rt)?;
     fs::create_dir_all(&rt, folder.as_str())?;
-    let mut vault = FolderVault::new(alloc, &rt, folder.as_str())?;
-    for (path, before, digits, after, want) in [
-        ("plain", "", DIGITS, "", Want::Key),
-        ("line_end", "", DIGITS, "\n", Want::Key),
-        ("CAPITALS-1", "", CAPITALS, "", Want::Key),
-        ("short", "", SHORT, "", Want::Fault),
-        ("cr_lf", "", DIGITS, "\r\n", Want::Fault),
-        ("two_lines", "", DIGITS, "\n\n", Want::Fault),
-        ("blank", " ", DIGITS, "", Want::Fault),
-        ("empty", "", "", "", Want::Fault),
-        ("a.b", "", DIGITS, "", Want::Nothing),
-    ] {
-        let name = format!(in alloc; "{folder}/{path}.key")?;
-        let content = format!(in alloc; "{before}{digits}{after}")?;
-        fs::write(&rt, name.as_str(), content.as_bytes())?;
-        let found = vault.master(&Txt::copied(alloc, path)?);
-        let as_wanted = match want {
-            Want::Key => is_key(found, &KEY),
-            Want::Nothing => matches!(found, MasterKey::NotThere),
-            Want::Fault => matches!(found, MasterKey::Failed),
-        };
-        assert!(rt; as_wanted, "at {path}");
+    write_key_files(&rt, folder.as_str())?;
+    for file in &KEY_FILES {
+        assert!(rt;
+            finds(&rt, folder.as_str(), file.path, file.want)?,
+            "at {}",
+            file.path
+        );
     }
     for path in ["missing", "../x", ""] {
-        let found = vault.master(&Txt::copied(alloc, path)?);
-        assert!(rt; matches!(found, MasterKey::NotThere), "at {path}");
+        assert!(rt;
+            finds(&rt, folder.as_str(), path, Want::Nothing)?,
+            "at {path}"
+        );
     }
     fs::remove_dir_all(&rt, folder.as_str())?;
     Ok(())

@@ -1,7 +1,7 @@
 // The values of the base.
 
 use ae_base::atoms::{Atom, AtomOf, Row};
-use ae_base::batches::{Batch, KeyMeta, Param, ParamDecl};
+use ae_base::batches::{Batch, Param, ParamDecl};
 use ae_base::blobs::Blob;
 use ae_base::cells::Cell;
 use ae_base::faults::{SqlFault, UniqueNumber, Versions};
@@ -56,40 +56,54 @@ fn param_name(alloc: Global, text: &str) -> Result<ParamName, Fail> {
     Ok(param_name_of(alloc, text)?.ok_or("a parameter's name")?)
 }
 
+fn is_title(alloc: Global, text: &str) -> Result<bool, AllocError> {
+    Ok(Title::from_txt(Txt::copied(alloc, text)?).is_some())
+}
+
+// It has 129 characters.
+const LONG: &str =
+    "aaaaaaaaaaaaaaaaaaaaaaaaaaaaaaaaaaaaaaaaaaaaaaaaaaaaaaaaaaaaaaaaaaaaaaaaaaaaaaaaaaaaaaaaaaaaaaaaaaaaaaaaaaaaaaaaaaaaaaaaaaaaaaaaa";
+
 #[test]
 fn texts_are_names(rt: HostRuntime) -> Result<(), Fail> {
     let alloc = rt.alloc();
-    let a = "a".repeat(alloc, 129)?;
-    for (text, is_name, is_title) in [
-        ("", false, true),
-        ("né", true, true),
-        (a.as_str(), false, false),
+    for (text, is_a_name, is_a_param, is_a_title) in [
+        ("", false, false, true),
+        ("né", true, false, true),
+        ("p q", true, false, true),
+        ("p_1", true, true, true),
+        (LONG, false, false, false),
     ] {
-        assert_eq!(rt; name_of(alloc, text)?.is_some(), is_name);
-        assert_eq!(rt;
-            Title::from_txt(Txt::copied(alloc, text)?).is_some(),
-            is_title
-        );
-    }
-    for (text, is_param) in [("p_1", true), ("né", false), ("p q", false)] {
-        assert_eq!(rt; param_name_of(alloc, text)?.is_some(), is_param);
+        assert_eq!(rt; name_of(alloc, text)?.is_some(), is_a_name);
+        assert_eq!(rt; param_name_of(alloc, text)?.is_some(), is_a_param);
+        assert_eq!(rt; is_title(alloc, text)?, is_a_title);
     }
     Ok(())
 }
 
 #[test]
-fn names_are_taken_twice_and_given_back(rt: HostRuntime) -> Result<(), Fail> {
+fn a_name_is_taken_twice_and_given_back(rt: HostRuntime) -> Result<(), Fail> {
     let kept = name(rt.alloc(), "né")?;
     let copy = kept.copy()?;
     assert!(rt; copy == kept);
-    assert_eq!(rt; copy.into_txt().as_str(), "né");
-    let title = Title::from_name(kept);
-    assert_eq!(rt; title.copy()?.as_str(), "né");
-    assert_eq!(rt; title.into_txt().as_str(), "né");
-    let param = param_name(rt.alloc(), "p")?;
-    let copy = param.copy()?;
-    assert!(rt; copy == param);
-    assert_eq!(rt; copy.into_name().as_str(), param.as_str());
+    assert_eq!(rt; copy.into_txt().as_str(), kept.as_str());
+    Ok(())
+}
+
+#[test]
+fn a_title_is_taken_twice_and_given_back(rt: HostRuntime) -> Result<(), Fail> {
+    let title = Title::from_name(name(rt.alloc(), "né")?);
+    let copy = title.copy()?;
+    assert_eq!(rt; copy.into_txt().as_str(), title.as_str());
+    Ok(())
+}
+
+#[test]
+fn a_parameters_name_is_taken_twice_and_given_back(rt: HostRuntime) -> Result<(), Fail> {
+    let kept = param_name(rt.alloc(), "p")?;
+    let copy = kept.copy()?;
+    assert!(rt; copy == kept);
+    assert_eq!(rt; copy.into_name().as_str(), kept.as_str());
     Ok(())
 }
 
@@ -104,16 +118,12 @@ fn numbers_have_their_bounds(rt: HostRuntime) {
 }
 
 #[test]
-fn numbers_are_given_back(rt: HostRuntime) -> Result<(), Fail> {
-    assert_eq!(rt; TextSize::from_number(4000).ok_or("a size")?.number(), 4000);
-    assert_eq!(rt;
-        BinarySize::from_number(8000).ok_or("a size")?.number(),
-        8000
-    );
-    assert_eq!(rt; SessionId::from_number(64).ok_or("a session")?.number(), 64);
-    assert_eq!(rt; UniqueNumber::from_number(8).ok_or("a number")?.number(), 8);
-    assert_eq!(rt; KeyId::from_number(3).ok_or("a key")?.number(), 3);
-    Ok(())
+fn numbers_are_given_back(rt: HostRuntime) {
+    assert!(rt; matches!(TextSize::from_number(4000), Some(size) if size.number() == 4000));
+    assert!(rt; matches!(BinarySize::from_number(8000), Some(size) if size.number() == 8000));
+    assert!(rt; matches!(SessionId::from_number(64), Some(session) if session.number() == 64));
+    assert!(rt; matches!(UniqueNumber::from_number(8), Some(key) if key.number() == 8));
+    assert!(rt; matches!(KeyId::from_number(3), Some(key) if key.number() == 3));
 }
 
 #[test]
@@ -191,35 +201,38 @@ fn rows_are_taken_twice(rt: HostRuntime) -> Result<(), Fail> {
     Ok(())
 }
 
-#[test]
-fn faults_are_printed_with_their_details(rt: HostRuntime) -> Result<(), Fail> {
-    let alloc = rt.alloc();
-    let zz = name(alloc, "zz")?;
-    let p = param_name(alloc, "p")?;
-    let versions = Versions::that_differ(3, 5).ok_or("versions")?;
-    let first = UniqueNumber::from_number(1).ok_or("a number")?;
-    let cases = [
-        (SqlFault::Syntax, "error 10 Syntax"),
-        (
-            SqlFault::NumberTooWide { at: 7 },
-            "error 11 NumberTooWide at 7",
-        ),
-        (SqlFault::NoColumn(zz), "error 21 NoColumn zz"),
-        (SqlFault::Moved(versions), "error 40 Moved seen 3 now 5"),
-        (SqlFault::ParamClash(p), "error 41 ParamClash @p"),
-        (SqlFault::DuplicateKey(first), "error 55 DuplicateKey 1"),
-    ];
-    for (fault, line) in &cases {
-        let printed = format!(in alloc; "{fault}")?;
-        assert_eq!(rt; printed.as_str(), *line);
+fn fault_of(alloc: Global, code: u8) -> Result<SqlFault, Fail> {
+    match code {
+        11 => Ok(SqlFault::NumberTooWide { at: 7 }),
+        21 => Ok(SqlFault::NoColumn(name(alloc, "zz")?)),
+        40 => Ok(SqlFault::Moved(Versions::that_differ(3, 5).ok_or("versions")?)),
+        41 => Ok(SqlFault::ParamClash(param_name(alloc, "p")?)),
+        55 => Ok(SqlFault::DuplicateKey(UniqueNumber::from_number(1).ok_or("a number")?)),
+        _ => Ok(SqlFault::Syntax),
     }
-    Ok(())
+}
+
+fn copied(fault: SqlFault) -> Result<SqlFault, AllocError> {
+    fault.copy()
+}
+
+fn printed(alloc: Global, fault: SqlFault) -> Result<String, AllocError> {
+    format!(in alloc; "{fault}")
 }
 
 #[test]
-fn a_fault_is_taken_twice(rt: HostRuntime) -> Result<(), Fail> {
-    let copy = SqlFault::NoColumn(name(rt.alloc(), "zz")?).copy()?;
-    assert_eq!(rt; (copy.code(), copy.name()), (21, "NoColumn"));
+fn faults_are_printed_with_their_details(rt: HostRuntime) -> Result<(), Fail> {
+    for (code, line) in [
+        (10, "error 10 Syntax"),
+        (11, "error 11 NumberTooWide at 7"),
+        (21, "error 21 NoColumn zz"),
+        (40, "error 40 Moved seen 3 now 5"),
+        (41, "error 41 ParamClash @p"),
+        (55, "error 55 DuplicateKey 1"),
+    ] {
+        let printed = printed(rt.alloc(), copied(fault_of(rt.alloc(), code)?)?)?;
+        assert_eq!(rt; printed.as_str(), line);
+    }
     Ok(())
 }
 
@@ -250,29 +263,20 @@ fn a_parameter_is_admitted_once(rt: HostRuntime) -> Result<(), Fail> {
     Ok(())
 }
 
-fn path(alloc: Global) -> Result<KeyPath, Fail> {
-    Ok(KeyPath::from_txt(Txt::copied(alloc, "main")?).ok_or("a path")?)
-}
-
-fn wrapped(alloc: Global) -> Result<WrappedKey, Fail> {
-    Ok(WrappedKey::from_blob(Blob::copied(alloc, &[9])?).ok_or("a key")?)
+#[test]
+fn a_path_is_taken_twice_and_given_back(rt: HostRuntime) -> Result<(), Fail> {
+    let path = KeyPath::from_txt(Txt::copied(rt.alloc(), "main")?).ok_or("a path")?;
+    let copy = path.copy()?;
+    assert_eq!(rt; copy.as_txt().as_str(), "main");
+    assert_eq!(rt; copy.into_txt().as_str(), path.as_str());
+    Ok(())
 }
 
 #[test]
-fn what_is_told_of_a_key_is_taken_twice(rt: HostRuntime) -> Result<(), Fail> {
-    let alloc = rt.alloc();
-    let meta = KeyMeta {
-        id: KeyId::from_number(3).ok_or("a key")?,
-        name: name(alloc, "K")?,
-        path: path(alloc)?,
-        wrapped: wrapped(alloc)?,
-    };
-    let copy = meta.copy()?;
-    assert_eq!(rt; copy.id.number(), 3);
-    assert_eq!(rt; copy.path.as_str(), "main");
-    assert_eq!(rt; copy.wrapped.as_slice(), [9].as_slice());
-    assert_eq!(rt; copy.path.into_txt().as_str(), "main");
-    assert_eq!(rt; copy.wrapped.into_blob().len(), 1);
+fn a_wrapped_key_is_taken_twice_and_given_back(rt: HostRuntime) -> Result<(), Fail> {
+    let wrapped = WrappedKey::from_blob(Blob::copied(rt.alloc(), &[9])?).ok_or("a key")?;
+    let copy = wrapped.copy()?;
+    assert_eq!(rt; copy.into_blob().as_slice(), wrapped.as_slice());
     Ok(())
 }
 
