@@ -1,6 +1,6 @@
 -- One path after another, with what the devices have of them.
 use Rattle.std.proofs.Common.{◌≡◌, ℕ, ◌≤◌, List, [], ◌∷◌, ◌++◌, Option, Some, None, Result, Ok, Err, length, refl, sym, ◌∙◌, ap, subst, append_assoc, append-nil, arith}
-use Rattle.std.specs.Prelude.{flat_map, IfSome, min, ◌+◌, ◌-◌, ◌^◌}
+use Rattle.std.specs.Prelude.{flat_map, IfSome}
 use Rattle.ae_base.specs.declared.batches.KeyMeta.{KeyMeta}
 use Rattle.ae_edge.specs.Devices.{Rose, WhereTold}
 use Rattle.ae_edge.specs.Vaults.{KeyMap}
@@ -236,6 +236,12 @@ module _ {A B E : Type 0} (one : A → (B → Talk) → (E → Talk) → Talk) (
       → ((k : B → Talk) (fails : E → Talk) → Fails h (one a k fails) y z) → Fails h (each_on one xs k fails) x z
   each_fails h a all rest acc k fails x y z e g f =
       fails_then h _ _ x y z (each_next a all rest acc k fails x y e g) (f (λ b. each_on one rest (λ ys. k (acc ++ (b ∷ ys))) fails) fails)
+
+  pub each_key_fails : (h : Halt) (a : A) (all rest : List A) (acc : List B) (k : List B → Talk) (fails : E → Talk) (x y z : Devices) → all ≡ a ∷ rest
+      → Goes (each_on one xs k fails) (each_on one all (λ ys. k (acc ++ ys)) fails) x y
+      → ((k : B → Talk) (fails : E → Talk) → IsOfKeys h × Fails h (one a k fails) y z) → IsOfKeys h × Fails h (each_on one xs k fails) x z
+  each_key_fails h a all rest acc k fails x y z e g f =
+      key_fails_then h _ _ x y z (each_next a all rest acc k fails x y e g) (f (λ b. each_on one rest (λ ys. k (acc ++ (b ∷ ys))) fails) fails)
 
   -- one more, and then memory is short
   pub each_short : (a : A) (all rest : List A) (acc : List B) (b : B) (k : List B → Talk) (fails : E → Talk) (x y z : Devices) → all ≡ a ∷ rest

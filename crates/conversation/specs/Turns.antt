@@ -1,5 +1,5 @@
 -- The turns of a session: a whole batch, half a batch, and the execution of what is pending.
-use Rattle.std.specs.Prelude.{ℕ, List, [], ◌∷◌, map, Option, Some, None, Result, Ok, Err}
+use Rattle.std.specs.Prelude.{ℕ, List, [], ◌∷◌, Option, Some, None, Result, Ok, Err}
 use Rattle.ae_base.specs.Atoms.{plain_atom}
 use Rattle.ae_base.specs.declared.atoms.AtomOf.{AtomOf}
 use Rattle.ae_base.specs.declared.atoms.AtomOf.TheVariants as atom
@@ -15,11 +15,8 @@ use Rattle.wire_messages.specs.Messages.{Header}
 use Rattle.wire_messages.specs.declared.params.SentParam.{SentParam}
 use Rattle.wire_messages.specs.declared.requests.Request.{Request}
 use Rattle.wire_messages.specs.declared.requests.Request.TheVariants.{Execute}
-use Rattle.conversation.specs.declared.answers.ReplyAnswer.{ReplyAnswer}
-use Rattle.conversation.specs.declared.answers.ReplyAnswer.TheVariants as answer
 use Rattle.conversation.specs.declared.faults.DriverFault.{DriverFault}
 use Rattle.conversation.specs.declared.faults.DriverFault.TheVariants.{NothingPending}
-use Rattle.conversation.specs.declared.outcomes.Outcome.{Outcome}
 use Rattle.conversation.specs.declared.outcomes.Outcome.TheVariants.{Failed, Described}
 use Rattle.conversation.specs.declared.sessions.ColumnType.{ColumnType}
 use Rattle.conversation.specs.declared.sessions.Session.{Session}
