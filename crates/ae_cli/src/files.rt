@@ -1,6 +1,6 @@
 //! Files that are opened at their first use.
 
-ghost use Rattle.std.specs.Prelude.{◌≡◌, ◌≤◌, None};
+ghost use Rattle.std.specs.Prelude.{◌≡◌, ◌≤◌, [], None};
 ghost use Rattle.ae_edge.specs.Devices.{Rose};
 ghost use Rattle.ae_edge.specs.Sinks.{IsPut, PutsKnown};
 ghost use Rattle.ae_edge.specs.Sources.{IsPiece, TakesKnown};
@@ -58,6 +58,8 @@ impl<R: Files + Drop> Sink for FileSink<R> {
     ghost held = { λ s. None };
 
     ghost faults = { λ s. s.faults };
+
+    ghost names = { λ s. [] };
 
     fn put(&mut self, bytes: &[u8]) -> Put
         ensures piece { IsPut bytes.now result }
@@ -127,6 +129,8 @@ impl<R: Files + Drop> Source for FileSource<R> {
     ghost left = { λ s. None };
 
     ghost faults = { λ s. s.faults };
+
+    ghost names = { λ s. [] };
 
     fn take(&mut self, alloc: Global, max: usize) -> Taken
         requires { 1 ≤ max }
