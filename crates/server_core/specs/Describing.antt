@@ -33,12 +33,13 @@ typed bound = with_encs bound (inferred bound)
 abbrev pub executed_so_far : Meant → Result Meant SqlFault
 executed_so_far meant = if executes meant.bound then Ok meant else Err fault.Syntax
 
+-- the statement of a text, with a place for each name
+abbrev pub named : Catalog → List ℕ → List ParamDecl → Result Bound SqlFault
+named catalog text declarations = parsed (encode_utf8_all text) >>= λ statement. bind catalog statement declarations
+
 -- what a text means with its parameters declared so, or its first fault: parsing, then binding, then typing
 unfoldable pub understood : Catalog → List ℕ → List ParamDecl → Result Meant SqlFault
-understood catalog text declarations =
-    parsed (encode_utf8_all text) >>= λ statement.
-    bind catalog statement declarations >>= λ bound.
-    typed bound >>= executed_so_far
+understood catalog text declarations = named catalog text declarations >>= λ bound. typed bound >>= executed_so_far
 
 -- ---- descriptions
 

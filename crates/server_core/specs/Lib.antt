@@ -1,3 +1,8 @@
+pub mod Calls
 pub mod Describing
+pub mod Explaining
+pub mod Laws
 pub mod Params
 pub mod Serve
+pub mod States
+pub mod Understood

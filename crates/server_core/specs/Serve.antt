@@ -55,16 +55,22 @@ abbrev pub described : State → Result Description SqlFault → Served State
 described state (Ok description) = record { replies = Described description ∷ []; after = state }
 described state (Err f) = refused state f
 
--- Moved where the versions differ, then the faults of the text, then those of the parameters
+-- Moved where the versions differ, then the faults of the text
+abbrev pub understood_at : Catalog → ℕ → List ℕ → List SentParam → Result Meant SqlFault
+understood_at catalog version text params =
+    if version == catalog.version then understood catalog text (map declaration_of params) else Err (fault.Moved (record { seen = version; now = catalog.version }))
+
+-- then those of the parameters
 abbrev pub prepared : Catalog → ℕ → List ℕ → List SentParam → Result (Meant × List Atom) SqlFault
 prepared catalog version text params =
-    (if version == catalog.version then understood catalog text (map declaration_of params) else Err (fault.Moved (record { seen = version; now = catalog.version }))) >>= λ meant.
-    suited meant.encs params >>= λ atoms.
-    Ok (meant, atoms)
+    understood_at catalog version text params >>= λ meant. suited meant.encs params >>= λ atoms. Ok (meant, atoms)
 
 -- then those of the statement
+abbrev pub stepped : State → Meant × List Atom → Served State
+stepped state ready = let done = step state ready.0.bound ready.0.encs ready.1 in answered state done.world done.answer
+
 abbrev pub executed : State → Result (Meant × List Atom) SqlFault → Served State
-executed state (Ok ready) = let done = step state ready.0.bound ready.0.encs ready.1 in answered state done.world done.answer
+executed state (Ok ready) = stepped state ready
 executed state (Err f) = refused state f
 
 abbrev pub serve : State → Request → Served State

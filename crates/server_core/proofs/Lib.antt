@@ -1,0 +1,6 @@
+mod Listing
+mod Readiness
+mod ReplyKinds
+mod Steps
+mod Typings
+mod Used

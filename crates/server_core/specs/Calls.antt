@@ -1,0 +1,44 @@
+-- What a call of a server comes to: its replies, and the state after it.
+use Rattle.std.specs.Prelude.{◌≡◌, ℕ, List, Result, Ok, Err}
+use Rattle.ae_base.specs.Atoms.{Atom}
+use Rattle.ae_base.specs.declared.refusals.Refusal.{Refusal}
+use Rattle.ae_base.specs.declared.refusals.Refusal.TheVariants.{Fault, OutOfMemory}
+use Rattle.ae_base.specs.declared.faults.SqlFault.{SqlFault}
+use Rattle.sql_tree.specs.Bound.{bound_of}
+use Rattle.enc_types.specs.declared.typed.Typed.{Typed}
+use Rattle.wire_messages.specs.declared.replies.Reply.{Reply}
+use Rattle.wire_messages.specs.declared.requests.Request.{Request}
+use Rattle.ae_base.specs.declared.batches.ParamDecl.{ParamDecl}
+use Rattle.wire_messages.specs.declared.params.SentParam.{SentParam}
+use Rattle.wire_messages.specs.declared.requests.Request.TheVariants.{Describe, Execute}
+use Rattle.wire_messages.specs.Exchanges.{Served, HasKinds}
+use Rattle.server_core.specs.Describing.{Meant}
+use Rattle.server_core.specs.Serve.{State, serve, refused}
+use Rattle.server_core.specs.declared.preparing.Ready.{Ready}
+
+-- a typed statement of the code, without where it lies in memory
+abbrev pub meant_of : Typed → Meant
+meant_of typed = record { bound = bound_of typed.bound; encs = typed.encs }
+
+abbrev pub ready_of : Ready → Meant × List Atom
+ready_of ready = (meant_of ready.typed, ready.atoms)
+
+-- the replies are those that are served; for want of memory the state is as before
+abbrev pub Serves : {E : Type 0} → Result (List Reply) E → Request → State → State → Type 0
+Serves (Ok replies) request old new = serve old request ≡ record { replies = replies; after = new }
+Serves (Err e) request old new = new ≡ old
+
+-- the replies and the state that are served, or the fault for which the request is refused; a fault leaves the state, as
+-- want of memory does
+abbrev pub ServesOrFails : Result (List Reply) (Refusal SqlFault) → Served State → State → State → Type 0
+ServesOrFails (Ok replies) served old new = served ≡ record { replies = replies; after = new }
+ServesOrFails (Err (Fault f)) served old new = (served ≡ refused old f) × (new ≡ old)
+ServesOrFails (Err OutOfMemory) served old new = new ≡ old
+
+-- the replies are of those to a request to execute
+abbrev pub AreExecuteKinds : List Reply → Type 0
+AreExecuteKinds replies = (session version : ℕ) (text : List ℕ) (params : List SentParam) → HasKinds (Execute session version text params) replies
+
+-- the replies are of those to a request to describe
+abbrev pub AreDescribeKinds : List Reply → Type 0
+AreDescribeKinds replies = (session : ℕ) (text : List ℕ) (declarations : List ParamDecl) → HasKinds (Describe session text declarations) replies

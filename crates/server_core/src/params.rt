@@ -1,0 +1,78 @@
+//! Parameters: their declarations, and which of them a statement uses.
+
+ghost use Rattle.std.specs.Prelude.{◌≡◌, IfOk, length, map};
+ghost use Rattle.sql_tree.specs.Bound.{bound_of};
+ghost use Rattle.server_core.specs.Describing.{used_from};
+ghost use Rattle.server_core.specs.Params.{declaration_of};
+
+use ae_base::batches::ParamDecl;
+use ae_base::lists::{Duplicate, Seq};
+use ae_base::types::Enc;
+use bound_checks::uses::uses;
+use enc_types::typed::Typed;
+use std::alloc::{AllocError, Global};
+use wire_messages::params::{Declaration, SentParam, UsedParam};
+use wire_messages::texts::ParamNamePart;
+
+/// Own copies of declarations.
+pub fn declared(
+    alloc: Global,
+    declarations: &[Declaration<'_>],
+) -> Result<Seq<ParamDecl>, AllocError>
+    ensures { IfOk result (λ copies. copies ≡ declarations.now) }
+{
+    let mut copies = Seq::new(alloc);
+    for declaration in declarations {
+        copies.push(declaration.to_declaration(alloc)?)?;
+    }
+    Ok(copies)
+}
+
+/// The declarations that come with values.
+pub fn declared_by(alloc: Global, params: &[SentParam<'_>]) -> Result<Seq<ParamDecl>, AllocError>
+    ensures { IfOk result (λ copies. copies ≡ map declaration_of params.now) }
+{
+    let mut copies = Seq::new(alloc);
+    for param in params {
+        copies.push(declaration(alloc, param)?)?;
+    }
+    Ok(copies)
+}
+
+fn declaration(alloc: Global, param: &SentParam<'_>) -> Result<ParamDecl, AllocError>
+    ensures { IfOk result (λ copy. copy ≡ declaration_of param.now) }
+{
+    Ok(ParamDecl {
+        name: param.name.to_param_name(alloc)?,
+        ty: param.ty,
+    })
+}
+
+/// The parameters that a statement uses, in the order of their declarations, each encrypted as the
+/// typing has it.
+pub fn used_params(
+    alloc: Global,
+    typed: &Typed,
+    declarations: &[ParamDecl],
+) -> Result<Seq<UsedParam<'static>>, AllocError>
+    requires { length typed.now.encs ≡ length declarations.now }
+    ensures { IfOk result (λ used. used ≡ used_from 0 (bound_of typed.now.bound) declarations.now typed.now.encs) }
+{
+    let encs = typed.encs();
+    let mut used = Seq::new(alloc);
+    for (place, declaration) in declarations.iter().enumerate() {
+        if uses(place, typed.bound()) {
+            used.push(used_param(declaration, encs[place])?)?;
+        }
+    }
+    Ok(used)
+}
+
+fn used_param(declaration: &ParamDecl, enc: Enc) -> Result<UsedParam<'static>, AllocError>
+    ensures { IfOk result (λ used. used ≡ record { name = declaration.now.name; enc = enc }) }
+{
+    Ok(UsedParam {
+        name: ParamNamePart::own(declaration.name.copy()?),
+        enc,
+    })
+}

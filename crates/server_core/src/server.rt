@@ -1,0 +1,76 @@
+//! The server: one state, and requests that are served whole.
+
+ghost use Rattle.std.specs.Prelude.{◌≡◌, IfOk};
+ghost use Rattle.wire_messages.specs.Exchanges.{HasKinds};
+ghost use Rattle.server_core.specs.Calls.{Serves};
+ghost use Rattle.server_core.specs.Describing.{named};
+ghost use Rattle.server_core.specs.Explaining.{Explains};
+ghost use Rattle.server_core.specs.Serve.{empty_state};
+
+use crate::explaining::explain;
+use crate::requests::serve;
+use ae_base::batches::Declarations;
+use ae_base::cells::Cell;
+use ae_base::lists::Seq;
+use catalog::laws::definitions_keep_catalogs;
+use engine::worlds::World;
+use std::alloc::{AllocError, Global};
+use std::marker::Model;
+use wire_messages::replies::Reply;
+use wire_messages::requests::Request;
+use wire_messages::texts::StatementPart;
+
+/// The server's end, which contracts see as its state: the catalog, and the rows of each table.
+#[derive(Drop)]
+pub struct Server {
+    world: World<Cell>,
+}
+
+impl Model for Server {
+    ghost use Rattle.server_core.specs.Serve.{State};
+    ghost use Rattle.server_core.specs.States.{IsState};
+
+    ghost Value = { State };
+
+    ghost view = { λ s. s.world };
+
+    ghost invariant = { λ s. IsState s.world };
+}
+
+impl Server {
+    /// A server in whose state nothing is defined. It takes no memory.
+    pub fn new(alloc: Global) -> Server
+        ensures { result ≡ empty_state }
+    {
+        definitions_keep_catalogs();
+        Server {
+            world: World::new(alloc),
+        }
+    }
+
+    /// Serves a request whole: the replies to it, which are of its kinds, and the state after it. A
+    /// refusal leaves the state as before, and so does want of memory.
+    pub fn serve(
+        &mut self,
+        alloc: Global,
+        request: &Request<'_>,
+    ) -> Result<Seq<Reply<'static>>, AllocError>
+        ensures served { Serves result request.now self.old self.new }
+        ensures kinds { IfOk result (λ replies. HasKinds request.now replies) }
+    {
+        serve(alloc, &mut self.world, request)
+    }
+
+    /// The places of a chain of rules that clash, where the statement of a text has no encryption
+    /// typing; none for any other text.
+    pub fn explain(
+        &self,
+        alloc: Global,
+        text: &StatementPart<'_>,
+        declarations: &Declarations,
+    ) -> Result<Seq<u32>, AllocError>
+        ensures { IfOk result (Explains (named self.now.catalog text.now declarations.now)) }
+    {
+        explain(alloc, self.world.catalog(), text, declarations.as_slice())
+    }
+}
