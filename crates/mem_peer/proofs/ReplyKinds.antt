@@ -12,7 +12,7 @@ use Rattle.wire_messages.specs.declared.replies.Reply.TheVariants.{Described, Co
 use Rattle.wire_messages.specs.declared.requests.Request.{Request}
 use Rattle.wire_messages.specs.declared.requests.Request.TheVariants.{Describe, Execute}
 use Rattle.wire_messages.specs.Exchanges.{HasKinds, Refusal, Description, Definition, Change, Rows}
-use Rattle.mem_peer.specs.Kinds.{describes, is_row, is_end, are_rows, executes, suits}
+use Rattle.mem_peer.specs.Tested.{describes, is_row, is_end, are_rows, executes, suits}
 
 abbrev Atoms : Type 0
 Atoms = List (AtomOf (List ℕ))

@@ -3,7 +3,7 @@
 ghost use Rattle.std.specs.Prelude.{◌≡◌, ◌↔◌, IsTrue};
 ghost use Rattle.std.specs.List.{list_all};
 ghost use Rattle.wire_messages.specs.Exchanges.{HasKinds};
-ghost use Rattle.mem_peer.specs.Kinds as kinds;
+ghost use Rattle.mem_peer.specs.Tested as kinds;
 
 use wire_messages::replies::{Done, Reply};
 use wire_messages::requests::Request;

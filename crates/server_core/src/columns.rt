@@ -11,6 +11,7 @@ use crate::keys::keys_of;
 use ae_base::lists::Seq;
 use ae_base::types::Ty;
 use catalog::catalogs::Catalog;
+use catalog::laws::keys_are_told;
 use engine::answers::ResultColumn;
 use std::alloc::{AllocError, Global};
 use wire_messages::columns::SentColumn;
@@ -29,6 +30,7 @@ pub fn header(
     ensures exact { IfOk result (λ header. header ≡ spec.header catalog.now columns) }
     ensures types { IfOk result (λ header. All (λ column. IsType column.ty) columns) }
 {
+    keys_are_told();
     let columns = sent_columns(alloc, columns)?;
     let keys = keys_of(alloc, catalog, columns.as_slice())?;
     match Header::new(keys, columns) {

@@ -16,6 +16,8 @@ use ae_base::batches::ParamDecl;
 use ae_base::lists::Seq;
 use ae_base::refusals::Refusal;
 use catalog::catalogs::Catalog;
+use catalog::laws::keys_are_told;
+use enc_types::laws::typings_are_of_columns;
 use enc_types::typed::Typed;
 use std::alloc::{AllocError, Global};
 use wire_messages::keys::KeyPart;
@@ -50,6 +52,8 @@ fn description(
     requires understood { IsUnderstood catalog.now declarations.now (meant_of typed.now) }
     ensures { IfOk result (λ d. d ≡ spec.description catalog.now declarations.now (meant_of typed.now)) }
 {
+    keys_are_told();
+    typings_are_of_columns();
     let params = used_params(alloc, typed, declarations)?;
     let keys = keys_of(alloc, catalog, params.as_slice())?;
     Ok(described(catalog.version(), keys, params))

@@ -17,6 +17,7 @@ use crate::rows::rows_replies;
 use ae_base::cells::Cell;
 use ae_base::lists::Seq;
 use ae_base::refusals::Refusal;
+use enc_types::laws::typings_are_of_columns;
 use engine::answers::Answer;
 use engine::laws::{rows_are_shown, step_keeps_worlds};
 use engine::worlds::World;
@@ -77,6 +78,7 @@ fn done(alloc: Global, world: &mut World<Cell>, ready: Ready) -> Result<Answer<C
     ensures state { IsState world.new }
     ensures rows { IfOk result (λ answer. CanBeSent world.old world.new (answer_of answer)) }
 {
+    typings_are_of_columns();
     step_keeps_worlds();
     rows_are_shown();
     let Ready { typed, atoms } = ready;
