@@ -97,6 +97,21 @@ abbrev pub KeyLeads : {A : Type 0} → Result A Halt → Talk → (A → Talk) �
 KeyLeads (Ok x) t onward old new = Goes t (onward x) old new
 KeyLeads (Err h) t onward old new = IsOfKeys h × Fails h t old new
 
+-- a source of random bytes and a vault: what each tells, its count of faults, and the names of what it is lent
+abbrev pub devices : Option (List ℕ) → ℕ → List GName → Option KeyMap → ℕ → List GName → Devices
+devices bytes draws sources keys calls vaults = record {
+  entropy = bytes;
+  keys = keys;
+  entropy_faults = draws;
+  vault_faults = calls;
+  entropy_names = sources;
+  vault_names = vaults;
+}
+
 -- a vault beside a source of random bytes
 abbrev pub with_vault : Devices → Option KeyMap → ℕ → List GName → Devices
 with_vault beside keys faults names = record beside { keys = keys; vault_faults = faults; vault_names = names }
+
+-- a source of random bytes beside a vault
+abbrev pub with_entropy : Devices → Option (List ℕ) → ℕ → List GName → Devices
+with_entropy beside bytes faults names = record beside { entropy = bytes; entropy_faults = faults; entropy_names = names }

@@ -5,14 +5,16 @@ ghost use Rattle.std.specs.List.{All};
 ghost use Rattle.conversation.specs.declared.sessions.Session.{Session};
 ghost use Rattle.ae_edge.specs.Vaults.{KeyMap};
 ghost use Rattle.key_store.specs.Stores.{IsOf};
-ghost use Rattle.conversation.specs.Devices.{Devices, with_vault};
+ghost use Rattle.conversation.specs.Devices.{Devices, devices, with_vault};
 ghost use Rattle.conversation.specs.Sessions as held;
-ghost use Rattle.driver.specs.Calls.{Comes, Describes, Replies, IsOnlyAt};
+ghost use Rattle.driver.specs.Calls.{Comes, Describes, Executes, Replies, IsOnlyAt};
 
+use crate::executing::execute;
 use crate::replies::replied;
 use crate::starting::{begin, described};
 use ae_base::batches::Batch;
 use ae_base::sessions::SessionId;
+use ae_edge::entropies::Entropy;
 use ae_edge::vaults::Vault;
 use conversation::answers::{DescribeAnswer, ReplyAnswer};
 use conversation::faults::{DriverFault, Halt};
@@ -89,6 +91,29 @@ impl Driver {
     {
         let slot = &mut self.sessions[number.number() as usize - 1];
         let turn = described(alloc, mem::replace(slot, Session::Idle), reply);
+        *slot = turn.after;
+        turn.answer
+    }
+
+    /// Executes the described batch of a session: the request to do so. Refused where none is
+    /// described, and where a key of a parameter isn't opened, which ends the batch. A vault or a
+    /// source of random bytes that fails, and want of memory, leave the session as it was; bytes
+    /// that were drawn stay drawn.
+    pub fn execute<'r, V: Vault, E: Entropy>(
+        &mut self,
+        alloc: Global,
+        number: SessionId,
+        vault: &mut V,
+        entropy: &mut E,
+    ) -> Result<Result<Request<'r>, DriverFault>, Halt>
+        requires { IsOf (V.keys vault.old) self.old.kept }
+        ensures executed { Executes result number (held.session_at self.old.sessions number) (held.session_at self.new.sessions number) (devices (E.to_come entropy.old) (E.faults entropy.old) (E.names entropy.old) (V.keys vault.old) (V.faults vault.old) (V.names vault.old)) (devices (E.to_come entropy.new) (E.faults entropy.new) (E.names entropy.new) (V.keys vault.new) (V.faults vault.new) (V.names vault.new)) }
+        ensures others { IsOnlyAt number self.old.sessions self.new.sessions }
+        ensures of_vault { IsOf (V.keys vault.new) self.new.kept }
+    {
+        let slot = &mut self.sessions[number.number() as usize - 1];
+        let session = mem::replace(slot, Session::Idle);
+        let turn = execute(alloc, &mut self.store, vault, entropy, session, number);
         *slot = turn.after;
         turn.answer
     }

@@ -5,9 +5,12 @@
 mod asking;
 mod client;
 mod describing;
+mod executing;
 mod opening;
+mod parts;
 mod reading;
 mod replies;
+mod sealing;
 mod starting;
 
 pub use client::Driver;
