@@ -1,13 +1,12 @@
 -- Where a draw leads.
-use Rattle.std.proofs.Common.{◌≡◌, ℕ, ◌≤◌, List, ◌++◌, length, take, drop, Option, Some, None, Result, Ok, Err, refl, sym, ap, ◌∙◌, subst, arith}
+use Rattle.std.proofs.Common.{◌≡◌, ℕ, ◌≤◌, List, ◌++◌, length, drop, Option, Some, None, refl, sym, ap, ◌∙◌, arith}
 use Rattle.std.specs.Borrow.{GName}
 use Rattle.std.proofs.lemmas.List.{take-append-drop}
 use Rattle.ae_edge.specs.Devices.{Rose, WhereTold}
 use Rattle.ae_edge.specs.Draws.{Draws}
 use Rattle.ae_edge.specs.declared.entropies.Draw.TheVariants.{Drawn, Failed}
-use Rattle.conversation.specs.declared.faults.Halt.{Halt}
 use Rattle.conversation.specs.declared.faults.Halt.TheVariants as halt
-use Rattle.conversation.specs.Devices.{Devices, Goes, Halts, IsAtDraw, Fails, with_entropy}
+use Rattle.conversation.specs.Devices.{Devices, Goes, Fails, with_entropy}
 use Rattle.conversation.specs.Talk as talk
 use Rattle.conversation.specs.Talk.{Talk}
 use Rattle.conversation.proofs.Going.{drew_goes, stay_by}

@@ -1,12 +1,11 @@
 -- Parameters as they are sent, one after another.
-use Rattle.std.proofs.Common.{◌≡◌, ℕ, zero, suc, ◌<◌, ◌≤◌, ◌+◌, List, [], ◌∷◌, ◌++◌, length, map, drop, get_or, Option, Some, None, Bool, true, false, Result, Ok, Err, refl, sym, ap, ◌∙◌, subst, append_assoc, append-nil, arith}
+use Rattle.std.proofs.Common.{◌≡◌, ℕ, zero, suc, ◌<◌, ◌≤◌, ◌+◌, List, [], ◌∷◌, ◌++◌, length, drop, get_or, Option, Some, None, Bool, true, false, Result, Ok, Err, refl, sym, ap, ◌∙◌, subst, append_assoc, arith}
 use Rattle.std.specs.Prelude.{if◌then◌else◌, IsTrue}
 use Rattle.ae_base.specs.Names.{all_differ}
 use Rattle.wire_messages.specs.declared.requests.Request.{Request}
 use Rattle.wire_messages.specs.declared.requests.Request.TheVariants.{Execute}
 use Rattle.conversation.specs.declared.sessions.Session.{Session}
 use Rattle.conversation.specs.declared.sessions.Session.TheVariants.{Idle, Sent}
-use Rattle.ae_base.specs.declared.batches.ParamDecl.{ParamDecl}
 use Rattle.ae_base.specs.declared.types.Ty.TheVariants.{Int}
 use Rattle.ae_base.specs.declared.values.Value.TheVariants.{Null}
 use Rattle.std.proofs.lemmas.List.{drop_all}
@@ -18,11 +17,10 @@ use Rattle.ae_base.specs.declared.batches.Param.{Param}
 use Rattle.ae_base.specs.declared.types.Enc.{Enc}
 use Rattle.wire_messages.specs.declared.params.SentParam.{SentParam}
 use Rattle.conversation.specs.declared.faults.DriverFault.{DriverFault}
-use Rattle.conversation.specs.declared.faults.Halt.{Halt}
-use Rattle.conversation.specs.Devices.{Devices, Goes, Halts, Fails, Leads, IsAnywhere}
+use Rattle.conversation.specs.Devices.{Devices, Goes}
 use Rattle.conversation.specs.Pending.{Pending, Use, uses_in}
 use Rattle.conversation.specs.Talk.{Talk}
-use Rattle.conversation.specs.Turns.{on, sealing, sealing_one, sent_param}
+use Rattle.conversation.specs.Turns.{on, sealing, sent_param}
 use Rattle.driver.specs.Sealed.{with_atom, sent, sent_names, use_names}
 use Rattle.driver.proofs.Listing.{drop_next}
 

@@ -1,5 +1,5 @@
 -- One more is sealed, or the end.
-use Rattle.std.proofs.Common.{◌≡◌, ◌<◌, ◌++◌, length, drop, map, refl, sym, subst, ap, ◌∙◌, append-nil, arith}
+use Rattle.std.proofs.Common.{◌<◌, ◌++◌, length, drop, map, refl, sym, subst, ap, ◌∙◌, append-nil, arith}
 use Rattle.conversation.specs.Pending.{Use, uses_in}
 use Rattle.conversation.specs.Turns.{sealing_one}
 use Rattle.conversation.proofs.Going.{each_none, each_more, each_leads, each_fails, each_short, each_done}

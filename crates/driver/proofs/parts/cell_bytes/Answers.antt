@@ -1,5 +1,5 @@
 -- The value fits, and its bytes are few.
-use Rattle.std.proofs.Common.{◌≡◌, ◌≤◌, ◌∙◌, Err, length, sym, ap, arith}
+use Rattle.std.proofs.Common.{◌∙◌, Err, length, sym, ap, arith}
 use Rattle.driver.proofs.Bounds.{bytes_are_few}
 use Rattle.driver.proofs.parts.cell_bytes.Goals as goal
 

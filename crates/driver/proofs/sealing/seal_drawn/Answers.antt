@@ -1,5 +1,4 @@
 -- Drawn, and sealed.
-use Rattle.std.proofs.Common.{◌∙◌}
 use Rattle.conversation.specs.Cells.{rnd_atom}
 use Rattle.conversation.proofs.Going.{stay, halt_there}
 use Rattle.driver.proofs.sealing.seal_drawn.Goals as goal
