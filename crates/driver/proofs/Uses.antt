@@ -21,6 +21,7 @@ use Rattle.conversation.specs.Devices.{Devices, Goes}
 use Rattle.conversation.specs.Pending.{Pending, Use, uses_in}
 use Rattle.conversation.specs.Talk.{Talk}
 use Rattle.conversation.specs.Turns.{on, sealing, sent_param}
+use Rattle.driver.specs.Calls.{IsSent}
 use Rattle.driver.specs.Sealed.{with_atom, sent, sent_names, use_names}
 use Rattle.driver.proofs.Listing.{drop_next}
 
@@ -101,6 +102,10 @@ pub sent_differ : (sent : List SentParam) (uses : List Use) → sent_names sent 
 sent_differ sent uses e differ = subst (λ names. IsTrue (all_differ names)) (sym e) differ
 
 -- what is sent goes on to where the turn is
+pub is_sent : (sealed : Result (List SentParam) DriverFault) (number : ℕ) (p : Pending) → IsSent (Ok (sent number p sealed).answer) (sent number p sealed).after
+is_sent (Ok params) number p = refl
+is_sent (Err f) number p = tt
+
 pub turn_goes : (sealed : Result (List SentParam) DriverFault) (t : Talk) (number : ℕ) (p : Pending) (k : Result Request DriverFault → Session → Talk) (x y : Devices)
     → Goes t (on (λ params. k (Ok (Execute number p.version p.batch.text params)) Sent) (λ f. k (Err f) Idle) sealed) x y → Goes t (k (sent number p sealed).answer (sent number p sealed).after) x y
 turn_goes (Ok params) t number p k x y g = g

@@ -56,6 +56,12 @@ abbrev pub Executes : Result (Result Request DriverFault) Halt → ℕ → Sessi
 Executes (Ok x) number old new before now = (k : Result Request DriverFault → Session → Talk) → Goes (execute number old k) (k x new) before now
 Executes (Err h) number old new before now = (new ≡ old) × ((k : Result Request DriverFault → Session → Talk) → Fails h (execute number old k) before now)
 
+-- a session whose request is asked awaits its answer
+abbrev pub IsSent : Result (Result Request DriverFault) Halt → Session → Type 0
+IsSent (Ok (Ok request)) after = after ≡ Sent
+IsSent (Ok (Err f)) after = Unit {0}
+IsSent (Err h) after = Unit {0}
+
 -- the keys of some columns were opened, and their rows are read; or one wasn't, and they are skipped
 abbrev pub ShowsAs : ReplyAnswer → Header → Session → Devices → Devices → Type 0
 ShowsAs (answer.Header titles) header new before now =

@@ -7,7 +7,7 @@ ghost use Rattle.ae_edge.specs.Vaults.{KeyMap};
 ghost use Rattle.key_store.specs.Stores.{IsOf};
 ghost use Rattle.conversation.specs.Devices.{Devices, devices, with_vault};
 ghost use Rattle.conversation.specs.Sessions as held;
-ghost use Rattle.driver.specs.Calls.{Comes, Describes, Executes, Replies, IsOnlyAt};
+ghost use Rattle.driver.specs.Calls.{Comes, Describes, Executes, IsSent, Replies, IsOnlyAt};
 
 use crate::executing::execute;
 use crate::replies::replied;
@@ -108,6 +108,7 @@ impl Driver {
     ) -> Result<Result<Request<'r>, DriverFault>, Halt>
         requires { IsOf (V.keys vault.old) self.old.kept }
         ensures executed { Executes result number (held.session_at self.old.sessions number) (held.session_at self.new.sessions number) (devices (E.to_come entropy.old) (E.faults entropy.old) (E.names entropy.old) (V.keys vault.old) (V.faults vault.old) (V.names vault.old)) (devices (E.to_come entropy.new) (E.faults entropy.new) (E.names entropy.new) (V.keys vault.new) (V.faults vault.new) (V.names vault.new)) }
+        ensures sent { IsSent result (held.session_at self.new.sessions number) }
         ensures others { IsOnlyAt number self.old.sessions self.new.sessions }
         ensures of_vault { IsOf (V.keys vault.new) self.new.kept }
     {

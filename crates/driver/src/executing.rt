@@ -12,7 +12,7 @@ ghost use Rattle.conversation.specs.Talk.{Talk};
 ghost use Rattle.conversation.specs.Turns.{on, sealing, sealing_one};
 ghost use Rattle.ae_base.specs.Names.{all_differ};
 ghost use Rattle.conversation.specs.declared.sessions.Session.{Session};
-ghost use Rattle.driver.specs.Calls.{Executes};
+ghost use Rattle.driver.specs.Calls.{Executes, IsSent};
 ghost use Rattle.driver.specs.Listed.{IsListed, AreListed};
 ghost use Rattle.driver.specs.Sealed.{with_atom, sent, sent_names, use_names};
 
@@ -206,6 +206,7 @@ fn execute_pending<'r, V: Vault, E: Entropy>(
 ) -> Turn<Result<Result<Request<'r>, DriverFault>, Halt>>
     requires { IsOf (V.keys vault.old) store.old }
     ensures executes { Executes result.answer number (Session.Pending pending) result.after (devices (E.to_come entropy.old) (E.faults entropy.old) (E.names entropy.old) (V.keys vault.old) (V.faults vault.old) (V.names vault.old)) (devices (E.to_come entropy.new) (E.faults entropy.new) (E.names entropy.new) (V.keys vault.new) (V.faults vault.new) (V.names vault.new)) }
+    ensures sent { IsSent result.answer result.after }
     ensures of_vault { IsOf (V.keys vault.new) store.new }
 {
     match seal(alloc, store, vault, entropy, &pending) {
@@ -243,6 +244,7 @@ pub fn execute<'r, V: Vault, E: Entropy>(
 ) -> Turn<Result<Result<Request<'r>, DriverFault>, Halt>>
     requires { IsOf (V.keys vault.old) store.old }
     ensures executes { Executes result.answer number session result.after (devices (E.to_come entropy.old) (E.faults entropy.old) (E.names entropy.old) (V.keys vault.old) (V.faults vault.old) (V.names vault.old)) (devices (E.to_come entropy.new) (E.faults entropy.new) (E.names entropy.new) (V.keys vault.new) (V.faults vault.new) (V.names vault.new)) }
+    ensures sent { IsSent result.answer result.after }
     ensures of_vault { IsOf (V.keys vault.new) store.new }
 {
     match session {

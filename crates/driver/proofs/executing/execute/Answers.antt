@@ -19,3 +19,21 @@ returns-in-Reading-clause-executes g c = let e = c.nothing_pending-in-Reading.en
 
 pub returns-in-Skipping-clause-executes : goal.returns-in-Skipping-clause-executes
 returns-in-Skipping-clause-executes g c = let e = c.nothing_pending-in-Skipping.ensures in rw (c.in-Skipping.is, e) (λ k. stay _ _)
+
+pub returns-in-Pending-clause-sent : goal.returns-in-Pending-clause-sent
+returns-in-Pending-clause-sent g c = c.execute_pending.ensures.sent
+
+pub returns-in-Idle-clause-sent : goal.returns-in-Idle-clause-sent
+returns-in-Idle-clause-sent g c = let e = c.nothing_pending.ensures in rw e tt
+
+pub returns-in-Begun-clause-sent : goal.returns-in-Begun-clause-sent
+returns-in-Begun-clause-sent g c = let e = c.nothing_pending-in-Begun.ensures in rw e tt
+
+pub returns-in-Sent-clause-sent : goal.returns-in-Sent-clause-sent
+returns-in-Sent-clause-sent g c = let e = c.nothing_pending-in-Sent.ensures in rw e tt
+
+pub returns-in-Reading-clause-sent : goal.returns-in-Reading-clause-sent
+returns-in-Reading-clause-sent g c = let e = c.nothing_pending-in-Reading.ensures in rw e tt
+
+pub returns-in-Skipping-clause-sent : goal.returns-in-Skipping-clause-sent
+returns-in-Skipping-clause-sent g c = let e = c.nothing_pending-in-Skipping.ensures in rw e tt
