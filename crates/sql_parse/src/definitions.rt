@@ -1,5 +1,4 @@
 ghost use Rattle.std.specs.Prelude.{◌≡◌, List, ◌∷◌, [], Option, Some, None, IfOk, codes, map};
-ghost use Rattle.std.specs.Str.{chars};
 ghost use Rattle.sql_tree.specs.declared.lexemes.Keyword.TheVariants as keyword;
 ghost use Rattle.sql_tree.specs.declared.lexemes.Symbol.TheVariants as symbol;
 ghost use Rattle.sql_grammar.specs.Readers as terminal;
@@ -15,12 +14,12 @@ use crate::reading::{Read, in_parens};
 use crate::settings::key_of;
 use ae_base::lists::Seq;
 use ae_base::refusals::Refusal;
-use ae_base::types::{BinarySize, TextSize, Ty};
+use ae_base::types::Ty;
 use sql_grammar::parts::TablePart;
 use sql_grammar::settings::KeySetting;
+use sql_grammar::types::type_of;
 use sql_tree::lexemes::{Keyword, Symbol};
 use sql_tree::statements::{ColumnSpec, Encryption, EncryptionKind, UniqueSpec};
-use sql_tree::words::reads_as;
 use std::alloc::{AllocError, Global};
 
 /// A number in parentheses.
@@ -42,58 +41,6 @@ fn size(tokens: &mut Cursor) -> Result<Option<u64>, Refusal>
         return Ok(None);
     }
     Ok(Some(number_in_parens(tokens)?))
-}
-
-fn text_type(size: u64) -> Option<Ty>
-    ensures { result ≡ make.text_type size }
-{
-    if size < 1 || size > 4000 {
-        return None;
-    }
-    Some(Ty::NVarChar(TextSize::from_number(size as u16).unwrap()))
-}
-
-fn binary_type(size: u64) -> Option<Ty>
-    ensures { result ≡ make.binary_type size }
-{
-    if size < 1 || size > 8000 {
-        return None;
-    }
-    Some(Ty::VarBinary(BinarySize::from_number(size as u16).unwrap()))
-}
-
-fn plain_type(word: &str) -> Option<Ty>
-    ensures { result ≡ make.type_of (chars word.now, None) }
-{
-    if reads_as(word, "INT") {
-        return Some(Ty::Int);
-    }
-    if reads_as(word, "BIGINT") {
-        return Some(Ty::BigInt);
-    }
-    None
-}
-
-fn sized_type(word: &str, size: u64) -> Option<Ty>
-    ensures { result ≡ make.type_of (chars word.now, Some size) }
-{
-    if reads_as(word, "NVARCHAR") {
-        return text_type(size);
-    }
-    if reads_as(word, "VARBINARY") {
-        return binary_type(size);
-    }
-    None
-}
-
-/// The type of a name, with the number behind it.
-fn type_of(word: &str, size: Option<u64>) -> Option<Ty>
-    ensures { result ≡ make.type_of (chars word.now, size) }
-{
-    match size {
-        None => plain_type(word),
-        Some(size) => sized_type(word, size),
-    }
 }
 
 /// The type of a column.

@@ -13,4 +13,3 @@ mod settings;
 mod statements;
 
 pub use parsing::parse;
-

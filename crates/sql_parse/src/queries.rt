@@ -242,7 +242,7 @@ pub(crate) struct Tail {
     order_by: Seq<OrderKey>,
 }
 
-fn tail(alloc: Global, tokens: &mut Cursor) -> Result<Tail, Refusal>
+fn read_tail(alloc: Global, tokens: &mut Cursor) -> Result<Tail, Refusal>
     ensures { Gives tail_of result tokens.new (parse.tail tokens.old) }
 {
     tokens.word(Keyword::From)?;
@@ -323,6 +323,6 @@ pub(crate) fn select(alloc: Global, tokens: &mut Cursor) -> Result<Statement, Re
     let distinct = tokens.optional_word(Keyword::Distinct);
     let top = optional_top(tokens)?;
     let items = items(alloc, tokens)?;
-    let tail = tail(alloc, tokens)?;
+    let tail = read_tail(alloc, tokens)?;
     select_of(query_with(distinct, top, items, tail))
 }
