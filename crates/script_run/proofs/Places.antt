@@ -9,7 +9,7 @@ use Rattle.run_words.specs.Shares.{Outside}
 use Rattle.run_words.specs.Ways.{Goes, Leads}
 use Rattle.run_words.specs.declared.stops.Stop.{Stop}
 use Rattle.script_lang.specs.declared.steps.Step.{Step}
-use Rattle.script_run.specs.Steps.{number_of, turn, talk}
+use Rattle.plain_meaning.specs.Steps.{number_of, turn, talk}
 
 pub put_back : (sessions taken now : List Session) (number : ℕ) (after : Session) → taken ≡ with_session sessions number Idle → now ≡ with_session taken number after → now ≡ with_session sessions number after
 put_back sessions taken now number after e f = f ∙ ap (λ w. with_session w number after) e ∙ set-set sessions (number - 1) Idle after

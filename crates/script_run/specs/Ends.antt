@@ -14,7 +14,7 @@ use Rattle.run_words.specs.Ways.{Leads}
 use Rattle.run_words.specs.declared.stops.Stop.{Stop}
 use Rattle.script_lang.specs.declared.steps.Step.{Step}
 use Rattle.script_lang.specs.Script.{steps_of}
-use Rattle.script_run.specs.Steps.{talk}
+use Rattle.plain_meaning.specs.Steps.{talk}
 use Rattle.script_run.specs.declared.runs.Ran.{Ran}
 use Rattle.script_run.specs.declared.runs.Ran.TheVariants as ran
 use Rattle.script_run.specs.declared.runs.Unread.TheVariants as unread

@@ -5,4 +5,3 @@ pub mod Heard
 pub mod Lines
 pub mod Onward
 pub mod Statuses
-pub mod Steps

@@ -6,7 +6,7 @@ ghost use Rattle.conversation.specs.Talk.{Ends};
 ghost use Rattle.run_words.specs.Ways.{Leads};
 ghost use Rattle.script_run.specs.Ends as ends;
 ghost use Rattle.script_run.specs.Ends.{RunsTo, outside};
-ghost use Rattle.script_run.specs.Steps.{talk};
+ghost use Rattle.plain_meaning.specs.Steps.{talk};
 
 use crate::calls::Calls;
 use crate::env::Env;

@@ -8,8 +8,8 @@ ghost use Rattle.conversation.specs.declared.sessions.Session.{Session};
 ghost use Rattle.conversation.specs.declared.sessions.Session.TheVariants as session_of;
 ghost use Rattle.run_words.specs.Ways.{Leads};
 ghost use Rattle.script_lang.specs.declared.steps.Step.{Step};
-ghost use Rattle.script_run.specs.Steps as steps_of;
-ghost use Rattle.script_run.specs.Steps.{talk};
+ghost use Rattle.plain_meaning.specs.Steps as steps_of;
+ghost use Rattle.plain_meaning.specs.Steps.{talk};
 
 use crate::around::Around;
 use crate::turns::{execute, half, whole};

@@ -2,7 +2,7 @@
 use Rattle.std.proofs.Common.{◌≡◌, length, drop}
 use Rattle.key_store.specs.Stores.{IsOf}
 use Rattle.run_words.specs.Ways.{Goes}
-use Rattle.script_run.specs.Steps.{talk}
+use Rattle.plain_meaning.specs.Steps.{talk}
 use Rattle.script_run.proofs.steps.run_steps.Given as goal
 
 abbrev pub invariant-loop-one : goal.invariant-loop-one
