@@ -1,6 +1,9 @@
+mod Beginning
 mod Listing
 mod Readiness
 mod ReplyKinds
+mod Sendable
 mod Steps
+mod Suiting
 mod Typings
 mod Used

@@ -20,7 +20,7 @@ use Rattle.engine.specs.declared.answers.Answer as code
 use Rattle.engine.specs.declared.answers.ResultColumn.{ResultColumn}
 use Rattle.engine.specs.Answers.{Gives, answer_of}
 use Rattle.engine.specs.BoundOn.{HasMaster, IsBoundOn}
-use Rattle.engine.specs.Laws.{AreShown, IsShownBy}
+use Rattle.engine.specs.Laws.{AreShown, IsShownBy, StepKeepsWorlds, RowsAreShown}
 use Rattle.engine.specs.Step.{Answer, Outcome, Rows}
 use Rattle.engine.specs.WellTyped.{IsAnswerOf}
 use Rattle.engine.specs.Worlds.{World}

@@ -8,7 +8,7 @@ use Rattle.ae_base.specs.declared.faults.SqlFault.TheVariants as fault
 use Rattle.ae_base.specs.declared.types.Enc.{Enc}
 use Rattle.sql_tree.specs.Bound.{Bound}
 use Rattle.sql_tree.specs.Uses.{uses}
-use Rattle.sql_parse.specs.Parse.{parsed}
+use Rattle.sql_grammar.specs.Texts.{parsed}
 use Rattle.catalog.specs.Catalogs.{Catalog, key_meta}
 use Rattle.resolve.specs.Bind.{bind}
 use Rattle.enc_types.specs.Least.{inferred}

@@ -9,6 +9,7 @@ ghost use Rattle.wire_messages.specs.KeyLists.{keys_used};
 ghost use Rattle.server_core.specs.Describing.{told};
 ghost use Rattle.server_core.specs.Describing as spec;
 
+use ae_base::batches::KeyMeta;
 use ae_base::lists::Seq;
 use ae_base::types::{Enc, KeyId};
 use catalog::catalogs::Catalog;
@@ -73,9 +74,16 @@ fn told_keys(
 {
     let mut keys = Seq::new(alloc);
     for id in ids {
-        if let Some(meta) = catalog.key_meta(*id)? {
-            keys.push(KeyPart::own(meta))?;
-        }
+        tell(&mut keys, catalog.key_meta(*id)?)?;
     }
     Ok(keys)
+}
+
+fn tell(keys: &mut Seq<KeyPart<'static>>, meta: Option<KeyMeta>) -> Result<(), AllocError>
+    ensures { OnOk result (keys.new ≡ keys.old ++ told meta) }
+{
+    match meta {
+        Some(meta) => keys.push(KeyPart::own(meta)),
+        None => Ok(()),
+    }
 }

@@ -1,7 +1,8 @@
 //! Parameters: their declarations, and which of them a statement uses.
 
-ghost use Rattle.std.specs.Prelude.{◌≡◌, IfOk, length, map};
+ghost use Rattle.std.specs.Prelude.{◌≡◌, ◌++◌, ◌∷◌, List, IfOk, OnOk, length, map, if◌then◌else◌};
 ghost use Rattle.sql_tree.specs.Bound.{bound_of};
+ghost use Rattle.wire_messages.specs.declared.params.UsedParam.{UsedParam};
 ghost use Rattle.server_core.specs.Describing.{used_from};
 ghost use Rattle.server_core.specs.Params.{declaration_of};
 
@@ -61,11 +62,30 @@ pub fn used_params(
     let encs = typed.encs();
     let mut used = Seq::new(alloc);
     for (place, declaration) in declarations.iter().enumerate() {
-        if uses(place, typed.bound()) {
-            used.push(used_param(declaration, encs[place])?)?;
-        }
+        add_where(
+            &mut used,
+            uses(place, typed.bound()),
+            declaration,
+            encs[place],
+        )?;
     }
     Ok(used)
+}
+
+/// Puts a parameter behind those before it, where it is used.
+fn add_where(
+    used: &mut Seq<UsedParam<'static>>,
+    is_used: bool,
+    declaration: &ParamDecl,
+    enc: Enc,
+) -> Result<(), AllocError>
+    ensures { OnOk result ((rest : List UsedParam) → used.new ++ rest ≡ used.old ++ (if is_used then record { name = declaration.now.name; enc = enc } ∷ rest else rest)) }
+{
+    if is_used {
+        used.push(used_param(declaration, enc)?)
+    } else {
+        Ok(())
+    }
 }
 
 fn used_param(declaration: &ParamDecl, enc: Enc) -> Result<UsedParam<'static>, AllocError>

@@ -5,5 +5,4 @@ use Rattle.server_core.proofs.keys.used_keys.Given as goal
 
 abbrev pub invariant-loop-item : goal.invariant-loop-item
 invariant-loop-item g l =
-    let encs = map g.T.Encrypted.enc_of l.items in
-    keys_used [] encs ≡ l.ids ++ keys_used l.ids (drop l.item-index encs)
+    keys_used [] (map g.T.Encrypted.enc_of l.items) ≡ l.ids ++ keys_used l.ids (map g.T.Encrypted.enc_of (drop l.item-index l.items))
