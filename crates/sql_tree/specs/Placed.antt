@@ -3,7 +3,6 @@ use Rattle.std.specs.Prelude.{◌≡◌, ℕ, ◌+◌, ◌<◌, ◌≤◌, List,
 use Rattle.std.specs.List.{All, flat_map}
 use Rattle.ae_base.specs.Values.{units}
 use Rattle.ae_base.specs.Keys.{IsKeyPath, IsWrappedKey}
-use Rattle.ae_base.specs.Names.{IsTitle}
 use Rattle.ae_base.specs.declared.values.Value.{Value}
 use Rattle.ae_base.specs.declared.values.Value.TheVariants as value
 use Rattle.ae_base.specs.declared.values.Datum.TheVariants as datum
@@ -74,7 +73,7 @@ IsPlacedValue columns params (bound.Count at) = Unit {0}
 pub record IsPlacedQuery (columns params : ℕ) (query : BoundQuery) : Type 0 where
   pub some : 1 ≤ length query.items
   pub few : length query.items ≤ 512
-  pub items : All (λ item. IsTitle item.title × IsPlacedValue columns params item.value) query.items
+  pub items : All (λ item. IsPlacedValue columns params item.value) query.items
   pub joins : ArePlacedJoins columns params query.from.width query.joins
   pub filter : IsPlacedFilter columns params query.filter
   pub group_by : All (λ key. key.place < columns) query.group_by
