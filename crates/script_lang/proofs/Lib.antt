@@ -1,4 +1,6 @@
 mod AllLines
 mod AnyCase
-mod DeclaredParts
 mod FirstLine
+mod Fronts
+mod Semicolons
+mod Within

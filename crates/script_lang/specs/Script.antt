@@ -1,6 +1,6 @@
 -- A script as steps: batches ended by GO or by the end of the script, half batches, and what executes them.
-use Rattle.std.specs.Prelude.{ℕ, ℤ, ◌+◌, ◌-◌, ◌*◌, pos, neg_ℤ, List, [], ◌∷◌, ◌++◌, length, map, take, drop, take_while, codes, Option, Some, None, unwrap_or, is_some, Result, Ok, Err, Bool, ◌&&◌, ◌||◌, not, nat_lt, nat_le, int_le, ◌==◌, if◌then◌else◌, slice_index}
-use Rattle.std.specs.Option.{option_map}
+use Rattle.std.specs.Prelude.{ℕ, ℤ, ◌+◌, ◌-◌, ◌*◌, pos, neg_ℤ, List, [], ◌∷◌, ◌++◌, length, map, take, drop, take_while, codes, Option, Some, None, unwrap_or, is_some, Result, Ok, Err, Bool, true, false, ◌&&◌, ◌||◌, not, nat_lt, nat_le, int_le, ◌==◌, if◌then◌else◌, slice_index}
+use Rattle.std.specs.Option.{option_map, option_and_then}
 use Rattle.std.specs.Str.{bytes_eq, chars, is_utf8}
 use Rattle.ae_base.specs.Names.{admits}
 use Rattle.ae_base.specs.declared.values.Value.{Value}
@@ -89,21 +89,36 @@ abbrev pub behind_as : List Lexeme → List Lexeme
 behind_as (lexeme.Keyword keyword.As ∷ rest) = rest
 behind_as other = other
 
+-- DECLARE @name: its first word is an identifier like another
+abbrev pub name_front : List Lexeme → Option (List ℕ × List Lexeme)
+name_front (lexeme.Ident word ∷ lexeme.Param name ∷ rest) = Some (name, rest)
+name_front other = None
+
+-- the number in parentheses, where it is there
+abbrev pub size_front : List Lexeme → Option ℕ × List Lexeme
+size_front (lexeme.Symbol symbol.Open ∷ lexeme.Number n ∷ lexeme.Symbol symbol.Close ∷ rest) = (Some n, rest)
+size_front other = (None, other)
+
+abbrev pub behind_equal : List Lexeme → Option (List Lexeme)
+behind_equal (lexeme.Symbol symbol.Equal ∷ rest) = Some rest
+behind_equal other = None
+
+abbrev pub word_front : List Lexeme → Option (List ℕ × List Lexeme)
+word_front (lexeme.Ident word ∷ rest) = Some (word, rest)
+word_front other = None
+
 -- a type with = behind it, and the lexemes behind that
+abbrev pub sized : List ℕ → Option ℕ × List Lexeme → Option (Ty × List Lexeme)
+sized word front = option_and_then (λ rest. option_map (λ ty. (ty, rest)) (type_of (word, front.0))) (behind_equal front.1)
+
 abbrev pub type_front : List Lexeme → Option (Ty × List Lexeme)
-type_front (lexeme.Ident word ∷ lexeme.Symbol symbol.Equal ∷ rest) = option_map (λ ty. (ty, rest)) (type_of (word, None))
-type_front (lexeme.Ident word ∷ lexeme.Symbol symbol.Open ∷ lexeme.Number n ∷ lexeme.Symbol symbol.Close ∷ lexeme.Symbol symbol.Equal ∷ rest) =
-    option_map (λ ty. (ty, rest)) (type_of (word, Some n))
-type_front other = None
+type_front ls = option_and_then (λ front. sized front.0 (size_front front.1)) (word_front ls)
 
-abbrev pub with_value : List ℕ → Option (Ty × List Lexeme) → Option Param
-with_value name None = None
-with_value name (Some front) = option_map (λ v. record { declaration = record { name = name; ty = front.0 }; value = v }) (literal (without_semicolon front.1))
+abbrev pub with_value : List ℕ → Ty × List Lexeme → Option Param
+with_value name front = option_map (λ v. record { declaration = record { name = name; ty = front.0 }; value = v }) (literal (without_semicolon front.1))
 
--- its first word is an identifier like another
 abbrev pub declared : List Lexeme → Option Param
-declared (lexeme.Ident word ∷ lexeme.Param name ∷ rest) = with_value name (type_front (behind_as rest))
-declared other = None
+declared ls = option_and_then (λ front. option_and_then (with_value front.0) (type_front (behind_as front.1))) (name_front ls)
 
 -- a number on the line is at most 9223372036854775808
 abbrev pub declared_by : Option (List Token) → Option Param
@@ -163,22 +178,33 @@ session_of (a ∷ rest) =
     else None
 session_of [] = None
 
+-- :describe stands behind a line of a batch and ends it
+abbrev pub after_describe : Begun → Option After
+after_describe begun =
+    if is_between begun then None
+    else Some (record { steps = Half begun.session (batch_of begun) ∷ []; begun = nothing_begun begun.session })
+
+-- :execute and :session N stand between batches
+abbrev pub after_execute : Begun → Option After
+after_execute begun = if is_between begun then Some (record { steps = Execute begun.session ∷ []; begun = begun }) else None
+
 abbrev pub in_session : Begun → Option ℕ → Option After
 in_session begun None = None
 in_session begun (Some session) = if is_between begun then goes_on (nothing_begun session) else None
+
+-- the session that :session N names
+abbrev pub named_session : List ℕ → Option ℕ
+named_session rest = option_and_then session_of (behind (codes ":session ") rest)
 
 abbrev pub is_alone : Option (List ℕ) → Bool
 is_alone None = false
 is_alone (Some rest) = is_blank_line rest
 
--- :describe stands behind a line of a batch and ends it; :execute and :session N stand between batches
 abbrev pub after_colon : Begun → List ℕ → Option After
 after_colon begun rest =
-    if is_alone (behind (codes ":describe") rest)
-    then (if is_between begun then None else Some (record { steps = Half begun.session (batch_of begun) ∷ []; begun = nothing_begun begun.session }))
-    else if is_alone (behind (codes ":execute") rest)
-    then (if is_between begun then Some (record { steps = Execute begun.session ∷ []; begun = begun }) else None)
-    else in_session begun (unwrap_or (option_map session_of (behind (codes ":session ") rest)) None)
+    if is_alone (behind (codes ":describe") rest) then after_describe begun else
+    if is_alone (behind (codes ":execute") rest) then after_execute begun else
+    in_session begun (named_session rest)
 
 -- ---- lines of a batch
 
@@ -204,13 +230,19 @@ after_head_line begun line =
     if is_word (codes "DECLARE") line then with_param begun (declaration_of line) else
     with_statement_line begun line
 
+-- GO stands alone and ends the batch
+abbrev pub after_go : Begun → List ℕ → Option After
+after_go begun line = if is_blank_line (behind_word line) then Some (ended begun) else None
+
+abbrev pub after_batch_line : Begun → List ℕ → Option After
+after_batch_line begun line = if is_some begun.statement then with_statement_line begun line else after_head_line begun line
+
 -- a line, by the first rule that it falls under; None where it is refused
 abbrev pub after_line : Begun → List ℕ → Option After
 after_line begun line =
     if not (is_utf8 line) then None else
     if slice_index (behind_blanks line) 0 == 58 then after_colon begun (behind_blanks line) else
-    if is_word (codes "GO") line then (if is_blank_line (behind_word line) then Some (ended begun) else None) else
-    if is_some begun.statement then with_statement_line begun line else after_head_line begun line
+    if is_word (codes "GO") line then after_go begun line else after_batch_line begun line
 
 -- ---- all lines
 
