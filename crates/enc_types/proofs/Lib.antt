@@ -7,3 +7,4 @@ pub mod TypedLaws
 pub mod Renaming
 pub mod RenamedTypings
 pub mod UsedParams
+pub mod ColumnEncs

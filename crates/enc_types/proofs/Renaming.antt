@@ -17,7 +17,7 @@ use Rattle.sql_tree.specs.Bound.{BoundRow, BoundAssignment, BoundJoin, BoundItem
 use Rattle.sql_tree.specs.Bound as bound
 use Rattle.sql_tree.specs.Uses.{renamed_operand, renamed_terms, renamed_condition, renamed_conditions, renamed_filter, renamed_row, renamed_assignment, renamed_value, renamed_item, renamed_join, renamed_query, renamed_statement, renamed}
 use Rattle.enc_types.specs.Sites.{site_of_literal, site_of}
-use Rattle.enc_types.specs.Rules.{at_of, first_rules, operand_rules, terms_rules, comparison_rules, in_rules, condition_rules, conditions_rules, filter_rules, key_rule, value_rule, value_rules, row_rules, assignment_rules, site_of_item, distinct_rules, item_rules, order_rule, rows_rules, query_rules, statement_rules, placed, in_order, rules}
+use Rattle.enc_types.specs.Rules.{at_of, first_operator, first_rules, operand_rules, terms_rules, comparison_rules, in_rules, condition_rules, conditions_rules, filter_rules, key_rule, value_rule, value_rules, row_rules, assignment_rules, site_of_item, distinct_rules, item_rules, order_rule, rows_rules, query_rules, statement_rules, placed, in_order, rules}
 use Rattle.enc_types.specs.Renamed.{renamed_site, renamed_rule}
 use Rattle.enc_types.specs.declared.sites.Site.{Site}
 use Rattle.enc_types.specs.declared.sites.Site.TheVariants.{Column, Param, Null, Fixed}
@@ -53,10 +53,14 @@ module _ (f : ℕ → ℕ) where
   place (operands.Minus at operand) = refl
   place (operands.Sum first terms) = place first
 
-  first : (x y : Site) (terms : Terms ℕ ℕ) → x ≡ renamed_site f y → first_rules x (renamed_terms f terms) ≡ R (first_rules y terms)
-  first x y operands.NoMore e = refl
-  first x y (operands.PlusThen at operand more) e = ap (λ z. PlainOnly z at ∷ []) e
-  first x y (operands.MinusThen at operand more) e = ap (λ z. PlainOnly z at ∷ []) e
+  operator : (o : Operand ℕ ℕ) (terms : Terms ℕ ℕ) → first_operator (renamed_operand f o) (renamed_terms f terms) ≡ first_operator o terms
+  operator o operands.NoMore = place o
+  operator o (operands.PlusThen at operand more) = refl
+  operator o (operands.MinusThen at operand more) = refl
+
+  first : (o : Operand ℕ ℕ) (terms : Terms ℕ ℕ) → first_rules (renamed_operand f o) (renamed_terms f terms) ≡ R (first_rules o terms)
+  first o terms =
+      ap (λ z. PlainOnly z (first_operator (renamed_operand f o) (renamed_terms f terms)) ∷ []) (site o) ∙ ap (λ z. PlainOnly (renamed_site f (site_of o)) z ∷ []) (operator o terms)
 
   mutual
     operand : (o : Operand ℕ ℕ) → operand_rules (renamed_operand f o) ≡ R (operand_rules o)
@@ -65,8 +69,8 @@ module _ (f : ℕ → ℕ) where
     operand (operands.Column at column) = refl
     operand (operands.Minus at o) = joined (PlainOnly (site_of o) at ∷ []) (operand_rules o) _ _ (ap (λ z. PlainOnly z at ∷ []) (site o)) (operand o)
     operand (operands.Sum o terms) =
-        joined (operand_rules o ++ first_rules (site_of o) terms) (terms_rules terms) _ _
-        (joined (operand_rules o) (first_rules (site_of o) terms) _ _ (operand o) (first _ (site_of o) terms (site o)))
+        joined (operand_rules o ++ first_rules o terms) (terms_rules terms) _ _
+        (joined (operand_rules o) (first_rules o terms) _ _ (operand o) (first o terms))
         (all_terms terms)
 
     all_terms : (ts : Terms ℕ ℕ) → terms_rules (renamed_terms f ts) ≡ R (terms_rules ts)

@@ -13,7 +13,6 @@ use Rattle.sql_tree.specs.declared.conditions.Condition as code_condition
 use Rattle.enc_types.specs.Sites.{site_of}
 use Rattle.enc_types.specs.Rules.{operand_rules, terms_rules, first_rules, condition_rules, conditions_rules, statement_rules, in_order, rules}
 use Rattle.enc_types.specs.declared.rules.Rule.{Rule}
-use Rattle.enc_types.specs.declared.sites.Site.{Site}
 use Rattle.enc_types.specs.declared.rules.Rule.TheVariants.{PlainOnly}
 
 terms_of-row : (m : _) (row : code.Row_of-Term ℕ ℕ m) → operands.terms_of row ≡ terms_listed (code.items-the_row-Term ℕ ℕ m row)
@@ -31,18 +30,17 @@ operand_of-Sum first terms =
     ap (operands.Sum (operands.operand_of first.value)) (terms_of-row row.0 row.1 ∙ ap terms_listed (code.items_hidden-the_row-Term-0 ℕ ℕ terms))
 
 -- a sum asks what its first operand, the first operator and its terms ask
-pub rules_of-Sum : (operand one two : code.Operand ℕ ℕ) (x : Site) (first : Box (code.Operand ℕ ℕ) Global) (terms : Vec (code_term.Term ℕ ℕ) Global) (items more : List (code_term.Term ℕ ℕ))
-    → operand ≡ code.Sum first terms → one ≡ first.value → two ≡ first.value → x ≡ site_of (operands.operand_of two) → items ≡ terms.items → more ≡ terms.items
+pub rules_of-Sum : (operand one two : code.Operand ℕ ℕ) (first : Box (code.Operand ℕ ℕ) Global) (terms : Vec (code_term.Term ℕ ℕ) Global) (items more : List (code_term.Term ℕ ℕ))
+    → operand ≡ code.Sum first terms → one ≡ first.value → two ≡ first.value → items ≡ terms.items → more ≡ terms.items
     → operand_rules (operands.operand_of operand)
-    ≡ (operand_rules (operands.operand_of one) ++ first_rules x (terms_listed items)) ++ terms_rules (terms_listed more)
-rules_of-Sum operand one two x first terms items more e f g s h k =
+    ≡ (operand_rules (operands.operand_of one) ++ first_rules (operands.operand_of two) (terms_listed items)) ++ terms_rules (terms_listed more)
+rules_of-Sum operand one two first terms items more e f g h k =
     ap (λ x. operand_rules (operands.operand_of x)) e
     ∙ ap operand_rules (operand_of-Sum first terms)
-    ∙ ap (λ x. (operand_rules (operands.operand_of x) ++ first_rules (site_of (operands.operand_of first.value)) (terms_listed terms.items)) ++ terms_rules (terms_listed terms.items)) (sym f)
-    ∙ ap (λ x. (operand_rules (operands.operand_of one) ++ first_rules (site_of (operands.operand_of x)) (terms_listed terms.items)) ++ terms_rules (terms_listed terms.items)) (sym g)
-    ∙ ap (λ x. (operand_rules (operands.operand_of one) ++ first_rules (site_of (operands.operand_of two)) (terms_listed x)) ++ terms_rules (terms_listed terms.items)) (sym h)
-    ∙ ap (λ x. (operand_rules (operands.operand_of one) ++ first_rules (site_of (operands.operand_of two)) (terms_listed items)) ++ terms_rules (terms_listed x)) (sym k)
-    ∙ ap (λ y. (operand_rules (operands.operand_of one) ++ first_rules y (terms_listed items)) ++ terms_rules (terms_listed more)) (sym s)
+    ∙ ap (λ x. (operand_rules (operands.operand_of x) ++ first_rules (operands.operand_of first.value) (terms_listed terms.items)) ++ terms_rules (terms_listed terms.items)) (sym f)
+    ∙ ap (λ x. (operand_rules (operands.operand_of one) ++ first_rules (operands.operand_of x) (terms_listed terms.items)) ++ terms_rules (terms_listed terms.items)) (sym g)
+    ∙ ap (λ x. (operand_rules (operands.operand_of one) ++ first_rules (operands.operand_of two) (terms_listed x)) ++ terms_rules (terms_listed terms.items)) (sym h)
+    ∙ ap (λ x. (operand_rules (operands.operand_of one) ++ first_rules (operands.operand_of two) (terms_listed items)) ++ terms_rules (terms_listed x)) (sym k)
 
 -- a term, and those behind it
 pub term_step : (term : code_term.Term ℕ ℕ) (terms : List (code_term.Term ℕ ℕ))

@@ -62,11 +62,6 @@ module _ (K : ℕ → Type 0) where
   site (operands.Minus at operand) h = tt
   site (operands.Sum first terms) h = tt
 
-  first : (x : Site) (terms : Terms ℕ ℕ) → KnownSite K x → AllKnown K (first_rules x terms)
-  first x operands.NoMore k = tt
-  first x (operands.PlusThen at operand more) k = (k, tt)
-  first x (operands.MinusThen at operand more) k = (k, tt)
-
   mutual
     operand : (o : Operand ℕ ℕ) → Given (λ p. uses_in p o) → AllKnown K (operand_rules o)
     operand (operands.Literal at v) h = tt
@@ -74,8 +69,8 @@ module _ (K : ℕ → Type 0) where
     operand (operands.Column at column) h = tt
     operand (operands.Minus at o) h = (site o h, operand o h)
     operand (operands.Sum o terms) h =
-        known_both K (operand_rules o ++ first_rules (site_of o) terms) (terms_rules terms)
-        (known_both K (operand_rules o) (first_rules (site_of o) terms) (operand o (left (λ p. uses_in p o) (λ p. uses_in_terms p terms) h)) (first (site_of o) terms (site o (left (λ p. uses_in p o) (λ p. uses_in_terms p terms) h))))
+        known_both K (operand_rules o ++ first_rules o terms) (terms_rules terms)
+        (known_both K (operand_rules o) (first_rules o terms) (operand o (left (λ p. uses_in p o) (λ p. uses_in_terms p terms) h)) (site o (left (λ p. uses_in p o) (λ p. uses_in_terms p terms) h), tt))
         (all_terms terms (right (λ p. uses_in p o) (λ p. uses_in_terms p terms) h))
 
     all_terms : (ts : Terms ℕ ℕ) → Given (λ p. uses_in_terms p ts) → AllKnown K (terms_rules ts)

@@ -1,7 +1,9 @@
 -- What holds of every typing.
-use Rattle.std.specs.Prelude.{◌≡◌, List, Ok}
+use Rattle.std.specs.Prelude.{◌≡◌, ◌⊎◌, List, length, map, Ok}
+use Rattle.std.specs.List.{All, Contains}
 use Rattle.ae_base.specs.declared.types.Ty.{Ty}
 use Rattle.ae_base.specs.declared.types.Enc.{Enc}
+use Rattle.ae_base.specs.declared.types.Enc.TheVariants.{Plain}
 use Rattle.sql_tree.specs.declared.bound.ColumnSite.{ColumnSite}
 use Rattle.sql_tree.specs.Bound.{Bound}
 use Rattle.enc_types.specs.Rules.{rules}
@@ -19,3 +21,11 @@ pub record IsTypedAs (bound : Bound) (encs : List Enc) : Type 0 where
 
 abbrev pub TypedStatements : Type 0
 TypedStatements = (bound : Bound) (encs : List Enc) → inferred bound ≡ Ok encs → IsTypedAs bound encs
+
+-- plain, or encrypted as a column is
+abbrev pub IsOfColumn : List ColumnSite → Enc → Type 0
+IsOfColumn columns enc = (enc ≡ Plain) ⊎ Contains (map (λ site. site.enc) columns) enc
+
+-- what is inferred is for each parameter, and of the statement's columns
+abbrev pub TypingsAreOfColumns : Type 0
+TypingsAreOfColumns = (bound : Bound) (encs : List Enc) → inferred bound ≡ Ok encs → (length encs ≡ length bound.params) × All (IsOfColumn bound.columns) encs

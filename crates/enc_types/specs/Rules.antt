@@ -24,11 +24,14 @@ at_of (PlainOnly x at) = at
 
 -- ---- operands: a minus and a sum ask for plain operands
 
--- the first term of a sum is asked for at the first operator
-abbrev pub first_rules : Site → Terms ℕ ℕ → List Rule
-first_rules x operands.NoMore = []
-first_rules x (operands.PlusThen at operand more) = PlainOnly x at ∷ []
-first_rules x (operands.MinusThen at operand more) = PlainOnly x at ∷ []
+-- the first term of a sum is asked for at the first operator; no text that is read has a sum without one
+abbrev pub first_operator : Operand ℕ ℕ → Terms ℕ ℕ → ℕ
+first_operator first operands.NoMore = place_of first
+first_operator first (operands.PlusThen at operand more) = at
+first_operator first (operands.MinusThen at operand more) = at
+
+abbrev pub first_rules : Operand ℕ ℕ → Terms ℕ ℕ → List Rule
+first_rules first terms = PlainOnly (site_of first) (first_operator first terms) ∷ []
 
 abbrev mutual
   pub operand_rules : Operand ℕ ℕ → List Rule
@@ -36,7 +39,7 @@ abbrev mutual
   operand_rules (operands.Param at param) = []
   operand_rules (operands.Column at column) = []
   operand_rules (operands.Minus at operand) = PlainOnly (site_of operand) at ∷ operand_rules operand
-  operand_rules (operands.Sum first terms) = operand_rules first ++ first_rules (site_of first) terms ++ terms_rules terms
+  operand_rules (operands.Sum first terms) = operand_rules first ++ first_rules first terms ++ terms_rules terms
 
   pub terms_rules : Terms ℕ ℕ → List Rule
   terms_rules operands.NoMore = []

@@ -1,4 +1,4 @@
-ghost use Rattle.enc_types.specs.Laws.{LeastTyping, TypedStatements};
+ghost use Rattle.enc_types.specs.Laws.{LeastTyping, TypedStatements, TypingsAreOfColumns};
 ghost use Rattle.enc_types.specs.Renamed.{RulesRenamed, InferredRenamed};
 
 /// The least typing of rules that have a typing is one, and it is least.
@@ -9,6 +9,11 @@ pub fn least_typing()
 /// Under what is inferred of a statement every rule of it holds.
 pub fn typed_statements()
     ensures { TypedStatements }
+{}
+
+/// Each parameter is inferred to be plain, or encrypted as a column of the statement is.
+pub fn typings_are_of_columns()
+    ensures { TypingsAreOfColumns }
 {}
 
 /// The rules of a statement whose parameters stand at other places are its rules, renamed.

@@ -1,13 +1,13 @@
 ghost use Rattle.std.specs.Prelude.{◌≡◌, ◌∷◌, [], ◌++◌, OnOk};
 ghost use Rattle.sql_tree.specs.Operands.{operand_of};
 ghost use Rattle.sql_tree.specs.Listed.{terms_listed};
-ghost use Rattle.enc_types.specs.Rules.{operand_rules, terms_rules, first_rules};
+ghost use Rattle.enc_types.specs.Rules.{operand_rules, terms_rules, first_operator, first_rules};
 ghost use Rattle.enc_types.specs.Sites as spec;
 
 use crate::rules::Rule;
-use crate::sites::{Site, site_of};
+use crate::sites::site_of;
 use ae_base::lists::Seq;
-use sql_tree::bound::BoundOperand;
+use sql_tree::bound::{BoundOperand, place_of};
 use sql_tree::operands::{Operand, Term};
 use std::alloc::AllocError;
 
@@ -21,7 +21,7 @@ pub(crate) fn of_operand(operand: &BoundOperand, rules: &mut Seq<Rule>) -> Resul
         Operand::Minus { at, operand } => of_plain(*at, operand, rules),
         Operand::Sum { first, terms } => {
             of_operand(first, rules)?;
-            of_first(site_of(first), terms, rules)?;
+            of_first(first, terms, rules)?;
             of_terms(terms, rules)
         }
     }
@@ -39,16 +39,28 @@ fn of_plain(at: u32, operand: &BoundOperand, rules: &mut Seq<Rule>) -> Result<()
     of_operand(operand, rules)
 }
 
-/// The first term of a sum, at the first operator.
-fn of_first(x: Site, terms: &[Term<usize, usize>], rules: &mut Seq<Rule>) -> Result<(), AllocError>
-    ensures { OnOk result (rules.new ≡ rules.old ++ first_rules x (terms_listed terms.now)) }
+/// The place of the first operator of a sum.
+fn first_operator(first: &BoundOperand, terms: &[Term<usize, usize>]) -> u32
+    ensures { result ≡ first_operator (operand_of first.now) (terms_listed terms.now) }
 {
     match terms {
-        [] => Ok(()),
-        [Term::Plus { at, .. }, ..] | [Term::Minus { at, .. }, ..] => {
-            rules.push(Rule::PlainOnly { x, at: *at })
-        }
+        [] => place_of(first),
+        [Term::Plus { at, .. }, ..] | [Term::Minus { at, .. }, ..] => *at,
     }
+}
+
+/// The first term of a sum, at the first operator.
+fn of_first(
+    first: &BoundOperand,
+    terms: &[Term<usize, usize>],
+    rules: &mut Seq<Rule>,
+) -> Result<(), AllocError>
+    ensures { OnOk result (rules.new ≡ rules.old ++ first_rules (operand_of first.now) (terms_listed terms.now)) }
+{
+    rules.push(Rule::PlainOnly {
+        x: site_of(first),
+        at: first_operator(first, terms),
+    })
 }
 
 /// The further terms of a sum.

@@ -39,6 +39,14 @@ impl Typed {
         self.bound
     }
 
+    /// The statement, and the encryption of each of its parameters.
+    pub fn into_parts(self) -> (Bound, Seq<Enc>)
+        ensures bound { result.0 ≡ self.bound }
+        ensures encs { result.1 ≡ self.encs }
+    {
+        (self.bound, self.encs)
+    }
+
     /// The encryption of each parameter, in the order of the declarations.
     pub fn encs(&self) -> &[Enc]
         ensures { result.now ≡ self.now.encs }

@@ -10,8 +10,8 @@ use Rattle.enc_types.proofs.operands.+operand.Goals as goal
 
 pub of_operand-returns-in_ok-of_first-in-Sum : goal.of_operand-returns-in_ok-of_first-in-Sum
 of_operand-returns-in_ok-of_first-in-Sum t c =
-    let e = joined c.args.rules.now c.of_operand.new.rules c.of_first.new.rules (operand_rules (operand_of c.deref-in-Sum.result.now)) (first_rules c.site_of.result (terms_listed c.deref-in-Sum-3.result.now)) c.in_ok-of_operand-in-Sum.ensures c.in_ok-of_first-in-Sum.ensures in
-    let w = rules_of-Sum c.args.operand.now c.deref-in-Sum.result.now c.deref-in-Sum-2.result.now c.site_of.result c.in-Sum.first c.in-Sum.terms c.deref-in-Sum-3.result.now c.deref-in-Sum-4.result.now c.in-Sum.is c.deref-in-Sum.ensures c.deref-in-Sum-2.ensures c.site_of.ensures c.deref-in-Sum-3.ensures.value c.deref-in-Sum-4.ensures.value in
+    let e = joined c.args.rules.now c.of_operand.new.rules c.of_first.new.rules (operand_rules (operand_of c.deref-in-Sum.result.now)) (first_rules (operand_of c.deref-in-Sum-2.result.now) (terms_listed c.deref-in-Sum-3.result.now)) c.in_ok-of_operand-in-Sum.ensures c.in_ok-of_first-in-Sum.ensures in
+    let w = rules_of-Sum c.args.operand.now c.deref-in-Sum.result.now c.deref-in-Sum-2.result.now c.in-Sum.first c.in-Sum.terms c.deref-in-Sum-3.result.now c.deref-in-Sum-4.result.now c.in-Sum.is c.deref-in-Sum.ensures c.deref-in-Sum-2.ensures c.deref-in-Sum-3.ensures.value c.deref-in-Sum-4.ensures.value in
     rw w (two c.args.rules.now c.of_first.new.rules c.of_terms.new.rules _ (terms_rules (terms_listed c.deref-in-Sum-4.result.now)) _ _ c.of_terms.result e c.of_terms.ensures refl refl)
 
 pub of_terms-loop-term-preserved : goal.of_terms-loop-term-preserved
