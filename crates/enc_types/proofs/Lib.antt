@@ -8,3 +8,5 @@ pub mod Renaming
 pub mod RenamedTypings
 pub mod UsedParams
 pub mod ColumnEncs
+pub mod UsedWithin
+pub mod UsedAlone

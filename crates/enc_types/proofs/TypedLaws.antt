@@ -24,7 +24,7 @@ module _ (params : List Ty) (columns : List ColumnSite) where
       go true t more = ap (has_typing params columns) (sym (push_append params columns before rule rules)) ∙ more t (sym (step_typed params columns before rule rules t) ∙ e)
       go false t more = let k : Some (at_of rule) ≡ None = sym (step_untyped params columns before rule rules t) ∙ e in absurd cc
 
-none_of : (encs given : List Enc) (found : Option ℕ) → encs_or_clash encs found ≡ Ok given → found ≡ None
+pub none_of : (encs given : List Enc) (found : Option ℕ) → encs_or_clash encs found ≡ Ok given → found ≡ None
 none_of encs given None e = refl
 none_of encs given (Some at) e = absurd cc
 

@@ -8,3 +8,4 @@ pub mod ResultColumns
 pub mod InferenceWorked
 pub mod Renamed
 pub mod Laws
+pub mod UsedAlone

@@ -1,5 +1,6 @@
 ghost use Rattle.enc_types.specs.Laws.{LeastTyping, TypedStatements, TypingsAreOfColumns};
 ghost use Rattle.enc_types.specs.Renamed.{RulesRenamed, InferredRenamed};
+ghost use Rattle.enc_types.specs.UsedAlone.{InferredAlone};
 
 /// The least typing of rules that have a typing is one, and it is least.
 pub fn least_typing()
@@ -24,4 +25,9 @@ pub fn rules_renamed()
 /// A statement over other declarations is inferred alike, if those that it uses are among them.
 pub fn inferred_renamed()
     ensures { InferredRenamed }
+{}
+
+/// The parameters that a statement uses are inferred alike where it stands over them alone.
+pub fn inferred_alone()
+    ensures { InferredAlone }
 {}
