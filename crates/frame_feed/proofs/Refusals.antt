@@ -2,7 +2,7 @@
 use Rattle.std.proofs.Common.{◌≡◌, ◌≤◌, ◌+◌, ℕ, List, Bool, take, length, inl, inr}
 use Rattle.wire_messages.specs.declared.replies.Reply.{Reply}
 use Rattle.wire_messages.specs.declared.requests.Request.{Request}
-use Rattle.wire_frames.specs.Spelling.{SpellsRequest, SpellsReply}
+use Rattle.wire_spelling.specs.Spelling.{SpellsRequest, SpellsReply}
 use Rattle.wire_frames.specs.Frames.{IsRefused, is_request_kind, is_reply_kind}
 use Rattle.wire_frames.specs.declared.decoding.Way.TheVariants.{ToServer, ToDriver}
 use Rattle.frame_feed.specs.Feeding.{SpellsMessage}

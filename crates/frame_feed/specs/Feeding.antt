@@ -1,6 +1,6 @@
 -- What a feed holds, and the messages of either direction.
 use Rattle.std.specs.Prelude.{ℕ, List}
-use Rattle.wire_frames.specs.Spelling.{SpellsRequest, SpellsReply}
+use Rattle.wire_spelling.specs.Spelling.{SpellsRequest, SpellsReply}
 use Rattle.wire_frames.specs.declared.decoding.Way.{Way}
 use Rattle.wire_frames.specs.declared.decoding.Way.TheVariants.{ToServer, ToDriver}
 use Rattle.frame_feed.specs.declared.messages.Message.{Message}

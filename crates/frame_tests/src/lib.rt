@@ -7,7 +7,8 @@ use crate::tables::{CUT_REPLIES, CUT_REQUESTS, NO_REPLIES, NO_REQUESTS, REPLIES,
 use frame_feed::{FrameFeed, Message, Next};
 use std::alloc::{AllocError, Global};
 use std::test::Fail;
-use wire_frames::{Decoded, Way, decode_reply, decode_request, encode_reply, encode_request};
+use wire_frames::{Decoded, Way, decode_reply, decode_request};
+use wire_spelling::{encode_reply, encode_request};
 
 // Whether a request is read, all of the bytes, and spelled so again.
 fn is_request(alloc: Global, bytes: &[u8]) -> Result<bool, AllocError> {

@@ -8,7 +8,7 @@ use Rattle.ae_edge.specs.Vaults.{KeyMap}
 use Rattle.ae_edge.proofs.Told.{told_same, adds_none, adds_front_none, removes_none}
 use Rattle.wire_messages.specs.declared.requests.Request.{Request}
 use Rattle.wire_messages.specs.declared.replies.Reply.{Reply}
-use Rattle.wire_frames.specs.Spelling.{request_frame, reply_frame}
+use Rattle.wire_spelling.specs.Spelling.{request_frame, reply_frame}
 use Rattle.server_core.specs.Serve.{State, serve}
 use Rattle.conversation.specs.declared.outcomes.Listing.{Listing}
 use Rattle.conversation.specs.declared.outcomes.Outcome.{Outcome}

@@ -8,7 +8,7 @@ use Rattle.ae_edge.specs.Vaults.{KeyMap}
 use Rattle.ae_edge.proofs.Told.{told_then, told_same, adds_none, adds_then, adds_front_none, removes_none, removes_then, front_of, front_same}
 use Rattle.wire_messages.specs.Exchanges.{Served}
 use Rattle.wire_messages.specs.declared.replies.Reply.{Reply}
-use Rattle.wire_frames.specs.Spelling.{reply_frame}
+use Rattle.wire_spelling.specs.Spelling.{reply_frame}
 use Rattle.server_core.specs.Serve.{State, serve}
 use Rattle.conversation.specs.Paths.{Event, Asked, Took, Strayed, Drew, Opened, Printed, Follows, stays, taken_in, drawn_in, outcome_in, Waits, OpensAll, next_of}
 use Rattle.conversation.specs.Talk.{Talk}

@@ -4,7 +4,7 @@ use Rattle.std.specs.Int.{w32, from_be_bytes}
 use Rattle.std.proofs.lemmas.Bool.{ltb-false, le-ltb, eqb-true, eq-eqb, or_parts, or_from, not-false, not_from_true}
 use Rattle.std.proofs.lemmas.List.{take_at, take-append-drop, append-nil, nil_from_length, length-append, length-drop, length-take-le}
 use Rattle.std.proofs.lemmas.Nat.{be_bytes_4, from_be_bytes-to_be_bytes_4}
-use Rattle.wire_frames.specs.Spelling as spell
+use Rattle.wire_spelling.specs.Spelling as spell
 use Rattle.wire_frames.specs.Frames.{stated, is_no_header, IsNotYet, IsRefused}
 use Rattle.wire_frames.proofs.Takes.{AreBytes, AreBytes-drop, AreBytes-take, some_is}
 

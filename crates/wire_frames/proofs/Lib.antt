@@ -1,8 +1,6 @@
 mod Directions
 mod FieldLaws
 mod FrameLaws
-pub mod Lengths
-mod Mending
 mod MessageLaws
 mod PartLaws
 mod PartsRead

@@ -23,7 +23,7 @@ use Rattle.wire_messages.specs.declared.replies.Reply.{Reply}
 use Rattle.wire_messages.specs.declared.replies.Reply.TheVariants.{Described, Columns, Row, Ended, Refused}
 use Rattle.wire_messages.specs.declared.requests.Request.{Request}
 use Rattle.wire_messages.specs.declared.requests.Request.TheVariants.{Describe, Execute}
-use Rattle.wire_frames.specs.Spelling as spell
+use Rattle.wire_spelling.specs.Spelling as spell
 use Rattle.wire_frames.specs.Reading.{Reader, ◌and◌, mapped, kept, tried, pick, choice, number_at, session_at, text_at, declarations_at, sent_params_at, used_params_at, key_at, column_at, atom_at, few_at, many_at, is_within, are_keys, is_description, is_few, is_header, describe_of, describe_at, execute_of, execute_at, description_of, described_at, header_of, columns_at, row_at, defined, dones, done_at, ended_at, fault_at, faults, refused_at, requests, replies, request_at, reply_at}
 use Rattle.wire_frames.proofs.Takes.{AreBytes, AreBytes-rest, Reads, AllTake, TakesBody, AllTakeBodies, ◌also◌, Reads-and, Reads-kept, Reads-mapped, Reads-choice, behind, behind_tried, mapped_again, tried_again, ended_body, pick_body, ends_again, cond_some, bind_some, some_is}
 use Rattle.wire_frames.proofs.FieldLaws.{u64_reads, session_reads, text_reads, within_from, within_to}

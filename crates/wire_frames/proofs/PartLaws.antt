@@ -27,7 +27,7 @@ use Rattle.wire_messages.specs.declared.columns.SentColumn.{SentColumn}
 use Rattle.wire_messages.specs.declared.params.SentParam.{SentParam}
 use Rattle.wire_messages.specs.declared.params.UsedParam.{UsedParam}
 use Rattle.wire_messages.specs.Conditions.{IsBytes, IsScalars, IsWord, IsParamWord, IsTitleText, IsPath, IsWrapped, IsKeyId, IsEnc, IsAtom, IsKey, IsFault, IsDeclaration, IsSent, IsUsed, IsColumn, AreParams}
-use Rattle.wire_frames.specs.Spelling as spell
+use Rattle.wire_spelling.specs.Spelling as spell
 use Rattle.wire_frames.specs.Reading.{Reader, only, ◌and◌, mapped, kept, pick, ends, bare, choice, number_at, byte_at, types, type_at, encryptions, encryption_at, atoms, atom_at, null, integer, text, binary, sealed, name_at, param_name_at, title_at, path_at, wrapped_at, key_id_at, text_size_at, binary_size_at, unique_number_at, short_text_at, short_blob_at, key_of, key_at, declaration_of, declaration_at, sent_of, sent_at, used_of, used_at, column_of, column_at, few_at, many_at, are_params, declarations_at, sent_params_at, used_params_at, versions_of, versions_at, differ, faults}
 use Rattle.wire_frames.proofs.Takes.{AreBytes, Takes, Reads, AllTake, TakesBody, AllTakeBodies, ended_body, pick_body, ends_again, cond_some, Reads-and, Reads-kept, Reads-mapped, Reads-choice, Reads-listed, mapped_again, behind, alone, ◌also◌}
 use Rattle.wire_frames.proofs.FieldLaws.{u16_reads, u32_reads, u64_reads, byte_reads, name_reads, param_name_reads, title_reads, path_reads, wrapped_reads, key_id_reads, text_size_reads, binary_size_reads, unique_number_reads, short_text_reads, short_blob_reads}

@@ -3,7 +3,7 @@ use Rattle.std.specs.Prelude.{◌≡◌, ◌⊎◌, ◌<◌, ◌≤◌, ◌+◌,
 use Rattle.std.specs.Int.{w32, from_be_bytes}
 use Rattle.wire_messages.specs.declared.replies.Reply.{Reply}
 use Rattle.wire_messages.specs.declared.requests.Request.{Request}
-use Rattle.wire_frames.specs.Spelling.{SpellsRequest, SpellsReply}
+use Rattle.wire_spelling.specs.Spelling.{SpellsRequest, SpellsReply}
 
 -- the kinds of each direction
 abbrev pub is_request_kind : ℕ → Bool

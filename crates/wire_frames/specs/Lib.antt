@@ -3,5 +3,3 @@ pub mod Found
 pub mod Frames
 pub mod Laws
 pub mod Reading
-pub mod Spelling
-pub mod SpellingWorked

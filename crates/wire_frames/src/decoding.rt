@@ -3,7 +3,7 @@
 ghost use Rattle.std.specs.Prelude.{◌≡◌};
 ghost use Rattle.wire_frames.specs.Decoding.{has_kind, IsFramed, Decodes, ReadsEach};
 ghost use Rattle.wire_frames.specs.Frames.{is_request_kind, is_reply_kind, IsNotYet};
-ghost use Rattle.wire_frames.specs.Spelling.{SpellsRequest, SpellsReply};
+ghost use Rattle.wire_spelling.specs.Spelling.{SpellsRequest, SpellsReply};
 
 use crate::bodies::{Body, reply_body_of, request_body_of};
 use std::alloc::Global;

@@ -2,7 +2,7 @@
 
 ghost use Rattle.wire_messages.specs.Conditions.{IsRequest, IsReply};
 ghost use Rattle.wire_frames.specs.Laws.{BeginsNoOther, HasOneReading};
-ghost use Rattle.wire_frames.specs.Spelling.{SpellsRequest, SpellsReply, request_frame, reply_frame};
+ghost use Rattle.wire_spelling.specs.Spelling.{SpellsRequest, SpellsReply, request_frame, reply_frame};
 
 /// No spelling of a message is the beginning of another's, and whatever follows, a front spells
 /// one message at most. So what is written is read again.

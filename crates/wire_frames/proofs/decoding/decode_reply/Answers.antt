@@ -2,7 +2,7 @@
 use Rattle.wire_frames.specs.Frames.{is_reply_kind}
 use Rattle.wire_frames.specs.Reading.{reply_at}
 use Rattle.wire_messages.specs.Conditions.{IsReply}
-use Rattle.wire_frames.specs.Spelling.{reply_kind, reply_body, SpellsReply}
+use Rattle.wire_spelling.specs.Spelling.{reply_kind, reply_body, SpellsReply}
 use Rattle.wire_frames.proofs.Directions.{to_driver}
 use Rattle.wire_frames.proofs.FrameLaws.{one_is_spelled, one_is_read, none_is_spelled, none_is_refused, no_header_spells}
 use Rattle.wire_frames.proofs.decoding.decode_reply.Goals as goal

@@ -2,7 +2,7 @@
 use Rattle.wire_frames.specs.Frames.{is_request_kind}
 use Rattle.wire_frames.specs.Reading.{request_at}
 use Rattle.wire_messages.specs.Conditions.{IsRequest}
-use Rattle.wire_frames.specs.Spelling.{request_kind, request_body, SpellsRequest}
+use Rattle.wire_spelling.specs.Spelling.{request_kind, request_body, SpellsRequest}
 use Rattle.wire_frames.proofs.Directions.{to_server}
 use Rattle.wire_frames.proofs.FrameLaws.{one_is_spelled, one_is_read, none_is_spelled, none_is_refused, no_header_spells}
 use Rattle.wire_frames.proofs.decoding.decode_request.Goals as goal

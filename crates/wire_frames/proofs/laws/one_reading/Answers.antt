@@ -1,11 +1,11 @@
 -- A frame states its length, and its body is read as one message.
 use Rattle.wire_messages.specs.Conditions.{IsRequest, IsReply}
-use Rattle.wire_frames.specs.Spelling.{request_kind, request_body, reply_kind, reply_body, SpellsRequest, SpellsReply}
+use Rattle.wire_spelling.specs.Spelling.{request_kind, request_body, reply_kind, reply_body, SpellsRequest, SpellsReply}
 use Rattle.wire_frames.specs.Frames.{is_request_kind, is_reply_kind}
 use Rattle.wire_frames.specs.Reading.{request_at, reply_at}
 use Rattle.wire_frames.proofs.Directions.{to_server, to_driver}
 use Rattle.wire_frames.proofs.FrameLaws.{one_front, front_is_whole}
-use Rattle.wire_frames.proofs.Lengths.{request_within, reply_within}
+use Rattle.wire_spelling.proofs.Lengths.{request_within, reply_within}
 use Rattle.wire_frames.proofs.laws.one_reading.Goals as goal
 
 pub returns-clause-requests_end : goal.returns-clause-requests_end

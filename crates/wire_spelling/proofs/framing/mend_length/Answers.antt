@@ -1,8 +1,8 @@
 -- The four bytes stand behind the version and the kind.
 use Rattle.std.proofs.Common.{◌≡◌, ◌∙◌, ◌-◌, [], ◌∷◌, ◌++◌, arith, length, length-append, append_assoc, ap, refl}
 use Rattle.std.specs.Int.{w32, to_be_bytes}
-use Rattle.wire_frames.proofs.Mending.{mended}
-use Rattle.wire_frames.proofs.framing.mend_length.Goals as goal
+use Rattle.wire_spelling.proofs.Mending.{mended}
+use Rattle.wire_spelling.proofs.framing.mend_length.Goals as goal
 
 pub returns : goal.returns
 returns c = λ before body kind e items.

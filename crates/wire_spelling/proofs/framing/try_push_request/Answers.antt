@@ -1,8 +1,8 @@
 -- A body has at most 16,777,216 bytes.
 use Rattle.std.proofs.Common.{arith, length, [], ◌∷◌, length-append, ap}
-use Rattle.wire_frames.specs.Spelling.{request_body}
-use Rattle.wire_frames.proofs.Lengths.{request_within}
-use Rattle.wire_frames.proofs.framing.try_push_request.Goals as goal
+use Rattle.wire_spelling.specs.Spelling.{request_body}
+use Rattle.wire_spelling.proofs.Lengths.{request_within}
+use Rattle.wire_spelling.proofs.framing.try_push_request.Goals as goal
 
 pub mend_length-requires-clause-length : goal.mend_length-requires-clause-length
 mend_length-requires-clause-length c =

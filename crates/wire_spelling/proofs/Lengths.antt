@@ -28,7 +28,7 @@ use Rattle.wire_messages.specs.declared.replies.Reply.TheVariants.{Described, Co
 use Rattle.wire_messages.specs.declared.requests.Request.{Request}
 use Rattle.wire_messages.specs.declared.requests.Request.TheVariants.{Describe, Execute}
 use Rattle.wire_messages.specs.Conditions.{IsRequest, IsReply, IsAtom, IsDeclaration, IsSent, IsUsed, IsColumn, IsKey, IsFault}
-use Rattle.wire_frames.specs.Spelling as spell
+use Rattle.wire_spelling.specs.Spelling as spell
 
 -- a character has at most four bytes
 pub encoded_within : (characters : List ℕ) → length (encode_utf8_all characters) ≤ 4 * length characters

@@ -5,7 +5,7 @@ use Rattle.ae_base.specs.declared.faults.SqlFault.TheVariants as fault
 use Rattle.wire_messages.specs.declared.replies.Done.TheVariants.{Defined}
 use Rattle.wire_messages.specs.declared.replies.Reply.TheVariants.{Described, Ended, Refused}
 use Rattle.wire_messages.specs.declared.requests.Request.TheVariants.{Describe, Execute}
-use Rattle.wire_frames.specs.Spelling.{request_frame, reply_frame}
+use Rattle.wire_spelling.specs.Spelling.{request_frame, reply_frame}
 
 pub describe : request_frame (Describe 1 (codes "CREATE TABLE t (a INT)") [])
     ≡ 0x01 ∷ 0x01 ∷ 0x00 ∷ 0x00 ∷ 0x00 ∷ 0x1d ∷ 0x00 ∷ 0x01 ∷ 0x00 ∷ 0x00 ∷ 0x00 ∷ 0x16

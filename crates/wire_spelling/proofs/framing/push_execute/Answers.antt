@@ -1,8 +1,8 @@
 -- The parts of the body follow one another.
 use Rattle.std.proofs.Common.{◌++◌}
-use Rattle.wire_frames.specs.Spelling.{u16, u64, text, few, sent}
-use Rattle.wire_frames.proofs.Mending.{three_more}
-use Rattle.wire_frames.proofs.framing.push_execute.Goals as goal
+use Rattle.wire_spelling.specs.Spelling.{u16, u64, text, few, sent}
+use Rattle.wire_spelling.proofs.Mending.{three_more}
+use Rattle.wire_spelling.proofs.framing.push_execute.Goals as goal
 
 pub returns-clause-bytes : goal.returns-clause-bytes
 returns-clause-bytes c =

@@ -1,8 +1,8 @@
 -- The two numbers follow one another.
 use Rattle.std.proofs.Common.{◌∙◌, ◌++◌, ap}
-use Rattle.wire_frames.specs.Spelling.{u64}
-use Rattle.wire_frames.proofs.Mending.{two_more}
-use Rattle.wire_frames.proofs.writing.push_versions.Goals as goal
+use Rattle.wire_spelling.specs.Spelling.{u64}
+use Rattle.wire_spelling.proofs.Mending.{two_more}
+use Rattle.wire_spelling.proofs.writing.push_versions.Goals as goal
 
 pub returns-clause-bytes : goal.returns-clause-bytes
 returns-clause-bytes c =

@@ -5,7 +5,7 @@ ghost use Rattle.std.specs.List.{flat_map};
 ghost use Rattle.std.specs.Str.{chars, all_scalars};
 ghost use Rattle.ae_base.specs.Types.{IsType};
 ghost use Rattle.wire_messages.specs.Conditions.{IsBytes, IsScalars, IsStatement, IsEnc};
-ghost use Rattle.wire_frames.specs.Spelling as spell;
+ghost use Rattle.wire_spelling.specs.Spelling as spell;
 
 use ae_base::types::{Enc, Ty};
 use std::alloc::AllocError;

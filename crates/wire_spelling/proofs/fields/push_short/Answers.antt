@@ -2,8 +2,8 @@
 use Rattle.std.proofs.Common.{rules, subst, ap, length, arith}
 use Rattle.std.specs.Str.{IsUtf8, chars}
 use Rattle.std.proofs.lemmas.Str.{encodes-chars}
-use Rattle.wire_frames.proofs.Lengths.{encoded_within}
-use Rattle.wire_frames.proofs.fields.push_short.Goals as goal
+use Rattle.wire_spelling.proofs.Lengths.{encoded_within}
+use Rattle.wire_spelling.proofs.fields.push_short.Goals as goal
 
 pub push_blob-requires : goal.push_blob-requires
 push_blob-requires c =

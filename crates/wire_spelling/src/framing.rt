@@ -5,8 +5,8 @@ ghost use Rattle.ae_base.specs.Sessions.{IsSession};
 ghost use Rattle.wire_messages.specs.Conditions.{IsRequest, IsReply};
 ghost use Rattle.wire_messages.specs.declared.replies.Reply.TheVariants.{Described, Columns, Row};
 ghost use Rattle.wire_messages.specs.declared.requests.Request.TheVariants.{Describe, Execute};
-ghost use Rattle.wire_frames.specs.Spelling as spell;
-ghost use Rattle.wire_frames.specs.Spelling.{SpellsRequest, SpellsReply};
+ghost use Rattle.wire_spelling.specs.Spelling as spell;
+ghost use Rattle.wire_spelling.specs.Spelling.{SpellsRequest, SpellsReply};
 
 use crate::fields::{push_few, push_many, push_text};
 use crate::writing::{push_done, push_fault};

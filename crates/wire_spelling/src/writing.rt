@@ -3,7 +3,7 @@
 ghost use Rattle.std.specs.Prelude.{◌≡◌, ◌≢◌, ◌<◌, ◌^◌, ◌++◌, ◌∷◌, OnOk};
 ghost use Rattle.ae_base.specs.Faults.{code_of};
 ghost use Rattle.wire_messages.specs.Conditions as conditions;
-ghost use Rattle.wire_frames.specs.Spelling as spell;
+ghost use Rattle.wire_spelling.specs.Spelling as spell;
 
 use crate::fields::{Part, push_blob, push_enc, push_short, push_str, push_ty};
 use ae_base::faults::{SqlFault, Versions};

@@ -1,7 +1,7 @@
 -- The parts so far stand at the end.
 use Rattle.std.proofs.Common.{◌≡◌, ◌++◌, take}
 use Rattle.std.specs.List.{All, flat_map}
-use Rattle.wire_frames.proofs.fields.push_all.Given as goal
+use Rattle.wire_spelling.proofs.fields.push_all.Given as goal
 
 abbrev pub invariant-loop-part : goal.invariant-loop-part
 invariant-loop-part g l = record {
