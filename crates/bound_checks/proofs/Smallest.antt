@@ -68,10 +68,11 @@ at-length (Some c) group long e = cc
 at-length None (Some g) long e = cc
 at-length None None long e = (refl, refl)
 
-at-none : (clash group : Option ℕ) (long : Bool) → over clash group long ≡ Ok tt → (clash ≡ None) × (group ≡ None)
+at-none : (clash group : Option ℕ) (long : Bool) → over clash group long ≡ Ok tt → (clash ≡ None) × (group ≡ None) × (long ≡ false)
 at-none (Some c) group long e = cc
 at-none None (Some g) long e = cc
-at-none None None long e = (refl, refl)
+at-none None None true e = cc
+at-none None None false e = (refl, refl, refl)
 
 checked-over : (bound : Bound) → checked bound ≡ over (least (clashes bound)) (least (ungrouped bound)) (is_too_long bound)
 unfolding checked
@@ -88,5 +89,5 @@ smallest_first = record {
       (no-least (clashes bound) h.0, no-least (ungrouped bound) h.1);
   fine = λ bound e.
       let h = at-none (least (clashes bound)) (least (ungrouped bound)) (is_too_long bound) (rw (← checked-over bound) e) in
-      (no-least (clashes bound) h.0, no-least (ungrouped bound) h.1);
+      (no-least (clashes bound) h.0, no-least (ungrouped bound) h.1, h.2);
 }

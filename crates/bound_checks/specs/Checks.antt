@@ -27,11 +27,11 @@ abbrev pub none_at : (ℕ → SqlFault) → Option ℕ → Result (Unit {0}) Sql
 none_at fault None = Ok tt
 none_at fault (Some at) = Err (fault at)
 
--- a query has 1 to 512 items; no text that is read has none
+-- a query has 1 to 512 items, and a table at most 8 unique keys; no text that is read has no items, or more keys
 abbrev pub is_long_statement : BoundStatement → Bool
 is_long_statement (bound.CreateMaster name path) = false
 is_long_statement (bound.CreateKey name master wrapped) = false
-is_long_statement (bound.CreateTable table) = false
+is_long_statement (bound.CreateTable table) = nat_lt 8 (length table.def.uniques)
 is_long_statement (bound.DropTable name) = false
 is_long_statement (bound.DropMaster name) = false
 is_long_statement (bound.DropKey name) = false

@@ -66,10 +66,14 @@ fn grouped(alloc: Global, made: &Bound) -> Result<(), Refusal>
 /// The most items of a query.
 const MOST_ITEMS: usize = 512;
 
+/// The most unique keys of a table.
+const MOST_KEYS: usize = 8;
+
 fn is_long_statement(statement: &BoundStatement) -> bool
     ensures { result ≡ is_long_statement (bound.statement_of statement.now) }
 {
     match statement {
+        BoundStatement::CreateTable(table) => table.def.uniques.len() > MOST_KEYS,
         BoundStatement::Select(query) => query.items.is_empty() || query.items.len() > MOST_ITEMS,
         _ => false,
     }

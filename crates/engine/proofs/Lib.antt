@@ -1,3 +1,4 @@
+pub mod Admitted
 pub mod Collected
 pub mod Contents
 pub mod Moving
