@@ -1,5 +1,5 @@
 -- What every step of a script meets.
-use Rattle.std.specs.Prelude.{ℕ, ◌≤◌, List, length, map, IsTrue}
+use Rattle.std.specs.Prelude.{◌≤◌, length, map, IsTrue}
 use Rattle.ae_base.specs.Names.{all_differ}
 use Rattle.ae_base.specs.Sessions.{IsSession}
 use Rattle.ae_base.specs.declared.batches.Batch.{Batch}

@@ -1,5 +1,5 @@
 -- A script as steps: batches ended by GO or by the end of the script, half batches, and what executes them.
-use Rattle.std.specs.Prelude.{ℕ, ℤ, ◌+◌, ◌-◌, ◌*◌, pos, neg_ℤ, List, [], ◌∷◌, ◌++◌, length, map, take, drop, take_while, codes, Option, Some, None, unwrap_or, is_some, Result, Ok, Err, Bool, true, false, ◌&&◌, ◌||◌, not, nat_lt, nat_le, int_le, ◌==◌, if◌then◌else◌, slice_index}
+use Rattle.std.specs.Prelude.{ℕ, ℤ, ◌+◌, ◌-◌, ◌*◌, pos, neg_ℤ, List, [], ◌∷◌, ◌++◌, length, map, take, drop, take_while, codes, Option, Some, None, unwrap_or, is_some, Result, Ok, Err, Bool, false, ◌&&◌, ◌||◌, not, nat_le, int_le, ◌==◌, if◌then◌else◌, slice_index}
 use Rattle.std.specs.Option.{option_map, option_and_then}
 use Rattle.std.specs.Str.{bytes_eq, chars, is_utf8}
 use Rattle.ae_base.specs.Names.{admits}
@@ -15,7 +15,7 @@ use Rattle.sql_tree.specs.declared.lexemes.Lexeme.{Lexeme}
 use Rattle.sql_tree.specs.declared.lexemes.Lexeme.TheVariants as lexeme
 use Rattle.sql_tree.specs.declared.lexemes.Token.{Token}
 use Rattle.sql_tree.specs.Tokens.{tokens_of, first_wide, in_capitals, begins_word, is_word_byte, is_digit}
-use Rattle.sql_grammar.specs.Making.{type_of, reads_as}
+use Rattle.sql_grammar.specs.Making.{type_of}
 use Rattle.script_lang.specs.declared.steps.Step.{Step}
 use Rattle.script_lang.specs.declared.steps.Step.TheVariants.{Whole, Half, Execute}
 
