@@ -1,5 +1,6 @@
 -- Loops that read things one after another, or with commas between.
-use Rattle.std.proofs.Common.{◌≡◌, ◌<◌, true, false, List, [], ◌∷◌, ◌++◌, length, map, Option, Some, None, refl, sym, ◌∙◌, ap}
+use Rattle.std.proofs.Common.{◌≡◌, ◌<◌, true, false, List, [], ◌∷◌, ◌++◌, length, map, Option, Some, None, refl, sym, ◌∙◌, ap, subst}
+use Rattle.std.proofs.lemmas.List.{map-append}
 use Rattle.ae_base.specs.declared.faults.SqlFault.{SqlFault}
 use Rattle.ae_base.specs.declared.refusals.Refusal.{Refusal}
 use Rattle.ae_base.specs.declared.refusals.Refusal.TheVariants.{Fault, OutOfMemory}
@@ -7,8 +8,9 @@ use Rattle.sql_tree.specs.declared.lexemes.Symbol.TheVariants as symbol
 use Rattle.sql_tree.specs.declared.lexemes.Token.{Token}
 use Rattle.sql_grammar.specs.Readers.{Terminal, Reading, next_among, many}
 use Rattle.sql_grammar.specs.Readers as terminal
+use Rattle.sql_grammar.specs.Shortening.{Shortens}
 use Rattle.sql_grammar.specs.Parse.{behind_comma, listed}
-use Rattle.sql_grammar.proofs.Going.{Goes, goes_start, goes_more, goes_end, goes_nowhere}
+use Rattle.sql_grammar.proofs.Going.{Goes, goes_start, goes_more, goes_end, goes_nowhere, behind_comma_shortens}
 use Rattle.sql_parse.specs.Reads.{Fails}
 
 abbrev comma : List Terminal
@@ -60,3 +62,21 @@ lists_fails item tokens xs rest OutOfMemory l here h = tt
 pub first_fails : {A : Type 0} (item : Reading A) (tokens : List Token) (e : Refusal SqlFault) → Fails e (item tokens) → Fails e (listed item tokens)
 first_fails item tokens (Fault f) h = (h.0, rw h.1 refl)
 first_fails item tokens OutOfMemory h = tt
+
+pushed : {X A : Type 0} (view : X → A) (xs ys : List X) (x : X) → ys ≡ xs ++ x ∷ [] → map view xs ++ view x ∷ [] ≡ map view ys
+pushed view xs ys x e = sym (map-append view xs (x ∷ [])) ∙ ap (map view) (sym e)
+
+-- one more thing is read and put behind those so far
+pub goes_push : {X A : Type 0} (view : X → A) (set : List Terminal) (item : Reading A) → Shortens item → (tokens : List Token) (xs ys : List X) (x : X) (rest after : List Token)
+    → Goes set item tokens (map view xs) rest → next_among set rest ≡ true → item rest ≡ Some (view x, after) → ys ≡ xs ++ x ∷ [] → Goes set item tokens (map view ys) after
+goes_push {A = A} view set item p tokens xs ys x rest after g here e f =
+    subst (λ (items : List A). Goes set item tokens items after) (pushed view xs ys x f) (goes_more set item tokens (map view xs) rest after (view x) g here e (p.shorter rest (view x) after e))
+
+pub lists_begin : {X A : Type 0} (view : X → A) (item : Reading A) (tokens mid : List Token) (x : X) (xs : List X) → item tokens ≡ Some (view x, mid) → xs ≡ x ∷ [] → Lists item tokens (map view xs) mid
+lists_begin {A = A} view item tokens mid x xs e f = subst (λ (items : List A). Lists item tokens items mid) (ap (map view) (sym f)) (lists_start item tokens (view x) mid e)
+
+pub lists_push : {X A : Type 0} (view : X → A) (item : Reading A) → Shortens item → (tokens : List Token) (xs ys : List X) (x : X) (rest after : List Token)
+    → Lists item tokens (map view xs) rest → next_among comma rest ≡ true → behind_comma item rest ≡ Some (view x, after) → ys ≡ xs ++ x ∷ [] → Lists item tokens (map view ys) after
+lists_push {A = A} view item p tokens xs ys x rest after l here e f =
+    subst (λ (items : List A). Lists item tokens items after) (pushed view xs ys x f)
+    (lists_more item tokens (map view xs) rest after (view x) l here e ((behind_comma_shortens p).shorter rest (view x) after e))
