@@ -1,10 +1,10 @@
 -- The two laws of each field: numbers, bytes, texts and names.
-use Rattle.std.proofs.Common.{◌≡◌, ℕ, suc, ◌+◌, ◌*◌, ◌^◌, ◌<◌, ◌≤◌, Bool, true, false, cond, ltb, leb, ◌&&◌, List, [], ◌∷◌, ◌++◌, length, take, drop, Option, Some, None, refl, sym, ap, subst, ◌∙◌, append_assoc, arith, encode_utf8_all}
+use Rattle.std.proofs.Common.{◌≡◌, ℕ, suc, ◌^◌, ◌<◌, ◌≤◌, true, false, ltb, leb, List, [], ◌∷◌, ◌++◌, length, take, drop, Some, refl, sym, ap, subst, ◌∙◌, append_assoc, arith, encode_utf8_all}
 use Rattle.std.specs.Int.{Width, w16, w32, w64, byte_len, from_be_bytes, to_be_bytes}
 use Rattle.std.specs.List.{list_all}
 use Rattle.std.specs.Str.{chars, is_utf8, IsUtf8, all_scalars}
 use Rattle.std.proofs.lemmas.Bool.{ltb-false, le-ltb, leb-true, le-leb, and_parts, and_from}
-use Rattle.std.proofs.lemmas.List.{take_at, drop_at, take-append-drop, length-append, length-take, length-take-le}
+use Rattle.std.proofs.lemmas.List.{take_at, drop_at, take-append-drop, length-append, length-take-le}
 use Rattle.std.proofs.lemmas.List.Elements.{All-from_get_or}
 use Rattle.std.proofs.lemmas.Nat.{be_bytes_2, be_bytes_4, be_bytes_8, from_be_bytes-to_be_bytes_2, from_be_bytes-to_be_bytes_4, from_be_bytes-to_be_bytes_8}
 use Rattle.std.proofs.lemmas.Str.{IsUtf8-from_is_utf8, is_utf8-from_IsUtf8, encodes-chars, scalars-chars, chars-encodes}
@@ -14,7 +14,7 @@ use Rattle.ae_base.specs.Sizes.{IsTextSize, IsBinarySize}
 use Rattle.ae_base.specs.Versions.{IsUniqueNumber}
 use Rattle.wire_messages.specs.Conditions.{IsBytes, IsScalars, IsStatement, IsWord, IsParamWord, IsTitleText, IsPath, IsWrapped, IsKeyId}
 use Rattle.wire_spelling.specs.Spelling as spell
-use Rattle.wire_frames.specs.Reading.{Reader, ◌>>=◌, kept, byte_at, number_at, bytes_at, blob_at, characters_of, str_at, is_within, is_word, is_param_name, is_path, is_text_within, is_nonzero, name_at, param_name_at, title_at, path_at, wrapped_at, text_at, session_at, key_id_at, text_size_at, binary_size_at, unique_number_at, short_text_at, short_blob_at}
+use Rattle.wire_frames.specs.Reading.{byte_at, number_at, bytes_at, blob_at, characters_of, str_at, is_within, is_word, is_param_name, is_path, is_text_within, is_nonzero, name_at, param_name_at, title_at, path_at, wrapped_at, text_at, session_at, key_id_at, text_size_at, binary_size_at, unique_number_at, short_text_at, short_blob_at}
 use Rattle.wire_spelling.proofs.Lengths.{encoded_within}
 use Rattle.wire_frames.proofs.Takes.{AreBytes, AreBytes-take, AreBytes-drop, AreBytes-rest, Takes, Takes-then, Reads, Reads-bytes, Reads-tried, Reads-kept, bind_some, cond_some, guard_some}
 

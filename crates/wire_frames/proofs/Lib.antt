@@ -5,5 +5,6 @@ mod MessageLaws
 mod PartLaws
 mod PartsRead
 mod Takes
+mod StreamLaws
 mod Tested
 mod Utf8Tests

@@ -1,5 +1,5 @@
 -- The two laws of bodies: what is read of a body spells it, and what is spelled so is read.
-use Rattle.std.proofs.Common.{◌≡◌, ℕ, ◌^◌, ◌<◌, ◌≤◌, Bool, true, false, eqb, leb, ◌&&◌, List, [], ◌∷◌, ◌++◌, length, map, Option, Some, None, refl, sym, ap, subst, ◌∙◌, arith}
+use Rattle.std.proofs.Common.{◌≡◌, ℕ, ◌^◌, ◌<◌, true, eqb, leb, List, [], ◌∷◌, ◌++◌, length, map, Some, refl, sym, ap, subst, ◌∙◌, arith}
 use Rattle.std.specs.Int.{w64}
 use Rattle.std.specs.List.{All}
 use Rattle.std.specs.Str.{bytes_eq}
@@ -13,7 +13,7 @@ use Rattle.ae_base.specs.declared.batches.KeyMeta.{KeyMeta}
 use Rattle.ae_base.specs.declared.atoms.AtomOf.{AtomOf}
 use Rattle.wire_messages.specs.KeyLists.{AreTheKeysOf, keys_used, ids_of}
 use Rattle.wire_messages.specs.Messages.{Description, IsDescription, Header, IsHeader, IsFew}
-use Rattle.wire_messages.specs.Conditions.{IsStatement, IsDeclaration, IsSent, IsUsed, IsColumn, IsKey, IsAtom, IsDone, IsFault, AreParams, IsRequest, IsReply}
+use Rattle.wire_messages.specs.Conditions.{IsStatement, IsDeclaration, IsSent, IsUsed, IsColumn, IsKey, IsAtom, IsDone, AreParams, IsRequest, IsReply}
 use Rattle.wire_messages.specs.declared.columns.SentColumn.{SentColumn}
 use Rattle.wire_messages.specs.declared.params.SentParam.{SentParam}
 use Rattle.wire_messages.specs.declared.params.UsedParam.{UsedParam}
@@ -24,8 +24,8 @@ use Rattle.wire_messages.specs.declared.replies.Reply.TheVariants.{Described, Co
 use Rattle.wire_messages.specs.declared.requests.Request.{Request}
 use Rattle.wire_messages.specs.declared.requests.Request.TheVariants.{Describe, Execute}
 use Rattle.wire_spelling.specs.Spelling as spell
-use Rattle.wire_frames.specs.Reading.{Reader, ◌and◌, mapped, kept, tried, pick, choice, number_at, session_at, text_at, declarations_at, sent_params_at, used_params_at, key_at, column_at, atom_at, few_at, many_at, is_within, are_keys, is_description, is_few, is_header, describe_of, describe_at, execute_of, execute_at, description_of, described_at, header_of, columns_at, row_at, defined, dones, done_at, ended_at, fault_at, faults, refused_at, requests, replies, request_at, reply_at}
-use Rattle.wire_frames.proofs.Takes.{AreBytes, AreBytes-rest, Reads, AllTake, TakesBody, AllTakeBodies, ◌also◌, Reads-and, Reads-kept, Reads-mapped, Reads-choice, behind, behind_tried, mapped_again, tried_again, ended_body, pick_body, ends_again, cond_some, bind_some, some_is}
+use Rattle.wire_frames.specs.Reading.{◌and◌, mapped, kept, pick, choice, number_at, session_at, text_at, declarations_at, sent_params_at, used_params_at, key_at, column_at, atom_at, few_at, many_at, are_keys, is_description, is_few, is_header, describe_of, describe_at, execute_of, execute_at, description_of, described_at, header_of, columns_at, row_at, defined, dones, done_at, ended_at, fault_at, faults, refused_at, requests, replies, request_at, reply_at}
+use Rattle.wire_frames.proofs.Takes.{AreBytes, AreBytes-rest, Reads, AllTake, AllTakeBodies, ◌also◌, Reads-and, Reads-kept, Reads-mapped, Reads-choice, behind, behind_tried, mapped_again, tried_again, ended_body, pick_body, ends_again, cond_some, bind_some, some_is}
 use Rattle.wire_frames.proofs.FieldLaws.{u64_reads, session_reads, text_reads, within_from, within_to}
 use Rattle.wire_frames.proofs.PartLaws.{declarations_read, sent_params_read, used_params_read, key_reads, column_reads, atom_reads, few_reads, many_reads, fault_takes, fault_again}
 

@@ -1,7 +1,7 @@
 -- The two laws of each part of a message, and of lists of parts.
-use Rattle.std.proofs.Common.{◌≡◌, ◌≢◌, ℕ, ◌^◌, ◌<◌, ◌≤◌, Bool, true, false, eqb, leb, ◌&&◌, not, List, [], ◌∷◌, ◌++◌, length, map, IsTrue, Some, None, refl, sym, ap, subst, ◌∙◌, arith, inl, inr, encode_utf8_all}
-use Rattle.std.specs.Int.{w16, w32, w64, cast_signed, cast_unsigned}
-use Rattle.std.specs.List.{All, flat_map}
+use Rattle.std.proofs.Common.{◌≡◌, ◌≢◌, ℕ, ◌^◌, ◌<◌, ◌≤◌, true, eqb, leb, not, List, [], ◌∷◌, ◌++◌, length, map, IsTrue, Some, refl, sym, ap, subst, ◌∙◌, arith, inl, inr, encode_utf8_all}
+use Rattle.std.specs.Int.{w16, w32, w64, cast_unsigned}
+use Rattle.std.specs.List.{All}
 use Rattle.std.proofs.lemmas.List.{nil_from_length}
 use Rattle.std.proofs.lemmas.Bool.{eqb-true, leb-true, le-leb, and_parts, and_from}
 use Rattle.std.proofs.lemmas.Bool.Decides.{eqb_tells}
@@ -19,17 +19,12 @@ use Rattle.ae_base.specs.declared.types.Enc.TheVariants as enc
 use Rattle.ae_base.specs.declared.values.Datum.TheVariants.{Num, Text, Bin}
 use Rattle.ae_base.specs.declared.atoms.AtomOf.{AtomOf}
 use Rattle.ae_base.specs.declared.atoms.AtomOf.TheVariants.{Null, Plain, Sealed}
-use Rattle.ae_base.specs.declared.batches.ParamDecl.{ParamDecl}
-use Rattle.ae_base.specs.declared.batches.KeyMeta.{KeyMeta}
 use Rattle.ae_base.specs.declared.faults.SqlFault.{SqlFault}
 use Rattle.ae_base.specs.declared.faults.SqlFault.TheVariants as fault
-use Rattle.wire_messages.specs.declared.columns.SentColumn.{SentColumn}
-use Rattle.wire_messages.specs.declared.params.SentParam.{SentParam}
-use Rattle.wire_messages.specs.declared.params.UsedParam.{UsedParam}
 use Rattle.wire_messages.specs.Conditions.{IsBytes, IsScalars, IsWord, IsParamWord, IsTitleText, IsPath, IsWrapped, IsKeyId, IsEnc, IsAtom, IsKey, IsFault, IsDeclaration, IsSent, IsUsed, IsColumn, AreParams}
 use Rattle.wire_spelling.specs.Spelling as spell
-use Rattle.wire_frames.specs.Reading.{Reader, only, ◌and◌, mapped, kept, pick, ends, bare, choice, number_at, byte_at, types, type_at, encryptions, encryption_at, atoms, atom_at, null, integer, text, binary, sealed, name_at, param_name_at, title_at, path_at, wrapped_at, key_id_at, text_size_at, binary_size_at, unique_number_at, short_text_at, short_blob_at, key_of, key_at, declaration_of, declaration_at, sent_of, sent_at, used_of, used_at, column_of, column_at, few_at, many_at, are_params, declarations_at, sent_params_at, used_params_at, versions_of, versions_at, differ, faults}
-use Rattle.wire_frames.proofs.Takes.{AreBytes, Takes, Reads, AllTake, TakesBody, AllTakeBodies, ended_body, pick_body, ends_again, cond_some, Reads-and, Reads-kept, Reads-mapped, Reads-choice, Reads-listed, mapped_again, behind, alone, ◌also◌}
+use Rattle.wire_frames.specs.Reading.{Reader, ◌and◌, mapped, kept, pick, ends, bare, choice, number_at, byte_at, types, type_at, encryptions, encryption_at, atoms, atom_at, null, integer, text, binary, sealed, name_at, param_name_at, title_at, path_at, wrapped_at, key_id_at, text_size_at, binary_size_at, unique_number_at, short_text_at, short_blob_at, key_of, key_at, declaration_of, declaration_at, sent_of, sent_at, used_of, used_at, column_of, column_at, few_at, many_at, are_params, declarations_at, sent_params_at, used_params_at, versions_of, versions_at, differ, faults}
+use Rattle.wire_frames.proofs.Takes.{AreBytes, Reads, AllTake, TakesBody, AllTakeBodies, ended_body, pick_body, ends_again, cond_some, Reads-and, Reads-kept, Reads-mapped, Reads-choice, Reads-listed, mapped_again, behind, alone, ◌also◌}
 use Rattle.wire_frames.proofs.FieldLaws.{u16_reads, u32_reads, u64_reads, byte_reads, name_reads, param_name_reads, title_reads, path_reads, wrapped_reads, key_id_reads, text_size_reads, binary_size_reads, unique_number_reads, short_text_reads, short_blob_reads}
 
 -- ---- types, encryptions and atoms

@@ -10,4 +10,4 @@ mod listing;
 mod reading;
 
 pub use decoding::{Decoded, Way, decode_reply, decode_request};
-pub use laws::one_reading;
+pub use laws::{frames_are_read_back, one_reading, streams_are_read_once};
