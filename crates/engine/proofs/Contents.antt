@@ -48,20 +48,20 @@ zip_long R [] (y ∷ ys) h = absurd h
 zip_long R (x ∷ xs) [] h = absurd h
 zip_long R (x ∷ xs) (y ∷ ys) h = ap suc (zip_long R xs ys h.1)
 
-zip_set : {A B : Type 0} (R : A → B → Type 0) (xs : List A) (ys : List B) (k : ℕ) (y : B) → AllZip R xs ys → ((x : A) → slice_get xs k ≡ Some x → R x y) → AllZip R xs (slice_set ys k y)
+pub zip_set : {A B : Type 0} (R : A → B → Type 0) (xs : List A) (ys : List B) (k : ℕ) (y : B) → AllZip R xs ys → ((x : A) → slice_get xs k ≡ Some x → R x y) → AllZip R xs (slice_set ys k y)
 zip_set R [] [] k y h r = tt
 zip_set R [] (b ∷ ys) k y h r = absurd h
 zip_set R (x ∷ xs) [] k y h r = absurd h
 zip_set R (x ∷ xs) (b ∷ ys) zero y h r = (r x refl, h.1)
 zip_set R (x ∷ xs) (b ∷ ys) (suc k) y h r = (h.0, zip_set R xs ys k y h.1 r)
 
-zip_push : {A B : Type 0} (R : A → B → Type 0) (xs : List A) (ys : List B) (x : A) (y : B) → AllZip R xs ys → R x y → AllZip R (xs ++ x ∷ []) (ys ++ y ∷ [])
+pub zip_push : {A B : Type 0} (R : A → B → Type 0) (xs : List A) (ys : List B) (x : A) (y : B) → AllZip R xs ys → R x y → AllZip R (xs ++ x ∷ []) (ys ++ y ∷ [])
 zip_push R [] [] x y h r = (r, tt)
 zip_push R [] (b ∷ ys) x y h r = absurd h
 zip_push R (a ∷ xs) [] x y h r = absurd h
 zip_push R (a ∷ xs) (b ∷ ys) x y h r = (h.0, zip_push R xs ys x y h.1 r)
 
-zip_remove : {A B : Type 0} (R : A → B → Type 0) (xs : List A) (ys : List B) (k : ℕ) → AllZip R xs ys → AllZip R (remove xs k) (remove ys k)
+pub zip_remove : {A B : Type 0} (R : A → B → Type 0) (xs : List A) (ys : List B) (k : ℕ) → AllZip R xs ys → AllZip R (remove xs k) (remove ys k)
 zip_remove R [] [] zero h = tt
 zip_remove R [] [] (suc k) h = tt
 zip_remove R [] (b ∷ ys) k h = absurd h
@@ -106,15 +106,36 @@ rows_read world name place rows e lt r =
     ap (λ o. unwrap_or o []) (sym (slice_get_read world.contents (length world.contents) place rows refl lt r))
     ∙ ap (λ o. unwrap_or (slice_get world.contents (unwrap_or o 0)) []) (sym e)
 
-pub table_holds : (world : World) (name : List ℕ) (table : TableDef) → IsShaped world → table_among world.catalog.tables name ≡ Some table → HoldsRows table (rows_of world name)
-table_holds world name table w e =
+-- what holds of each table and its rows holds of the table of a name
+pub related_there : (R : TableDef → List (List Atom) → Type 0) (world : World) (name : List ℕ) (table : TableDef) → AllZip R world.catalog.tables world.contents → table_among world.catalog.tables name ≡ Some table → R table (rows_of world name)
+related_there R world name table w e =
     let there : IsSome (table_among world.catalog.tables name) = subst IsSome (sym e) refl in
     let k = index_of world.catalog name in
-    let z = zip_there HoldsRows world.catalog.tables world.contents k w (index_within world.catalog name there) in
+    let z = zip_there R world.catalog.tables world.contents k w (index_within world.catalog name there) in
     let same : Some z.left ≡ Some table = sym z.left_is ∙ sym (find_at (has_name name) world.catalog.tables) ∙ e in
     let def : z.left ≡ table = cc in
     let rows : rows_of world name ≡ z.right = ap (λ o. unwrap_or (slice_get world.contents (unwrap_or o 0)) []) (table_place_there world.catalog name there) ∙ ap (λ o. unwrap_or o []) z.right_is in
-    subst (λ d. HoldsRows d (rows_of world name)) def (subst (HoldsRows z.left) (sym rows) z.related)
+    subst (λ d. R d (rows_of world name)) def (subst (R z.left) (sym rows) z.related)
+
+pub table_holds : (world : World) (name : List ℕ) (table : TableDef) → IsShaped world → table_among world.catalog.tables name ≡ Some table → HoldsRows table (rows_of world name)
+table_holds world name table w e = related_there HoldsRows world name table w e
+
+pub placed_of : (world : World) (name : List ℕ) → IsSome (table_among world.catalog.tables name) → table_place world.catalog name ≡ Some (place_of world name)
+placed_of world name h =
+    let e = table_place_there world.catalog name h in
+    e ∙ ap (λ o. Some (unwrap_or o 0)) (sym e)
+
+-- and it holds with other rows in their place, if it holds of these
+pub related_set : (R : TableDef → List (List Atom) → Type 0) (world : World) (name : List ℕ) (place : ℕ) (table : TableDef) (rows : List (List Atom)) → AllZip R world.catalog.tables world.contents
+    → table_among world.catalog.tables name ≡ Some table → table_place world.catalog name ≡ Some place → R table rows → AllZip R world.catalog.tables (slice_set world.contents place rows)
+related_set R world name place table rows w t e h =
+    let there : IsSome (table_among world.catalog.tables name) = subst IsSome (sym t) refl in
+    let here = index_is world.catalog name place there e in
+    zip_set R world.catalog.tables world.contents place rows w
+    (λ d g.
+    let same : Some d ≡ Some table = sym g ∙ ap (slice_get world.catalog.tables) here ∙ sym (find_at (has_name name) world.catalog.tables) ∙ t in
+    let def : table ≡ d = cc in
+    subst (λ d. R d rows) def h)
 
 -- ---- definitions
 
@@ -151,6 +172,9 @@ key_dropped catalog new name e =
 pub kept_shape : (catalog new : Catalog) (contents : List (List (List Atom))) → new.tables ≡ catalog.tables → IsShaped (record { catalog = catalog; contents = contents }) → IsShaped (record { catalog = new; contents = contents })
 kept_shape catalog new contents e w = subst (λ ts. AllZip HoldsRows ts contents) (sym e) w
 
+pub table_made : (catalog new : Catalog) (table : TableDef) → with_table catalog table ≡ Ok new → new.tables ≡ catalog.tables ++ table ∷ []
+table_made catalog new table e = ap (λ (c : Catalog). c.tables) (sym (accepted (is_some (table_among catalog.tables table.name)) (is_full_of_tables catalog) _ _ _ new e))
+
 pub created_shape : (catalog new : Catalog) (contents : List (List (List Atom))) (table : TableDef) → IsShaped (record { catalog = catalog; contents = contents }) → with_table catalog table ≡ Ok new
     → length table.uniques ≤ 8 → All (λ key. All (λ place. place < length table.columns) key) table.uniques → IsShaped (record { catalog = new; contents = contents ++ [] ∷ [] })
 created_shape catalog new contents table w e few within =
@@ -177,7 +201,7 @@ pub dropped_shape : (catalog new : Catalog) (contents : List (List (List Atom)))
 dropped_shape catalog new contents place e w =
     subst (λ (c : Catalog). IsShaped (record { catalog = c; contents = remove contents place })) e (zip_remove HoldsRows catalog.tables contents place w)
 
-no_twins : {A : Type 0} (o : Option ℕ) (x y : A) → unless_twins o x ≡ Ok y → (o ≡ None) × (x ≡ y)
+pub no_twins : {A : Type 0} (o : Option ℕ) (x y : A) → unless_twins o x ≡ Ok y → (o ≡ None) × (x ≡ y)
 no_twins None x y e = (refl, cc)
 no_twins (Some n) x y e = absurd cc
 
@@ -206,14 +230,7 @@ holds_more world i params table rows h t e =
 -- a table's rows are put in place of the old ones
 pub set_shape : (world : World) (name : List ℕ) (place : ℕ) (table : TableDef) (rows : List (List Atom)) → IsShaped world → table_among world.catalog.tables name ≡ Some table → table_place world.catalog name ≡ Some place
     → HoldsRows table rows → IsShaped (record { catalog = world.catalog; contents = slice_set world.contents place rows })
-set_shape world name place table rows w t e h =
-    let there : IsSome (table_among world.catalog.tables name) = subst IsSome (sym t) refl in
-    let here = index_is world.catalog name place there e in
-    zip_set HoldsRows world.catalog.tables world.contents place rows w
-    (λ d g.
-    let same : Some d ≡ Some table = sym g ∙ ap (slice_get world.catalog.tables) here ∙ sym (find_at (has_name name) world.catalog.tables) ∙ t in
-    let def : table ≡ d = cc in
-    subst (λ d. HoldsRows d rows) def h)
+set_shape world name place table rows w t e h = related_set HoldsRows world name place table rows w t e h
 
 pub rows_wide : (world : World) (name : List ℕ) → IsShaped world → IsSome (table_among world.catalog.tables name) → All (λ row. length row ≡ length (columns_among world.catalog.tables name)) (rows_of world name)
 rows_wide world name w h = there (table_among world.catalog.tables name) refl h

@@ -1,7 +1,13 @@
 pub mod Admitted
 pub mod Collected
 pub mod Contents
+pub mod Kept
+pub mod Kinds
 pub mod Moving
+pub mod Pairs
+pub mod Rowwise
+pub mod Shown
+pub mod Simulating
 pub mod Twins
 pub mod Values
 pub mod Walks

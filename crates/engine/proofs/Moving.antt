@@ -50,16 +50,16 @@ site ty enc = record { ty = ty; enc = enc }
 abbrev titled : List ℕ → ColumnSite → ResultColumn
 titled title site = record { title = title; ty = site.ty; enc = site.enc }
 
-abbrev inserted_done : World → List ℕ → List (List Atom) → Done
+abbrev pub inserted_done : World → List ℕ → List (List Atom) → Done
 inserted_done world name rows = record { answer = Changed (length rows); world = with_rows world name (rows_of world name ++ rows) }
 
-abbrev updated_done : World → List ℕ → List Tested → Done
+abbrev pub updated_done : World → List ℕ → List Tested → Done
 updated_done world name tested = record { answer = Changed (count_by (λ (t : Tested). t.hit) tested); world = with_rows world name (map (λ (t : Tested). t.row) tested) }
 
-abbrev deleted_done : World → List ℕ → List Tested → Done
+abbrev pub deleted_done : World → List ℕ → List Tested → Done
 deleted_done world name tested = record { answer = Changed (count_by (λ (t : Tested). t.hit) tested); world = with_rows world name (map (λ (t : Tested). t.row) (filter (λ (t : Tested). not t.hit) tested)) }
 
-abbrev selected_done : World → List ResultColumn → List (List Atom) → Done
+abbrev pub selected_done : World → List ResultColumn → List (List Atom) → Done
 selected_done world columns rows = record { answer = Rows columns rows; world = world }
 
 -- ---- lists

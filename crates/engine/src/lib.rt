@@ -3,6 +3,7 @@
 
 pub mod answers;
 mod columns;
+pub mod executing;
 mod inserts;
 mod keys;
 pub mod laws;

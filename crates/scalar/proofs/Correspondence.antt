@@ -27,8 +27,8 @@ use Rattle.sql_tree.specs.Bound.{BoundOperand, BoundCondition}
 use Rattle.scalar.specs.declared.faults.Overflow.{Overflow}
 use Rattle.scalar.specs.declared.truth.Truth.{Truth}
 use Rattle.scalar.specs.declared.truth.Truth.TheVariants as truths
-use Rattle.scalar.specs.Classes.{Class, Open, Det, Rnd, Pairing, class_at, IsNotNull, IsOneToOne, Correspond, PlacesCorrespond, RowsCorrespond, BothAnswer}
-use Rattle.scalar.specs.Eval.{atom_at, overflow, combined, negated, eval, eval_terms, datum_cmp, holds, truth_of, ordered, same_or_not, compare, negation, conjunction, disjunction, if_negated, null_truth, in_list, truth, truth_all, truth_any}
+use Rattle.scalar.specs.Classes.{Class, Open, Det, Rnd, Pairing, class_at, IsNotNull, IsNotSealed, IsOneToOne, Correspond, PlacesCorrespond, RowsCorrespond, BothAnswer}
+use Rattle.scalar.specs.Eval.{atom_at, overflow, combined, negated, number_or_null, eval, eval_terms, datum_cmp, holds, truth_of, ordered, same_or_not, compare, negation, conjunction, disjunction, if_negated, null_truth, in_list, truth, truth_all, truth_any}
 use Rattle.scalar.specs.Typed.{StandsAt, AreSumsOpen, AreTermsOpen, IsNotRandomized, MayCompare, AreComparable, IsTypedCondition, AreTypedConditions}
 use Rattle.scalar.proofs.Renaming.{both_same}
 
@@ -244,6 +244,16 @@ module _ (R : Pairing) (r : IsOneToOne R) where
   negated_alike : (a b : Atom) → Correspond R Open a b → BothAnswer (Correspond R Open) (negated a) (negated b)
   negated_alike a b m = subst (λ x. BothAnswer (Correspond R Open) (negated a) (negated x)) (sym m.0) (negated_open a)
 
+  number_open : (a : Atom) → IsNotSealed (number_or_null a)
+  number_open Null = tt
+  number_open (Plain (Num n)) = tt
+  number_open (Plain (Text t)) = tt
+  number_open (Plain (Bin t)) = tt
+  number_open (Sealed c) = tt
+
+  number_alike : (a b : Atom) → Correspond R Open a b → Correspond R Open (number_or_null a) (number_or_null b)
+  number_alike a b m = (ap number_or_null m.0, number_open a)
+
   combined_alike : (f : ℤ → ℤ → ℤ) (a b c d : Atom) → Correspond R Open a b → Correspond R Open c d → BothAnswer (Correspond R Open) (combined f a c) (combined f b d)
   combined_alike f a b c d m n =
       subst (λ x. BothAnswer (Correspond R Open) (combined f a c) (combined f x d)) (sym m.0) (subst (λ x. BothAnswer (Correspond R Open) (combined f a c) (combined f a x)) (sym n.0) (combined_open f a c))
@@ -267,8 +277,8 @@ module _ (R : Pairing) (r : IsOneToOne R) where
           (both_then (Correspond R Open) (Correspond R Open) (eval row values x) (eval other others x) negated negated (eval_at x Open h.1 h.0) negated_alike)
       eval_at (operands.Sum first terms) c h s =
           open_answers c (eval row values (operands.Sum first terms)) (eval other others (operands.Sum first terms)) s
-          (both_then (Correspond R Open) (Correspond R Open) (eval row values first) (eval other others first) (λ sum. eval_terms row values sum terms) (λ sum. eval_terms other others sum terms)
-          (eval_at first Open h.1 h.0) (λ a b m. terms_alike terms a b h.2 m))
+          (both_then (Correspond R Open) (Correspond R Open) (eval row values first) (eval other others first) (λ sum. eval_terms row values (number_or_null sum) terms) (λ sum. eval_terms other others (number_or_null sum) terms)
+          (eval_at first Open h.1 h.0) (λ a b m. terms_alike terms (number_or_null a) (number_or_null b) h.2 (number_alike a b m)))
 
       terms_alike : (terms : operands.Terms ℕ ℕ) (a b : Atom) → AreTermsOpen columns params terms → Correspond R Open a b
           → BothAnswer (Correspond R Open) (eval_terms row values a terms) (eval_terms other others b terms)

@@ -10,7 +10,7 @@ use Rattle.sql_tree.specs.Operands as operands
 use Rattle.sql_tree.specs.Conditions as conditions
 use Rattle.sql_tree.specs.Bound.{BoundOperand, BoundCondition}
 use Rattle.sql_tree.specs.Uses.{uses_in, uses_in_terms, uses_in_condition, uses_in_conditions, renamed_operand, renamed_terms, renamed_condition, renamed_conditions}
-use Rattle.scalar.specs.Eval.{combined, negated, eval, eval_terms, compare, negation, conjunction, disjunction, if_negated, null_truth, in_list, truth, truth_all, truth_any}
+use Rattle.scalar.specs.Eval.{combined, negated, number_or_null, eval, eval_terms, compare, negation, conjunction, disjunction, if_negated, null_truth, in_list, truth, truth_all, truth_any}
 use Rattle.scalar.specs.Laws.{AreMoved}
 use Rattle.scalar.proofs.Terms.{ok_atom}
 
@@ -37,9 +37,9 @@ module _ (f : ℕ → ℕ) (row params others : List Atom) where
     eval_moved (operands.Column at c) m = refl
     eval_moved (operands.Minus at x) m = ap (λ r. r >>= negated) (eval_moved x m)
     eval_moved (operands.Sum first terms) m =
-        both_same (eval row others (renamed_operand f first)) (eval row params first) (λ sum. eval_terms row others sum (renamed_terms f terms)) (λ sum. eval_terms row params sum terms)
+        both_same (eval row others (renamed_operand f first)) (eval row params first) (λ sum. eval_terms row others (number_or_null sum) (renamed_terms f terms)) (λ sum. eval_terms row params (number_or_null sum) terms)
         (eval_moved first (λ p e. m p (or_left (uses_in p first) (uses_in_terms p terms) e)))
-        (λ sum. terms_moved sum terms (λ p e. m p (or_right (uses_in p first) (uses_in_terms p terms) e)))
+        (λ sum. terms_moved (number_or_null sum) terms (λ p e. m p (or_right (uses_in p first) (uses_in_terms p terms) e)))
 
     terms_moved : (sum : Atom) (terms : operands.Terms ℕ ℕ) → AreMoved (λ place. uses_in_terms place terms) f params others → eval_terms row others sum (renamed_terms f terms) ≡ eval_terms row params sum terms
     terms_moved sum operands.NoMore m = refl

@@ -10,7 +10,7 @@ use Rattle.sql_tree.specs.declared.operands.Operand as code
 use Rattle.sql_tree.specs.declared.operands.Term as code_term
 use Rattle.ae_base.specs.Results.{◌>>=◌}
 use Rattle.scalar.specs.declared.faults.Overflow.{Overflow}
-use Rattle.scalar.specs.Eval.{atom_at, eval, eval_terms}
+use Rattle.scalar.specs.Eval.{atom_at, number_or_null, eval, eval_terms}
 use Rattle.sql_tree.specs.Listed.{terms_listed}
 use Rattle.sql_tree.specs.Placed.{IsPlaced, ArePlaced}
 
@@ -39,18 +39,18 @@ terms_within width count operand first terms items e f h =
 -- a sum is its first value and then its terms
 pub sum_of_parts : (row params : List (AtomOf (List ℕ))) (operand one : code.Operand ℕ ℕ) (first : Box (code.Operand ℕ ℕ) Global) (terms : Vec (code_term.Term ℕ ℕ) Global) (items : List (code_term.Term ℕ ℕ))
     (sum : AtomOf (List ℕ)) → operand ≡ code.Sum first terms → one ≡ first.value → items ≡ terms.items → eval row params (operands.operand_of one) ≡ Ok sum
-    → eval row params (operands.operand_of operand) ≡ eval_terms row params sum (terms_listed items)
+    → eval row params (operands.operand_of operand) ≡ eval_terms row params (number_or_null sum) (terms_listed items)
 sum_of_parts row params operand one first terms items sum e f g h =
     ap (eval row params) (ap operands.operand_of e ∙ operand_of-Sum first terms)
-    ∙ ap (λ x. x >>= λ a. eval_terms row params a (terms_listed terms.items)) (ap (λ x. eval row params (operands.operand_of x)) (sym f) ∙ h)
-    ∙ ap (λ x. eval_terms row params sum (terms_listed x)) (sym g)
+    ∙ ap (λ x. x >>= λ a. eval_terms row params (number_or_null a) (terms_listed terms.items)) (ap (λ x. eval row params (operands.operand_of x)) (sym f) ∙ h)
+    ∙ ap (λ x. eval_terms row params (number_or_null sum) (terms_listed x)) (sym g)
 
 -- and the overflow of its first value, where that has one
 pub sum_of_fault : (row params : List (AtomOf (List ℕ))) (operand one : code.Operand ℕ ℕ) (first : Box (code.Operand ℕ ℕ) Global) (terms : Vec (code_term.Term ℕ ℕ) Global) (fault : Overflow)
     → operand ≡ code.Sum first terms → one ≡ first.value → eval row params (operands.operand_of one) ≡ Err fault → eval row params (operands.operand_of operand) ≡ Err fault
 sum_of_fault row params operand one first terms fault e f h =
     ap (eval row params) (ap operands.operand_of e ∙ operand_of-Sum first terms)
-    ∙ ap (λ x. x >>= λ a. eval_terms row params a (terms_listed terms.items)) (ap (λ x. eval row params (operands.operand_of x)) (sym f) ∙ h)
+    ∙ ap (λ x. x >>= λ a. eval_terms row params (number_or_null a) (terms_listed terms.items)) (ap (λ x. eval row params (operands.operand_of x)) (sym f) ∙ h)
 
 -- a term lies within the places where all do
 within_there : (width count : ℕ) (terms : List (code_term.Term ℕ ℕ)) (i : ℕ) (default : code_term.Term ℕ ℕ) → i < length terms

@@ -60,6 +60,14 @@ negated (Plain (Bin t)) = Ok Null
 negated Null = Ok Null
 negated (Sealed c) = Ok Null
 
+-- what is no number counts as NULL in a sum
+abbrev pub number_or_null : Atom → Atom
+number_or_null (Plain (Num a)) = Plain (Num a)
+number_or_null (Plain (Text t)) = Null
+number_or_null (Plain (Bin t)) = Null
+number_or_null Null = Null
+number_or_null (Sealed c) = Null
+
 -- the atom at a place of a row
 abbrev pub atom_at : List Atom → ℕ → Atom
 atom_at row place = unwrap_or (slice_get row place) Null
@@ -71,7 +79,7 @@ abbrev mutual
   eval row params (operands.Param at place) = Ok (atom_at params place)
   eval row params (operands.Column at place) = Ok (atom_at row place)
   eval row params (operands.Minus at operand) = eval row params operand >>= negated
-  eval row params (operands.Sum first terms) = eval row params first >>= λ sum. eval_terms row params sum terms
+  eval row params (operands.Sum first terms) = eval row params first >>= λ sum. eval_terms row params (number_or_null sum) terms
 
   -- a sum goes from left to right
   pub eval_terms : List Atom → List Atom → Atom → operands.Terms ℕ ℕ → Result Atom Overflow

@@ -4,7 +4,7 @@ ghost use Rattle.ae_base.specs.declared.values.Datum.TheVariants.{Num};
 ghost use Rattle.std.specs.Ordering.{nat_cmp};
 ghost use Rattle.std.specs.Str.{chars};
 ghost use Rattle.std.specs.Cmp.Lexicographic.{slice_cmp};
-ghost use Rattle.scalar.specs.Eval.{atom_of_value, combined, negated, compare, ordered, same_or_not, null_truth, or_overflow};
+ghost use Rattle.scalar.specs.Eval.{atom_of_value, combined, negated, number_or_null, compare, ordered, same_or_not, null_truth, or_overflow};
 
 use crate::faults::Overflow;
 use crate::truth::Truth;
@@ -116,6 +116,18 @@ impl<'a, K: Same> Lent<'a, K> {
         match &self.lent {
             LentOf::Number(a) => Lent::number(a.checked_neg()),
             _ => Ok(Lent { lent: LentOf::Null }),
+        }
+    }
+
+    /// The number, or NULL for what is none.
+    pub(crate) fn number_or_null(&self) -> Lent<'a, K>
+        ensures { result ≡ number_or_null self.now }
+    {
+        match &self.lent {
+            LentOf::Number(a) => Lent {
+                lent: LentOf::Number(*a),
+            },
+            _ => Lent { lent: LentOf::Null },
         }
     }
 

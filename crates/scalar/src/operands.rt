@@ -48,7 +48,7 @@ pub(crate) fn lend<'a, K: Same>(
             Err(overflow) => Err(overflow),
         },
         Operand::Sum { first, terms } => match lend(first, row, params) {
-            Ok(sum) => add_terms(sum, terms, row, params),
+            Ok(sum) => add_terms(sum.number_or_null(), terms, row, params),
             Err(overflow) => Err(overflow),
         },
     }

@@ -1,10 +1,11 @@
 -- An operand is worth what its parts are, and a sum goes on from term to term.
-use Rattle.std.proofs.Common.{rules, length, sym, ◌∙◌, arith}
+use Rattle.std.proofs.Common.{rules, length, ap, sym, ◌∙◌, arith}
 use Rattle.std.proofs.lemmas.Result.{err_from_is_err_and}
 use Rattle.sql_tree.specs.declared.operands.Operand.{the_lemmas}
 use Rattle.sql_tree.specs.Operands.{term_before, NoMore}
 use Rattle.sql_tree.specs.Listed.{terms_listed}
 use Rattle.sql_tree.specs.Placed.{ArePlaced}
+use Rattle.scalar.specs.Eval.{eval_terms}
 use Rattle.scalar.proofs.Terms.{term_within, terms_within, sum_of_parts, sum_more, sum_fault, atom_read}
 use Rattle.scalar.proofs.operands.+lend.Goals as goal
 
@@ -31,6 +32,7 @@ lend-returns-in-Column g t c =
 pub lend-returns-in-Ok-lend : goal.lend-returns-in-Ok-lend
 lend-returns-in-Ok-lend g t c =
     c.add_terms.ensures
+    ∙ ap (λ a. eval_terms c.args.row.now c.args.params.now a (terms_listed c.deref-in-Ok-lend.result.now)) c.number_or_null.ensures
     ∙ sym (sum_of_parts _ _ c.args.operand.now c.deref-in-Sum.result.now c.in-Sum.first c.in-Sum.terms _ _ c.in-Sum.is c.deref-in-Sum.ensures c.deref-in-Ok-lend.ensures.value (sym c.lend-in-Sum.ensures ∙ c.in-Ok-lend.is))
 
 pub add_terms-returns-in_err-sum : goal.add_terms-returns-in_err-sum
