@@ -37,7 +37,7 @@ use Rattle.engine.specs.WellTyped.{IsOf, IsTableOf, IsWellTyped, AreValuesOf, Is
 use Rattle.engine.specs.Worlds.{World, place_of, rows_of, with_rows, HoldsRows, IsShaped}
 use Rattle.engine.proofs.Collected.{came}
 use Rattle.engine.proofs.Contents.{zip_push, zip_remove, related_there, related_set, placed_of, table_holds, set_shape, holds_more, no_twins, kept_shape, created_shape, dropped_shape, master_made, key_made, master_dropped, key_dropped, table_made, table_dropped}
-use Rattle.engine.proofs.Kinds.{IsAt, IsShown, row_places, param_places, param_sealed, items_shown, new_rows_are}
+use Rattle.engine.proofs.Suited.{IsAt, IsShown, row_places, param_places, param_sealed, items_shown, new_rows_are}
 use Rattle.engine.proofs.Moving.{inserted_done, selected_done}
 use Rattle.engine.proofs.Rowwise.{AllRows, events_typed, results_all}
 use Rattle.engine.proofs.Walks.{found_bare, keys_placed}

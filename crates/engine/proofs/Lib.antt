@@ -2,12 +2,12 @@ pub mod Admitted
 pub mod Collected
 pub mod Contents
 pub mod Kept
-pub mod Kinds
 pub mod Moving
 pub mod Pairs
 pub mod Rowwise
 pub mod Shown
 pub mod Simulating
+pub mod Suited
 pub mod Twins
 pub mod Values
 pub mod Walks

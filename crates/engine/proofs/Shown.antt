@@ -75,9 +75,9 @@ module _ (b : Bound) (encs : List Enc) (m : length encs ≡ length b.params) whe
 
 not_rows : {X : Type 0} (r : Result X SqlFault) (f : X → Done) (done : Done) (columns : List ResultColumn) (rows : List (List Atom)) → ((x : X) → (f x).answer ≢ Rows columns rows) → (r >>= λ x. done_ok (f x)) ≡ Ok done
     → done.answer ≢ Rows columns rows
-not_rows r f done columns rows no e a =
+not_rows r f done columns rows others e a =
     let c = came r (λ x. done_ok (f x)) done e in
-    no c.value (ap (λ (d : Done). d.answer) (same_done (f c.value) done c.then) ∙ a)
+    others c.value (ap (λ (d : Done). d.answer) (same_done (f c.value) done c.then) ∙ a)
 
 module _ (world : World) (b : Bound) (encs : List Enc) (params : List Atom) (m : length encs ≡ length b.params) (columns : List ResultColumn) (rows : List (List Atom)) where
   shown_is : (s : BoundStatement) (done : Done) → IsPlacedStatement b.columns (length b.params) s → done_by world b encs s params ≡ Ok done → done.answer ≡ Rows columns rows → AreShown world done.world b encs columns

@@ -51,7 +51,7 @@ use Rattle.engine.specs.Worlds.{World, place_of, rows_of, with_rows}
 use Rattle.engine.specs.declared.answers.ResultColumn.{ResultColumn}
 use Rattle.engine.proofs.Contents.{table_place_there, master_made, key_made, master_dropped, key_dropped, table_made, table_dropped}
 use Rattle.engine.proofs.Kept.{defined_done, created_done, dropped_done, done_ok, classes_same}
-use Rattle.engine.proofs.Kinds.{class_placed}
+use Rattle.engine.proofs.Suited.{class_placed}
 use Rattle.engine.proofs.Moving.{inserted_done, selected_done}
 use Rattle.engine.proofs.Pairs.{both_then, both_before, both_within, EventsCorrespond, contents_at, contents_set, contents_push, contents_remove, scanned_alike, results_alike, first_alike, filtered_alike, joined_alike}
 use Rattle.engine.proofs.Pairs as pairs
@@ -192,12 +192,12 @@ module _ (R : Pairing) (r : IsOneToOne R) (within : ArePairsWithin R) where
   at_alike cs [] (y ∷ other) p h = absurd h
   at_alike cs (x ∷ given) [] p h = absurd h
   at_alike cs (x ∷ given) (y ∷ other) p h =
-      subst (λ b. BothHave (class_at cs p) (value_at (x ∷ given) p) (option_map (λ (v : ℕ × Atom). v.1) (cond b (Some y) (find (λ (v : ℕ × Atom). v.0 == p) other)))) (sym (ap (λ k. k == p) h.0.0)) (by_test (x.0 == p) refl)
+      subst (λ b. BothHave (class_at cs p) (value_at (x ∷ given) p) (option_map (λ (v : ℕ × Atom). v.1) (cond b (Some y) (find (λ (v : ℕ × Atom). v.0 == p) other)))) (sym (ap (λ k. k == p) h.0.0)) (by_test (at_alike cs given other p h.1) (x.0 == p) refl)
     where
-      by_test : (b : Bool) → (x.0 == p) ≡ b
+      by_test : BothHave (class_at cs p) (value_at given p) (value_at other p) → (b : Bool) → (x.0 == p) ≡ b
           → BothHave (class_at cs p) (option_map (λ (v : ℕ × Atom). v.1) (cond b (Some x) (find (λ (v : ℕ × Atom). v.0 == p) given))) (option_map (λ (v : ℕ × Atom). v.1) (cond b (Some y) (find (λ (v : ℕ × Atom). v.0 == p) other)))
-      by_test true e = subst (λ k. Correspond R (class_at cs k) x.1 y.1) (eqb-true x.0 p e) h.0.1
-      by_test false e = at_alike cs given other p h.1
+      by_test rest true e = subst (λ k. Correspond R (class_at cs k) x.1 y.1) (eqb-true x.0 p e) h.0.1
+      by_test rest false e = rest
 
   filled_alike : (column : ColumnDef) (o p : Option Atom) → BothHave (class_of column.ty column.enc) o p → BothAnswer (Correspond R (class_of column.ty column.enc)) (value_or_null column o) (value_or_null column p)
   filled_alike column None None m = null_admitted (class_of column.ty column.enc) column
@@ -245,7 +245,7 @@ module _ (R : Pairing) (r : IsOneToOne R) (within : ArePairsWithin R) where
       new_row_alike named vs h =
           let cs = classes_of (map site_of columns) in
           both_then (AllZip (GivenAlike cs)) (RowsCorrespond R cs) (values_into columns [] values named vs) (values_into columns [] others named vs) (λ given. completed 0 given columns) (λ given. completed 0 given columns)
-          (values_alike named vs h) (λ x y m. completed_alike 0 x y columns (λ p. at_alike cs x y p m))
+          (values_alike named vs h) (λ x y m. completed_alike 0 x y columns (λ p. let z : p ≡ 0 + p = omega arith in subst (λ k. BothHave (class_at cs p) (value_at x k) (value_at y k)) z (at_alike cs x y p m)))
 
       new_rows_alike : (named : List ℕ) (count : ℕ) (rows : List BoundRow) → All (λ (row : BoundRow). AreValuesFor (classes_of (map site_of columns)) [] ps named row.values) rows
           → BothAnswer (AllZip (RowsCorrespond R (classes_of (map site_of columns)))) (new_rows columns named values count rows) (new_rows columns named others count rows)

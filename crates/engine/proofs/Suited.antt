@@ -282,13 +282,13 @@ module _ (cell : List ℕ → Bool) where
 
   pub given_there : (columns : List ColumnDef) (given : List (ℕ × Atom)) (p : ℕ) (a : Atom) → AreGiven columns given → value_at given p ≡ Some a → IsOf cell (column_at columns p) a
   given_there columns [] p a h e = absurd cc
-  given_there columns (v ∷ given) p a h e = by_test (v.0 == p) refl e
+  given_there columns (v ∷ given) p a h e = by_test (given_there columns given p a h.1) (v.0 == p) refl e
     where
-      by_test : (b : Bool) → (v.0 == p) ≡ b → option_map (λ (x : ℕ × Atom). x.1) (cond b (Some v) (find (λ (x : ℕ × Atom). x.0 == p) given)) ≡ Some a → IsOf cell (column_at columns p) a
-      by_test true t e =
+      by_test : (value_at given p ≡ Some a → IsOf cell (column_at columns p) a) → (b : Bool) → (v.0 == p) ≡ b → option_map (λ (x : ℕ × Atom). x.1) (cond b (Some v) (find (λ (x : ℕ × Atom). x.0 == p) given)) ≡ Some a → IsOf cell (column_at columns p) a
+      by_test rest true t e =
           let f : v.1 ≡ a = cc in
           subst (IsOf cell (column_at columns p)) f (subst (λ q. IsOf cell (column_at columns q) v.1) (eqb-true v.0 p t) h.0)
-      by_test false t e = given_there columns given p a h.1 e
+      by_test rest false t e = rest e
 
   value_filled : (column : ColumnDef) (o : Option Atom) (a : Atom) → ((x : Atom) → o ≡ Some x → IsOf cell column x) → value_or_null column o ≡ Ok a → IsOf cell column a
   value_filled column (Some x) a h e = let f : x ≡ a = cc in subst (IsOf cell column) f (h x refl)
@@ -311,7 +311,7 @@ module _ (cell : List ℕ → Bool) where
     new_row_is named values row h e =
         let v = came (values_into columns [] params named values) (λ given. completed 0 given columns) row e in
         let given = values_are columns [] ps [] params (λ p. tt) there named values v.value h v.is in
-        completed_are 0 v.value columns row (λ p a s. given_there columns v.value p a given s) v.then
+        completed_are 0 v.value columns row (λ p a s. let z : p ≡ 0 + p = omega arith in given_there columns v.value p a given (ap (value_at v.value) z ∙ s)) v.then
 
     pub new_rows_are : (named : List ℕ) (count : ℕ) (bound : List BoundRow) (rows : List (List Atom)) → All (λ (row : BoundRow). AreValuesFor (classes_of (map site_of columns)) [] ps named row.values) bound
         → new_rows columns named params count bound ≡ Ok rows → All (AllZip (IsOf cell) columns) rows
