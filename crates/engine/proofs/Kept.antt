@@ -91,13 +91,15 @@ module _ (cell : List ℕ → Bool) (world : World) (w : IsWellTyped cell world)
   definition_kept r done h e =
       let c = came r (λ catalog. done_ok (defined_done world catalog)) done e in
       let k = h c.value c.is in
-      subst (Keeps cell) (same_done (defined_done world c.value) done c.then)
-      (record {
-        catalog = k.0;
-        shaped = kept_shape world.catalog c.value world.contents k.1 w.shaped;
-        keys = subst AreKeysTyped (sym k.1) w.keys;
-        tables = subst (λ ts. AllZip (IsTableOf cell) ts world.contents) (sym k.1) w.tables;
-      }, tt)
+      subst (Keeps cell) (same_done (defined_done world c.value) done c.then) (
+        record {
+          catalog = k.0;
+          shaped = kept_shape world.catalog c.value world.contents k.1 w.shaped;
+          keys = subst AreKeysTyped (sym k.1) w.keys;
+          tables = subst (λ ts. AllZip (IsTableOf cell) ts world.contents) (sym k.1) w.tables;
+        },
+        tt,
+      )
 
   table_kept : (columns : List ColumnSite) (table : BoundTable) (done : Done) → IsPlacedTable columns table → All (λ (site : ColumnSite). IsKeyThere world.catalog site.enc) columns
       → All (λ key. All (λ place. IsNotRandomized (class_at (classes_of columns) place)) key) table.def.uniques → step.create_table world table.def ≡ Ok done → Keeps cell done
@@ -107,14 +109,16 @@ module _ (cell : List ℕ → Bool) (world : World) (w : IsWellTyped cell world)
       let made = table_made world.catalog c.value def c.is in
       let there : AreKeysThere world.catalog def = all_unmapped (λ (site : ColumnSite). IsKeyThere world.catalog site.enc) site_of def.columns (subst (All (λ (site : ColumnSite). IsKeyThere world.catalog site.enc)) p.new keys) in
       let own = subst (λ cs. All (λ key. All (λ place. IsNotRandomized (class_at cs place)) key) def.uniques) (ap classes_of p.new ∙ classes_same def.columns) typed in
-      subst (Keeps cell) (same_done (created_done world c.value) done c.then)
-      (record {
-        catalog = with_table-kept world.catalog c.value def there c.is w.catalog;
-        shaped = created_shape world.catalog c.value world.contents def w.shaped c.is p.few (keys_placed columns table p);
-        keys = subst AreKeysTyped (sym made) (All-push (λ (def : TableDef). All (λ key. All (λ place. IsNotRandomized (class_at (map class_of_column def.columns) place)) key) def.uniques) world.catalog.tables def w.keys own);
-        tables = subst (λ ts. AllZip (IsTableOf cell) ts (world.contents ++ [] ∷ [])) (sym made)
-            (zip_push (IsTableOf cell) world.catalog.tables world.contents def [] w.tables (All-nil (AllZip (IsOf cell) def.columns)));
-      }, tt)
+      subst (Keeps cell) (same_done (created_done world c.value) done c.then) (
+        record {
+          catalog = with_table-kept world.catalog c.value def there c.is w.catalog;
+          shaped = created_shape world.catalog c.value world.contents def w.shaped c.is p.few (keys_placed columns table p);
+          keys = subst AreKeysTyped (sym made) (All-push (λ (def : TableDef). All (λ key. All (λ place. IsNotRandomized (class_at (map class_of_column def.columns) place)) key) def.uniques) world.catalog.tables def w.keys own);
+          tables = subst (λ ts. AllZip (IsTableOf cell) ts (world.contents ++ [] ∷ [])) (sym made)
+              (zip_push (IsTableOf cell) world.catalog.tables world.contents def [] w.tables (All-nil (AllZip (IsOf cell) def.columns)));
+        },
+        tt,
+      )
 
   drop_kept : (name : List ℕ) (done : Done) → step.drop_table world name ≡ Ok done → Keeps cell done
   drop_kept name done e =
@@ -122,14 +126,16 @@ module _ (cell : List ℕ → Bool) (world : World) (w : IsWellTyped cell world)
       let d = table_dropped world.catalog c.value name c.is in
       let tables : c.value.tables ≡ remove world.catalog.tables d.0 = ap (λ (x : Catalog). x.tables) (sym d.2) in
       let place : d.0 ≡ place_of world name = ap (λ o. unwrap_or o 0) (sym d.1) in
-      subst (Keeps cell) (same_done (dropped_done world name c.value) done c.then)
-      (record {
-        catalog = without_table-kept world.catalog c.value name c.is w.catalog;
-        shaped = subst (λ p. IsShaped (record { catalog = c.value; contents = remove world.contents p })) place (dropped_shape world.catalog c.value world.contents d.0 d.2 w.shaped);
-        keys = subst AreKeysTyped (sym tables) (All-remove (λ (def : TableDef). All (λ key. All (λ place. IsNotRandomized (class_at (map class_of_column def.columns) place)) key) def.uniques) world.catalog.tables d.0 w.keys);
-        tables = subst (λ p. AllZip (IsTableOf cell) c.value.tables (remove world.contents p)) place
-            (subst (λ ts. AllZip (IsTableOf cell) ts (remove world.contents d.0)) (sym tables) (zip_remove (IsTableOf cell) world.catalog.tables world.contents d.0 w.tables));
-      }, tt)
+      subst (Keeps cell) (same_done (dropped_done world name c.value) done c.then) (
+        record {
+          catalog = without_table-kept world.catalog c.value name c.is w.catalog;
+          shaped = subst (λ p. IsShaped (record { catalog = c.value; contents = remove world.contents p })) place (dropped_shape world.catalog c.value world.contents d.0 d.2 w.shaped);
+          keys = subst AreKeysTyped (sym tables) (All-remove (λ (def : TableDef). All (λ key. All (λ place. IsNotRandomized (class_at (map class_of_column def.columns) place)) key) def.uniques) world.catalog.tables d.0 w.keys);
+          tables = subst (λ p. AllZip (IsTableOf cell) c.value.tables (remove world.contents p)) place
+              (subst (λ ts. AllZip (IsTableOf cell) ts (remove world.contents d.0)) (sym tables) (zip_remove (IsTableOf cell) world.catalog.tables world.contents d.0 w.tables));
+        },
+        tt,
+      )
 
   -- ---- rows
 
@@ -162,9 +168,11 @@ module _ (cell : List ℕ → Bool) (world : World) (w : IsWellTyped cell world)
             let new = new_rows_are cell own (param_classes tys encs) params (param_sealed cell tys encs params m n values) i.named (length old) i.rows made.value for made.is in
             let columns : own ≡ table.columns = ap columns_in t in
             let rows : IsTableOf cell table c.value = subst (λ cs. All (AllZip (IsOf cell) cs) c.value) columns (subst (All (AllZip (IsOf cell) own)) kept.1 new) in
-            subst (Keeps cell) (same_done (inserted_done world i.table c.value) done c.then)
-            (rows_kept i.table table (old ++ c.value) t (holds_more world i params table c.value (table_holds world i.table table w.shaped t) t c.is)
-            (All-append (AllZip (IsOf cell) table.columns) old c.value (related_there (IsTableOf cell) world i.table table w.tables t) rows), tt)
+            subst (Keeps cell) (same_done (inserted_done world i.table c.value) done c.then) (
+              rows_kept i.table table (old ++ c.value) t (holds_more world i params table c.value (table_holds world i.table table w.shaped t) t c.is)
+                  (All-append (AllZip (IsOf cell) table.columns) old c.value (related_there (IsTableOf cell) world i.table table w.tables t) rows),
+              tt,
+            )
 
     table_sites : (name : List ℕ) → IsSome (table_among world.catalog.tables name) → All (AllZip (IsAt cell) (sites_among world.catalog.tables name)) (rows_of world name)
     table_sites name there = table_is (table_among world.catalog.tables name) refl there

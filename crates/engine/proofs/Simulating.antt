@@ -327,12 +327,14 @@ module _ (R : Pairing) (r : IsOneToOne R) (within : ArePairsWithin R) where
         made (Ok new) e =
             let d = table_dropped world.catalog new name e in
             let tables : remove world.catalog.tables d.0 ≡ new.tables = ap (λ (x : Catalog). x.tables) d.2 in
-            let place : d.0 ≡ place_of world name = ap (λ o. unwrap_or o 0) (sym d.1) in
-            (tt, record {
-              catalog = refl;
-              contents = subst (λ p. ContentsCorrespond R new.tables (remove world.contents p) (remove more p)) place
-                  (subst (λ ts. ContentsCorrespond R ts (remove world.contents d.0) (remove more d.0)) tables (contents_remove R world.catalog.tables world.contents more d.0 corr));
-            })
+            let place : d.0 ≡ place_of world name = ap (λ o. unwrap_or o 0) (sym d.1) in (
+              tt,
+              record {
+                catalog = refl;
+                contents = subst (λ p. ContentsCorrespond R new.tables (remove world.contents p) (remove more p)) place
+                    (subst (λ ts. ContentsCorrespond R ts (remove world.contents d.0) (remove more d.0)) tables (contents_remove R world.catalog.tables world.contents more d.0 corr));
+              },
+            )
         made (Err f) e = refl
 
     -- ---- rows
@@ -363,12 +365,15 @@ module _ (R : Pairing) (r : IsOneToOne R) (within : ArePairsWithin R) where
               (subst (λ m. BothAnswer (AllZip P) (new_rows own i.named values (length old) i.rows) (new_rows own i.named others m i.rows)) (sym count) (new_rows_alike (param_classes tys encs) values others given own i.named (length old) i.rows for))
               (λ x y m. twins_apart P x y (first_twins 1 (uniques_of world i.table) (old ++ x)) (first_twins 1 (uniques_of world i.table) (old_other ++ y)) m
               (first_alike R r cs 1 (uniques_of world i.table) (old ++ x) (old_other ++ y) typed_keys (pairs.zip_append P old x old_other y (sites_alike i.table there) m))))
-              (λ x y m. (sym (zip_length P x y m), record {
-                catalog = refl;
-                contents = contents_set R world.catalog.tables world.contents more (place_of world i.table) (old ++ x) (old_other ++ y) corr
-                    (λ def e. subst (λ z. AllZip (RowsCorrespond R z) (old ++ x) (old_other ++ y)) (class ∙ ap (λ (d : TableDef). map class_of_column d.columns) (same_table table def (sym (place_there i.table table t) ∙ e)))
-                    (pairs.zip_append P old x old_other y (sites_alike i.table there) m));
-              }))
+              (λ x y m. (
+                sym (zip_length P x y m),
+                record {
+                  catalog = refl;
+                  contents = contents_set R world.catalog.tables world.contents more (place_of world i.table) (old ++ x) (old_other ++ y) corr
+                      (λ def e. subst (λ z. AllZip (RowsCorrespond R z) (old ++ x) (old_other ++ y)) (class ∙ ap (λ (d : TableDef). map class_of_column d.columns) (same_table table def (sym (place_there i.table table t) ∙ e)))
+                      (pairs.zip_append P old x old_other y (sites_alike i.table there) m));
+                },
+              ))
             where
               same_table : (a b : TableDef) → some_table a ≡ some_table b → a ≡ b
               same_table a b e = cc

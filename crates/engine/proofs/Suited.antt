@@ -300,9 +300,10 @@ module _ (cell : List ℕ → Bool) where
   completed_are place given (column ∷ columns) row h e =
       let b = came_before (value_or_null column (value_at given place)) (completed (place + 1) given columns) row e in
       let z : place + 0 ≡ place = omega arith in
-      subst (AllZip (IsOf cell) (column ∷ columns)) (sym b.all)
-      (value_filled column (value_at given place) b.first (λ x s. h 0 x (ap (value_at given) z ∙ s)) b.is,
-      completed_are (place + 1) given columns b.others (λ p a s. let n : place + suc p ≡ (place + 1) + p = omega arith in h (suc p) a (ap (value_at given) n ∙ s)) b.then)
+      subst (AllZip (IsOf cell) (column ∷ columns)) (sym b.all) (
+        value_filled column (value_at given place) b.first (λ x s. h 0 x (ap (value_at given) z ∙ s)) b.is,
+        completed_are (place + 1) given columns b.others (λ p a s. let n : place + suc p ≡ (place + 1) + p = omega arith in h (suc p) a (ap (value_at given) n ∙ s)) b.then,
+      )
 
   -- ---- new rows
 
