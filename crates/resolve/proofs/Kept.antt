@@ -26,28 +26,8 @@ use Rattle.resolve.specs.Changes.{table_scope, places_for, bind_row, bind_insert
 use Rattle.resolve.specs.Definitions.{key_path, wrapped_key, master_for, bind_table}
 use Rattle.resolve.specs.Bind.{bound_over, named}
 use Rattle.resolve.specs.Laws.{Keeps, NamesKeepTheUsed}
-
--- ---- parts that are bound one after another
-
-one_part : {A B E : Type 0} (x : Result A E) (c : A → B) (b : B) (Q : B → Type 0) → (x >>= λ a. Ok (c a)) ≡ Ok b → ((a : A) → x ≡ Ok a → Q (c a)) → Q b
-one_part (Ok a) c b Q e h = let i : c a ≡ b = cc in subst Q i (h a refl)
-one_part (Err x) c b Q e h = cc
-
-two_parts : {A B C E : Type 0} (x : Result A E) (y : Result B E) (c : A → B → C) (d : C) (Q : C → Type 0) → (x >>= λ a. y >>= λ b. Ok (c a b)) ≡ Ok d
-    → ((a : A) (b : B) → x ≡ Ok a → y ≡ Ok b → Q (c a b)) → Q d
-two_parts (Ok a) (Ok b) c d Q e h = let i : c a b ≡ d = cc in subst Q i (h a b refl refl)
-two_parts (Ok a) (Err z) c d Q e h = cc
-two_parts (Err z) y c d Q e h = cc
-
-first_part : {A B E : Type 0} (x : Result A E) (k : A → Result B E) (b : B) (Q : Type 0) → (x >>= k) ≡ Ok b → ((a : A) → x ≡ Ok a → k a ≡ Ok b → Q) → Q
-first_part (Ok a) k b Q e h = h a refl e
-first_part (Err z) k b Q e h = cc
-
-one_ok : {A B E : Type 0} (x : Result A E) (a : A) (k : A → Result B E) (r : Result B E) → x ≡ Ok a → k a ≡ r → (x >>= k) ≡ r
-one_ok x a k r e h = ap (λ z. z >>= k) e ∙ h
-
-two_ok : {A B C E : Type 0} (x : Result A E) (y : Result B E) (c : A → B → C) (a : A) (b : B) → x ≡ Ok a → y ≡ Ok b → (x >>= λ p. y >>= λ q. Ok (c p q)) ≡ Ok (c a b)
-two_ok x y c a b e f = ap (λ z. z >>= λ p. y >>= λ q. Ok (c p q)) e ∙ ap (λ z. z >>= λ q. Ok (c a q)) f
+use Rattle.resolve.proofs.Parts.{one_part, two_parts, first_part, one_ok, two_ok}
+use Rattle.resolve.proofs.QueryParts.{made, ordered, grouped, filtered, joined}
 
 or_left : (a b : Bool) → a ≡ true → (a || b) ≡ true
 or_left true b e = refl
@@ -243,31 +223,6 @@ joins_kept ds es f (j ∷ js) s b e =
     two_parts (bind_join (with_source s j.source) ds j) (bind_joins ds (with_source s j.source) js) ◌∷◌ b (λ z. Keeps ds es f (λ p. list_any (uses_in_join p) z) → bind_joins es s (j ∷ js) ≡ Ok (map (renamed_join f) z)) e
     (λ a m ea em k. two_ok (bind_join (with_source s j.source) es j) (bind_joins es (with_source s j.source) js) ◌∷◌ (renamed_join f a) (map (renamed_join f) m)
     (join_kept (with_source s j.source) ds es f j a ea (left (λ p. uses_in_join p a) (λ p. list_any (uses_in_join p) m) k)) (joins_kept ds es f js (with_source s j.source) m em (right (λ p. uses_in_join p a) (λ p. list_any (uses_in_join p) m) k)))
-
--- the parts of a query behind its items, one after another
-abbrev made : tree.Query → Sources → List bound.BoundItem → List bound.BoundJoin → Option (Condition ℕ ℕ) → List PlaceAt → List BoundOrderKey → bound.BoundQuery
-made q sources items joins filter group order = record {
-  distinct = q.distinct;
-  top = q.top;
-  items = items;
-  from = bound_source sources.from;
-  joins = joins;
-  filter = filter;
-  group_by = group;
-  order_by = order;
-}
-
-abbrev ordered : tree.Query → Sources → List bound.BoundItem → List bound.BoundJoin → Option (Condition ℕ ℕ) → List PlaceAt → Result bound.BoundQuery SqlFault
-ordered q sources items joins filter group = each (bind_key (scope_of (all_sources sources))) q.order_by >>= λ order. Ok (made q sources items joins filter group order)
-
-abbrev grouped : tree.Query → Sources → List bound.BoundItem → List bound.BoundJoin → Option (Condition ℕ ℕ) → Result bound.BoundQuery SqlFault
-grouped q sources items joins filter = each (bind_column_at (scope_of (all_sources sources))) q.group_by >>= λ group. ordered q sources items joins filter group
-
-abbrev filtered : List ParamDecl → tree.Query → Sources → List bound.BoundItem → List bound.BoundJoin → Result bound.BoundQuery SqlFault
-filtered ds q sources items joins = bind_filter (scope_of (all_sources sources)) ds q.filter >>= λ filter. grouped q sources items joins filter
-
-abbrev joined : List ParamDecl → tree.Query → Sources → List bound.BoundItem → Result bound.BoundQuery SqlFault
-joined ds q sources items = bind_joins ds (scope_of (sources.from ∷ [])) sources.joins >>= λ joins. filtered ds q sources items joins
 
 abbrev KeptQuery : List ParamDecl → List ParamDecl → (ℕ → ℕ) → Sources → tree.Query → bound.BoundQuery → Type 0
 KeptQuery ds es f sources q z =
