@@ -1,1 +1,2 @@
+mod RunStatuses
 pub mod TwoWords

@@ -1,7 +1,7 @@
 //! The top call: the words of a command line, and what the command does.
 
 ghost use Rattle.std.specs.Prelude.{◌≡◌, ◌⊎◌, ℕ, List, IfSome, true, false};
-ghost use Rattle.ae_cli.specs.Words.{IsRefusedUsage, TakesAsRun, is_run};
+ghost use Rattle.ae_cli.specs.Words.{IsOfRun, IsRefusedUsage, is_run};
 ghost use Rattle.ae_edge.specs.Devices.{Rose, WhereTold};
 ghost use Rattle.script_run.specs.declared.runs.Ran.{Ran};
 ghost use Rattle.script_run.specs.Ends.{RunsScript, TakesScript};
@@ -21,8 +21,9 @@ use std::alloc::Global;
 /// Does what the words ask for, of which the first is the program's name, and says how it ended.
 ///
 /// So far there is one command, `run`: it reads a script from `script`, runs its steps through a
-/// driver and the peer, puts the text to `out` and every frame to `tap`. It touches no replies.
-/// Other words are `Usage`, and touch nothing.
+/// driver and the peer, puts the text to `out` and every frame to `tap`. The driver opens keys
+/// through the vault, and draws from the random source. A run touches no replies. Other words are
+/// `Usage`, and touch nothing.
 pub fn ae_main<S: Source, V: Vault, E: Entropy, L: Source, W: Sink, T: Sink, P: Peer>(
     alloc: Global,
     words: &[Txt],
@@ -36,8 +37,10 @@ pub fn ae_main<S: Source, V: Vault, E: Entropy, L: Source, W: Sink, T: Sink, P: 
 ) -> Status
     // Words that are no command are refused, and nothing is touched; there may be no memory to say so.
     ensures usage { is_run words.now ≡ false → IsRefusedUsage result × (script.new ≡ script.old) × (vault.new ≡ vault.old) × (entropy.new ≡ entropy.old) × (out.new ≡ out.old) × (tap.new ≡ tap.old) × (peer.new ≡ peer.old) }
+    // A run has no other status than these.
+    ensures named { is_run words.now ≡ true → IsOfRun result }
     // A run over any peer: there are bytes, the script's where it tells them, of which this is a run: how far its conversation was
-    // followed, what each device has of it, and why it was followed no further. A run has no status but those of a run's ends.
+    // followed, what each device has of it, and why it was followed no further.
     ensures content { is_run words.now ≡ true → (ran : Ran) × (result ≡ status_of ran) × (bytes : List ℕ) × IfSome (S.left script.old) (λ left. bytes ≡ left) × RunsScript ran bytes
         (record { out = W.held out.old; tap = T.held tap.old; entropy = E.to_come entropy.old; keys = V.keys vault.old; log = P.log peer.old; state = P.state peer.old; out_faults = W.faults out.old; tap_faults = T.faults tap.old; entropy_faults = E.faults entropy.old; vault_faults = V.faults vault.old })
         (record { out = W.held out.new; tap = T.held tap.new; entropy = E.to_come entropy.new; keys = V.keys vault.new; log = P.log peer.new; state = P.state peer.new; out_faults = W.faults out.new; tap_faults = T.faults tap.new; entropy_faults = E.faults entropy.new; vault_faults = V.faults vault.new }) × WhereTold (TakesScript ran) (S.left script.old) (S.left script.new) }
