@@ -1,12 +1,11 @@
 -- The first clash: the rules before it have a typing, and those up to and with it have none.
-use Rattle.std.proofs.Common.{◌≡◌, ℕ, List, [], ◌∷◌, ◌++◌, refl, ap, sym, subst, ◌∙◌, Option, Some, None, Bool, true, false, cond, append_assoc}
-use Rattle.std.specs.Bool.{Decides}
+use Rattle.std.proofs.Common.{◌≡◌, List, [], ◌∷◌, ◌++◌, refl, ap, sym, ◌∙◌, Some, None, Bool, true, false, cond, append_assoc}
 use Rattle.std.specs.List.{list_all}
 use Rattle.std.proofs.lemmas.List.{append-nil}
 use Rattle.ae_base.specs.declared.types.Ty.{Ty}
 use Rattle.sql_tree.specs.declared.bound.ColumnSite.{ColumnSite}
 use Rattle.enc_types.specs.Rules.{at_of}
-use Rattle.enc_types.specs.Typing.{holds, IsTyping, HasTyping}
+use Rattle.enc_types.specs.Typing.{HasTyping}
 use Rattle.enc_types.specs.Least.{has_typing, clash_behind, clash}
 use Rattle.enc_types.specs.Clash.{IsFirstClash}
 use Rattle.enc_types.specs.declared.rules.Rule.{Rule}

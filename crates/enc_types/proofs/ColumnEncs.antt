@@ -1,15 +1,14 @@
 -- What the least typing gives to a parameter is plain, or is of a column.
-use Rattle.std.proofs.Common.{◌≡◌, ◌⊎◌, inl, inr, ℕ, zero, suc, List, [], ◌∷◌, length, map, refl, ap, sym, subst, unwrap_or}
+use Rattle.std.proofs.Common.{◌≡◌, inl, inr, ℕ, zero, suc, List, [], ◌∷◌, length, map, refl, ap, sym, subst, unwrap_or}
 use Rattle.std.specs.List.{All}
 use Rattle.std.proofs.lemmas.List.Elements.{All-nil, All-cons, Contains-append_left, Contains-append_right, Contains-push}
 use Rattle.ae_base.specs.declared.types.Ty.{Ty}
 use Rattle.ae_base.specs.declared.types.Enc.{Enc}
 use Rattle.ae_base.specs.declared.types.Enc.TheVariants.{Plain}
 use Rattle.sql_tree.specs.declared.bound.ColumnSite.{ColumnSite}
-use Rattle.sql_tree.specs.Bound.{Bound}
 use Rattle.enc_types.specs.Rules.{rules}
 use Rattle.enc_types.specs.Typing.{enc_at, fixed, Typing}
-use Rattle.enc_types.specs.Least.{classes_from, least, encs_from, inferred}
+use Rattle.enc_types.specs.Least.{classes_from, least, encs_from}
 use Rattle.enc_types.specs.Laws.{IsOfColumn, TypingsAreOfColumns}
 use Rattle.enc_types.specs.declared.sites.Site.{Site}
 use Rattle.enc_types.specs.declared.sites.Site.TheVariants.{Column, Param, Null, Fixed}

@@ -1,5 +1,5 @@
 -- The least typing is one wherever there is any, and every typing encrypts as it does.
-use Rattle.std.proofs.Common.{◌≡◌, ℕ, List, [], ◌∷◌, ◌++◌, refl, ap, sym, subst, ◌∙◌, Option, Some, None, Bool, true, false, cond, ◌&&◌, ◌||◌, unwrap_or, ◌⊎◌, inl, inr}
+use Rattle.std.proofs.Common.{◌≡◌, List, [], ◌∷◌, refl, ap, sym, ◌∙◌, Some, None, Bool, true, false, cond, ◌&&◌, ◌||◌, unwrap_or, ◌⊎◌, inl, inr}
 use Rattle.std.specs.Bool.{Decides}
 use Rattle.std.specs.List.{list_all}
 use Rattle.std.proofs.lemmas.Bool.Decides.{Decides-eqb}
@@ -8,7 +8,7 @@ use Rattle.ae_base.specs.declared.types.Enc.{Enc}
 use Rattle.ae_base.specs.declared.types.Enc.TheVariants.{Plain, Det, Rnd}
 use Rattle.sql_tree.specs.declared.bound.ColumnSite.{ColumnSite}
 use Rattle.enc_types.specs.SiteLaws.{site_eq, site_eq-Decides}
-use Rattle.enc_types.specs.Typing.{fixed, type_of, are_alike, enc_eq, is_plain, isnt_rnd, Typing, holds, Agrees, IsTyping, HasTyping, IsLeastTyping}
+use Rattle.enc_types.specs.Typing.{fixed, enc_eq, is_plain, isnt_rnd, Typing, holds, Agrees, IsTyping, HasTyping, IsLeastTyping}
 use Rattle.enc_types.specs.Least.{is_open, Classes, moved, joined, classes_from, least, has_typing}
 use Rattle.enc_types.specs.declared.sites.Site.{Site}
 use Rattle.enc_types.specs.declared.sites.Site.TheVariants.{Column, Param, Null, Fixed}

@@ -20,7 +20,7 @@ use Rattle.enc_types.specs.Sites.{site_of_literal, site_of}
 use Rattle.enc_types.specs.Rules.{at_of, first_operator, first_rules, operand_rules, terms_rules, comparison_rules, in_rules, condition_rules, conditions_rules, filter_rules, key_rule, value_rule, value_rules, row_rules, assignment_rules, site_of_item, distinct_rules, item_rules, order_rule, rows_rules, query_rules, statement_rules, placed, in_order, rules}
 use Rattle.enc_types.specs.Renamed.{renamed_site, renamed_rule}
 use Rattle.enc_types.specs.declared.sites.Site.{Site}
-use Rattle.enc_types.specs.declared.sites.Site.TheVariants.{Column, Param, Null, Fixed}
+use Rattle.enc_types.specs.declared.sites.Site.TheVariants.{Column}
 use Rattle.enc_types.specs.declared.rules.Rule.{Rule}
 use Rattle.enc_types.specs.declared.rules.Rule.TheVariants.{Same, NotRnd, PlainOnly}
 

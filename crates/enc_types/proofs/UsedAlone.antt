@@ -1,10 +1,7 @@
 -- What is inferred of a statement over the parameters that it uses alone.
-use Rattle.std.proofs.Common.{◌≡◌, ℕ, zero, suc, ◌+◌, ◌<◌, List, [], ◌∷◌, length, refl, ap, sym, ◌∙◌, arith, Option, Some, None, unwrap_or, Bool, true, false, cond, Result, Ok}
+use Rattle.std.proofs.Common.{◌≡◌, ℕ, zero, suc, ◌+◌, ◌<◌, List, [], ◌∷◌, length, refl, ap, sym, ◌∙◌, arith, Some, None, unwrap_or, Bool, true, false, cond, Ok}
 use Rattle.std.specs.List.{slice_get}
 use Rattle.ae_base.specs.declared.types.Ty.{Ty}
-use Rattle.ae_base.specs.declared.types.Enc.{Enc}
-use Rattle.sql_tree.specs.Bound.{Bound}
-use Rattle.sql_tree.specs.Uses.{uses}
 use Rattle.enc_types.specs.Rules.{rules}
 use Rattle.enc_types.specs.Typing.{Typing}
 use Rattle.enc_types.specs.Least.{least, clash, encs_from, encs_or_clash, inferred}

@@ -1,5 +1,5 @@
 -- The parameters in a statement's rules are those that it uses.
-use Rattle.std.proofs.Common.{◌≡◌, ℕ, List, [], ◌∷◌, ◌++◌, map, refl, ap, sym, ◌∙◌, Option, Some, None, Bool, true, false, cond, ◌==◌, ◌||◌, nat_le}
+use Rattle.std.proofs.Common.{◌≡◌, ℕ, List, [], ◌∷◌, ◌++◌, map, refl, ap, ◌∙◌, Option, Some, None, Bool, true, false, cond, ◌||◌, nat_le}
 use Rattle.std.specs.List.{flat_map, list_any}
 use Rattle.std.proofs.lemmas.Bool.Decides.{Decides-eqb}
 use Rattle.ae_base.specs.declared.types.Ty.{Ty}
@@ -18,13 +18,12 @@ use Rattle.sql_tree.specs.Bound as bound
 use Rattle.sql_tree.specs.Uses.{uses_in, uses_in_terms, uses_in_condition, uses_in_conditions, uses_in_filter, uses_in_row, uses_in_assignment, uses_in_value, uses_in_item, uses_in_join, uses_in_statement, uses}
 use Rattle.enc_types.specs.Sites.{site_of_literal, site_of}
 use Rattle.enc_types.specs.Rules.{at_of, first_rules, operand_rules, terms_rules, comparison_rules, in_rules, condition_rules, conditions_rules, filter_rules, key_rule, value_rule, value_rules, row_rules, assignment_rules, site_of_item, distinct_rules, item_rules, order_rule, rows_rules, query_rules, statement_rules, placed, in_order, rules}
-use Rattle.enc_types.specs.Renamed.{KeepsUsed, IsInferredAlike, renamed_rule}
-use Rattle.sql_tree.specs.Uses.{renamed}
+use Rattle.enc_types.specs.Renamed.{KeepsUsed, IsInferredAlike}
 use Rattle.enc_types.specs.Least.{least, clash}
 use Rattle.enc_types.specs.declared.sites.Site.{Site}
-use Rattle.enc_types.specs.declared.sites.Site.TheVariants.{Column, Param, Null, Fixed}
+use Rattle.enc_types.specs.declared.sites.Site.TheVariants.{Column, Param}
 use Rattle.enc_types.specs.declared.rules.Rule.{Rule}
-use Rattle.enc_types.specs.declared.rules.Rule.TheVariants.{Same, NotRnd, PlainOnly}
+use Rattle.enc_types.specs.declared.rules.Rule.TheVariants.{Same, NotRnd}
 use Rattle.enc_types.proofs.RenamedTypings.{KnownSite, KnownRule, AllKnown, known_both, least_renamed, clash_renamed}
 use Rattle.enc_types.proofs.Renaming.{rules_renamed}
 

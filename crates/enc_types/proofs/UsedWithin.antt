@@ -10,7 +10,7 @@ use Rattle.sql_tree.specs.Conditions as conditions
 use Rattle.sql_tree.specs.Bound.{BoundRow, BoundAssignment, BoundJoin, BoundItem, BoundItemValue, BoundQuery, BoundStatement, Bound}
 use Rattle.sql_tree.specs.Bound as bound
 use Rattle.sql_tree.specs.declared.bound.ColumnSite.{ColumnSite}
-use Rattle.sql_tree.specs.Placed.{IsPlaced, ArePlaced, IsPlacedCondition, ArePlacedConditions, IsPlacedFilter, ArePlacedJoins, IsPlacedValue, IsPlacedQuery, IsPlacedStatement, IsWellPlaced}
+use Rattle.sql_tree.specs.Placed.{IsPlaced, ArePlaced, IsPlacedCondition, ArePlacedConditions, IsPlacedFilter, ArePlacedJoins, IsPlacedValue, IsPlacedStatement, IsWellPlaced}
 use Rattle.sql_tree.specs.Uses.{uses_in, uses_in_terms, uses_in_condition, uses_in_conditions, uses_in_filter, uses_in_row, uses_in_assignment, uses_in_value, uses_in_item, uses_in_join, uses_in_statement, uses}
 
 either : (a b : Bool) (Q : Type 0) → a || b ≡ true → (a ≡ true → Q) → (b ≡ true → Q) → Q

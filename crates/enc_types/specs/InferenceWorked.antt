@@ -1,5 +1,5 @@
 -- What is inferred of some statements, computed. A key has the number 1, another the number 2; places are those of the texts.
-use Rattle.std.specs.Prelude.{◌≡◌, ℕ, pos, List, [], ◌∷◌, codes, Some, None, Ok, Err, false, refl}
+use Rattle.std.specs.Prelude.{◌≡◌, ℕ, pos, List, [], ◌∷◌, codes, Some, None, Ok, Err, refl}
 use Rattle.ae_base.specs.declared.values.Value.TheVariants as value
 use Rattle.ae_base.specs.declared.values.Datum.TheVariants.{Num, Text}
 use Rattle.ae_base.specs.declared.types.Ty.{Ty}

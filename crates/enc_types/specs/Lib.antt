@@ -4,7 +4,6 @@ pub mod Rules
 pub mod Typing
 pub mod Least
 pub mod Clash
-pub mod ResultColumns
 pub mod InferenceWorked
 pub mod Renamed
 pub mod Laws

@@ -1,12 +1,10 @@
 -- The rules of a statement whose parameters stand at other places.
-use Rattle.std.specs.Prelude.{◌≡◌, ℕ, List, map, true, Option, Some, None, Result, Ok, Err}
+use Rattle.std.specs.Prelude.{◌≡◌, ℕ, List, map, true}
 use Rattle.std.specs.List.{slice_get}
 use Rattle.ae_base.specs.declared.types.Ty.{Ty}
-use Rattle.ae_base.specs.declared.types.Enc.{Enc}
 use Rattle.sql_tree.specs.Bound.{Bound}
 use Rattle.sql_tree.specs.Uses.{uses, renamed}
 use Rattle.enc_types.specs.Rules.{rules}
-use Rattle.enc_types.specs.Typing.{type_of}
 use Rattle.enc_types.specs.Least.{least, clash}
 use Rattle.enc_types.specs.declared.sites.Site.{Site}
 use Rattle.enc_types.specs.declared.sites.Site.TheVariants.{Column, Param, Null, Fixed}

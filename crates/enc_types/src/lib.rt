@@ -3,7 +3,6 @@
 #![tactic(auto)]
 
 mod asks;
-pub mod columns;
 mod conditions;
 pub mod laws;
 mod operands;

@@ -1,6 +1,5 @@
 -- The rules of conditions joined by AND, or by OR, are those of each, one after another.
-use Rattle.std.proofs.Common.{◌≡◌, ◌++◌, refl, arith, ap, sym, subst}
-use Rattle.std.specs.Result.{OnOk}
+use Rattle.std.proofs.Common.{refl, arith}
 use Rattle.sql_tree.specs.Conditions.{condition_of}
 use Rattle.sql_tree.specs.Listed.{conditions_listed}
 use Rattle.enc_types.specs.Rules.{condition_rules, conditions_rules}

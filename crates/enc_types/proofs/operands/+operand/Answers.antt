@@ -1,8 +1,7 @@
 -- A sum's rules are those of its parts, one after another.
-use Rattle.std.proofs.Common.{◌≡◌, ◌++◌, refl, arith, rules}
+use Rattle.std.proofs.Common.{refl, arith}
 use Rattle.sql_tree.specs.Operands.{operand_of}
 use Rattle.sql_tree.specs.Listed.{terms_listed}
-use Rattle.enc_types.specs.Sites.{site_of}
 use Rattle.enc_types.specs.Rules.{operand_rules, terms_rules, first_rules}
 use Rattle.enc_types.proofs.Walks.{walk_more, walk_all, two, joined}
 use Rattle.enc_types.proofs.Trees.{rules_of-Sum, term_step}

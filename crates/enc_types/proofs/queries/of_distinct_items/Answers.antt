@@ -1,5 +1,5 @@
 -- The next item puts its rule behind those that are there.
-use Rattle.std.proofs.Common.{◌≡◌, ◌++◌, ◌∷◌, [], map, refl, arith, rules}
+use Rattle.std.proofs.Common.{◌∷◌, [], map, refl, arith, rules}
 use Rattle.sql_tree.specs.Bound.{item_of, item_value_of}
 use Rattle.enc_types.specs.Rules.{site_of_item}
 use Rattle.enc_types.specs.declared.rules.Rule.TheVariants.{NotRnd}

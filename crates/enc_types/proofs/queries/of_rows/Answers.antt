@@ -2,7 +2,7 @@
 use Rattle.std.proofs.Common.{refl, ap, ◌∙◌, map}
 use Rattle.std.specs.List.{flat_map}
 use Rattle.sql_tree.specs.Bound.{item_of, join_of}
-use Rattle.enc_types.specs.Rules.{item_rules, condition_rules, distinct_rules, filter_rules}
+use Rattle.enc_types.specs.Rules.{item_rules, condition_rules, distinct_rules}
 use Rattle.enc_types.proofs.Walks.{joined, two, both_same, flat_map-map}
 use Rattle.enc_types.proofs.queries.of_rows.Goals as goal
 

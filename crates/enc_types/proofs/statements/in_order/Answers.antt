@@ -1,5 +1,5 @@
 -- The sort of std is stable, and by the places of the rules.
-use Rattle.std.proofs.Common.{◌≡◌, ◌∙◌, ap, rules}
+use Rattle.std.proofs.Common.{◌∙◌, ap, rules}
 use Rattle.std.proofs.lemmas.List.Sorted.{IsNonDecreasingBy-from_sort, answers_always}
 use Rattle.enc_types.specs.Rules.{at_of, in_order}
 use Rattle.enc_types.proofs.Sorting.{stable_sort}

@@ -1,5 +1,5 @@
 -- The next row puts its rules behind those that are there.
-use Rattle.std.proofs.Common.{◌≡◌, ◌++◌, ◌∙◌, ap, map, refl, arith, rules}
+use Rattle.std.proofs.Common.{◌++◌, ◌∙◌, ap, map, refl, arith}
 use Rattle.std.specs.List.{flat_map}
 use Rattle.sql_tree.specs.Operands.{operand_of}
 use Rattle.sql_tree.specs.Bound.{row_of}
