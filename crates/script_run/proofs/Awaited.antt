@@ -155,7 +155,7 @@ tells_rows Sent w r = absurd w
 
 -- what is said is what is told, and no device is touched
 pub says_told : (told : Told) → TellsRows told → (x : ReplyAnswer) (after : Session) (before now : Devices) → SaysAs x told after before now → (told ≡ Tells x after) × (now ≡ before)
-says_told (Tells wanted next) w x after before now h = (ap (λ y. Tells y next) (sym h.0) ∙ ap (λ y. Tells x y) (sym h.1.0), h.1.1)
+says_told (Tells wanted next) w x after before now h = (ap (λ y. Tells y next) (sym h.0) ∙ ap (λ y. Tells x y) (sym h.1), h.2)
 says_told (Shows header) w x after before now h = absurd w
 says_told Stray w x after before now h = absurd h
 

@@ -1,4 +1,4 @@
--- A session is taken out of its place and put there again; and the steps that are left.
+-- The steps that are left.
 use Rattle.std.proofs.Common.{◌≡◌, ℕ, ◌+◌, ◌-◌, ◌<◌, ◌≤◌, List, [], ◌∷◌, length, get_or, drop, Result, Ok, Err, refl, sym, ◌∙◌, ap, subst, set-set, drop-cons, suc, add-one, arith}
 use Rattle.std.proofs.lemmas.List.{drop_of_length-le}
 use Rattle.conversation.specs.declared.sessions.Session.{Session}
@@ -10,9 +10,6 @@ use Rattle.run_words.specs.Ways.{Goes, Leads}
 use Rattle.run_words.specs.declared.stops.Stop.{Stop}
 use Rattle.script_lang.specs.declared.steps.Step.{Step}
 use Rattle.plain_meaning.specs.Steps.{number_of, turn, talk}
-
-pub put_back : (sessions taken now : List Session) (number : ℕ) (after : Session) → taken ≡ with_session sessions number Idle → now ≡ with_session taken number after → now ≡ with_session sessions number after
-put_back sessions taken now number after e f = f ∙ ap (λ w. with_session w number after) e ∙ set-set sessions (number - 1) Idle after
 
 split : (steps : List Step) (i : ℕ) (step d : Step) → i < length steps → step ≡ get_or steps i d → drop i steps ≡ step ∷ drop (i + 1) steps
 split steps i step d lt e = rw add-one (drop-cons steps i d lt ∙ ap (λ s. s ∷ drop (suc i) steps) (sym e))

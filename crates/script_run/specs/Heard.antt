@@ -24,6 +24,14 @@ is_reading (Pending pending) = false
 is_reading Sent = false
 is_reading (Skipping columns count) = false
 
+abbrev pub is_skipping : Session → Bool
+is_skipping (Skipping columns count) = true
+is_skipping (Reading columns keys count) = false
+is_skipping Idle = false
+is_skipping (Begun batch) = false
+is_skipping (Pending pending) = false
+is_skipping Sent = false
+
 -- why a call that halts stops the run
 abbrev pub stop_of : Halt → Stop
 stop_of halt.EntropyFault = stop.EntropyFault
@@ -43,16 +51,16 @@ IsOfFirst (answer.Rows count) = ⊥
 IsOfFirst answer.Skipped = ⊥
 IsOfFirst answer.Over = ⊥
 
-abbrev pub FirstIs : First → ReplyAnswer → Session → Type 0
-FirstIs x (answer.Header titles) after = x ≡ first.Shows titles after
-FirstIs x (answer.Failed f) after = x ≡ first.Skips f after
-FirstIs x (answer.Changed count) after = x ≡ first.Says (outcome.Changed count) after
-FirstIs x answer.Defined after = x ≡ first.Says outcome.Defined after
-FirstIs x (answer.Refused f) after = x ≡ first.Says (outcome.Refused f) after
-FirstIs x (answer.Row values) after = ⊥
-FirstIs x (answer.Rows count) after = ⊥
-FirstIs x answer.Skipped after = ⊥
-FirstIs x answer.Over after = ⊥
+abbrev pub FirstIs : First → ReplyAnswer → Type 0
+FirstIs x (answer.Header titles) = x ≡ first.Shows titles
+FirstIs x (answer.Failed f) = x ≡ first.Skips f
+FirstIs x (answer.Changed count) = x ≡ first.Says (outcome.Changed count)
+FirstIs x answer.Defined = x ≡ first.Says outcome.Defined
+FirstIs x (answer.Refused f) = x ≡ first.Says (outcome.Refused f)
+FirstIs x (answer.Row values) = ⊥
+FirstIs x (answer.Rows count) = ⊥
+FirstIs x answer.Skipped = ⊥
+FirstIs x answer.Over = ⊥
 
 -- what was made of a hearing
 abbrev pub HeardAs : RowHeard → Listing → Session → Hearing → Type 0

@@ -1,5 +1,5 @@
 -- How a conversation goes on behind what was heard, and what is known of the session after it.
-use Rattle.std.specs.Prelude.{◌≡◌, List, [], ◌∷◌}
+use Rattle.std.specs.Prelude.{◌≡◌, List, [], ◌∷◌, Option}
 use Rattle.wire_messages.specs.declared.replies.Reply.{Reply}
 use Rattle.conversation.specs.declared.answers.DescribeAnswer.{DescribeAnswer}
 use Rattle.conversation.specs.declared.answers.DescribeAnswer.TheVariants as describe_answer
@@ -9,11 +9,10 @@ use Rattle.conversation.specs.declared.outcomes.Outcome.{Outcome}
 use Rattle.conversation.specs.declared.outcomes.Outcome.TheVariants.{Failed}
 use Rattle.conversation.specs.declared.sessions.Session.{Session}
 use Rattle.conversation.specs.declared.sessions.Session.TheVariants.{Idle, Begun, Pending, Sent, Reading, Skipping}
-use Rattle.conversation.specs.declared.sessions.Turn.{Turn}
 use Rattle.conversation.specs.Pending as told
 use Rattle.conversation.specs.Pending.{uses_of}
 use Rattle.conversation.specs.Sessions.{described_params}
-use Rattle.conversation.specs.Talk.{Talk, Hears, Prints, Heard, Said, described_outcome}
+use Rattle.conversation.specs.Talk.{Talk, Hears, Prints, Heard, Said, printing, described_outcome}
 use Rattle.conversation.specs.Turns.{rested, rows_on, pending_on}
 use Rattle.script_run.specs.declared.around.First.{First}
 use Rattle.script_run.specs.declared.around.First.TheVariants as first
@@ -51,33 +50,37 @@ IsLeft [] = ⊥
 IsLeft (reply ∷ waiting) = Unit {0}
 
 -- where rows are shown, they are awaited
-abbrev pub shown_first : First → Type 0
-shown_first (first.Shows titles after) = IsRows after
-shown_first (first.Skips f after) = Unit {0}
-shown_first (first.Says comes after) = Unit {0}
+abbrev pub shown_first : Session → First → Type 0
+shown_first after (first.Shows titles) = IsRows after
+shown_first after (first.Skips f) = Unit {0}
+shown_first after (first.Says comes) = Unit {0}
 
 -- where more is awaited, it is rows
 abbrev pub RowsStay : Session → RowHeard → Type 0
 RowsStay after row.More = IsRows after
 RowsStay after (row.Said comes) = Unit {0}
 
-abbrev pub told_on : (Heard → Talk) → Turn DescribeAnswer → Talk
-told_on f turn = f (Said (described_outcome turn.answer) turn.after)
+-- what was heard is printed, and it goes on with the session
+abbrev pub PrintsThen : (Heard → Talk) → (Session → Talk) → Type 0
+PrintsThen f k = (comes : Option Outcome) (after : Session) → f (Said comes after) ≡ printing comes (k after)
 
-abbrev pub first_on : (Session → Talk) → First → Talk
-first_on k (first.Shows titles after) = Hears after (record { titles = titles; rows = [] }) (rows_on k)
-first_on k (first.Skips f after) = Prints (Failed f) (rested k after)
-first_on k (first.Says comes after) = Prints comes (k after)
+abbrev pub told_on : (Heard → Talk) → Session → DescribeAnswer → Talk
+told_on f after a = f (Said (described_outcome a) after)
+
+abbrev pub first_on : (Session → Talk) → Session → First → Talk
+first_on k after (first.Shows titles) = Hears after (record { titles = titles; rows = [] }) (rows_on k)
+first_on k after (first.Skips f) = Prints (Failed f) (rested k after)
+first_on k after (first.Says comes) = Prints comes (k after)
 
 abbrev pub row_on : (Heard → Talk) → Session → Listing → RowHeard → Talk
 row_on f after shown row.More = Hears after shown f
 row_on f after shown (row.Said comes) = f (Said comes after)
 
 -- a batch is described, or it isn't
-abbrev pub ready_on : (told.Pending → Talk) → (Session → Talk) → Described → Talk
-ready_on ready k (described.Ready after params) = pending_on ready k after
-ready_on ready k (described.Refused after) = k after
+abbrev pub ready_on : (told.Pending → Talk) → (Session → Talk) → Session → Described → Talk
+ready_on ready k after (described.Ready params) = pending_on ready k after
+ready_on ready k after described.Refused = k after
 
-abbrev pub IsReady : Described → Type 0
-IsReady (described.Ready after params) = (p : told.Pending) × (after ≡ Pending p) × (params ≡ described_params p.keys (uses_of p))
-IsReady (described.Refused after) = Unit {0}
+abbrev pub IsReady : Session → Described → Type 0
+IsReady after (described.Ready params) = (p : told.Pending) × (after ≡ Pending p) × (params ≡ described_params p.keys (uses_of p))
+IsReady after described.Refused = Unit {0}

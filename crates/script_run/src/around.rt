@@ -8,35 +8,32 @@ ghost use Rattle.wire_messages.specs.declared.requests.Request.{Request};
 ghost use Rattle.conversation.specs.declared.faults.DriverFault.{DriverFault};
 ghost use Rattle.conversation.specs.declared.sessions.Session.{Session};
 ghost use Rattle.conversation.specs.declared.sessions.Session.TheVariants as session_of;
-ghost use Rattle.conversation.specs.Sessions as held;
 ghost use Rattle.conversation.specs.Talk.{Talk, Asks, Hears, Prints, Heard, nothing_shown};
 ghost use Rattle.conversation.specs.Turns as turns;
-ghost use Rattle.driver.specs.Calls.{Comes};
 ghost use Rattle.run_words.specs.Shares.{Outside};
 ghost use Rattle.run_words.specs.Ways.{Leads};
 ghost use Rattle.script_run.specs.Onward.{IsBegun, IsRows, IsDescribed, RowsStay, IsLeft, shown_first, told_on, first_on, row_on};
 
-use ae_base::batches::Batch;
 use ae_base::lists::Seq;
 use ae_base::names::Title;
 use ae_base::sessions::SessionId;
 use conversation::answers::DescribeAnswer;
 use conversation::faults::DriverFault;
 use conversation::outcomes::{Listing, Outcome};
-use conversation::sessions::{Session, Turn};
+use conversation::sessions::Session;
 use run_words::stops::Stop;
-use std::alloc::{AllocError, Global};
+use std::alloc::Global;
 use wire_messages::requests::Request;
 
-/// The first reply to an execution, and the session after it.
+/// The first reply to an execution.
 #[derive(Drop)]
 pub enum First {
     /// Rows follow, under these titles.
-    Shows(Seq<Title>, Session),
+    Shows(Seq<Title>),
     /// A key of a column wasn't opened, and rows follow that are skipped.
-    Skips(DriverFault, Session),
+    Skips(DriverFault),
     /// That is all.
-    Says(Outcome, Session),
+    Says(Outcome),
 }
 
 /// What a reply says while rows are awaited.
@@ -54,16 +51,6 @@ pub trait Around {
 
     /// The keys that the driver keeps.
     ghost kept: { Self → List (Origin × List ℕ) };
-
-    /// Begins a batch: the request to describe it.
-    fn begin<'r>(
-        &self,
-        alloc: Global,
-        session: Session,
-        number: SessionId,
-        batch: Batch,
-    ) -> Turn<Result<Result<Request<'r>, DriverFault>, AllocError>>
-        ensures { Comes result.answer (held.begin session number batch) session result.after };
 
     /// Asks a request.
     fn ask(&mut self, alloc: Global, request: &Request<'_>) -> Result<(), Stop>
@@ -85,32 +72,32 @@ pub trait Around {
     fn execute<'r>(
         &mut self,
         alloc: Global,
-        session: Session,
+        session: &mut Session,
         number: SessionId,
-    ) -> Result<Turn<Result<Request<'r>, DriverFault>>, Stop>
+    ) -> Result<Result<Request<'r>, DriverFault>, Stop>
         requires { IsOf (outside self.old).desk.keys (kept self.old) }
-        ensures leads { (k : Result Request DriverFault → Session → Talk) → Leads result (turns.execute number session k) (λ turn. k turn.answer turn.after) (outside self.old) (outside self.new) }
-        ensures sent { IfOk result (λ turn. IfOk turn.answer (λ request. turn.after ≡ session_of.Sent)) }
+        ensures leads { (k : Result Request DriverFault → Session → Talk) → Leads result (turns.execute number session.old k) (λ answer. k answer session.new) (outside self.old) (outside self.new) }
+        ensures sent { IfOk result (λ answer. IfOk answer (λ request. session.new ≡ session_of.Sent)) }
         ensures of_vault { IfOk result (λ _. IsOf (outside self.new).desk.keys (kept self.new)) };
 
     /// Hears the description of a batch.
     fn hear_description(
         &mut self,
         alloc: Global,
-        session: Session,
-    ) -> Result<Turn<DescribeAnswer>, Stop>
-        requires begun { IsBegun session }
+        session: &mut Session,
+    ) -> Result<DescribeAnswer, Stop>
+        requires begun { IsBegun session.old }
         requires of_vault { IsOf (outside self.old).desk.keys (kept self.old) }
-        ensures leads { (f : Heard → Talk) → Leads result (Hears session nothing_shown f) (told_on f) (outside self.old) (outside self.new) }
-        ensures described { IfOk result (λ turn. IsDescribed turn.answer turn.after) }
+        ensures leads { (f : Heard → Talk) → Leads result (Hears session.old nothing_shown f) (told_on f session.new) (outside self.old) (outside self.new) }
+        ensures described { IfOk result (λ answer. IsDescribed answer session.new) }
         ensures of_vault { IfOk result (λ _. IsOf (outside self.new).desk.keys (kept self.new)) };
 
     /// Hears the first reply to an execution.
-    fn hear_answer(&mut self, alloc: Global, session: Session) -> Result<First, Stop>
-        requires sent { session ≡ session_of.Sent }
+    fn hear_answer(&mut self, alloc: Global, session: &mut Session) -> Result<First, Stop>
+        requires sent { session.old ≡ session_of.Sent }
         requires of_vault { IsOf (outside self.old).desk.keys (kept self.old) }
-        ensures leads { (k : Session → Talk) → Leads result (Hears session nothing_shown (turns.answered_on k)) (first_on k) (outside self.old) (outside self.new) }
-        ensures rows { IfOk result shown_first }
+        ensures leads { (k : Session → Talk) → Leads result (Hears session.old nothing_shown (turns.answered_on k)) (first_on k session.new) (outside self.old) (outside self.new) }
+        ensures rows { IfOk result (shown_first session.new) }
         ensures of_vault { IfOk result (λ _. IsOf (outside self.new).desk.keys (kept self.new)) };
 
     /// Hears one more reply where rows are awaited. A listing that breaks off is printed.

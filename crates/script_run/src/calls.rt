@@ -1,11 +1,10 @@
-ghost use Rattle.std.specs.Prelude.{◌≡◌, ℕ, List, IfOk};
-ghost use Rattle.ae_edge.specs.Vaults.{KeyMap};
+//! The driver's calls on a session that is lent.
+
+ghost use Rattle.std.specs.Prelude.{◌≡◌};
 ghost use Rattle.key_store.specs.Stores.{IsOf};
-ghost use Rattle.key_store.specs.declared.origins.Origin.{Origin};
-ghost use Rattle.conversation.specs.Devices.{Devices, with_vault};
+ghost use Rattle.conversation.specs.Devices.{Devices, devices, with_vault};
 ghost use Rattle.conversation.specs.Sessions as held;
-ghost use Rattle.conversation.specs.declared.sessions.Session.TheVariants as session_of;
-ghost use Rattle.driver.specs.Calls.{Comes, Describes, Executes, Replies};
+ghost use Rattle.driver.specs.Calls.{Comes, Describes, Executes, IsSent, Replies};
 
 use ae_base::batches::Batch;
 use ae_base::sessions::SessionId;
@@ -14,59 +13,74 @@ use ae_edge::vaults::Vault;
 use conversation::answers::{DescribeAnswer, ReplyAnswer};
 use conversation::faults::{DriverFault, Halt};
 use conversation::sessions::{Session, Turn};
+use driver::{begin, described, execute, replied};
+use key_store::KeyStore;
 use std::alloc::{AllocError, Global};
+use std::mem;
 use wire_messages::replies::Reply;
 use wire_messages::requests::Request;
 
-/// The calls of a driver on one of its sessions.
-pub trait Calls {
-    /// The keys that it keeps.
-    ghost kept: { Self → List (Origin × List ℕ) };
+/// Begins a batch: the request to describe it.
+pub fn begin_in<'r>(
+    alloc: Global,
+    session: &mut Session,
+    number: SessionId,
+    batch: Batch,
+) -> Result<Result<Request<'r>, DriverFault>, AllocError>
+    ensures { Comes result (held.begin session.old number batch) session.old session.new }
+{
+    let Turn { answer, after } = begin(alloc, mem::replace(session, Session::Idle), number, batch);
+    *session = after;
+    answer
+}
 
-    /// Begins a batch: the request to describe it.
-    fn begin<'r>(
-        &self,
-        alloc: Global,
-        session: Session,
-        number: SessionId,
-        batch: Batch,
-    ) -> Turn<Result<Result<Request<'r>, DriverFault>, AllocError>>
-        ensures { Comes result.answer (held.begin session number batch) session result.after };
+/// Takes the reply to the request to describe a batch.
+pub fn described_in(
+    alloc: Global,
+    session: &mut Session,
+    reply: &Reply<'_>,
+) -> Result<DescribeAnswer, Halt>
+    ensures { Describes result (held.described session.old reply.now) session.old session.new }
+{
+    let Turn { answer, after } = described(alloc, mem::replace(session, Session::Idle), reply);
+    *session = after;
+    answer
+}
 
-    /// Takes the reply to the request to describe a batch.
-    fn described(
-        &self,
-        alloc: Global,
-        session: Session,
-        reply: &Reply<'_>,
-    ) -> Turn<Result<DescribeAnswer, Halt>>
-        ensures { Describes result.answer (held.described session reply.now) session result.after };
+/// Executes what is pending: the request.
+pub fn execute_in<'r, V: Vault, E: Entropy>(
+    alloc: Global,
+    store: &mut KeyStore,
+    vault: &mut V,
+    entropy: &mut E,
+    session: &mut Session,
+    number: SessionId,
+) -> Result<Result<Request<'r>, DriverFault>, Halt>
+    requires { IsOf (V.keys vault.old) store.old }
+    ensures executes { Executes result number session.old session.new (devices (E.to_come entropy.old) (E.faults entropy.old) (E.names entropy.old) (V.keys vault.old) (V.faults vault.old) (V.names vault.old)) (devices (E.to_come entropy.new) (E.faults entropy.new) (E.names entropy.new) (V.keys vault.new) (V.faults vault.new) (V.names vault.new)) }
+    ensures sent { IsSent result session.new }
+    ensures of_vault { IsOf (V.keys vault.new) store.new }
+{
+    let before = mem::replace(session, Session::Idle);
+    let Turn { answer, after } = execute(alloc, store, vault, entropy, before, number);
+    *session = after;
+    answer
+}
 
-    /// Executes what is pending: the request.
-    fn execute<'r, V: Vault, E: Entropy>(
-        &mut self,
-        alloc: Global,
-        session: Session,
-        number: SessionId,
-        vault: &mut V,
-        entropy: &mut E,
-    ) -> Turn<Result<Result<Request<'r>, DriverFault>, Halt>>
-        requires { IsOf (V.keys vault.old) (kept self.old) }
-        ensures executes { Executes result.answer number session result.after
-            (record { entropy = E.to_come entropy.old; keys = V.keys vault.old; entropy_faults = E.faults entropy.old; vault_faults = V.faults vault.old; entropy_names = E.names entropy.old; vault_names = V.names vault.old })
-            (record { entropy = E.to_come entropy.new; keys = V.keys vault.new; entropy_faults = E.faults entropy.new; vault_faults = V.faults vault.new; entropy_names = E.names entropy.new; vault_names = V.names vault.new }) }
-        ensures sent { IfOk result.answer (λ asked. IfOk asked (λ request. result.after ≡ session_of.Sent)) }
-        ensures of_vault { IsOf (V.keys vault.new) (kept self.new) };
-
-    /// Takes a reply to the execution of a batch.
-    fn replied<V: Vault>(
-        &mut self,
-        alloc: Global,
-        session: Session,
-        reply: &Reply<'_>,
-        vault: &mut V,
-    ) -> Turn<Result<ReplyAnswer, Halt>>
-        requires { IsOf (V.keys vault.old) (kept self.old) }
-        ensures replies { (beside : Devices) → Replies result.answer (held.replied session reply.now) session result.after (with_vault beside (V.keys vault.old) (V.faults vault.old) (V.names vault.old)) (with_vault beside (V.keys vault.new) (V.faults vault.new) (V.names vault.new)) }
-        ensures of_vault { IsOf (V.keys vault.new) (kept self.new) };
+/// Takes a reply to the execution of a batch.
+pub fn replied_in<V: Vault>(
+    alloc: Global,
+    store: &mut KeyStore,
+    vault: &mut V,
+    session: &mut Session,
+    reply: &Reply<'_>,
+) -> Result<ReplyAnswer, Halt>
+    requires { IsOf (V.keys vault.old) store.old }
+    ensures replies { (beside : Devices) → Replies result (held.replied session.old reply.now) session.old session.new (with_vault beside (V.keys vault.old) (V.faults vault.old) (V.names vault.old)) (with_vault beside (V.keys vault.new) (V.faults vault.new) (V.names vault.new)) }
+    ensures of_vault { IsOf (V.keys vault.new) store.new }
+{
+    let before = mem::replace(session, Session::Idle);
+    let Turn { answer, after } = replied(alloc, store, vault, before, reply);
+    *session = after;
+    answer
 }

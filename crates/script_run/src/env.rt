@@ -1,51 +1,87 @@
 //! All that a run touches.
 
-ghost use Rattle.std.specs.Prelude.{◌≡◌, Option, OnOk};
+ghost use Rattle.std.specs.Prelude.{◌≡◌, ◌+◌, ◌||◌, Option, IfOk, MatchResult, length, string_bytes};
 ghost use Rattle.key_store.specs.Stores.{IsOf};
 ghost use Rattle.wire_messages.specs.declared.replies.Reply.{Reply};
-ghost use Rattle.conversation.specs.declared.outcomes.Outcome.TheVariants as outcome;
 ghost use Rattle.conversation.specs.declared.sessions.Session.{Session};
 ghost use Rattle.conversation.specs.Paths.{IsStray, next_of};
-ghost use Rattle.conversation.specs.Talk.{Talk, Hears, Heard, Stops, broken};
+ghost use Rattle.conversation.specs.Sessions.{Tells};
+ghost use Rattle.conversation.specs.Talk.{Talk, Hears, Heard, heard_answer};
+ghost use Rattle.run_words.specs.Printing as printing;
+ghost use Rattle.run_words.specs.declared.stops.Stop.TheVariants as stop_is;
+ghost use Rattle.wire_frames.specs.Spelling.{reply_frame};
+ghost use Rattle.script_run.specs.Frames.{PutsBytes};
 ghost use Rattle.run_words.specs.Shares.{Outside, Desk};
 ghost use Rattle.run_words.specs.Ways.{Fails};
-ghost use Rattle.script_run.specs.Heard.{is_reading};
+ghost use Rattle.script_run.specs.Heard.{HeardAs, is_reading};
 ghost use Rattle.script_run.specs.Onward.{IsRows};
 ghost use Rattle.script_run.specs.Desks.{desk};
 
 use crate::around::{Around, First, RowHeard};
-use crate::calls::Calls;
+use crate::calls::{described_in, execute_in, replied_in};
 use crate::hearing::{first_of, is_reading, row_heard, stop_of};
 use crate::lines::{Line, Sent, behind};
-use ae_base::batches::Batch;
 use ae_base::sessions::SessionId;
 use ae_edge::entropies::Entropy;
 use ae_edge::sinks::Sink;
 use ae_edge::streams::{PutAll, put_all};
 use ae_edge::vaults::Vault;
-use conversation::answers::DescribeAnswer;
+use conversation::answers::{DescribeAnswer, ReplyAnswer};
 use conversation::faults::{DriverFault, Halt};
 use conversation::outcomes::{Listing, Outcome};
-use conversation::sessions::{Session, Turn};
+use conversation::sessions::Session;
+use key_store::KeyStore;
 use run_words::stops::Stop;
 use run_words::texts::{is_refusal, listing_text, text_of};
 use std::alloc::{AllocError, Global};
-use std::mem;
+use wire_messages::replies::Reply;
 use wire_messages::requests::Request;
+
+/// Puts a text.
+fn put_text<W: Sink>(out: &mut W, text: String) -> PutAll
+    ensures puts { PutsBytes result (string_bytes text) (W.held out.old) (W.held out.new) (W.faults out.old) (W.faults out.new) }
+    ensures same { W.names out.new ≡ W.names out.old }
+{
+    put_all(out, text.as_bytes())
+}
+
+/// Whether a refusal was printed by now.
+fn or_refusal(refused: bool, outcome: &Outcome) -> bool
+    ensures { result ≡ refused || printing.is_refusal outcome.now }
+{
+    refused || is_refusal(outcome)
+}
+
+/// The place behind the frame of the reply that is taken next.
+fn next_place<L: Line>(alloc: Global, line: &L, reply: &Reply<'_>) -> Result<u64, AllocError>
+    ensures { IfOk result (λ n. n ≡ (L.wire line.now).taken + length (reply_frame reply.now)) }
+{
+    behind(alloc, line.place(), reply)
+}
+
+/// What a reply says while rows are awaited, or there is no memory for it.
+fn row_or_stop(alloc: Global, answer: ReplyAnswer, shown: &mut Listing) -> Result<RowHeard, Stop>
+    ensures { (after : Session) → MatchResult result (λ h. HeardAs h shown.new after (heard_answer shown.old (Tells answer after))) (λ stop. stop ≡ stop_is.OutOfMemory) }
+{
+    match row_heard(alloc, answer, shown) {
+        Ok(heard) => Ok(heard),
+        Err(_) => Err(Stop::OutOfMemory),
+    }
+}
 
 /// All that a run touches.
 #[derive(Drop)]
-pub struct Env<'a, W: Sink, E: Entropy, V: Vault, L: Line, C: Calls> {
+pub struct Env<'a, W: Sink, E: Entropy, V: Vault, L: Line> {
     pub out: W,
     pub entropy: E,
     pub vault: V,
     /// Whether a refusal was printed.
     pub refused: bool,
     pub line: L,
-    pub calls: &'a mut C,
+    pub store: &'a mut KeyStore,
 }
 
-impl<W: Sink, E: Entropy, V: Vault, L: Line, C: Calls> Around for Env<'_, W, E, V, L, C> {
+impl<W: Sink, E: Entropy, V: Vault, L: Line> Around for Env<'_, W, E, V, L> {
     ghost outside = { λ e. record {
       desk = record {
         out_names = W.names e.out;
@@ -62,17 +98,7 @@ impl<W: Sink, E: Entropy, V: Vault, L: Line, C: Calls> Around for Env<'_, W, E, 
       wire = L.wire e.line;
     } };
 
-    ghost kept = { λ e. C.kept e.calls.now };
-
-    fn begin<'r>(
-        &self,
-        alloc: Global,
-        session: Session,
-        number: SessionId,
-        batch: Batch,
-    ) -> Turn<Result<Result<Request<'r>, DriverFault>, AllocError>> {
-        self.calls.begin(alloc, session, number, batch)
-    }
+    ghost kept = { λ e. e.store.now };
 
     fn ask(&mut self, alloc: Global, request: &Request<'_>) -> Result<(), Stop> {
         match self.line.ask(alloc, request) {
@@ -94,9 +120,9 @@ impl<W: Sink, E: Entropy, V: Vault, L: Line, C: Calls> Around for Env<'_, W, E, 
             Ok(text) => text,
             Err(_) => return Err(Stop::OutOfMemory),
         };
-        match put_all(&mut self.out, text.as_bytes()) {
+        match put_text(&mut self.out, text) {
             PutAll::Whole => {
-                self.refused |= is_refusal(outcome);
+                self.refused = or_refusal(self.refused, outcome);
                 Ok(())
             }
             PutAll::WriteFault => Err(Stop::WriteFault),
@@ -107,17 +133,18 @@ impl<W: Sink, E: Entropy, V: Vault, L: Line, C: Calls> Around for Env<'_, W, E, 
     fn execute<'r>(
         &mut self,
         alloc: Global,
-        session: Session,
+        session: &mut Session,
         number: SessionId,
-    ) -> Result<Turn<Result<Request<'r>, DriverFault>>, Stop> {
-        let turn = self
-            .calls
-            .execute(alloc, session, number, &mut self.vault, &mut self.entropy);
-        match turn.answer {
-            Ok(answer) => Ok(Turn {
-                answer,
-                after: turn.after,
-            }),
+    ) -> Result<Result<Request<'r>, DriverFault>, Stop> {
+        match execute_in(
+            alloc,
+            self.store,
+            &mut self.vault,
+            &mut self.entropy,
+            session,
+            number,
+        ) {
+            Ok(answer) => Ok(answer),
             Err(halt) => Err(stop_of(halt)),
         }
     }
@@ -125,42 +152,39 @@ impl<W: Sink, E: Entropy, V: Vault, L: Line, C: Calls> Around for Env<'_, W, E, 
     fn hear_description(
         &mut self,
         alloc: Global,
-        session: Session,
-    ) -> Result<Turn<DescribeAnswer>, Stop> {
-        let Some(reply) = self.line.front() else {
-            return Err(Stop::BadReply(self.line.place()));
+        session: &mut Session,
+    ) -> Result<DescribeAnswer, Stop> {
+        let reply = match self.line.front() {
+            Some(reply) => reply,
+            None => return Err(Stop::BadReply(self.line.place())),
         };
-        let place = match behind(alloc, self.line.place(), reply) {
+        let place = match next_place(alloc, &self.line, reply) {
             Ok(place) => place,
             Err(_) => return Err(Stop::OutOfMemory),
         };
-        let turn = self.calls.described(alloc, session, reply);
-        match turn.answer {
+        match described_in(alloc, session, reply) {
             Ok(answer) => {
                 self.line.take(place);
-                Ok(Turn {
-                    answer,
-                    after: turn.after,
-                })
+                Ok(answer)
             }
             Err(Halt::BadReply) => Err(Stop::BadReply(self.line.place())),
             Err(_) => Err(Stop::OutOfMemory),
         }
     }
 
-    fn hear_answer(&mut self, alloc: Global, session: Session) -> Result<First, Stop> {
-        let Some(reply) = self.line.front() else {
-            return Err(Stop::BadReply(self.line.place()));
+    fn hear_answer(&mut self, alloc: Global, session: &mut Session) -> Result<First, Stop> {
+        let reply = match self.line.front() {
+            Some(reply) => reply,
+            None => return Err(Stop::BadReply(self.line.place())),
         };
-        let place = match behind(alloc, self.line.place(), reply) {
+        let place = match next_place(alloc, &self.line, reply) {
             Ok(place) => place,
             Err(_) => return Err(Stop::OutOfMemory),
         };
-        let turn = self.calls.replied(alloc, session, reply, &mut self.vault);
-        match turn.answer {
+        match replied_in(alloc, self.store, &mut self.vault, session, reply) {
             Ok(answer) => {
                 self.line.take(place);
-                Ok(first_of(answer, turn.after))
+                Ok(first_of(answer))
             }
             Err(Halt::BadReply) => Err(Stop::BadReply(self.line.place())),
             Err(halt) => {
@@ -177,23 +201,18 @@ impl<W: Sink, E: Entropy, V: Vault, L: Line, C: Calls> Around for Env<'_, W, E, 
         shown: &mut Listing,
     ) -> Result<RowHeard, Stop> {
         let reads = is_reading(session);
-        let Some(reply) = self.line.front() else {
-            return Err(self.stray(alloc, reads, shown));
+        let reply = match self.line.front() {
+            Some(reply) => reply,
+            None => return Err(self.stray(alloc, reads, shown)),
         };
-        let place = match behind(alloc, self.line.place(), reply) {
+        let place = match next_place(alloc, &self.line, reply) {
             Ok(place) => place,
             Err(_) => return Err(Stop::OutOfMemory),
         };
-        let before = mem::replace(session, Session::Idle);
-        let turn = self.calls.replied(alloc, before, reply, &mut self.vault);
-        *session = turn.after;
-        match turn.answer {
+        match replied_in(alloc, self.store, &mut self.vault, session, reply) {
             Ok(answer) => {
                 self.line.take(place);
-                match row_heard(alloc, answer, shown) {
-                    Ok(heard) => Ok(heard),
-                    Err(_) => Err(Stop::OutOfMemory),
-                }
+                row_or_stop(alloc, answer, shown)
             }
             Err(Halt::BadReply) => Err(self.stray(alloc, reads, shown)),
             Err(_) => Err(Stop::OutOfMemory),
@@ -201,7 +220,7 @@ impl<W: Sink, E: Entropy, V: Vault, L: Line, C: Calls> Around for Env<'_, W, E, 
     }
 }
 
-impl<W: Sink, E: Entropy, V: Vault, L: Line, C: Calls> Env<'_, W, E, V, L, C> {
+impl<W: Sink, E: Entropy, V: Vault, L: Line> Env<'_, W, E, V, L> {
     /// Puts what an answer came to before it broke off, and says where the reply begins that isn't
     /// awaited.
     fn stray(&mut self, alloc: Global, reads: bool, shown: &Listing) -> Stop
@@ -218,7 +237,7 @@ impl<W: Sink, E: Entropy, V: Vault, L: Line, C: Calls> Env<'_, W, E, V, L, C> {
             Ok(text) => text,
             Err(_) => return Stop::OutOfMemory,
         };
-        match put_all(&mut self.out, text.as_bytes()) {
+        match put_text(&mut self.out, text) {
             PutAll::Whole => Stop::BadReply(self.line.place()),
             PutAll::WriteFault => Stop::WriteFault,
             PutAll::OutOfMemory => Stop::OutOfMemory,

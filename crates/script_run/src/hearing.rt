@@ -6,7 +6,7 @@ ghost use Rattle.conversation.specs.declared.faults.Halt.{Halt};
 ghost use Rattle.conversation.specs.declared.sessions.Session.{Session};
 ghost use Rattle.conversation.specs.Sessions.{Tells};
 ghost use Rattle.conversation.specs.Talk.{heard_answer};
-ghost use Rattle.script_run.specs.Heard.{IsOfFirst, FirstIs, HeardAs, is_reading, stop_of};
+ghost use Rattle.script_run.specs.Heard.{IsOfFirst, FirstIs, HeardAs, is_reading, is_skipping, stop_of};
 
 use crate::around::{First, RowHeard};
 use ae_base::lists::Seq;
@@ -32,6 +32,20 @@ pub fn is_reading(session: &Session) -> bool
     }
 }
 
+/// Whether rows are skipped.
+pub fn is_skipping(session: &Session) -> bool
+    ensures { result ≡ is_skipping session.now }
+{
+    match session {
+        Session::Skipping { .. } => true,
+        Session::Idle
+        | Session::Begun(_)
+        | Session::Pending(_)
+        | Session::Sent
+        | Session::Reading { .. } => false,
+    }
+}
+
 /// Why a call of the driver that halts stops the run.
 pub fn stop_of(halt: Halt) -> Stop
     ensures { result ≡ stop_of halt }
@@ -44,16 +58,16 @@ pub fn stop_of(halt: Halt) -> Stop
 }
 
 /// What the first reply to an execution says.
-pub fn first_of(answer: ReplyAnswer, after: Session) -> First
+pub fn first_of(answer: ReplyAnswer) -> First
     requires { IsOfFirst answer }
-    ensures { FirstIs result answer after }
+    ensures { FirstIs result answer }
 {
     match answer {
-        ReplyAnswer::Header(titles) => First::Shows(titles, after),
-        ReplyAnswer::Failed(fault) => First::Skips(fault, after),
-        ReplyAnswer::Changed(count) => First::Says(Outcome::Changed(count), after),
-        ReplyAnswer::Defined => First::Says(Outcome::Defined, after),
-        ReplyAnswer::Refused(fault) => First::Says(Outcome::Refused(fault), after),
+        ReplyAnswer::Header(titles) => First::Shows(titles),
+        ReplyAnswer::Failed(fault) => First::Skips(fault),
+        ReplyAnswer::Changed(count) => First::Says(Outcome::Changed(count)),
+        ReplyAnswer::Defined => First::Says(Outcome::Defined),
+        ReplyAnswer::Refused(fault) => First::Says(Outcome::Refused(fault)),
         ReplyAnswer::Row(_) | ReplyAnswer::Rows(_) | ReplyAnswer::Skipped | ReplyAnswer::Over => {
             unreachable!()
         }

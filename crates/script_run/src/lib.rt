@@ -3,7 +3,7 @@
 #![tactic(auto)]
 
 pub mod around;
-pub mod calls;
+mod calls;
 pub mod env;
 mod hearing;
 pub mod lines;

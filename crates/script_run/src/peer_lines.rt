@@ -2,9 +2,9 @@
 
 ghost use Rattle.std.specs.Prelude.{◌≡◌, ◌++◌, ◌∷◌, ◌≤◌, [], List, ℕ, OnOk, flat_map};
 ghost use Rattle.ae_edge.specs.Devices.{Adds, AddsFront, Rose};
-ghost use Rattle.wire_spelling.specs.Spelling.{request_frame, reply_frame};
+ghost use Rattle.wire_frames.specs.Spelling.{request_frame, reply_frame};
 ghost use Rattle.run_words.specs.Shares.{Wire};
-ghost use Rattle.script_run.specs.Frames.{PutsFrames};
+ghost use Rattle.script_run.specs.Frames.{PutsBytes};
 
 use crate::lines::{Line, Sent};
 use ae_base::lists::Seq;
@@ -13,7 +13,7 @@ use ae_edge::streams::{PutAll, put_all};
 use server_core::peers::Peer;
 use std::alloc::Global;
 use std::collections::VecDeque;
-use wire_spelling::{push_reply, push_request};
+use wire_frames::{push_reply, push_request};
 use wire_messages::replies::Reply;
 use wire_messages::requests::Request;
 
@@ -28,7 +28,7 @@ pub struct PeerLine<'a, T: Sink, P: Peer> {
 
 /// Puts the frame of a request.
 fn put_request<T: Sink>(frame: &mut Vec<u8>, tap: &mut T, request: &Request<'_>) -> PutAll
-    ensures puts { PutsFrames result (request_frame request.now) (T.held tap.old) (T.held tap.new) (T.faults tap.old) (T.faults tap.new) }
+    ensures puts { PutsBytes result (request_frame request.now) (T.held tap.old) (T.held tap.new) (T.faults tap.old) (T.faults tap.new) }
     ensures same { T.names tap.new ≡ T.names tap.old }
 {
     frame.clear();
@@ -40,7 +40,7 @@ fn put_request<T: Sink>(frame: &mut Vec<u8>, tap: &mut T, request: &Request<'_>)
 
 /// Puts the frame of a reply.
 fn put_reply<T: Sink>(frame: &mut Vec<u8>, tap: &mut T, reply: &Reply<'_>) -> PutAll
-    ensures puts { PutsFrames result (reply_frame reply.now) (T.held tap.old) (T.held tap.new) (T.faults tap.old) (T.faults tap.new) }
+    ensures puts { PutsBytes result (reply_frame reply.now) (T.held tap.old) (T.held tap.new) (T.faults tap.old) (T.faults tap.new) }
     ensures same { T.names tap.new ≡ T.names tap.old }
 {
     frame.clear();
@@ -52,7 +52,7 @@ fn put_reply<T: Sink>(frame: &mut Vec<u8>, tap: &mut T, reply: &Reply<'_>) -> Pu
 
 /// Puts the frames of replies, one after another.
 fn put_replies<T: Sink>(frame: &mut Vec<u8>, tap: &mut T, replies: &[Reply<'static>]) -> PutAll
-    ensures puts { PutsFrames result (flat_map reply_frame replies.now) (T.held tap.old) (T.held tap.new) (T.faults tap.old) (T.faults tap.new) }
+    ensures puts { PutsBytes result (flat_map reply_frame replies.now) (T.held tap.old) (T.held tap.new) (T.faults tap.old) (T.faults tap.new) }
     ensures same { T.names tap.new ≡ T.names tap.old }
 {
     for reply in replies {
@@ -72,7 +72,7 @@ fn put_exchange<T: Sink>(
     request: &Request<'_>,
     replies: &[Reply<'static>],
 ) -> PutAll
-    ensures puts { PutsFrames result (request_frame request.now ++ flat_map reply_frame replies.now) (T.held tap.old) (T.held tap.new) (T.faults tap.old) (T.faults tap.new) }
+    ensures puts { PutsBytes result (request_frame request.now ++ flat_map reply_frame replies.now) (T.held tap.old) (T.held tap.new) (T.faults tap.old) (T.faults tap.new) }
     ensures same { T.names tap.new ≡ T.names tap.old }
 {
     let mut frame = Vec::new(alloc);

@@ -2,13 +2,11 @@
 
 ghost use Rattle.std.specs.Prelude.{◌≡◌, ◌≤◌, ◌⊎◌, ℕ, List, IfSome, length};
 ghost use Rattle.ae_edge.specs.Devices.{Rose, WhereTold};
-ghost use Rattle.key_store.specs.Stores.{IsOf};
 ghost use Rattle.run_words.specs.declared.stops.Stop.TheVariants as stop;
 ghost use Rattle.script_run.specs.declared.runs.Ran.TheVariants as ran;
 ghost use Rattle.script_run.specs.declared.runs.Unread.TheVariants as unread;
 ghost use Rattle.script_run.specs.Ends.{IsRead, RunsScript, TakesScript, most_script_bytes};
 
-use crate::calls::Calls;
 use crate::runs::{Ran, Unread, run_over};
 use ae_base::blobs::Blob;
 use ae_edge::entropies::Entropy;
@@ -23,7 +21,7 @@ use std::alloc::Global;
 /// The most bytes that a script has.
 pub const MOST_SCRIPT_BYTES: usize = 16_777_216;
 
-fn run_bytes<V: Vault, E: Entropy, W: Sink, T: Sink, P: Peer, C: Calls>(
+fn run_bytes<V: Vault, E: Entropy, W: Sink, T: Sink, P: Peer>(
     alloc: Global,
     script: &Blob,
     vault: &mut V,
@@ -31,26 +29,15 @@ fn run_bytes<V: Vault, E: Entropy, W: Sink, T: Sink, P: Peer, C: Calls>(
     out: &mut W,
     tap: &mut T,
     peer: &mut P,
-    calls: &mut C,
 ) -> Ran
     requires within { length script.now ≤ most_script_bytes }
-    requires of_vault { IsOf (V.keys vault.old) (C.kept calls.old) }
     ensures content { RunsScript result script.now
         (record { out = W.held out.old; tap = T.held tap.old; entropy = E.to_come entropy.old; keys = V.keys vault.old; log = P.log peer.old; state = P.state peer.old; out_faults = W.faults out.old; tap_faults = T.faults tap.old; entropy_faults = E.faults entropy.old; vault_faults = V.faults vault.old })
         (record { out = W.held out.new; tap = T.held tap.new; entropy = E.to_come entropy.new; keys = V.keys vault.new; log = P.log peer.new; state = P.state peer.new; out_faults = W.faults out.new; tap_faults = T.faults tap.new; entropy_faults = E.faults entropy.new; vault_faults = V.faults vault.new }) }
     ensures read { IsRead result }
 {
     match read_script(alloc, script.as_slice()) {
-        Ok(steps) => run_over(
-            alloc,
-            steps.as_slice(),
-            vault,
-            entropy,
-            out,
-            tap,
-            peer,
-            calls,
-        ),
+        Ok(steps) => run_over(alloc, steps.as_slice(), vault, entropy, out, tap, peer),
         Err(ScriptFault::BadLine(line)) => Ran::Unread(Unread::BadLine(line)),
         Err(ScriptFault::OutOfMemory) => Ran::Unread(Unread::OutOfMemory),
     }
@@ -59,7 +46,7 @@ fn run_bytes<V: Vault, E: Entropy, W: Sink, T: Sink, P: Peer, C: Calls>(
 /// Reads a script to its end and runs its steps through a driver and the peer: the text goes to
 /// `out`, and every frame to `tap` in the order in which they passed, a step's frames before its
 /// text. A script that can't be read, has a bad line or is too long leaves everything as it was.
-pub fn run<S: Source, V: Vault, E: Entropy, W: Sink, T: Sink, P: Peer, C: Calls>(
+pub fn run<S: Source, V: Vault, E: Entropy, W: Sink, T: Sink, P: Peer>(
     alloc: Global,
     script: &mut S,
     vault: &mut V,
@@ -67,9 +54,7 @@ pub fn run<S: Source, V: Vault, E: Entropy, W: Sink, T: Sink, P: Peer, C: Calls>
     out: &mut W,
     tap: &mut T,
     peer: &mut P,
-    calls: &mut C,
 ) -> Ran
-    requires { IsOf (V.keys vault.old) (C.kept calls.old) }
     // There are bytes, the source's where it tells them, of which this is a run: how far its conversation was followed, what each
     // device has of it, and why it was followed no further.
     ensures content { (bytes : List ℕ) × IfSome (S.left script.old) (λ left. bytes ≡ left) × RunsScript result bytes
@@ -84,7 +69,7 @@ pub fn run<S: Source, V: Vault, E: Entropy, W: Sink, T: Sink, P: Peer, C: Calls>
     ensures vault { result ≡ ran.Stopped stop.VaultFault → Rose (V.faults vault.old) (V.faults vault.new) }
 {
     match read_all(script, alloc, MOST_SCRIPT_BYTES) {
-        ReadAll::Whole(bytes) => run_bytes(alloc, &bytes, vault, entropy, out, tap, peer, calls),
+        ReadAll::Whole(bytes) => run_bytes(alloc, &bytes, vault, entropy, out, tap, peer),
         ReadAll::TooLong => Ran::Unread(Unread::TooLong),
         ReadAll::ReadFault => Ran::Unread(Unread::ReadFault),
         ReadAll::OutOfMemory => Ran::Unread(Unread::OutOfMemory),

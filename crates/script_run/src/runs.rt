@@ -8,7 +8,6 @@ ghost use Rattle.script_run.specs.Ends as ends;
 ghost use Rattle.script_run.specs.Ends.{RunsTo, outside};
 ghost use Rattle.plain_meaning.specs.Steps.{talk};
 
-use crate::calls::Calls;
 use crate::env::Env;
 use crate::peer_lines::PeerLine;
 use crate::steps::{nobody, run_all};
@@ -16,6 +15,7 @@ use ae_edge::entropies::Entropy;
 use ae_edge::sinks::Sink;
 use ae_edge::vaults::Vault;
 use conversation::sessions::Session;
+use key_store::KeyStore;
 use run_words::stops::Stop;
 use script_lang::steps::Step;
 use server_core::peers::Peer;
@@ -48,14 +48,14 @@ pub enum Ran {
 }
 
 /// The same devices are lent after it.
-fn run_lent<W: Sink, T: Sink, E: Entropy, V: Vault, P: Peer, C: Calls>(
+fn run_lent<W: Sink, T: Sink, E: Entropy, V: Vault, P: Peer>(
     alloc: Global,
-    env: &mut Env<'_, &mut W, &mut E, &mut V, PeerLine<'_, &mut T, &mut P>, C>,
+    env: &mut Env<'_, &mut W, &mut E, &mut V, PeerLine<'_, &mut T, &mut P>>,
     sessions: &mut Vec<Session>,
     steps: &[Step],
 ) -> Result<(), Stop>
     requires count { length sessions.old.items ≡ 64 }
-    requires of_vault { IsOf (V.keys env.old.vault.now) (C.kept env.old.calls.now) }
+    requires of_vault { IsOf (V.keys env.old.vault.now) (env.old.store.now) }
     ensures same_out { env.new.out.ghost_name ≡ env.old.out.ghost_name }
     ensures same_entropy { env.new.entropy.ghost_name ≡ env.old.entropy.ghost_name }
     ensures same_vault { env.new.vault.ghost_name ≡ env.old.vault.ghost_name }
@@ -85,7 +85,7 @@ fn ran_of(ended: Result<(), Stop>, refused: bool) -> Ran
 
 /// Runs the steps of a script over a peer: the text goes to `out`, and every frame to `tap` in the
 /// order in which they passed, a step's frames before its text.
-pub fn run_over<W: Sink, T: Sink, E: Entropy, V: Vault, P: Peer, C: Calls>(
+pub fn run_over<W: Sink, T: Sink, E: Entropy, V: Vault, P: Peer>(
     alloc: Global,
     steps: &[Step],
     vault: &mut V,
@@ -93,15 +93,17 @@ pub fn run_over<W: Sink, T: Sink, E: Entropy, V: Vault, P: Peer, C: Calls>(
     out: &mut W,
     tap: &mut T,
     peer: &mut P,
-    calls: &mut C,
 ) -> Ran
-    requires { IsOf (V.keys vault.old) (C.kept calls.old) }
     ensures { RunsTo result steps.now
         (record { out = W.held out.old; tap = T.held tap.old; entropy = E.to_come entropy.old; keys = V.keys vault.old; log = P.log peer.old; state = P.state peer.old; out_faults = W.faults out.old; tap_faults = T.faults tap.old; entropy_faults = E.faults entropy.old; vault_faults = V.faults vault.old })
         (record { out = W.held out.new; tap = T.held tap.new; entropy = E.to_come entropy.new; keys = V.keys vault.new; log = P.log peer.new; state = P.state peer.new; out_faults = W.faults out.new; tap_faults = T.faults tap.new; entropy_faults = E.faults entropy.new; vault_faults = V.faults vault.new }) }
 {
     let mut sessions = match nobody(alloc) {
         Ok(sessions) => sessions,
+        Err(_) => return Ran::Stopped(Stop::OutOfMemory),
+    };
+    let mut store = match KeyStore::new(alloc) {
+        Ok(store) => store,
         Err(_) => return Ran::Stopped(Stop::OutOfMemory),
     };
     let mut waiting = VecDeque::new(alloc);
@@ -116,7 +118,7 @@ pub fn run_over<W: Sink, T: Sink, E: Entropy, V: Vault, P: Peer, C: Calls>(
             waiting: &mut waiting,
             taken: 0,
         },
-        calls,
+        store: &mut store,
     };
     let ended = run_lent(alloc, &mut env, &mut sessions, steps);
     ran_of(ended, env.refused)

@@ -2,10 +2,9 @@
 
 ghost use Rattle.std.specs.Prelude.{◌≡◌, ◌<◌, ◌-◌, ◌∷◌, [], List, IfOk, length};
 ghost use Rattle.key_store.specs.Stores.{IsOf};
-ghost use Rattle.conversation.specs.Sessions.{nobody, session_at, with_session};
+ghost use Rattle.conversation.specs.Sessions.{nobody};
 ghost use Rattle.conversation.specs.Talk.{Talk, Ends};
 ghost use Rattle.conversation.specs.declared.sessions.Session.{Session};
-ghost use Rattle.conversation.specs.declared.sessions.Session.TheVariants as session_of;
 ghost use Rattle.run_words.specs.Ways.{Leads};
 ghost use Rattle.script_lang.specs.declared.steps.Step.{Step};
 ghost use Rattle.plain_meaning.specs.Steps as steps_of;
@@ -19,7 +18,6 @@ use conversation::sessions::Session;
 use run_words::stops::Stop;
 use script_lang::steps::Step;
 use std::alloc::{AllocError, Global};
-use std::mem;
 
 /// How many sessions there are.
 const SESSIONS: usize = 64;
@@ -53,32 +51,15 @@ fn place_of(number: SessionId) -> usize
     number.number() as usize - 1
 }
 
-/// A session, taken out of its place.
-fn take_session(sessions: &mut Vec<Session>, number: SessionId) -> Session
-    requires { length sessions.old.items ≡ 64 }
-    ensures session { result ≡ session_at sessions.old.items number }
-    ensures left { sessions.new.items ≡ with_session sessions.old.items number session_of.Idle }
-{
-    mem::replace(&mut sessions[place_of(number)], Session::Idle)
-}
-
-/// Puts a session in its place.
-fn put_session(sessions: &mut Vec<Session>, number: SessionId, session: Session)
-    requires { length sessions.old.items ≡ 64 }
-    ensures { sessions.new.items ≡ with_session sessions.old.items number session }
-{
-    sessions[place_of(number)] = session;
-}
-
 /// A step of a session.
 fn turn<A: Around>(
     alloc: Global,
     env: &mut A,
-    session: Session,
+    session: &mut Session,
     step: &Step,
-) -> Result<Session, Stop>
+) -> Result<(), Stop>
     requires { IsOf (A.outside env.old).desk.keys (A.kept env.old) }
-    ensures leads { (k : Session → Talk) → Leads result (steps_of.turn step.now session k) k (A.outside env.old) (A.outside env.new) }
+    ensures leads { (k : Session → Talk) → Leads result (steps_of.turn step.now session.old k) (λ _. k session.new) (A.outside env.old) (A.outside env.new) }
     ensures of_vault { IfOk result (λ _. IsOf (A.outside env.new).desk.keys (A.kept env.new)) }
 {
     match step {
@@ -113,15 +94,8 @@ fn step<A: Around>(
     ensures count { IfOk result (λ _. length sessions.new.items ≡ 64) }
     ensures of_vault { IfOk result (λ _. IsOf (A.outside env.new).desk.keys (A.kept env.new)) }
 {
-    let number = number_of(step);
-    let session = take_session(sessions, number);
-    match turn(alloc, env, session, step) {
-        Ok(after) => {
-            put_session(sessions, number, after);
-            Ok(())
-        }
-        Err(stop) => Err(stop),
-    }
+    let place = place_of(number_of(step));
+    turn(alloc, env, &mut sessions[place], step)
 }
 
 /// The steps of a script, one after another.

@@ -1,17 +1,22 @@
 //! The turns of a session: a whole batch, half a batch, and the execution of what is pending.
 
 ghost use Rattle.std.specs.Prelude.{◌≡◌, ◌≤◌, List, Option, [], IfOk, length};
+ghost use Rattle.ae_base.specs.declared.faults.SqlFault.{SqlFault};
 ghost use Rattle.key_store.specs.Stores.{IsOf};
 ghost use Rattle.conversation.specs.Pending as told;
 ghost use Rattle.conversation.specs.Talk.{Talk, Asks, Hears, Prints, Heard, Said, printing, nothing_shown};
 ghost use Rattle.conversation.specs.Turns as turns;
+ghost use Rattle.conversation.specs.declared.outcomes.Outcome.TheVariants as outcome_of;
 ghost use Rattle.conversation.specs.declared.sessions.Session.{Session};
 ghost use Rattle.conversation.specs.declared.sessions.Session.TheVariants as session_of;
 ghost use Rattle.run_words.specs.Ways.{Leads};
-ghost use Rattle.script_run.specs.Onward.{IsBegun, IsRows, IsReady, ready_on};
+ghost use Rattle.script_run.specs.Onward.{IsBegun, IsRows, IsReady, PrintsThen, ready_on};
 
 use crate::around::{Around, First, RowHeard};
+use crate::calls::begin_in;
+use crate::hearing::is_skipping;
 use ae_base::batches::Batch;
+use ae_base::faults::SqlFault;
 use ae_base::lists::Seq;
 use ae_base::sessions::SessionId;
 use conversation::answers::DescribeAnswer;
@@ -22,22 +27,40 @@ use run_words::stops::Stop;
 use std::alloc::Global;
 use wire_messages::requests::Request;
 
-/// Whether a batch was described, and the session after it.
+/// Whether a batch was described.
 #[derive(Drop)]
 pub enum Described {
-    Ready(Session, Seq<DescribedParam>),
+    Ready(Seq<DescribedParam>),
     /// It was refused, which was printed.
-    Refused(Session),
+    Refused,
+}
+
+/// Prints an outcome.
+fn print<A: Around>(alloc: Global, env: &mut A, outcome: Outcome) -> Result<(), Stop>
+    requires { IsOf (A.outside env.old).desk.keys (A.kept env.old) }
+    ensures leads { (t : Talk) → Leads result (Prints outcome t) (λ _. t) (A.outside env.old) (A.outside env.new) }
+    ensures of_vault { IfOk result (λ _. IsOf (A.outside env.new).desk.keys (A.kept env.new)) }
+{
+    env.print(alloc, &outcome)
+}
+
+/// Prints a fault of the driver.
+fn print_fault<A: Around>(alloc: Global, env: &mut A, fault: DriverFault) -> Result<(), Stop>
+    requires { IsOf (A.outside env.old).desk.keys (A.kept env.old) }
+    ensures leads { (t : Talk) → Leads result (Prints (outcome_of.Failed fault) t) (λ _. t) (A.outside env.old) (A.outside env.new) }
+    ensures of_vault { IfOk result (λ _. IsOf (A.outside env.new).desk.keys (A.kept env.new)) }
+{
+    print(alloc, env, Outcome::Failed(fault))
 }
 
 /// Prints an outcome, where there is one.
-fn say<A: Around>(alloc: Global, env: &mut A, outcome: &Option<Outcome>) -> Result<(), Stop>
+fn say<A: Around>(alloc: Global, env: &mut A, outcome: Option<Outcome>) -> Result<(), Stop>
     requires { IsOf (A.outside env.old).desk.keys (A.kept env.old) }
-    ensures leads { (t : Talk) → Leads result (printing outcome.now t) (λ _. t) (A.outside env.old) (A.outside env.new) }
+    ensures leads { (t : Talk) → Leads result (printing outcome t) (λ _. t) (A.outside env.old) (A.outside env.new) }
     ensures of_vault { IfOk result (λ _. IsOf (A.outside env.new).desk.keys (A.kept env.new)) }
 {
     match outcome {
-        Some(outcome) => env.print(alloc, outcome),
+        Some(outcome) => print(alloc, env, outcome),
         None => Ok(()),
     }
 }
@@ -63,114 +86,126 @@ fn hear_rows<A: Around>(
     }
 }
 
-/// Hears to its end what is left of an answer that is no longer read.
-fn rest<A: Around>(alloc: Global, env: &mut A, session: Session) -> Result<Session, Stop>
-    requires { IsOf (A.outside env.old).desk.keys (A.kept env.old) }
-    ensures leads { (k : Session → Talk) → Leads result (turns.rested k session) k (A.outside env.old) (A.outside env.new) }
+/// Hears rows to their end, and prints what they came to.
+fn hear_out<A: Around>(
+    alloc: Global,
+    env: &mut A,
+    session: &mut Session,
+    shown: Listing,
+) -> Result<(), Stop>
+    requires rows { IsRows session.old }
+    requires of_vault { IsOf (A.outside env.old).desk.keys (A.kept env.old) }
+    ensures leads { (f : Heard → Talk) (k : Session → Talk) → PrintsThen f k → Leads result (Hears session.old shown f) (λ _. k session.new) (A.outside env.old) (A.outside env.new) }
     ensures of_vault { IfOk result (λ _. IsOf (A.outside env.new).desk.keys (A.kept env.new)) }
 {
-    match session {
-        Session::Skipping { columns, count } => {
-            skip(alloc, env, Session::Skipping { columns, count })
-        }
-        other => Ok(other),
+    let mut shown = shown;
+    match hear_rows(alloc, env, session, &mut shown) {
+        Ok(outcome) => say(alloc, env, outcome),
+        Err(stop) => Err(stop),
     }
 }
 
-fn skip<A: Around>(alloc: Global, env: &mut A, session: Session) -> Result<Session, Stop>
-    requires rows { IsRows session }
-    requires of_vault { IsOf (A.outside env.old).desk.keys (A.kept env.old) }
-    ensures leads { (k : Session → Talk) → Leads result (Hears session nothing_shown (turns.over_on k)) k (A.outside env.old) (A.outside env.new) }
-    ensures of_vault { IfOk result (λ _. IsOf (A.outside env.new).desk.keys (A.kept env.new)) }
+fn nothing_shown(alloc: Global) -> Listing
+    ensures { result ≡ nothing_shown }
 {
-    let mut session = session;
-    let mut shown = Listing {
+    Listing {
         titles: Seq::new(alloc),
         rows: Seq::new(alloc),
-    };
-    match hear_rows(alloc, env, &mut session, &mut shown) {
-        Ok(outcome) => match say(alloc, env, &outcome) {
-            Ok(()) => Ok(session),
-            Err(stop) => Err(stop),
-        },
-        Err(stop) => Err(stop),
     }
+}
+
+/// Hears to its end what is left of an answer that is no longer read.
+fn rest<A: Around>(alloc: Global, env: &mut A, session: &mut Session) -> Result<(), Stop>
+    requires { IsOf (A.outside env.old).desk.keys (A.kept env.old) }
+    ensures leads { (k : Session → Talk) → Leads result (turns.rested k session.old) (λ _. k session.new) (A.outside env.old) (A.outside env.new) }
+    ensures of_vault { IfOk result (λ _. IsOf (A.outside env.new).desk.keys (A.kept env.new)) }
+{
+    if !is_skipping(session) {
+        return Ok(());
+    }
+    hear_out(alloc, env, session, nothing_shown(alloc))
 }
 
 /// Hears the rows of an answer, and what is left of it.
 fn read<A: Around>(
     alloc: Global,
     env: &mut A,
-    session: Session,
+    session: &mut Session,
     shown: Listing,
-) -> Result<Session, Stop>
-    requires rows { IsRows session }
+) -> Result<(), Stop>
+    requires rows { IsRows session.old }
     requires of_vault { IsOf (A.outside env.old).desk.keys (A.kept env.old) }
-    ensures leads { (k : Session → Talk) → Leads result (Hears session shown (turns.rows_on k)) k (A.outside env.old) (A.outside env.new) }
+    ensures leads { (k : Session → Talk) → Leads result (Hears session.old shown (turns.rows_on k)) (λ _. k session.new) (A.outside env.old) (A.outside env.new) }
     ensures of_vault { IfOk result (λ _. IsOf (A.outside env.new).desk.keys (A.kept env.new)) }
 {
-    let mut session = session;
-    let mut shown = shown;
-    match hear_rows(alloc, env, &mut session, &mut shown) {
-        Ok(outcome) => match say(alloc, env, &outcome) {
-            Ok(()) => rest(alloc, env, session),
-            Err(stop) => Err(stop),
-        },
-        Err(stop) => Err(stop),
-    }
-}
-
-/// Prints an outcome; then what is left of the answer is heard.
-fn print_and_rest<A: Around>(
-    alloc: Global,
-    env: &mut A,
-    outcome: &Outcome,
-    session: Session,
-) -> Result<Session, Stop>
-    requires { IsOf (A.outside env.old).desk.keys (A.kept env.old) }
-    ensures leads { (k : Session → Talk) → Leads result (Prints outcome.now (turns.rested k session)) k (A.outside env.old) (A.outside env.new) }
-    ensures of_vault { IfOk result (λ _. IsOf (A.outside env.new).desk.keys (A.kept env.new)) }
-{
-    match env.print(alloc, outcome) {
+    match hear_out(alloc, env, session, shown) {
         Ok(()) => rest(alloc, env, session),
         Err(stop) => Err(stop),
     }
 }
 
-/// Prints an outcome, which is the last of a turn.
-fn print_last<A: Around>(
+/// Prints a fault of the driver; then what is left of the answer is heard.
+fn print_and_rest<A: Around>(
     alloc: Global,
     env: &mut A,
-    outcome: &Outcome,
-    session: Session,
-) -> Result<Session, Stop>
+    session: &mut Session,
+    fault: DriverFault,
+) -> Result<(), Stop>
     requires { IsOf (A.outside env.old).desk.keys (A.kept env.old) }
-    ensures leads { (k : Session → Talk) → Leads result (Prints outcome.now (k session)) k (A.outside env.old) (A.outside env.new) }
+    ensures leads { (k : Session → Talk) → Leads result (Prints (outcome_of.Failed fault) (turns.rested k session.old)) (λ _. k session.new) (A.outside env.old) (A.outside env.new) }
     ensures of_vault { IfOk result (λ _. IsOf (A.outside env.new).desk.keys (A.kept env.new)) }
 {
-    match env.print(alloc, outcome) {
-        Ok(()) => Ok(session),
+    match print_fault(alloc, env, fault) {
+        Ok(()) => rest(alloc, env, session),
         Err(stop) => Err(stop),
     }
 }
 
 /// Hears the answer to an execution.
-fn hear_answer<A: Around>(alloc: Global, env: &mut A, session: Session) -> Result<Session, Stop>
-    requires sent { session ≡ session_of.Sent }
+fn hear_answer<A: Around>(alloc: Global, env: &mut A, session: &mut Session) -> Result<(), Stop>
+    requires sent { session.old ≡ session_of.Sent }
     requires of_vault { IsOf (A.outside env.old).desk.keys (A.kept env.old) }
-    ensures leads { (k : Session → Talk) → Leads result (Hears session nothing_shown (turns.answered_on k)) k (A.outside env.old) (A.outside env.new) }
+    ensures leads { (k : Session → Talk) → Leads result (Hears session.old nothing_shown (turns.answered_on k)) (λ _. k session.new) (A.outside env.old) (A.outside env.new) }
     ensures of_vault { IfOk result (λ _. IsOf (A.outside env.new).desk.keys (A.kept env.new)) }
 {
     match env.hear_answer(alloc, session) {
-        Ok(First::Shows(titles, after)) => {
+        Ok(First::Shows(titles)) => {
             let rows = Seq::new(alloc);
-            read(alloc, env, after, Listing { titles, rows })
+            read(alloc, env, session, Listing { titles, rows })
         }
-        Ok(First::Skips(fault, after)) => {
-            print_and_rest(alloc, env, &Outcome::Failed(fault), after)
-        }
-        Ok(First::Says(outcome, after)) => print_last(alloc, env, &outcome, after),
+        Ok(First::Skips(fault)) => print_and_rest(alloc, env, session, fault),
+        Ok(First::Says(outcome)) => print(alloc, env, outcome),
         Err(stop) => Err(stop),
+    }
+}
+
+/// Asks a request.
+fn ask<A: Around>(alloc: Global, env: &mut A, request: Request<'_>) -> Result<(), Stop>
+    requires { IsOf (A.outside env.old).desk.keys (A.kept env.old) }
+    ensures leads { (t : Talk) → Leads result (Asks request.entry t) (λ _. t) (A.outside env.old) (A.outside env.new) }
+    ensures of_vault { IfOk result (λ _. IsOf (A.outside env.new).desk.keys (A.kept env.new)) }
+{
+    env.ask(alloc, &request)
+}
+
+/// Asks an execution, and hears the answer.
+fn answered<A: Around>(
+    alloc: Global,
+    env: &mut A,
+    session: &mut Session,
+    answer: Result<Request<'_>, DriverFault>,
+) -> Result<(), Stop>
+    requires sent { IfOk answer (λ request. session.old ≡ session_of.Sent) }
+    requires of_vault { IsOf (A.outside env.old).desk.keys (A.kept env.old) }
+    ensures leads { (k : Session → Talk) → Leads result (turns.asked (λ after. Hears after nothing_shown (turns.answered_on k)) k answer.entry session.old) (λ _. k session.new) (A.outside env.old) (A.outside env.new) }
+    ensures of_vault { IfOk result (λ _. IsOf (A.outside env.new).desk.keys (A.kept env.new)) }
+{
+    match answer {
+        Ok(request) => match ask(alloc, env, request) {
+            Ok(()) => hear_answer(alloc, env, session),
+            Err(stop) => Err(stop),
+        },
+        Err(fault) => print_fault(alloc, env, fault),
     }
 }
 
@@ -178,40 +213,42 @@ fn hear_answer<A: Around>(alloc: Global, env: &mut A, session: Session) -> Resul
 pub fn execute<A: Around>(
     alloc: Global,
     env: &mut A,
-    session: Session,
+    session: &mut Session,
     number: SessionId,
-) -> Result<Session, Stop>
+) -> Result<(), Stop>
     requires { IsOf (A.outside env.old).desk.keys (A.kept env.old) }
-    ensures leads { (k : Session → Talk) → Leads result (turns.executing number session k) k (A.outside env.old) (A.outside env.new) }
+    ensures leads { (k : Session → Talk) → Leads result (turns.executing number session.old k) (λ _. k session.new) (A.outside env.old) (A.outside env.new) }
     ensures of_vault { IfOk result (λ _. IsOf (A.outside env.new).desk.keys (A.kept env.new)) }
 {
     match env.execute(alloc, session, number) {
-        Ok(turn) => {
-            let after = turn.after;
-            answered(alloc, env, turn.answer, after)
-        }
+        Ok(answer) => answered(alloc, env, session, answer),
         Err(stop) => Err(stop),
     }
 }
 
-/// Asks an execution, and hears the answer.
-fn answered<A: Around>(
-    alloc: Global,
-    env: &mut A,
-    answer: Result<Request<'_>, DriverFault>,
-    after: Session,
-) -> Result<Session, Stop>
-    requires sent { IfOk answer (λ request. after ≡ session_of.Sent) }
-    requires of_vault { IsOf (A.outside env.old).desk.keys (A.kept env.old) }
-    ensures leads { (k : Session → Talk) → Leads result (turns.asked (λ after. Hears after nothing_shown (turns.answered_on k)) k answer after) k (A.outside env.old) (A.outside env.new) }
+/// Prints that a batch was refused.
+fn refused<A: Around>(alloc: Global, env: &mut A, fault: SqlFault) -> Result<Described, Stop>
+    requires { IsOf (A.outside env.old).desk.keys (A.kept env.old) }
+    ensures leads { (ready : told.Pending → Talk) (k : Session → Talk) (after : Session) → Leads result (Prints (outcome_of.Refused fault) (k after)) (ready_on ready k after) (A.outside env.old) (A.outside env.new) }
+    ensures ready { (after : Session) → IfOk result (IsReady after) }
     ensures of_vault { IfOk result (λ _. IsOf (A.outside env.new).desk.keys (A.kept env.new)) }
 {
-    match answer {
-        Ok(request) => match env.ask(alloc, &request) {
-            Ok(()) => hear_answer(alloc, env, after),
-            Err(stop) => Err(stop),
-        },
-        Err(fault) => print_last(alloc, env, &Outcome::Failed(fault), after),
+    match print(alloc, env, Outcome::Refused(fault)) {
+        Ok(()) => Ok(Described::Refused),
+        Err(stop) => Err(stop),
+    }
+}
+
+/// Prints that a batch wasn't begun.
+fn failed<A: Around>(alloc: Global, env: &mut A, fault: DriverFault) -> Result<Described, Stop>
+    requires { IsOf (A.outside env.old).desk.keys (A.kept env.old) }
+    ensures leads { (ready : told.Pending → Talk) (k : Session → Talk) (after : Session) → Leads result (Prints (outcome_of.Failed fault) (k after)) (ready_on ready k after) (A.outside env.old) (A.outside env.new) }
+    ensures ready { (after : Session) → IfOk result (IsReady after) }
+    ensures of_vault { IfOk result (λ _. IsOf (A.outside env.new).desk.keys (A.kept env.new)) }
+{
+    match print_fault(alloc, env, fault) {
+        Ok(()) => Ok(Described::Refused),
+        Err(stop) => Err(stop),
     }
 }
 
@@ -219,24 +256,18 @@ fn answered<A: Around>(
 fn hear_description<A: Around>(
     alloc: Global,
     env: &mut A,
-    session: Session,
+    session: &mut Session,
 ) -> Result<Described, Stop>
-    requires begun { IsBegun session }
+    requires begun { IsBegun session.old }
     requires of_vault { IsOf (A.outside env.old).desk.keys (A.kept env.old) }
-    ensures leads { (ready : told.Pending → Talk) (k : Session → Talk) → Leads result (Hears session nothing_shown (turns.described_on ready k)) (ready_on ready k) (A.outside env.old) (A.outside env.new) }
-    ensures ready { IfOk result IsReady }
+    ensures leads { (ready : told.Pending → Talk) (k : Session → Talk) → Leads result (Hears session.old nothing_shown (turns.described_on ready k)) (ready_on ready k session.new) (A.outside env.old) (A.outside env.new) }
+    ensures ready { IfOk result (IsReady session.new) }
     ensures of_vault { IfOk result (λ _. IsOf (A.outside env.new).desk.keys (A.kept env.new)) }
 {
-    let turn = match env.hear_description(alloc, session) {
-        Ok(turn) => turn,
-        Err(stop) => return Err(stop),
-    };
-    match turn.answer {
-        DescribeAnswer::Ready(params) => Ok(Described::Ready(turn.after, params)),
-        DescribeAnswer::Refused(fault) => match env.print(alloc, &Outcome::Refused(fault)) {
-            Ok(()) => Ok(Described::Refused(turn.after)),
-            Err(stop) => Err(stop),
-        },
+    match env.hear_description(alloc, session) {
+        Ok(DescribeAnswer::Ready(params)) => Ok(Described::Ready(params)),
+        Ok(DescribeAnswer::Refused(fault)) => refused(alloc, env, fault),
+        Err(stop) => Err(stop),
     }
 }
 
@@ -244,24 +275,21 @@ fn hear_description<A: Around>(
 fn ask_description<A: Around>(
     alloc: Global,
     env: &mut A,
+    session: &mut Session,
     answer: Result<Request<'_>, DriverFault>,
-    after: Session,
 ) -> Result<Described, Stop>
-    requires begun { IfOk answer (λ _. IsBegun after) }
+    requires begun { IfOk answer (λ request. IsBegun session.old) }
     requires of_vault { IsOf (A.outside env.old).desk.keys (A.kept env.old) }
-    ensures leads { (ready : told.Pending → Talk) (k : Session → Talk) → Leads result (turns.asked (λ after. Hears after nothing_shown (turns.described_on ready k)) k answer after) (ready_on ready k) (A.outside env.old) (A.outside env.new) }
-    ensures ready { IfOk result IsReady }
+    ensures leads { (ready : told.Pending → Talk) (k : Session → Talk) → Leads result (turns.asked (λ after. Hears after nothing_shown (turns.described_on ready k)) k answer.entry session.old) (ready_on ready k session.new) (A.outside env.old) (A.outside env.new) }
+    ensures ready { IfOk result (IsReady session.new) }
     ensures of_vault { IfOk result (λ _. IsOf (A.outside env.new).desk.keys (A.kept env.new)) }
 {
     match answer {
-        Ok(request) => match env.ask(alloc, &request) {
-            Ok(()) => hear_description(alloc, env, after),
+        Ok(request) => match ask(alloc, env, request) {
+            Ok(()) => hear_description(alloc, env, session),
             Err(stop) => Err(stop),
         },
-        Err(fault) => match env.print(alloc, &Outcome::Failed(fault)) {
-            Ok(()) => Ok(Described::Refused(after)),
-            Err(stop) => Err(stop),
-        },
+        Err(fault) => failed(alloc, env, fault),
     }
 }
 
@@ -269,21 +297,17 @@ fn ask_description<A: Around>(
 fn describe<A: Around>(
     alloc: Global,
     env: &mut A,
-    session: Session,
+    session: &mut Session,
     number: SessionId,
     batch: Batch,
 ) -> Result<Described, Stop>
     requires { IsOf (A.outside env.old).desk.keys (A.kept env.old) }
-    ensures leads { (ready : told.Pending → Talk) (k : Session → Talk) → Leads result (turns.describing number batch session ready k) (ready_on ready k) (A.outside env.old) (A.outside env.new) }
-    ensures ready { IfOk result IsReady }
+    ensures leads { (ready : told.Pending → Talk) (k : Session → Talk) → Leads result (turns.describing number batch session.old ready k) (ready_on ready k session.new) (A.outside env.old) (A.outside env.new) }
+    ensures ready { IfOk result (IsReady session.new) }
     ensures of_vault { IfOk result (λ _. IsOf (A.outside env.new).desk.keys (A.kept env.new)) }
 {
-    let turn = env.begin(alloc, session, number, batch);
-    match turn.answer {
-        Ok(answer) => {
-            let after = turn.after;
-            ask_description(alloc, env, answer, after)
-        }
+    match begin_in(alloc, session, number, batch) {
+        Ok(answer) => ask_description(alloc, env, session, answer),
         Err(_) => Err(Stop::OutOfMemory),
     }
 }
@@ -292,17 +316,17 @@ fn describe<A: Around>(
 pub fn whole<A: Around>(
     alloc: Global,
     env: &mut A,
-    session: Session,
+    session: &mut Session,
     number: SessionId,
     batch: Batch,
-) -> Result<Session, Stop>
+) -> Result<(), Stop>
     requires { IsOf (A.outside env.old).desk.keys (A.kept env.old) }
-    ensures leads { (k : Session → Talk) → Leads result (turns.whole number batch session k) k (A.outside env.old) (A.outside env.new) }
+    ensures leads { (k : Session → Talk) → Leads result (turns.whole number batch session.old k) (λ _. k session.new) (A.outside env.old) (A.outside env.new) }
     ensures of_vault { IfOk result (λ _. IsOf (A.outside env.new).desk.keys (A.kept env.new)) }
 {
     match describe(alloc, env, session, number, batch) {
-        Ok(Described::Ready(after, _)) => execute(alloc, env, after, number),
-        Ok(Described::Refused(after)) => Ok(after),
+        Ok(Described::Ready(_)) => execute(alloc, env, session, number),
+        Ok(Described::Refused) => Ok(()),
         Err(stop) => Err(stop),
     }
 }
@@ -311,19 +335,17 @@ pub fn whole<A: Around>(
 pub fn half<A: Around>(
     alloc: Global,
     env: &mut A,
-    session: Session,
+    session: &mut Session,
     number: SessionId,
     batch: Batch,
-) -> Result<Session, Stop>
+) -> Result<(), Stop>
     requires { IsOf (A.outside env.old).desk.keys (A.kept env.old) }
-    ensures leads { (k : Session → Talk) → Leads result (turns.half number batch session k) k (A.outside env.old) (A.outside env.new) }
+    ensures leads { (k : Session → Talk) → Leads result (turns.half number batch session.old k) (λ _. k session.new) (A.outside env.old) (A.outside env.new) }
     ensures of_vault { IfOk result (λ _. IsOf (A.outside env.new).desk.keys (A.kept env.new)) }
 {
     match describe(alloc, env, session, number, batch) {
-        Ok(Described::Ready(after, params)) => {
-            print_last(alloc, env, &Outcome::Described(params), after)
-        }
-        Ok(Described::Refused(after)) => Ok(after),
+        Ok(Described::Ready(params)) => print(alloc, env, Outcome::Described(params)),
+        Ok(Described::Refused) => Ok(()),
         Err(stop) => Err(stop),
     }
 }

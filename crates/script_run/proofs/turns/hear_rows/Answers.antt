@@ -17,3 +17,9 @@ returns-in-Ok-Said-clause-leads g c = λ f. let h = c.in-Ok-Said.ensures.leads f
 
 pub returns-in-Err-clause-leads : goal.returns-in-Err-clause-leads
 returns-in-Err-clause-leads g c = λ f. fails_then _ _ _ _ _ _ (c.replies.invariant.goes f) (c.in-Err.ensures.leads f)
+
+pub returns-in-Ok-Said-clause-of_vault : goal.returns-in-Ok-Said-clause-of_vault
+returns-in-Ok-Said-clause-of_vault g c = c.in-Ok-Said.ensures.of_vault
+
+pub returns-in-Err-clause-of_vault : goal.returns-in-Err-clause-of_vault
+returns-in-Err-clause-of_vault g c = tt
