@@ -260,6 +260,7 @@ fn read_tail(alloc: Global, tokens: &mut Cursor) -> Result<Tail, Refusal>
     })
 }
 
+#[tactic(auto, using(crate::proofs::Counts::counts_seen))]
 fn has_count(items: &Items) -> bool
     ensures { result ≡ make.has_count (items_of items.now) }
 {
@@ -270,9 +271,9 @@ fn has_count(items: &Items) -> bool
 }
 
 fn counts(items: &[Item]) -> bool
-    ensures { result ≡ list_any make.is_count (map item_of items.now) }
+    ensures { result ≡ list_any (λ item. make.is_count (item_of item)) items.now }
 {
-    items.iter().any(is_count)
+    items.iter().any(|item| is_count(item))
 }
 
 fn is_count(item: &Item) -> bool
