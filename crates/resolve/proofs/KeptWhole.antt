@@ -110,7 +110,7 @@ module _ (used : ℕ → Bool) where
         let here : position named_so ds ≡ Some place = found (fault.NoParam name) (position named_so ds) place e in
         let from : position_from named_so 0 ds ≡ Some (0 + place) = sym (position_from-zero named_so ds) ∙ here ∙ ap Some (sym start) in
         let there : position named_so (used_among used 0 ds) ≡ Some (place_among used 0 place) =
-            position_from-zero named_so (used_among used 0 ds) ∙ position_among named_so ds 0 place 0 from (ap used start ∙ u) ∙ ap Some rank in
+        position_from-zero named_so (used_among used 0 ds) ∙ position_among named_so ds 0 place 0 from (ap used start ∙ u) ∙ ap Some rank in
         ap (or_fault (fault.NoParam name)) there;
     typed = λ place u.
         let start : 0 + place ≡ place = omega arith in

@@ -94,9 +94,10 @@ joins_placed ds n (j ∷ js) s b e w =
     two_parts (bind_join (with_source s j.source) ds j) (bind_joins ds (with_source s j.source) js) ◌∷◌ b (ArePlacedJoins n (length ds) (length s.columns)) e
     (λ a m ea em.
     one_part (bind_condition (with_source s j.source) ds j.on) (λ on. record { source = bound_source j.source; on = on }) a (λ z. ArePlacedJoins n (length ds) (length s.columns) (z ∷ m)) ea
-    (λ on eo.
-    (subst (λ k. IsPlacedCondition k (length ds) on) (with-length s j.source) (condition_placed (with_source s j.source) ds j.on on eo),
-    subst (λ k. ArePlacedJoins n (length ds) k m) (with-length s j.source) (joins_placed ds n js (with_source s j.source) m em w))))
+    (λ on eo. (
+      subst (λ k. IsPlacedCondition k (length ds) on) (with-length s j.source) (condition_placed (with_source s j.source) ds j.on on eo),
+      subst (λ k. ArePlacedJoins n (length ds) k m) (with-length s j.source) (joins_placed ds n js (with_source s j.source) m em w),
+    )))
 
 sites-length : (xs : List Source) (s : Scope) → length (with_sources s xs).columns ≡ length s.columns + length (sites_of xs)
 sites-length [] s = omega arith

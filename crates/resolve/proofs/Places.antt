@@ -126,4 +126,3 @@ mutual
 pub filter_placed : (s : Scope) (ds : List ParamDecl) (o : Option (Condition ColumnRef (List ℕ))) (b : Option (Condition ℕ ℕ)) → bind_filter s ds o ≡ Ok b → IsPlacedFilter (length s.columns) (length ds) b
 filter_placed s ds None b e = let i : None ≡ b = cc in subst (IsPlacedFilter (length s.columns) (length ds)) i tt
 filter_placed s ds (Some c) b e = one_part (bind_condition s ds c) Some b (IsPlacedFilter (length s.columns) (length ds)) e (λ a ea. condition_placed s ds c a ea)
-
