@@ -90,11 +90,3 @@ fn other_words_put_nothing(rt: HostRuntime) -> Result<(), Fail> {
     }
     Ok(())
 }
-
-#[test]
-fn nothing_is_explained_yet(rt: HostRuntime) -> Result<(), Fail> {
-    let server = Server::new(rt.alloc());
-    let text = Txt::copied(rt.alloc(), "SELECT a FROM t")?;
-    assert!(rt; server.explain(rt.alloc(), &text, &[])?.is_empty());
-    Ok(())
-}
