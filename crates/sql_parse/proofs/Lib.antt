@@ -1,5 +1,8 @@
 pub mod Counts
 pub mod Joined
 pub mod Listing
+pub mod Once
+pub mod Parsed
+pub mod Sorting
 pub mod Tested
 pub mod There

@@ -5,14 +5,15 @@ ghost use Rattle.sql_grammar.specs.Readers as terminal;
 ghost use Rattle.sql_grammar.specs.Readers.{both, optional};
 ghost use Rattle.sql_grammar.specs.Making as make;
 ghost use Rattle.sql_grammar.specs.Parse as parse;
-ghost use Rattle.sql_parse.specs.Reads.{Gives};
+ghost use Rattle.sql_parse.specs.Reads.{Gives, Reads};
 ghost use Rattle.sql_parse.specs.Views.{parts_of};
 ghost use Rattle.std.specs.Option.{option_map};
 
 use crate::cursor::{Cursor, syntax};
-use crate::reading::{Read, in_parens};
+use crate::reading::{Read, in_parens, listed};
 use crate::settings::key_of;
 use ae_base::lists::Seq;
+use ae_base::names::Name;
 use ae_base::refusals::Refusal;
 use ae_base::types::Ty;
 use sql_grammar::parts::TablePart;
@@ -114,10 +115,35 @@ fn optional_nullity(tokens: &mut Cursor) -> Result<Option<bool>, Refusal>
     Ok(Some(nullity(tokens)?))
 }
 
-fn is_text(ty: Ty) -> bool
-    ensures { result ≡ make.is_text ty }
+fn is_text(ty: &Ty) -> bool
+    ensures { result ≡ make.is_text ty.now }
 {
     matches!(ty, Ty::NVarChar(_))
+}
+
+/// A column of its parts; COLLATE follows NVARCHAR only.
+fn column_of(
+    name: Name,
+    ty: Ty,
+    collation: Option<(u32, u32)>,
+    encryption: Option<Encryption>,
+    not_null: Option<bool>,
+    unique: Option<u32>,
+) -> Result<ColumnSpec, Refusal>
+    ensures { Reads (λ column. column) result
+        (make.column_of (name, (ty, (collation, (encryption, (not_null, unique)))))) }
+{
+    let is_text = is_text(&ty);
+    if collation.is_some() && !is_text {
+        return Err(syntax());
+    }
+    Ok(ColumnSpec {
+        name,
+        ty,
+        encryption,
+        not_null: not_null.unwrap_or(false),
+        unique,
+    })
 }
 
 /// A column of CREATE TABLE.
@@ -130,16 +156,7 @@ fn column(alloc: Global, tokens: &mut Cursor) -> Result<ColumnSpec, Refusal>
     let encryption = optional_encryption(alloc, tokens)?;
     let not_null = optional_nullity(tokens)?;
     let unique = tokens.optional_word(Keyword::Unique);
-    if collation.is_some() && !is_text(ty) {
-        return Err(syntax());
-    }
-    Ok(ColumnSpec {
-        name,
-        ty,
-        encryption,
-        not_null: not_null.unwrap_or(false),
-        unique,
-    })
+    column_of(name, ty, collation, encryption, not_null, unique)
 }
 
 /// A list UNIQUE (..).
@@ -181,6 +198,7 @@ pub(crate) struct Parts {
 }
 
 /// The parts of a table, where its columns stand before its lists UNIQUE.
+#[tactic(auto, using(crate::proofs::Sorting::sort_start, crate::proofs::Sorting::sort_column, crate::proofs::Sorting::sort_late, crate::proofs::Sorting::sort_unique, crate::proofs::Sorting::sort_end))]
 fn sorted(alloc: Global, parts: Seq<TablePart>) -> Result<Option<Parts>, AllocError>
     ensures { IfOk result (λ sorted. option_map parts_of sorted ≡ make.parts_in parts) }
 {
@@ -188,21 +206,51 @@ fn sorted(alloc: Global, parts: Seq<TablePart>) -> Result<Option<Parts>, AllocEr
     let mut uniques: Seq<UniqueSpec> = Seq::new(alloc);
     for part in parts.into_vec() {
         match part {
-            TablePart::Column(_) if !uniques.is_empty() => return Ok(None),
-            TablePart::Column(column) => columns.push(column)?,
             TablePart::Unique(unique) => uniques.push(unique)?,
+            TablePart::Column(column) => {
+                if !uniques.is_empty() {
+                    return Ok(None);
+                }
+                columns.push(column)?;
+            }
         }
     }
     Ok(Some(Parts { columns, uniques }))
 }
 
+fn with_columns(parts: Parts) -> Result<Parts, Refusal>
+    ensures { Reads parts_of result (make.with_columns (parts_of parts)) }
+{
+    if parts.columns.is_empty() {
+        return Err(syntax());
+    }
+    Ok(parts)
+}
+
+fn table_of(alloc: Global, parts: Seq<TablePart>) -> Result<Parts, Refusal>
+    ensures { Reads parts_of result (make.table_of parts) }
+{
+    let sorted = sorted(alloc, parts)?;
+    match sorted {
+        Some(parts) => with_columns(parts),
+        None => Err(syntax()),
+    }
+}
+
 /// The parts of CREATE TABLE: one column or more, and then lists UNIQUE.
-pub(crate) fn table_parts(alloc: Global, tokens: &mut Cursor) -> Result<Parts, Refusal>
+fn table_parts(alloc: Global, tokens: &mut Cursor) -> Result<Parts, Refusal>
+    ensures { Gives parts_of result tokens.new (parse.table_parts tokens.old) }
+{
+    let parts = listed(alloc, tokens)?;
+    table_of(alloc, parts)
+}
+
+/// The parts of CREATE TABLE, in parentheses.
+pub(crate) fn parts_in_parens(alloc: Global, tokens: &mut Cursor) -> Result<Parts, Refusal>
     ensures { Gives parts_of result tokens.new (parse.in_parens parse.table_parts tokens.old) }
 {
-    let parts = in_parens(alloc, tokens)?;
-    match sorted(alloc, parts)? {
-        Some(parts) if !parts.columns.is_empty() => Ok(parts),
-        _ => Err(syntax()),
-    }
+    tokens.sign(Symbol::Open)?;
+    let parts = table_parts(alloc, tokens)?;
+    tokens.sign(Symbol::Close)?;
+    Ok(parts)
 }

@@ -23,6 +23,7 @@ const MOST_BYTES: usize = 65536;
 /// bytes; Syntax for one that is no list of tokens; NumberTooWide at the first number above
 /// 9223372036854775807; TooDeep for more than 64 parentheses open at once; Syntax where no
 /// statement spells the tokens; TooLong for a statement past a limit.
+#[tactic(auto, using(crate::proofs::Parsed::parsed_long, crate::proofs::Parsed::parsed_none, crate::proofs::Parsed::parsed_wide, crate::proofs::Parsed::parsed_answers))]
 pub fn parse(alloc: Global, text: &str) -> Result<Statement, Refusal>
     ensures exact { AnswersAs statement_of result (parsed text.now) }
     ensures causes { IfErr result IsParseFault }
@@ -41,6 +42,7 @@ pub fn parse(alloc: Global, text: &str) -> Result<Statement, Refusal>
 }
 
 /// The statement that tokens spell, each number at most `MOST_NUMBER`.
+#[tactic(auto, using(crate::proofs::Parsed::parsed_deep, crate::proofs::Parsed::parsed_no_tree, crate::proofs::Parsed::parsed_past, crate::proofs::Parsed::parsed_within))]
 fn parse_tokens(alloc: Global, tokens: Seq<Token>) -> Result<Statement, Refusal>
     requires { first_wide MOST_NUMBER tokens ≡ None }
     ensures exact { AnswersAs statement_of result (parsed_narrow tokens None) }

@@ -1,6 +1,5 @@
 ghost use Rattle.std.specs.Prelude.{◌≡◌, ◌∷◌, [], List, Option, Some, None, IsTrue, codes};
 ghost use Rattle.std.specs.List.{list_all};
-ghost use Rattle.std.specs.Str.{IsAscii};
 ghost use Rattle.sql_tree.specs.Reading.{is_capital};
 ghost use Rattle.sql_grammar.specs.Making as make;
 ghost use Rattle.sql_grammar.specs.Parse as parse;
@@ -47,6 +46,7 @@ impl Read for MasterSetting {
 }
 
 /// The path that the settings of a master key give, each once in any order.
+#[tactic(auto, using(crate::proofs::Once::no_path, crate::proofs::Once::path_in_two))]
 pub(crate) fn path_of(settings: Seq<MasterSetting>) -> Option<Txt>
     ensures { result ≡ make.path_in settings }
 {
@@ -95,7 +95,6 @@ fn key_setting<V: Drop>(tokens: &mut Cursor, word: &str) -> Result<KeySetting<V>
 
 /// The setting that names the algorithm.
 fn algorithm<V: Drop>(tokens: &mut Cursor, text: &str) -> Result<KeySetting<V>, Refusal>
-    requires { IsAscii text.now }
     ensures { Gives (λ setting. setting) result tokens.new (parse.algorithm text.now tokens.old) }
 {
     tokens.reads("ALGORITHM")?;
@@ -162,6 +161,7 @@ impl Read for KeySetting<Blob> {
 }
 
 /// The key and the value that three settings give, each once in any order.
+#[tactic(auto, using(crate::proofs::Once::no_key, crate::proofs::Once::key_in_three))]
 pub(crate) fn key_of<V: Drop>(settings: Seq<KeySetting<V>>) -> Option<(Name, V)>
     ensures { result ≡ make.key_in settings }
 {

@@ -13,7 +13,7 @@ ghost use Rattle.sql_grammar.specs.Texts.{tree_of};
 
 use crate::conditions::{ConditionTree, condition};
 use crate::cursor::{Cursor, syntax};
-use crate::definitions::table_parts;
+use crate::definitions::parts_in_parens;
 use crate::operands::{MOST_OPEN, OperandTree, operand_in};
 use crate::queries::select;
 use crate::reading::{Read, in_parens, listed};
@@ -32,7 +32,7 @@ fn create_table(alloc: Global, tokens: &mut Cursor) -> Result<Statement, Refusal
 {
     tokens.word(Keyword::Table)?;
     let table = tokens.name()?;
-    let parts = table_parts(alloc, tokens)?;
+    let parts = parts_in_parens(alloc, tokens)?;
     Ok(Statement::CreateTable {
         table,
         columns: parts.columns,
@@ -250,6 +250,7 @@ fn ended(alloc: Global, tokens: &mut Cursor) -> Result<Statement, Refusal>
 }
 
 /// The statement that the tokens spell, all of them.
+#[tactic(auto, using(crate::proofs::Parsed::tree_whole, crate::proofs::Parsed::tree_more, crate::proofs::Parsed::tree_fails))]
 pub(crate) fn statement(alloc: Global, mut tokens: Cursor) -> Result<Statement, Refusal>
     ensures { Reads statement_of result (tree_of tokens) }
 {
