@@ -1,0 +1,6 @@
+mod Agreement
+mod OpenWorlds
+mod Reading
+mod Sending
+mod Understood
+mod Values
