@@ -1,22 +1,21 @@
 -- The tables of a world, and worlds that stay in shape.
-use Rattle.std.proofs.Common.{◌≡◌, ◌≢◌, ℕ, zero, suc, ◌+◌, ◌<◌, ◌≤◌, List, [], ◌∷◌, ◌++◌, length, length-append, get_or, take, drop, refl, ap, sym, subst, ◌∙◌, arith, Option, Some, None, Result, Ok, Err, unwrap_or, Bool, true, false, cond}
-use Rattle.std.specs.Prelude.{nat_lt, nat_le, ◌==◌, ◌||◌, slice_set, is_some, IsSome, if◌then◌else◌}
+use Rattle.std.proofs.Common.{◌≡◌, ℕ, zero, suc, ◌+◌, ◌<◌, ◌≤◌, List, [], ◌∷◌, ◌++◌, length, length-append, get_or, refl, ap, sym, subst, ◌∙◌, arith, Option, Some, None, Ok, Err, unwrap_or, Bool, true, false, cond}
+use Rattle.std.specs.Prelude.{nat_lt, slice_set, is_some, IsSome}
 use Rattle.std.specs.List.{All, AllZip, position_or_len, slice_get, remove}
 use Rattle.std.specs.Str.{bytes_eq}
-use Rattle.std.proofs.lemmas.List.Elements.{All-append, All-nil}
+use Rattle.std.proofs.lemmas.List.Elements.{All-append}
 use Rattle.std.proofs.lemmas.List.Folds.{find_at}
 use Rattle.std.proofs.lemmas.Bool.Decides.{nat_tests}
 use Rattle.std.proofs.lemmas.Option.{slice_get_read, slice_get_within}
 use Rattle.ae_base.specs.Atoms.{Atom}
 use Rattle.ae_base.specs.Results.{◌>>=◌, or_fault}
 use Rattle.ae_base.specs.declared.faults.SqlFault.{SqlFault}
-use Rattle.ae_base.specs.declared.faults.SqlFault.TheVariants as fault
 use Rattle.ae_base.specs.declared.tables.ColumnDef.{ColumnDef}
 use Rattle.ae_base.specs.declared.tables.TableDef.{TableDef}
 use Rattle.sql_tree.specs.Bound.{BoundInsert}
 use Rattle.sql_tree.specs.OnTables.{table_among, columns_in, columns_among}
 use Rattle.catalog.specs.Catalogs.{Catalog, table_place, master_named, key_named, master_place, key_place, is_full_of_masters, is_full_of_keys, is_full_of_tables, is_at_last_version, is_master_used, is_key_used, with_master, with_key, with_table, without_master, without_key, without_table}
-use Rattle.engine.specs.Keys.{has_twins, first_twins, unless_twins}
+use Rattle.engine.specs.Keys.{first_twins, unless_twins}
 use Rattle.engine.specs.Rows.{new_rows}
 use Rattle.engine.specs.Step as step
 use Rattle.engine.specs.Step.{Outcome, outcome, uniques_in, rows_to_insert}

@@ -1,10 +1,9 @@
 -- A step leaves a well typed world, and answers what is typed as it is shown.
-use Rattle.std.proofs.Common.{◌≡◌, ℕ, zero, suc, ◌+◌, ◌<◌, ◌≤◌, List, [], ◌∷◌, ◌++◌, length, map, refl, ap, sym, subst, ◌∙◌, arith, Option, Some, None, Result, Ok, Err, unwrap_or, Bool, true, false}
-use Rattle.std.specs.Prelude.{IsSome, slice_set}
-use Rattle.std.specs.List.{All, AllZip, slice_get, remove}
+use Rattle.std.proofs.Common.{◌≡◌, ℕ, List, [], ◌∷◌, ◌++◌, length, map, refl, ap, sym, subst, ◌∙◌, Option, Some, None, Result, Ok, Err, unwrap_or, Bool, true}
+use Rattle.std.specs.Prelude.{IsSome}
+use Rattle.std.specs.List.{All, AllZip, remove}
 use Rattle.std.proofs.lemmas.List.Elements.{All-head, All-tail, All-cons, All-nil, All-push, All-append}
 use Rattle.ae_base.specs.Atoms.{Atom}
-use Rattle.ae_base.specs.Results.{◌>>=◌}
 use Rattle.ae_base.specs.declared.faults.SqlFault.{SqlFault}
 use Rattle.ae_base.specs.declared.tables.ColumnDef.{ColumnDef}
 use Rattle.ae_base.specs.declared.tables.TableDef.{TableDef}
@@ -14,9 +13,9 @@ use Rattle.sql_tree.specs.declared.bound.BoundTable.{BoundTable}
 use Rattle.sql_tree.specs.declared.bound.ColumnSite.{ColumnSite}
 use Rattle.sql_tree.specs.Bound.{BoundInsert, BoundRow, BoundItem, BoundQuery, BoundStatement, Bound}
 use Rattle.sql_tree.specs.Bound as bound
-use Rattle.sql_tree.specs.OnTables.{IsStatementOn, table_among, columns_in, columns_among, sites_among}
-use Rattle.sql_tree.specs.Placed.{IsPlacedStatement, IsPlacedTable, IsPlacedQuery, IsPlacedValue, site_of}
-use Rattle.catalog.specs.Catalogs.{Catalog, table_place, with_master, with_key, with_table, without_master, without_key, without_table}
+use Rattle.sql_tree.specs.OnTables.{IsStatementOn, table_among, columns_in, sites_among}
+use Rattle.sql_tree.specs.Placed.{IsPlacedStatement, IsPlacedTable, IsPlacedQuery, site_of}
+use Rattle.catalog.specs.Catalogs.{Catalog, with_master, with_key, with_table, without_master, without_key, without_table}
 use Rattle.catalog.specs.WellFormed.{IsCatalog, IsKeyThere, AreKeysThere}
 use Rattle.catalog.proofs.Found.{All-remove}
 use Rattle.catalog.proofs.Kept.{with_master-kept, with_key-kept, with_table-kept, without_master-kept, without_key-kept, without_table-kept}

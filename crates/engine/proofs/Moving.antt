@@ -1,5 +1,5 @@
 -- A statement with its parameters at other places.
-use Rattle.std.proofs.Common.{◌≡◌, ℕ, List, [], ◌∷◌, ◌++◌, map, length, Bool, true, false, not, cond, Option, Some, None, Result, Ok, Err, refl, ap, sym, ◌∙◌}
+use Rattle.std.proofs.Common.{◌≡◌, ℕ, List, [], ◌∷◌, ◌++◌, map, length, Bool, true, false, not, Option, Some, None, Result, Ok, Err, refl, ap, ◌∙◌}
 use Rattle.std.specs.Prelude.{◌||◌, ◌+◌, ◌==◌, nat_le, if◌then◌else◌, count_by, filter}
 use Rattle.std.specs.List.{list_any, flat_map}
 use Rattle.ae_base.specs.Atoms.{Atom}
@@ -14,11 +14,10 @@ use Rattle.sql_tree.specs.Operands as operands
 use Rattle.sql_tree.specs.Bound.{BoundOperand, BoundCondition, BoundRow, BoundInsert, BoundAssignment, BoundUpdate, BoundDelete, BoundJoin, BoundItemValue, BoundItem, BoundQuery, BoundStatement, Bound}
 use Rattle.sql_tree.specs.Bound as bound
 use Rattle.sql_tree.specs.Uses.{uses_in, uses_in_condition, uses_in_filter, uses_in_row, uses_in_assignment, uses_in_value, uses_in_item, uses_in_join, uses_in_statement, uses, renamed_operand, renamed_condition, renamed_filter, renamed_row, renamed_assignment, renamed_value, renamed_item, renamed_join, renamed_query, renamed_statement, renamed}
-use Rattle.scalar.specs.Eval.{eval, truth}
 use Rattle.scalar.specs.Laws.{AreMoved}
 use Rattle.scalar.proofs.Renaming.{or_left, or_right, both_same, eval_moved, truth_moved}
 use Rattle.operators.specs.Events.{Event, or_overflow, is_true, asks, row_where, in_place, scanned, filtered, behind, joined}
-use Rattle.engine.specs.Columns.{ty_at, enc_at, shown_by, shown_of, result_column}
+use Rattle.engine.specs.Columns.{ty_at, enc_at, shown_of, result_column}
 use Rattle.engine.specs.Keys.{first_twins, unless_twins}
 use Rattle.engine.specs.Queries as queries
 use Rattle.engine.specs.Queries.{Found, Group, item_of, items_of, found_of, results, joined_all, where_true, is_count, is_grouped, groups_of, all_found, answered, found_in}

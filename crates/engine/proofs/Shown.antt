@@ -1,5 +1,5 @@
 -- An answer of rows shows what is plain, or encrypted as a column or a parameter of the statement.
-use Rattle.std.proofs.Common.{◌≡◌, ◌≢◌, ℕ, zero, suc, ◌<◌, ◌≤◌, List, [], ◌∷◌, length, map, refl, ap, sym, subst, ◌∙◌, arith, inl, inr, Result, Ok, Err}
+use Rattle.std.proofs.Common.{◌≡◌, ◌≢◌, ℕ, zero, suc, ◌<◌, List, [], ◌∷◌, length, map, refl, ap, subst, ◌∙◌, arith, inl, inr, Result, Ok, Err}
 use Rattle.std.specs.List.{All, Contains}
 use Rattle.std.proofs.lemmas.List.{length-map}
 use Rattle.std.proofs.lemmas.List.Elements.{All-head, All-tail, All-cons, All-nil}
@@ -12,7 +12,7 @@ use Rattle.sql_tree.specs.Operands as operands
 use Rattle.sql_tree.specs.Bound.{BoundOperand, BoundItemValue, BoundItem, BoundQuery, BoundStatement, Bound}
 use Rattle.sql_tree.specs.Bound as bound
 use Rattle.sql_tree.specs.Placed.{IsPlaced, IsPlacedValue, IsPlacedQuery, IsPlacedStatement}
-use Rattle.catalog.specs.Catalogs.{Catalog, with_master, with_key, with_table, without_master, without_key, without_table}
+use Rattle.catalog.specs.Catalogs.{with_master, with_key, with_table, without_master, without_key, without_table}
 use Rattle.engine.specs.BoundOn.{IsBoundOn}
 use Rattle.engine.specs.Columns.{site_at, enc_at, shown_by, shown_of, result_column}
 use Rattle.engine.specs.Keys.{first_twins, unless_twins}

@@ -1,7 +1,7 @@
 -- A step over worlds and parameters that correspond.
 use Rattle.std.proofs.Common.{◌≡◌, ℕ, zero, suc, ◌+◌, List, [], ◌∷◌, ◌++◌, length, map, refl, ap, sym, subst, ◌∙◌, arith, append_assoc, inl, inr, Option, Some, None, Result, Ok, Err, unwrap_or, Bool, true, false, cond}
-use Rattle.std.specs.Prelude.{◌⊎◌, ◌==◌, nat_le, if◌then◌else◌, IsSome, IsTrue, slice_set, pos}
-use Rattle.std.specs.List.{All, AllZip, find, flat_map, position_or_len, remove, slice_get}
+use Rattle.std.specs.Prelude.{◌==◌, nat_le, if◌then◌else◌, IsSome}
+use Rattle.std.specs.List.{All, AllZip, find, flat_map, remove, slice_get}
 use Rattle.std.specs.Option.{option_map}
 use Rattle.std.specs.Str.{bytes_eq}
 use Rattle.std.proofs.lemmas.Bool.{eqb-true}
@@ -19,20 +19,18 @@ use Rattle.ae_base.specs.declared.tables.TableDef.{TableDef}
 use Rattle.ae_base.specs.declared.types.Enc.{Enc}
 use Rattle.ae_base.specs.declared.types.Enc.TheVariants as enc
 use Rattle.ae_base.specs.declared.types.Ty.{Ty}
-use Rattle.ae_base.specs.declared.values.Datum.{Datum}
-use Rattle.ae_base.specs.declared.values.Datum.TheVariants.{Num}
 use Rattle.ae_base.specs.declared.values.Value.TheVariants as value
 use Rattle.sql_tree.specs.declared.bound.BoundSource.{BoundSource}
 use Rattle.sql_tree.specs.declared.bound.ColumnSite.{ColumnSite}
 use Rattle.sql_tree.specs.Operands as operands
 use Rattle.sql_tree.specs.Bound.{BoundOperand, BoundCondition, BoundRow, BoundInsert, BoundJoin, BoundItemValue, BoundItem, BoundQuery, BoundStatement, Bound}
 use Rattle.sql_tree.specs.Bound as bound
-use Rattle.sql_tree.specs.OnTables.{IsSourceOn, IsStatementOn, columns_in, columns_among, sites_among, sources_of, table_among}
+use Rattle.sql_tree.specs.OnTables.{IsSourceOn, IsStatementOn, columns_in, sites_among, table_among}
 use Rattle.sql_tree.specs.Placed.{site_of}
 use Rattle.catalog.specs.Catalogs.{Catalog, with_master, with_key, with_table, without_master, without_key, without_table}
-use Rattle.scalar.specs.Classes.{Class, Open, Det, Rnd, Pairing, class_of, class_at, IsNotNull, IsNotSealed, IsOneToOne, Correspond, NullOr, PlacesCorrespond, RowsCorrespond, BothAnswer}
+use Rattle.scalar.specs.Classes.{Class, Open, Det, Rnd, Pairing, class_of, class_at, IsNotNull, IsNotSealed, IsOneToOne, Correspond, PlacesCorrespond, RowsCorrespond, BothAnswer}
 use Rattle.scalar.specs.Eval.{eval}
-use Rattle.scalar.specs.Typed.{StandsAt, AreSumsOpen, IsNotRandomized, IsTypedCondition}
+use Rattle.scalar.specs.Typed.{StandsAt, IsNotRandomized, IsTypedCondition}
 use Rattle.scalar.specs.declared.faults.Overflow.{Overflow}
 use Rattle.scalar.proofs.Correspondence.{nulls_correspond, corresponds_at, eval_places}
 use Rattle.operators.specs.Events.{Event, or_overflow, scanned, joined}
@@ -47,10 +45,9 @@ use Rattle.engine.specs.Rows.{admitted, column_at, value_into, values_into, valu
 use Rattle.engine.specs.Step as step
 use Rattle.engine.specs.Step.{Done, outcome, columns_of, uniques_of, rows_to_insert, done_by}
 use Rattle.engine.specs.Typed.{classes_of, param_classes, IsValueFor, AreValuesFor, IsTypedFilter, IsTypedItem, IsTypedStatement, IsTypedBy}
-use Rattle.engine.specs.Worlds.{World, place_of, rows_of, with_rows}
-use Rattle.engine.specs.declared.answers.ResultColumn.{ResultColumn}
+use Rattle.engine.specs.Worlds.{World, place_of, rows_of}
 use Rattle.engine.proofs.Contents.{table_place_there, master_made, key_made, master_dropped, key_dropped, table_made, table_dropped}
-use Rattle.engine.proofs.Kept.{defined_done, created_done, dropped_done, done_ok, classes_same}
+use Rattle.engine.proofs.Kept.{created_done, dropped_done, done_ok, classes_same}
 use Rattle.engine.proofs.Suited.{class_placed}
 use Rattle.engine.proofs.Moving.{inserted_done, selected_done}
 use Rattle.engine.proofs.Pairs.{both_then, both_before, both_within, EventsCorrespond, contents_at, contents_set, contents_push, contents_remove, scanned_alike, results_alike, first_alike, filtered_alike, joined_alike}

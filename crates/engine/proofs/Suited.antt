@@ -1,5 +1,5 @@
 -- What is computed, shown and put into tables is of its column's type and encryption.
-use Rattle.std.proofs.Common.{◌≡◌, ℕ, ℤ, zero, suc, ◌+◌, ◌<◌, ◌≤◌, List, [], ◌∷◌, ◌++◌, length, map, refl, ap, sym, subst, ◌∙◌, arith, Option, Some, None, Result, Ok, Err, Bool, true, false, cond}
+use Rattle.std.proofs.Common.{◌≡◌, ℕ, ℤ, zero, suc, ◌+◌, List, [], ◌∷◌, length, map, refl, ap, sym, subst, ◌∙◌, arith, Option, Some, None, Result, Ok, Err, Bool, true, false, cond}
 use Rattle.std.specs.Prelude.{pos, negsuc, ◌+ℤ◌, ◌-ℤ◌, neg_ℤ, ◌==◌, ◌&&◌, int_le, nat_le, if◌then◌else◌, IsTrue, FitsSigned}
 use Rattle.std.specs.Int.{w32}
 use Rattle.std.specs.List.{All, AllZip, find}
@@ -9,7 +9,7 @@ use Rattle.std.proofs.lemmas.Bool.Decides.{nat_tests}
 use Rattle.std.proofs.lemmas.List.Elements.{All-head, All-tail, All-cons, All-nil}
 use Rattle.ae_base.specs.Atoms.{Atom}
 use Rattle.ae_base.specs.Results.{◌>>=◌}
-use Rattle.ae_base.specs.Values.{is_within, units}
+use Rattle.ae_base.specs.Values.{is_within}
 use Rattle.ae_base.specs.declared.atoms.AtomOf.TheVariants.{Null, Plain, Sealed}
 use Rattle.ae_base.specs.declared.faults.SqlFault.{SqlFault}
 use Rattle.ae_base.specs.declared.faults.SqlFault.TheVariants as fault
@@ -35,7 +35,7 @@ use Rattle.scalar.specs.declared.faults.Overflow.{Overflow}
 use Rattle.operators.specs.Events.{or_overflow}
 use Rattle.engine.specs.Columns.{site_at, ty_at, enc_at, shown_by, shown_of, result_column}
 use Rattle.engine.specs.Queries.{item_of, items_of}
-use Rattle.engine.specs.Rows.{admitted, no_column, column_at, value_into, values_into, value_at, value_or_null, completed, new_row, new_rows}
+use Rattle.engine.specs.Rows.{admitted, column_at, value_into, values_into, value_at, value_or_null, completed, new_row, new_rows}
 use Rattle.engine.specs.Typed.{classes_of, param_classes, IsValueFor, AreValuesFor}
 use Rattle.engine.specs.WellTyped.{IsOfType, IsEncrypted, IsAtomOf, IsOf, AreValuesOf}
 use Rattle.engine.specs.declared.answers.ResultColumn.{ResultColumn}

@@ -1,5 +1,5 @@
 -- The values of new rows, one by one.
-use Rattle.std.proofs.Common.{◌≡◌, ℕ, zero, suc, ◌+◌, ◌<◌, ◌≤◌, List, [], ◌∷◌, ◌++◌, length, get_or, drop, map, length-append, refl, ap, sym, subst, ◌∙◌, arith, Option, Some, None, Result, Ok, Err, unwrap_or, Bool, true, false, cond}
+use Rattle.std.proofs.Common.{◌≡◌, ℕ, zero, suc, ◌+◌, ◌<◌, ◌≤◌, List, [], ◌∷◌, ◌++◌, length, get_or, drop, map, length-append, refl, ap, sym, subst, ◌∙◌, arith, Result, Ok, Err, unwrap_or, Bool, true, false, cond}
 use Rattle.std.specs.Prelude.{nat_le, if◌then◌else◌}
 use Rattle.std.specs.List.{All}
 use Rattle.std.proofs.lemmas.List.{drop_more, drop_all}
