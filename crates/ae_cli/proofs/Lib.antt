@@ -1,2 +1,1 @@
-mod RunStatuses
 pub mod TwoWords
