@@ -3,7 +3,9 @@
 ghost use Rattle.plain_meaning.specs.Laws.{ServedIsPlain};
 
 use enc_types::laws::{typed_statements, typings_are_of_columns};
-use engine::laws::{rows_are_shown, step_keeps_worlds, step_renamed, typed_statements_are_admitted};
+use engine::laws::{
+    rows_are_shown, step_keeps_worlds, step_renamed, typed_statements_are_admitted,
+};
 use resolve::laws::{bound_statements_are, prepared_alone};
 
 /// Over a fresh server the conversation of each script comes to the script's plaintext meaning, or
