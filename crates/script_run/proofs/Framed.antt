@@ -1,9 +1,12 @@
 -- Frames on the tap, one after another; and a request that is asked, whole or in part.
 use Rattle.std.proofs.Common.{◌≡◌, ℕ, ◌+◌, ◌≤◌, ◌<◌, List, [], ◌∷◌, ◌++◌, Option, length, get_or, take, drop, refl, sym, ◌∙◌, ap, subst, append-nil, arith, inl, inr}
-use Rattle.std.proofs.lemmas.List.{flat_map_more, take_more, take-append-drop}
+use Rattle.std.proofs.lemmas.List.{flat_map_more, take_more, take-append-drop, take_all}
 use Rattle.std.specs.Prelude.{flat_map}
 use Rattle.std.specs.Borrow.{GName}
 use Rattle.ae_edge.specs.Devices.{WhereTold, Adds, AddsFront, IsFront, Rose}
+use Rattle.ae_edge.specs.Streams.{PutsAll}
+use Rattle.ae_edge.specs.declared.streams.PutAll.{PutAll}
+use Rattle.ae_edge.specs.declared.streams.PutAll.TheVariants as put
 use Rattle.ae_edge.proofs.Told.{told_map, adds_none, adds_then, adds_then_front, adds_front_then, adds_front_none, front_behind, front_longer}
 use Rattle.wire_messages.specs.Exchanges.{Exchange}
 use Rattle.wire_messages.specs.declared.replies.Reply.{Reply}
@@ -16,6 +19,7 @@ use Rattle.run_words.specs.Shares.{Wire, WirePut, WireRead, Serves, frames_of}
 use Rattle.run_words.specs.Ways.{AsksInPart}
 use Rattle.run_words.proofs.Going.{same_state}
 use Rattle.script_run.specs.declared.lines.Sent.TheVariants as sent
+use Rattle.script_run.specs.Frames.{PutsBytes}
 use Rattle.script_run.specs.Lines.{Sends}
 
 -- one more frame
@@ -83,3 +87,46 @@ unasked request old log state names same e f = inl (record {
   state = subst (WhereTold (Serves []) old.state) (sym f) (same_state old.state);
   count = omega arith;
 })
+
+-- ---- bytes are put, and how that ended
+
+later_rose : (a b c : ℕ) → a ≤ b → Rose b c → Rose a c
+later_rose a b c p q = omega arith
+
+pub puts_so : (result : PutAll) (bytes wanted : List ℕ) (a b : Option (List ℕ)) (n m : ℕ) → bytes ≡ wanted → PutsAll bytes result a b → n ≤ m → (result ≡ put.WriteFault → Rose n m) → PutsBytes result wanted a b n m
+puts_so put.Whole bytes wanted a b n m e h c f = (subst (λ w. Adds w a b) e h, c)
+puts_so put.WriteFault bytes wanted a b n m e h c f = (subst (λ w. AddsFront w a b) e h, c, f refl)
+puts_so put.OutOfMemory bytes wanted a b n m e h c f = (subst (λ w. AddsFront w a b) e h, c)
+
+pub puts_none : (bytes : List ℕ) (a : Option (List ℕ)) (n : ℕ) → PutsBytes put.OutOfMemory bytes a a n n
+puts_none bytes a n = (adds_front_none bytes a, omega arith)
+
+pub then_puts : (result : PutAll) (xs ys : List ℕ) (a b c : Option (List ℕ)) (n m k : ℕ) → Adds xs a b → n ≤ m → PutsBytes result ys b c m k → PutsBytes result (xs ++ ys) a c n k
+then_puts put.Whole xs ys a b c n m k p l h = let i = h.1 in (adds_then xs ys a b c p h.0, omega arith)
+then_puts put.WriteFault xs ys a b c n m k p l h = let i = h.1 in (adds_then_front xs ys a b c p h.0, omega arith, later_rose n m k l h.2)
+then_puts put.OutOfMemory xs ys a b c n m k p l h = let i = h.1 in (adds_then_front xs ys a b c p h.0, omega arith)
+
+-- one of them broke off
+module _ (replies : List Reply) (i : ℕ) (reply d : Reply) (a b c : Option (List ℕ)) (n m k : ℕ) (lt : i < length replies) (e : reply ≡ get_or replies i d)
+    (p : Adds (flat_map reply_frame (take i replies)) a b) (l : n ≤ m) where
+  pub cut_fault : PutsBytes put.WriteFault (reply_frame reply) b c m k → PutsBytes put.WriteFault (flat_map reply_frame replies) a c n k
+  cut_fault h = let j = h.1 in (cut_frames replies i reply d a b c lt e p h.0, omega arith, later_rose n m k l h.2)
+
+  pub cut_stop : PutsBytes put.OutOfMemory (reply_frame reply) b c m k → PutsBytes put.OutOfMemory (flat_map reply_frame replies) a c n k
+  cut_stop h = let j = h.1 in (cut_frames replies i reply d a b c lt e p h.0, omega arith)
+
+pub all_frames : (replies : List Reply) (i : ℕ) (a b : Option (List ℕ)) (n m : ℕ) → length replies ≤ i → Adds (flat_map reply_frame (take i replies)) a b → n ≤ m → PutsBytes put.Whole (flat_map reply_frame replies) a b n m
+all_frames replies i a b n m le h l = (subst (λ w. Adds (flat_map reply_frame w) a b) (take_all i replies le) h, l)
+
+pub no_frames : (a : Option (List ℕ)) → Adds [] a a
+no_frames a = adds_none a
+
+-- the request's frame broke off
+pub first_puts : (xs ys : List ℕ) (a b : Option (List ℕ)) (n m : ℕ) → PutsBytes put.WriteFault xs a b n m → PutsBytes put.WriteFault (xs ++ ys) a b n m
+first_puts xs ys a b n m h = (first_cut xs ys a b h.0, h.1, h.2)
+
+pub first_stops : (xs ys : List ℕ) (a b : Option (List ℕ)) (n m : ℕ) → PutsBytes put.OutOfMemory xs a b n m → PutsBytes put.OutOfMemory (xs ++ ys) a b n m
+first_stops xs ys a b n m h = (first_cut xs ys a b h.0, h.1)
+
+pub both_same : {A : Type 0} (a b c d : A) → a ≡ b → c ≡ d → a ∷ c ∷ [] ≡ b ∷ d ∷ []
+both_same a b c d e f = ap (λ x. x ∷ c ∷ []) e ∙ ap (λ x. b ∷ x ∷ []) f

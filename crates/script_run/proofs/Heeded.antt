@@ -215,7 +215,7 @@ ended_fails done.Defined h r t x wire now one p = took_fails h r t x wire now on
 ended_fails (done.Changed count) h r t x wire now one p = took_fails h r t x wire now one p
 ended_fails (done.Answered count) h r t x wire now one p = took_fails h r t x wire now one p
 
-pub answer_fails : (k : Session → Talk) (h : Halt) (r : Reply) (x : Outside) (wire : Wire) (now : Devices) → TakesOne r x.wire wire → HaltsAs h (replied Sent r) (devices_of x.desk) now
+answer_fails : (k : Session → Talk) (h : Halt) (r : Reply) (x : Outside) (wire : Wire) (now : Devices) → TakesOne r x.wire wire → HaltsAs h (replied Sent r) (devices_of x.desk) now
     → Fails (stop_of h) (Hears Sent nothing_shown (answered_on k)) x (record x { desk = with_devices x.desk now; wire = wire })
 answer_fails k h (reply.Columns header) x wire now one p =
     fails_then (stop_of h) _ _ _ _ _ (heard_last Sent nothing_shown (answered_on k) (reply.Columns header) (Shown header) x wire refl one)
@@ -226,16 +226,21 @@ answer_fails k h (reply.Refused f) x wire now one p = took_fails h (reply.Refuse
 answer_fails k h (reply.Row atoms) x wire now one p = took_fails h (reply.Row atoms) _ x wire now one p
 answer_fails k h (reply.Described d) x wire now one p = took_fails h (reply.Described d) _ x wire now one p
 
--- what halts there, or the reply isn't awaited
-pub halts_as : (h : Halt) (told : Told) (old new : Session) (before now : Devices) → Replies (Err h) told old new before now → (h ≡ halt.BadReply → ⊥) → HaltsAs h told before now
-halts_as halt.BadReply told old new before now p n = absurd (n refl)
-halts_as halt.OutOfMemory told old new before now p n = p.1
-halts_as halt.VaultFault told old new before now p n = p.1
-halts_as halt.EntropyFault told old new before now p n = absurd p
+pub answer_halts : (k : Session → Talk) (h : Halt) (r : Reply) (x : Outside) (wire : Wire) (now : Devices) (old new : Session) → TakesOne r x.wire wire
+    → Replies (Err h) (replied Sent r) old new (devices_of x.desk) now → Fails (stop_of h) (Hears Sent nothing_shown (answered_on k)) x (record x { desk = with_devices x.desk now; wire = wire })
+answer_halts k halt.BadReply r x wire now old new one p =
+    subst (λ w. Breaks (Hears Sent nothing_shown (answered_on k)) x (record x { desk = with_devices x.desk w; wire = wire })) (sym p.2) (took_breaks r (Hears Sent nothing_shown (answered_on k)) x wire one)
+answer_halts k halt.OutOfMemory r x wire now old new one p = answer_fails k halt.OutOfMemory r x wire now one p.1
+answer_halts k halt.VaultFault r x wire now old new one p = answer_fails k halt.VaultFault r x wire now one p.1
+answer_halts k halt.EntropyFault r x wire now old new one p = absurd p
 
-pub left_stuck : (sessions : List Session) (waiting : List Reply) → IsLeft waiting → IsStuck (Ends sessions) waiting
+left_stuck : (sessions : List Session) (waiting : List Reply) → IsLeft waiting → IsStuck (Ends sessions) waiting
 left_stuck sessions [] h = absurd h
 left_stuck sessions (r ∷ waiting) h = tt
+
+-- the conversation is at its end, and a reply is left
+pub stuck_at : (sessions : List Session) (t : Talk) (x y : Outside) (place : ℕ) → Goes t (Ends sessions) x y → IsLeft y.wire.waiting × (place ≡ y.wire.taken) → Fails (stop.BadReply place) t x y
+stuck_at sessions t x y place g h = record { rest = Ends sessions; goes = g; place = (left_stuck sessions y.wire.waiting h.0, sym h.1) }
 
 -- ---- the session after it
 
@@ -285,11 +290,18 @@ sent_stray k r x now place s d e p =
 pub row_stray : (session : Session) → IsRows session → (shown : Listing) (r : Reply) → replied session r ≡ Stray → IsStray session shown (Some r)
 row_stray session w shown r e = hears_rows session w shown r ∙ ap (heard_answer shown) e
 
-pub row_breaks : (session : Session) → IsRows session → (h : Halt) (r : Reply) (t : Talk) (x : Outside) (now : Devices) → HaltsAs h (replied session r) (devices_of x.desk) now
+row_breaks : (session : Session) → IsRows session → (h : Halt) (r : Reply) (t : Talk) (x : Outside) (now : Devices) → HaltsAs h (replied session r) (devices_of x.desk) now
     → Breaks t x (record x { desk = with_devices x.desk now })
 row_breaks session w h r t x now p =
     subst (λ d. Breaks t x (record x { desk = with_devices x.desk d })) (sym (halts_told (replied session r) (tells_rows session w r) h (devices_of x.desk) now p))
     (breaks_between t t x x (stay t x))
+
+pub row_halts : (session : Session) → IsRows session → (h : Halt) (r : Reply) (t : Talk) (x : Outside) (now : Devices) (old new : Session) → Replies (Err h) (replied session r) old new (devices_of x.desk) now
+    → Breaks t x (record x { desk = with_devices x.desk now })
+row_halts session w halt.BadReply r t x now old new p = subst (λ d. Breaks t x (record x { desk = with_devices x.desk d })) (sym p.2) (breaks_between t t x x (stay t x))
+row_halts session w halt.OutOfMemory r t x now old new p = row_breaks session w halt.OutOfMemory r t x now p.1
+row_halts session w halt.VaultFault r t x now old new p = row_breaks session w halt.VaultFault r t x now p.1
+row_halts session w halt.EntropyFault r t x now old new p = absurd p
 
 module _ (session : Session) (w : IsRows session) (shown more : Listing) (r : Reply) (a : ReplyAnswer) (after : Session) (x : Outside) (wire : Wire) (now : Devices)
     (says : SaysAs a (replied session r) after (devices_of x.desk) now) where

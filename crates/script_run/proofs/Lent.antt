@@ -1,9 +1,11 @@
 -- What a run leaves of what it was lent.
-use Rattle.std.proofs.Common.{◌≡◌, ℕ, ◌+◌, ◌≤◌, ◌<◌, List, [], ◌∷◌, ◌++◌, Option, Some, None, Result, Ok, Err, Bool, true, false, length, replicate, refl, sym, ◌∙◌, ap, subst, arith, length-append}
+use Rattle.std.proofs.Common.{◌≡◌, ℕ, ◌+◌, ◌≤◌, ◌<◌, List, [], ◌∷◌, ◌++◌, Option, Some, None, Result, Ok, Err, Bool, true, false, length, replicate, ◌⊎◌, refl, sym, ◌∙◌, ap, subst, append-nil, arith, length-append}
 use Rattle.std.proofs.lemmas.List.{length-replicate}
 use Rattle.std.specs.Prelude.{IfSome, IfOk}
+use Rattle.std.specs.List.{All}
 use Rattle.std.specs.Borrow.{GName}
-use Rattle.ae_edge.specs.Devices.{WhereTold}
+use Rattle.ae_edge.specs.Devices.{Rose, WhereTold}
+use Rattle.ae_edge.proofs.Told.{told_map}
 use Rattle.ae_edge.specs.Streams.{HasTaken, ReadsAll}
 use Rattle.ae_edge.specs.declared.streams.ReadAll.TheVariants as read
 use Rattle.conversation.specs.Paths.{Event}
@@ -17,11 +19,11 @@ use Rattle.run_words.specs.declared.stops.Stop.{Stop}
 use Rattle.run_words.specs.declared.stops.Stop.TheVariants as stop
 use Rattle.run_words.proofs.Going.{stay, breaks_between}
 use Rattle.script_lang.specs.declared.steps.Step.{Step}
-use Rattle.script_lang.specs.Script.{steps_of}
+use Rattle.script_lang.specs.Limits.{IsWithinLimits}
 use Rattle.script_run.specs.declared.runs.Ran.{Ran}
 use Rattle.script_run.specs.declared.runs.Ran.TheVariants as ran
 use Rattle.script_run.specs.declared.runs.Unread.TheVariants as unread
-use Rattle.script_run.specs.Ends.{Lent, Names, outside, CameTo, RunsTo, RunsScript, IsScript, IsRead, ran_of, most_script_bytes}
+use Rattle.script_run.specs.Ends.{Lent, Names, outside, CameTo, RunsTo, RunsScript, TakesScript, IsScript, IsRead, ran_of, most_script_bytes}
 
 -- ---- the same is lent after it
 
@@ -90,11 +92,11 @@ unstarted steps lent = (
 
 -- ---- a script
 
-pub runs_script : (r : Ran) (bytes : List ℕ) (steps : List Step) (old new : Lent) → IsScript bytes steps → RunsTo r steps old new → RunsScript r bytes old new
-runs_script ran.Done bytes steps old new s h = (steps, s, h)
-runs_script ran.Refusals bytes steps old new s h = (steps, s, h)
-runs_script (ran.Stopped why) bytes steps old new s h = (steps, s, h)
-runs_script (ran.Unread why) bytes steps old new s h = absurd h
+pub runs_script : (r : Ran) (bytes : List ℕ) (steps : List Step) (old new : Lent) → IsScript bytes steps → All IsWithinLimits steps → RunsTo r steps old new → RunsScript r bytes old new
+runs_script ran.Done bytes steps old new s l h = (steps, s, l, h)
+runs_script ran.Refusals bytes steps old new s l h = (steps, s, l, h)
+runs_script (ran.Stopped why) bytes steps old new s l h = (steps, s, l, h)
+runs_script (ran.Unread why) bytes steps old new s l h = absurd h
 
 pub was_read : (r : Ran) (steps : List Step) (old new : Lent) → RunsTo r steps old new → IsRead r
 was_read ran.Done steps old new h = tt
@@ -113,14 +115,58 @@ longer_front bytes left h =
     let l : length bytes ≡ length h.0 + length left = ap length h.1 ∙ length-append h.0 left in
     omega (arith, h.2)
 
+-- there are lists of every length
+many : (n : ℕ) → (bytes : List ℕ) × (n < length bytes)
+many n =
+    let l : length (replicate (n + 1) 0) ≡ n + 1 = length-replicate (n + 1) 0 in
+    (replicate (n + 1) 0, omega arith)
+
 pub too_many_bytes : (old new : Option (List ℕ)) → WhereTold (ReadsAll most_script_bytes read.TooLong) old new → (bytes : List ℕ) × IfSome old (λ xs. bytes ≡ xs) × (most_script_bytes < length bytes)
 too_many_bytes (Some xs) (Some left) h = (xs, refl, longer_front xs left h)
 too_many_bytes (Some xs) None h = absurd h
-too_many_bytes None new h =
-    let l : length (replicate (most_script_bytes + 1) 0) ≡ most_script_bytes + 1 = length-replicate (most_script_bytes + 1) 0 in
-    (replicate (most_script_bytes + 1) 0, tt, omega arith)
+too_many_bytes None new h = let m = many most_script_bytes in (m.0, tt, m.1)
 
 pub whole_bytes : (old new : Option (List ℕ)) (bytes : List ℕ) → WhereTold (ReadsAll most_script_bytes (read.Whole bytes)) old new → IfSome old (λ xs. bytes ≡ xs)
 whole_bytes (Some xs) (Some left) bytes h = sym h.0
 whole_bytes (Some xs) None bytes h = absurd h
 whole_bytes None new bytes h = tt
+
+-- ---- what was taken of it
+
+takes : (r : Ran) (bytes xs left : List ℕ) → IsRead r → ReadsAll most_script_bytes (read.Whole bytes) xs left → TakesScript r xs left
+takes ran.Done bytes xs left w h = h.1
+takes ran.Refusals bytes xs left w h = h.1
+takes (ran.Stopped why) bytes xs left w h = h.1
+takes (ran.Unread unread.ReadFault) bytes xs left w h = absurd w
+takes (ran.Unread unread.TooLong) bytes xs left w h = absurd w
+takes (ran.Unread (unread.BadLine line)) bytes xs left w h = h.1
+takes (ran.Unread unread.OutOfMemory) bytes xs left w h =
+    let l = h.2 in
+    (xs, sym (append-nil xs) ∙ ap (λ w. xs ++ w) (sym h.1), omega arith)
+
+pub takes_whole : (r : Ran) (bytes : List ℕ) (old new : Option (List ℕ)) → IsRead r → WhereTold (ReadsAll most_script_bytes (read.Whole bytes)) old new → WhereTold (TakesScript r) old new
+takes_whole r bytes old new w h = told_map (ReadsAll most_script_bytes (read.Whole bytes)) (TakesScript r) (λ x y p. takes r bytes x y w p) old new h
+
+pub read_it : (r : Ran) → IsRead r → r ≡ ran.Unread unread.ReadFault → ⊥
+read_it r w e = subst IsRead e w
+
+-- ---- a count rose
+
+came_rose : (P : Lent → Lent → Type 0) (s : Stop) (bytes : List ℕ) (old new : Lent) → RunsScript (ran.Stopped s) bytes old new
+    → ((steps : List Step) (refused : Bool) → CameTo (Err s) refused steps old new → P old new) → P old new
+came_rose P s bytes old new h f = f h.0 h.3.0 h.3.1
+
+pub write_rose : (r : Ran) (bytes : List ℕ) (old new : Lent) → RunsScript r bytes old new → r ≡ ran.Stopped stop.WriteFault → Rose old.out_faults new.out_faults ⊎ Rose old.tap_faults new.tap_faults
+write_rose r bytes old new h e =
+    came_rose (λ x y. Rose x.out_faults y.out_faults ⊎ Rose x.tap_faults y.tap_faults) stop.WriteFault bytes old new (subst (λ w. RunsScript w bytes old new) e h)
+    (λ steps refused (c : CameTo (Err stop.WriteFault) refused steps old new). c.leads.1)
+
+pub entropy_rose : (r : Ran) (bytes : List ℕ) (old new : Lent) → RunsScript r bytes old new → r ≡ ran.Stopped stop.EntropyFault → Rose old.entropy_faults new.entropy_faults
+entropy_rose r bytes old new h e =
+    came_rose (λ x y. Rose x.entropy_faults y.entropy_faults) stop.EntropyFault bytes old new (subst (λ w. RunsScript w bytes old new) e h)
+    (λ steps refused (c : CameTo (Err stop.EntropyFault) refused steps old new). c.leads.1)
+
+pub vault_rose : (r : Ran) (bytes : List ℕ) (old new : Lent) → RunsScript r bytes old new → r ≡ ran.Stopped stop.VaultFault → Rose old.vault_faults new.vault_faults
+vault_rose r bytes old new h e =
+    came_rose (λ x y. Rose x.vault_faults y.vault_faults) stop.VaultFault bytes old new (subst (λ w. RunsScript w bytes old new) e h)
+    (λ steps refused (c : CameTo (Err stop.VaultFault) refused steps old new). c.leads.1)

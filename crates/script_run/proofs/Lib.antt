@@ -6,3 +6,4 @@ pub mod Passing
 pub mod Places
 pub mod Plainly
 pub mod Turning
+pub mod Waiting

@@ -1,6 +1,7 @@
 -- The steps that are left.
-use Rattle.std.proofs.Common.{◌≡◌, ℕ, ◌+◌, ◌-◌, ◌<◌, ◌≤◌, List, [], ◌∷◌, length, get_or, drop, Result, Ok, Err, refl, sym, ◌∙◌, ap, subst, set-set, drop-cons, suc, add-one, arith}
-use Rattle.std.proofs.lemmas.List.{drop_of_length-le}
+use Rattle.std.proofs.Common.{◌≡◌, ℕ, ◌+◌, ◌-◌, ◌<◌, ◌≤◌, List, [], ◌∷◌, length, get_or, ◌++◌, drop, replicate, length-append, Result, Ok, Err, refl, sym, ◌∙◌, ap, subst, set-set, drop-cons, suc, add-one, arith}
+use Rattle.std.proofs.lemmas.List.{replicate_more}
+use Rattle.std.proofs.Math.ListN.{drop_of_length-le}
 use Rattle.conversation.specs.declared.sessions.Session.{Session}
 use Rattle.conversation.specs.declared.sessions.Session.TheVariants.{Idle}
 use Rattle.conversation.specs.Sessions.{session_at, with_session}
@@ -20,3 +21,6 @@ runs_next t steps i step d sessions x y lt e g = subst (λ ss. Goes t (talk ss s
 
 pub runs_end : (t : Talk) (steps : List Step) (i : ℕ) (sessions : List Session) (x y : Outside) → length steps ≤ i → Goes t (talk (drop i steps) sessions) x y → Goes t (Ends sessions) x y
 runs_end t steps i sessions x y le g = subst (λ ss. Goes t (talk ss sessions) x y) (drop_of_length-le steps le) g
+
+pub one_more_idle : (items : List Session) → items ≡ replicate (length items) Idle → items ++ Idle ∷ [] ≡ replicate (length (items ++ Idle ∷ [])) Idle
+one_more_idle items e = ap (λ w. w ++ Idle ∷ []) e ∙ replicate_more (length items) Idle ∙ ap (λ n. replicate n Idle) (sym (length-append items (Idle ∷ [])))

@@ -1,6 +1,7 @@
 -- What a run prints over a server is what its script means, once over the server's replies it means just that.
 use Rattle.std.proofs.Common.{◌≡◌, ◌≤◌, ℕ, ◌+◌, List, [], ◌∷◌, ◌++◌, Option, Some, None, Result, Ok, Err, Bool, true, false, ◌||◌, refl, sym, ◌∙◌, ap, subst, append_assoc, append-nil, length, arith}
 use Rattle.std.specs.Prelude.{flat_map, IfSome}
+use Rattle.std.specs.List.{All}
 use Rattle.ae_edge.specs.Devices.{WhereTold, Adds, AddsFront, GrewByFront, IsFront}
 use Rattle.ae_edge.specs.Vaults.{KeyMap}
 use Rattle.ae_edge.proofs.Told.{told_then, told_map, front_then, front_behind, adds_then_front, adds_front_then, front_of}
@@ -13,26 +14,25 @@ use Rattle.conversation.specs.Paths.{Event, Asked, Took, Strayed, Drew, Opened, 
 use Rattle.conversation.specs.Sessions.{nobody}
 use Rattle.conversation.specs.Talk.{Talk, Ends, Stops, Asks, Hears, Draws, Opens, Prints}
 use Rattle.conversation.proofs.Going.{flat_append}
+use Rattle.script_lang.specs.Limits.{IsWithinLimits}
 use Rattle.script_lang.specs.declared.steps.Step.{Step}
+use Rattle.plain_meaning.specs.Laws.{EndsWith, Agrees, ServedIsPlain}
 use Rattle.plain_meaning.specs.Steps.{talk}
 use Rattle.run_words.specs.Printing.{printed_outcome, print, has_refusal}
 use Rattle.run_words.specs.Shares.{Outside, Serves, text_of}
 use Rattle.run_words.specs.Ways.{Goes, Halts, Breaks, Fails, IsStuck}
 use Rattle.run_words.specs.declared.stops.Stop.TheVariants as stop
+use Rattle.script_run.specs.declared.runs.Ran.{Ran}
+use Rattle.script_run.specs.declared.runs.Ran.TheVariants as ran
+use Rattle.script_run.specs.declared.runs.Unread.TheVariants as unread
+use Rattle.script_run.specs.Ends.{Lent, Names, outside, CameTo, RunsTo, IsScript, RunsSteps, RunsScript}
+use Rattle.script_run.specs.Plain.{meaning, PrintsPlain, IsDoneOrFault}
 use Rattle.script_run.proofs.Passing.{ahead, path_passes}
 
-abbrev pub EndsWith : End → List Outcome → List Outcome → Type 0
-EndsWith (Done sessions) outcomes wanted = outcomes ≡ wanted
-EndsWith Dry outcomes wanted = IsFront outcomes wanted
-EndsWith (BadReply taken) outcomes wanted = ⊥
-
-abbrev pub Agrees : Passed State → List Outcome → Type 0
-Agrees p wanted = EndsWith p.end p.outcomes wanted
-
 -- a conversation over a peer that serves from the empty state, with keys that are told
-pub record Starts (keys : KeyMap) (old : Outside) : Type 0 where
+pub record Starts (map : KeyMap) (old : Outside) : Type 0 where
   pub state : old.wire.state ≡ Some empty_state
-  pub keys : old.desk.keys ≡ Some keys
+  pub keys : old.desk.keys ≡ Some map
   pub waiting : old.wire.waiting ≡ []
 
 -- ---- what was printed
@@ -167,3 +167,72 @@ module _ (keys : KeyMap) (steps : List Step) (wanted : List Outcome) (agrees : (
 
     pub no_stray : (place : ℕ) → Fails (stop.BadReply place) (talk steps nobody) old new → ⊥
     no_stray place h = never_stuck h.rest old new st h.goes h.place.0
+
+-- ---- a run of a script
+
+module _ (law : ServedIsPlain) (keys : KeyMap) (steps : List Step) (limits : All IsWithinLimits steps) (old new : Lent) (state : old.state ≡ Some empty_state) (told : old.keys ≡ Some keys) where
+  agrees_so : (entropy : List ℕ) → Agrees (over serve keys (talk steps nobody) 0 entropy empty_state []) (meaning keys steps)
+  agrees_so entropy = law keys steps limits entropy
+
+  starts : (names : Names) → Starts keys (outside names false [] 0 old)
+  starts names = record { state = state; keys = told; waiting = refl }
+
+  ends : (refused : Bool) → CameTo (Ok tt) refused steps old new → Adds (print (meaning keys steps)) old.out new.out × (has_refusal (meaning keys steps) ≡ refused)
+  ends refused c =
+      let x = outside c.before false [] 0 old in
+      let y = outside c.after refused c.waiting c.taken new in (
+        done_prints keys steps (meaning keys steps) agrees_so x y (starts c.before) c.sessions c.leads c.read,
+        sym (done_refuses keys steps (meaning keys steps) agrees_so x y (starts c.before) c.sessions c.leads c.read),
+      )
+
+  pub steps_plain : (r : Ran) → RunsTo r steps old new → PrintsPlain r keys steps old.out new.out
+  steps_plain ran.Done c = ends false c
+  steps_plain ran.Refusals c = ends true c
+  steps_plain (ran.Stopped (stop.BadReply place)) c =
+      no_stray keys steps (meaning keys steps) agrees_so (outside c.1.before false [] 0 old) (outside c.1.after c.0 c.1.waiting c.1.taken new) (starts c.1.before) place c.1.leads
+  steps_plain (ran.Stopped stop.EntropyFault) c =
+      halts_prints keys steps (meaning keys steps) agrees_so (outside c.1.before false [] 0 old) (outside c.1.after c.0 c.1.waiting c.1.taken new) (starts c.1.before) _ c.1.leads.0
+  steps_plain (ran.Stopped stop.VaultFault) c =
+      halts_prints keys steps (meaning keys steps) agrees_so (outside c.1.before false [] 0 old) (outside c.1.after c.0 c.1.waiting c.1.taken new) (starts c.1.before) _ c.1.leads.0
+  steps_plain (ran.Stopped stop.WriteFault) c =
+      breaks_prints keys steps (meaning keys steps) agrees_so (outside c.1.before false [] 0 old) (outside c.1.after c.0 c.1.waiting c.1.taken new) (starts c.1.before) c.1.leads.0
+  steps_plain (ran.Stopped stop.OutOfMemory) c =
+      breaks_prints keys steps (meaning keys steps) agrees_so (outside c.1.before false [] 0 old) (outside c.1.after c.0 c.1.waiting c.1.taken new) (starts c.1.before) c.1.leads
+  steps_plain (ran.Unread why) c = absurd c
+
+-- the steps of a script are one list
+one_script : (bytes : List ℕ) (steps others : List Step) → IsScript bytes steps → IsScript bytes others → others ≡ steps
+one_script bytes steps others s o = let a = s.read in let b = o.read in cc
+
+runs_so : (law : ServedIsPlain) (r : Ran) (keys : KeyMap) (bytes : List ℕ) (steps : List Step) (old new : Lent) → old.state ≡ Some empty_state → old.keys ≡ Some keys
+    → IsScript bytes steps → RunsSteps r bytes old new → PrintsPlain r keys steps old.out new.out
+runs_so law r keys bytes steps old new w k s h =
+    subst (λ ss. PrintsPlain r keys ss old.out new.out) (one_script bytes steps h.0 s h.1) (steps_plain law keys h.0 h.2 old new w k r h.3)
+
+pub runs_plain : (law : ServedIsPlain) (r : Ran) (keys : KeyMap) (bytes : List ℕ) (steps : List Step) (old new : Lent) → old.state ≡ Some empty_state → old.keys ≡ Some keys
+    → IsScript bytes steps → RunsScript r bytes old new → PrintsPlain r keys steps old.out new.out
+runs_plain law ran.Done keys bytes steps old new w k s h = runs_so law ran.Done keys bytes steps old new w k s h
+runs_plain law ran.Refusals keys bytes steps old new w k s h = runs_so law ran.Refusals keys bytes steps old new w k s h
+runs_plain law (ran.Stopped why) keys bytes steps old new w k s h = runs_so law (ran.Stopped why) keys bytes steps old new w k s h
+runs_plain law (ran.Unread unread.ReadFault) keys bytes steps old new w k s h = ap (λ (x : Lent). x.out) h
+runs_plain law (ran.Unread unread.TooLong) keys bytes steps old new w k s h = ap (λ (x : Lent). x.out) h.1
+runs_plain law (ran.Unread (unread.BadLine line)) keys bytes steps old new w k s h = ap (λ (x : Lent). x.out) h.2
+runs_plain law (ran.Unread unread.OutOfMemory) keys bytes steps old new w k s h = ap (λ (x : Lent). x.out) h
+
+pub runs_whole : (law : ServedIsPlain) (r : Ran) (keys : KeyMap) (bytes : List ℕ) (steps : List Step) (old new : Lent) → old.state ≡ Some empty_state → old.keys ≡ Some keys
+    → IsScript bytes steps → RunsScript r bytes old new → IsDoneOrFault r
+runs_whole law ran.Done keys bytes steps old new w k s h = tt
+runs_whole law ran.Refusals keys bytes steps old new w k s h = tt
+runs_whole law (ran.Stopped (stop.BadReply place)) keys bytes steps old new w k s h = runs_plain law (ran.Stopped (stop.BadReply place)) keys bytes steps old new w k s h
+runs_whole law (ran.Stopped stop.EntropyFault) keys bytes steps old new w k s h = tt
+runs_whole law (ran.Stopped stop.VaultFault) keys bytes steps old new w k s h = tt
+runs_whole law (ran.Stopped stop.WriteFault) keys bytes steps old new w k s h = tt
+runs_whole law (ran.Stopped stop.OutOfMemory) keys bytes steps old new w k s h = tt
+runs_whole law (ran.Unread unread.ReadFault) keys bytes steps old new w k s h = tt
+runs_whole law (ran.Unread unread.TooLong) keys bytes steps old new w k s h = let a = s.within in let b = h.0 in absurd (omega arith)
+runs_whole law (ran.Unread (unread.BadLine line)) keys bytes steps old new w k s h = let a = s.read in let b = h.1 in cc
+runs_whole law (ran.Unread unread.OutOfMemory) keys bytes steps old new w k s h = tt
+
+-- of the bytes that the source tells
+pub told_bytes : (left : Option (List ℕ)) (bytes given : List ℕ) → left ≡ Some bytes → IfSome left (λ xs. given ≡ xs) → given ≡ bytes
+told_bytes left bytes given e h = subst (λ w. IfSome w (λ xs. given ≡ xs)) e h

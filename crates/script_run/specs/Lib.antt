@@ -4,4 +4,5 @@ pub mod Frames
 pub mod Heard
 pub mod Lines
 pub mod Onward
+pub mod Plain
 pub mod Statuses

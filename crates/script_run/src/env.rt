@@ -6,15 +6,15 @@ ghost use Rattle.wire_messages.specs.declared.replies.Reply.{Reply};
 ghost use Rattle.conversation.specs.declared.sessions.Session.{Session};
 ghost use Rattle.conversation.specs.Paths.{IsStray, next_of};
 ghost use Rattle.conversation.specs.Sessions.{Tells};
-ghost use Rattle.conversation.specs.Talk.{Talk, Hears, Heard, heard_answer};
+ghost use Rattle.conversation.specs.Talk.{Talk, Hears, Heard, heard_answer, nothing_shown};
 ghost use Rattle.run_words.specs.Printing as printing;
 ghost use Rattle.run_words.specs.declared.stops.Stop.TheVariants as stop_is;
 ghost use Rattle.wire_frames.specs.Spelling.{reply_frame};
 ghost use Rattle.script_run.specs.Frames.{PutsBytes};
 ghost use Rattle.run_words.specs.Shares.{Outside, Desk};
-ghost use Rattle.run_words.specs.Ways.{Fails};
+ghost use Rattle.run_words.specs.Ways.{Fails, Leads};
 ghost use Rattle.script_run.specs.Heard.{HeardAs, is_reading};
-ghost use Rattle.script_run.specs.Onward.{IsRows};
+ghost use Rattle.script_run.specs.Onward.{IsBegun, IsDescribed, IsRows, told_on};
 ghost use Rattle.script_run.specs.Desks.{desk};
 
 use crate::around::{Around, First, RowHeard};
@@ -57,6 +57,34 @@ fn next_place<L: Line>(alloc: Global, line: &L, reply: &Reply<'_>) -> Result<u64
     ensures { IfOk result (λ n. n ≡ (L.wire line.now).taken + length (reply_frame reply.now)) }
 {
     behind(alloc, line.place(), reply)
+}
+
+/// Hears the description of a batch, which touches the wire alone.
+fn hear_described<L: Line>(
+    alloc: Global,
+    line: &mut L,
+    session: &mut Session,
+) -> Result<DescribeAnswer, Stop>
+    requires { IsBegun session.old }
+    ensures leads { (f : Heard → Talk) (desk : Desk) → Leads result (Hears session.old nothing_shown f) (told_on f session.new) (record { desk = desk; wire = L.wire line.old }) (record { desk = desk; wire = L.wire line.new }) }
+    ensures described { IfOk result (λ answer. IsDescribed answer session.new) }
+{
+    let reply = match line.front() {
+        Some(reply) => reply,
+        None => return Err(Stop::BadReply(line.place())),
+    };
+    let place = match next_place(alloc, line, reply) {
+        Ok(place) => place,
+        Err(_) => return Err(Stop::OutOfMemory),
+    };
+    match described_in(alloc, session, reply) {
+        Ok(answer) => {
+            line.take(place);
+            Ok(answer)
+        }
+        Err(Halt::BadReply) => Err(Stop::BadReply(line.place())),
+        Err(_) => Err(Stop::OutOfMemory),
+    }
 }
 
 /// What a reply says while rows are awaited, or there is no memory for it.
@@ -154,22 +182,7 @@ impl<W: Sink, E: Entropy, V: Vault, L: Line> Around for Env<'_, W, E, V, L> {
         alloc: Global,
         session: &mut Session,
     ) -> Result<DescribeAnswer, Stop> {
-        let reply = match self.line.front() {
-            Some(reply) => reply,
-            None => return Err(Stop::BadReply(self.line.place())),
-        };
-        let place = match next_place(alloc, &self.line, reply) {
-            Ok(place) => place,
-            Err(_) => return Err(Stop::OutOfMemory),
-        };
-        match described_in(alloc, session, reply) {
-            Ok(answer) => {
-                self.line.take(place);
-                Ok(answer)
-            }
-            Err(Halt::BadReply) => Err(Stop::BadReply(self.line.place())),
-            Err(_) => Err(Stop::OutOfMemory),
-        }
+        hear_described(alloc, &mut self.line, session)
     }
 
     fn hear_answer(&mut self, alloc: Global, session: &mut Session) -> Result<First, Stop> {

@@ -32,10 +32,10 @@ fn put_request<T: Sink>(frame: &mut Vec<u8>, tap: &mut T, request: &Request<'_>)
     ensures same { T.names tap.new ≡ T.names tap.old }
 {
     frame.clear();
-    if push_request(frame, request).is_err() {
-        return PutAll::OutOfMemory;
+    match push_request(frame, request) {
+        Ok(()) => put_all(tap, frame.as_slice()),
+        Err(_) => PutAll::OutOfMemory,
     }
-    put_all(tap, frame.as_slice())
 }
 
 /// Puts the frame of a reply.
@@ -44,10 +44,10 @@ fn put_reply<T: Sink>(frame: &mut Vec<u8>, tap: &mut T, reply: &Reply<'_>) -> Pu
     ensures same { T.names tap.new ≡ T.names tap.old }
 {
     frame.clear();
-    if push_reply(frame, reply).is_err() {
-        return PutAll::OutOfMemory;
+    match push_reply(frame, reply) {
+        Ok(()) => put_all(tap, frame.as_slice()),
+        Err(_) => PutAll::OutOfMemory,
     }
-    put_all(tap, frame.as_slice())
 }
 
 /// Puts the frames of replies, one after another.
@@ -112,7 +112,10 @@ impl<T: Sink, P: Peer> Line for PeerLine<'_, T, P> {
     }
 
     fn front(&self) -> Option<&Reply<'static>> {
-        self.waiting.front()
+        match self.waiting.front() {
+            Some(reply) => Some(reply),
+            None => None,
+        }
     }
 
     fn place(&self) -> u64 {

@@ -1,12 +1,17 @@
 //! The command `run`: a script is read whole, and its steps are run.
 
-ghost use Rattle.std.specs.Prelude.{◌≡◌, ◌≤◌, ◌⊎◌, ℕ, List, IfSome, length};
+ghost use Rattle.std.specs.Prelude.{◌≡◌, ◌≤◌, ◌⊎◌, ℕ, List, Some, IfSome, length};
 ghost use Rattle.ae_edge.specs.Devices.{Rose, WhereTold};
+ghost use Rattle.ae_edge.specs.Vaults.{KeyMap};
+ghost use Rattle.server_core.specs.Serve.{empty_state};
+ghost use Rattle.script_lang.specs.declared.steps.Step.{Step};
 ghost use Rattle.run_words.specs.declared.stops.Stop.TheVariants as stop;
 ghost use Rattle.script_run.specs.declared.runs.Ran.TheVariants as ran;
 ghost use Rattle.script_run.specs.declared.runs.Unread.TheVariants as unread;
-ghost use Rattle.script_run.specs.Ends.{IsRead, RunsScript, TakesScript, most_script_bytes};
+ghost use Rattle.script_run.specs.Ends.{IsRead, IsScript, RunsScript, TakesScript, most_script_bytes};
+ghost use Rattle.script_run.specs.Plain.{PrintsPlain, IsDoneOrFault};
 
+use crate::law::served_is_plain;
 use crate::runs::{Ran, Unread, run_over};
 use ae_base::blobs::Blob;
 use ae_edge::entropies::Entropy;
@@ -43,10 +48,8 @@ fn run_bytes<V: Vault, E: Entropy, W: Sink, T: Sink, P: Peer>(
     }
 }
 
-/// Reads a script to its end and runs its steps through a driver and the peer: the text goes to
-/// `out`, and every frame to `tap` in the order in which they passed, a step's frames before its
-/// text. A script that can't be read, has a bad line or is too long leaves everything as it was.
-pub fn run<S: Source, V: Vault, E: Entropy, W: Sink, T: Sink, P: Peer>(
+/// Reads a script and runs it, over any peer.
+fn run_source<S: Source, V: Vault, E: Entropy, W: Sink, T: Sink, P: Peer>(
     alloc: Global,
     script: &mut S,
     vault: &mut V,
@@ -55,14 +58,10 @@ pub fn run<S: Source, V: Vault, E: Entropy, W: Sink, T: Sink, P: Peer>(
     tap: &mut T,
     peer: &mut P,
 ) -> Ran
-    // There are bytes, the source's where it tells them, of which this is a run: how far its conversation was followed, what each
-    // device has of it, and why it was followed no further.
     ensures content { (bytes : List ℕ) × IfSome (S.left script.old) (λ left. bytes ≡ left) × RunsScript result bytes
         (record { out = W.held out.old; tap = T.held tap.old; entropy = E.to_come entropy.old; keys = V.keys vault.old; log = P.log peer.old; state = P.state peer.old; out_faults = W.faults out.old; tap_faults = T.faults tap.old; entropy_faults = E.faults entropy.old; vault_faults = V.faults vault.old })
         (record { out = W.held out.new; tap = T.held tap.new; entropy = E.to_come entropy.new; keys = V.keys vault.new; log = P.log peer.new; state = P.state peer.new; out_faults = W.faults out.new; tap_faults = T.faults tap.new; entropy_faults = E.faults entropy.new; vault_faults = V.faults vault.new }) }
-    // What was taken of the script, by how it ended.
     ensures taken { WhereTold (TakesScript result) (S.left script.old) (S.left script.new) }
-    // The faults of the outside come only where a count rose.
     ensures read { result ≡ ran.Unread unread.ReadFault → Rose (S.faults script.old) (S.faults script.new) }
     ensures write { result ≡ ran.Stopped stop.WriteFault → Rose (W.faults out.old) (W.faults out.new) ⊎ Rose (T.faults tap.old) (T.faults tap.new) }
     ensures entropy { result ≡ ran.Stopped stop.EntropyFault → Rose (E.faults entropy.old) (E.faults entropy.new) }
@@ -74,4 +73,40 @@ pub fn run<S: Source, V: Vault, E: Entropy, W: Sink, T: Sink, P: Peer>(
         ReadAll::ReadFault => Ran::Unread(Unread::ReadFault),
         ReadAll::OutOfMemory => Ran::Unread(Unread::OutOfMemory),
     }
+}
+
+/// Reads a script to its end and runs its steps through a driver and the peer: the text goes to
+/// `out`, and every frame to `tap` in the order in which they passed, a step's frames before its
+/// text. A script that can't be read, has a bad line or is too long leaves everything as it was;
+/// where a device fails or memory ends, text and tap hold fronts of the whole.
+pub fn run<S: Source, V: Vault, E: Entropy, W: Sink, T: Sink, P: Peer>(
+    alloc: Global,
+    script: &mut S,
+    vault: &mut V,
+    entropy: &mut E,
+    out: &mut W,
+    tap: &mut T,
+    peer: &mut P,
+) -> Ran
+    // For every peer there are bytes, the source's where it tells them, of which this is a run: how far its conversation was followed,
+    // what stands at the text, at the tap, at the peer and at the other devices of it, and why it was followed no further.
+    ensures content { (bytes : List ℕ) × IfSome (S.left script.old) (λ left. bytes ≡ left) × RunsScript result bytes
+        (record { out = W.held out.old; tap = T.held tap.old; entropy = E.to_come entropy.old; keys = V.keys vault.old; log = P.log peer.old; state = P.state peer.old; out_faults = W.faults out.old; tap_faults = T.faults tap.old; entropy_faults = E.faults entropy.old; vault_faults = V.faults vault.old })
+        (record { out = W.held out.new; tap = T.held tap.new; entropy = E.to_come entropy.new; keys = V.keys vault.new; log = P.log peer.new; state = P.state peer.new; out_faults = W.faults out.new; tap_faults = T.faults tap.new; entropy_faults = E.faults entropy.new; vault_faults = V.faults vault.new }) }
+    // Over a peer that serves from the empty state, with keys that are told, the text is plain SQL's over the same values.
+    ensures plain { (keys : KeyMap) (bytes : List ℕ) (steps : List Step) → P.state peer.old ≡ Some empty_state → V.keys vault.old ≡ Some keys → S.left script.old ≡ Some bytes → IsScript bytes steps
+        → PrintsPlain result keys steps (W.held out.old) (W.held out.new) }
+    // There a good script is run to its end, unless memory or a device fails: each reply is awaited.
+    ensures complete { (keys : KeyMap) (bytes : List ℕ) (steps : List Step) → P.state peer.old ≡ Some empty_state → V.keys vault.old ≡ Some keys → S.left script.old ≡ Some bytes → IsScript bytes steps
+        → IsDoneOrFault result }
+    // What was taken of the script, by how it ended.
+    ensures taken { WhereTold (TakesScript result) (S.left script.old) (S.left script.new) }
+    // The faults of the outside come only where a count rose.
+    ensures read { result ≡ ran.Unread unread.ReadFault → Rose (S.faults script.old) (S.faults script.new) }
+    ensures write { result ≡ ran.Stopped stop.WriteFault → Rose (W.faults out.old) (W.faults out.new) ⊎ Rose (T.faults tap.old) (T.faults tap.new) }
+    ensures entropy { result ≡ ran.Stopped stop.EntropyFault → Rose (E.faults entropy.old) (E.faults entropy.new) }
+    ensures vault { result ≡ ran.Stopped stop.VaultFault → Rose (V.faults vault.old) (V.faults vault.new) }
+{
+    served_is_plain();
+    run_source(alloc, script, vault, entropy, out, tap, peer)
 }

@@ -1,6 +1,5 @@
 -- To the end, with no reply left.
-use Rattle.std.proofs.Common.{sym}
-use Rattle.script_run.proofs.Heeded.{left_stuck}
+use Rattle.script_run.proofs.Heeded.{stuck_at}
 use Rattle.script_run.proofs.steps.run_all.Goals as goal
 
 pub returns-in-Err-clause-leads : goal.returns-in-Err-clause-leads
@@ -16,7 +15,7 @@ pub returns-in-None-clause-read : goal.returns-in-None-clause-read
 returns-in-None-clause-read g c = c.in-None.ensures
 
 pub returns-in-Some-clause-leads : goal.returns-in-Some-clause-leads
-returns-in-Some-clause-leads g c = record { rest = _; goes = c.in-Ok.ensures; place = (left_stuck _ _ c.in-Some.ensures.0, sym c.in-Some.ensures.1) }
+returns-in-Some-clause-leads g c = stuck_at _ _ _ _ _ c.in-Ok.ensures c.in-Some.ensures
 
 pub returns-in-Some-clause-read : goal.returns-in-Some-clause-read
 returns-in-Some-clause-read g c = tt

@@ -17,8 +17,11 @@ returns-in-Ok-clause-leads g c = λ k. let e = c.in-Whole.is in let b = c.in-Ok.
 pub returns-in-Err-clause-leads : goal.returns-in-Err-clause-leads
 returns-in-Err-clause-leads g c = λ k. breaks_between _ _ _ _ (stay _ _)
 
-pub returns-in-Ok-copy-in-Half-clause-leads : goal.returns-in-Ok-copy-in-Half-clause-leads
-returns-in-Ok-copy-in-Half-clause-leads g c = λ k. let e = c.in-Half.is in let b = c.in-Ok-copy-in-Half.ensures in rw e (rw b at (c.half.ensures.leads k))
+pub returns-in-Ok-copy-clause-leads : goal.returns-in-Ok-copy-clause-leads
+returns-in-Ok-copy-clause-leads g c = λ k. let e = c.in-Half.is in let b = c.in-Ok-copy.ensures in rw e (rw b at (c.half.ensures.leads k))
 
 pub returns-in-Execute-clause-leads : goal.returns-in-Execute-clause-leads
 returns-in-Execute-clause-leads g c = λ k. let e = c.in-Execute.is in rw e (c.execute.ensures.leads k)
+
+pub returns-in-Err-copy-clause-leads : goal.returns-in-Err-copy-clause-leads
+returns-in-Err-copy-clause-leads g c = λ k. breaks_between _ _ _ _ (stay _ _)

@@ -1,24 +1,11 @@
--- By what waits, and what it says.
-use Rattle.std.proofs.Common.{Some, None}
-use Rattle.run_words.proofs.Going.{stay, breaks_between}
-use Rattle.script_run.proofs.Awaited.{got_description, missed_description, begun_broken, is_described}
-use Rattle.script_run.proofs.Heeded.{none_next, first_next, missed, described_goes}
+-- As it is heard of the wire.
 use Rattle.script_run.proofs.env.EnvAround.hear_description.Goals as goal
 
-pub returns-in-None-clause-leads : goal.returns-in-None-clause-leads
-returns-in-None-clause-leads g c = λ f. missed _ _ f None _ _ (begun_broken _ _ c.requires.begun) tt (none_next _ c.in-None.ensures) c.place.ensures
+pub hear_described-requires : goal.hear_described-requires
+hear_described-requires g c = c.requires.begun
 
-pub returns-in-Err-clause-leads : goal.returns-in-Err-clause-leads
-returns-in-Err-clause-leads g c = λ f. breaks_between _ _ _ _ (stay _ _)
+pub returns-clause-leads : goal.returns-clause-leads
+returns-clause-leads g c = λ f. c.hear_described.ensures.leads f _
 
-pub returns-in-Ok-described_in-clause-leads : goal.returns-in-Ok-described_in-clause-leads
-returns-in-Ok-described_in-clause-leads g c = λ f. described_goes c.args.session.now f c.in-Some.reply.now c.in-Ok-described_in.answer _ _ _ (got_description c.args.session.now c.requires.begun c.in-Some.reply.now c.in-Ok-described_in.answer _ c.in-Ok-described_in.ensures) (c.take.ensures c.in-Some.reply.now c.in-Some.ensures c.in-Ok.ensures)
-
-pub returns-in-Ok-described_in-clause-described : goal.returns-in-Ok-described_in-clause-described
-returns-in-Ok-described_in-clause-described g c = is_described c.args.session.now c.in-Some.reply.now _ _ c.in-Ok-described_in.ensures
-
-pub returns-in-Ok-described_in-clause-of_vault : goal.returns-in-Ok-described_in-clause-of_vault
-returns-in-Ok-described_in-clause-of_vault g c = c.requires.of_vault
-
-pub returns-in-Err-BadReply-clause-leads : goal.returns-in-Err-BadReply-clause-leads
-returns-in-Err-BadReply-clause-leads g c = λ f. missed _ _ f (Some c.in-Some.reply.now) _ _ (begun_broken _ _ c.requires.begun) (missed_description c.args.session.now c.requires.begun c.in-Some.reply.now c.in-Err-BadReply.ensures.0) (first_next _ _ c.in-Some.ensures) c.place-in-Err-BadReply.ensures
+pub returns-clause-described : goal.returns-clause-described
+returns-clause-described g c = c.hear_described.ensures.described
