@@ -1,10 +1,14 @@
 //! The top call: the words of a command line, and what the command does.
 
-ghost use Rattle.std.specs.Prelude.{◌≡◌, ◌⊎◌, ℕ, List, IfSome, true, false};
+ghost use Rattle.std.specs.Prelude.{◌≡◌, ◌⊎◌, ℕ, List, IfSome, Some, true, false};
 ghost use Rattle.ae_cli.specs.Words.{IsOfRun, IsRefusedUsage, is_run};
 ghost use Rattle.ae_edge.specs.Devices.{Rose, WhereTold};
+ghost use Rattle.ae_edge.specs.Vaults.{KeyMap};
+ghost use Rattle.script_lang.specs.declared.steps.Step.{Step};
+ghost use Rattle.server_core.specs.Serve.{empty_state};
 ghost use Rattle.script_run.specs.declared.runs.Ran.{Ran};
-ghost use Rattle.script_run.specs.Ends.{RunsScript, TakesScript};
+ghost use Rattle.script_run.specs.Ends.{IsScript, RunsScript, TakesScript};
+ghost use Rattle.script_run.specs.Plain.{IsDoneOrFault, PrintsPlain};
 ghost use Rattle.script_run.specs.Statuses.{status_of};
 
 use crate::words::{is_run, usage};
@@ -44,6 +48,12 @@ pub fn ae_main<S: Source, V: Vault, E: Entropy, L: Source, W: Sink, T: Sink, P: 
     ensures content { is_run words.now ≡ true → (ran : Ran) × (result ≡ status_of ran) × (bytes : List ℕ) × IfSome (S.left script.old) (λ left. bytes ≡ left) × RunsScript ran bytes
         (record { out = W.held out.old; tap = T.held tap.old; entropy = E.to_come entropy.old; keys = V.keys vault.old; log = P.log peer.old; state = P.state peer.old; out_faults = W.faults out.old; tap_faults = T.faults tap.old; entropy_faults = E.faults entropy.old; vault_faults = V.faults vault.old })
         (record { out = W.held out.new; tap = T.held tap.new; entropy = E.to_come entropy.new; keys = V.keys vault.new; log = P.log peer.new; state = P.state peer.new; out_faults = W.faults out.new; tap_faults = T.faults tap.new; entropy_faults = E.faults entropy.new; vault_faults = V.faults vault.new }) }
+    // A run over a peer that serves from the empty state, with keys that are told: the text is plain SQL's over the same values.
+    ensures plain { is_run words.now ≡ true → P.state peer.old ≡ Some empty_state → (keys : KeyMap) (bytes : List ℕ) (steps : List Step) → V.keys vault.old ≡ Some keys → S.left script.old ≡ Some bytes → IsScript bytes steps
+        → (ran : Ran) × (result ≡ status_of ran) × PrintsPlain ran keys steps (W.held out.old) (W.held out.new) }
+    // There a good script is run to its end, unless memory or a device fails.
+    ensures complete { is_run words.now ≡ true → P.state peer.old ≡ Some empty_state → (keys : KeyMap) (bytes : List ℕ) (steps : List Step) → V.keys vault.old ≡ Some keys → S.left script.old ≡ Some bytes → IsScript bytes steps
+        → (ran : Ran) × (result ≡ status_of ran) × IsDoneOrFault ran }
     // What was taken of the script, by how the run ended.
     ensures taken { is_run words.now ≡ true → (ran : Ran) × (result ≡ status_of ran) × WhereTold (TakesScript ran) (S.left script.old) (S.left script.new) }
     // The faults of the outside come only where a count rose.
