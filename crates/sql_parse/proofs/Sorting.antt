@@ -1,5 +1,6 @@
 -- The parts of a table, sorted one after another.
-use Rattle.std.proofs.Common.{◌≡◌, ◌==◌, Bool, true, false, List, [], ◌∷◌, ◌++◌, length, Option, Some, None, refl, sym, ◌∙◌, ap, append_assoc}
+use Rattle.std.proofs.Common.{◌≡◌, ◌==◌, Bool, true, false, List, [], ◌∷◌, ◌++◌, length, Option, Some, None, refl, sym, ap, append_assoc, arith}
+use Rattle.std.proofs.lemmas.Bool.{eqb-true}
 use Rattle.std.proofs.lemmas.List.{append-nil}
 use Rattle.sql_tree.specs.declared.statements.ColumnSpec.{ColumnSpec}
 use Rattle.sql_tree.specs.declared.statements.UniqueSpec.{UniqueSpec}
@@ -49,7 +50,7 @@ column_moves columns column (Some r) = ap (λ (cs : List ColumnSpec). found cs r
 pub sort_column : (columns : List ColumnSpec) (uniques : List UniqueSpec) (column : ColumnSpec) (parts : List TablePart) → (length uniques == 0) ≡ true
     → sorted_with columns uniques (part.Column column ∷ parts) ≡ sorted_with (columns ++ column ∷ []) uniques parts
 sort_column columns [] column parts e = column_moves columns column (parts_in parts)
-sort_column columns (u ∷ us) column parts e = absurd (cc)
+sort_column columns (u ∷ us) column parts e = absurd (let some : length (u ∷ us) ≡ 0 = eqb-true (length (u ∷ us)) 0 e in omega arith)
 
 pub sort_late : (columns : List ColumnSpec) (uniques : List UniqueSpec) (column : ColumnSpec) (parts : List TablePart) → (length uniques == 0) ≡ false
     → sorted_with columns uniques (part.Column column ∷ parts) ≡ None
