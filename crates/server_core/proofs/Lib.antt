@@ -1,9 +1,13 @@
 mod Beginning
+mod Headers
 mod Listing
+mod Moving
+mod Passing
 mod Readiness
 mod ReplyKinds
 mod Sendable
 mod Steps
 mod Suiting
+mod Told
 mod Typings
 mod Used

@@ -42,7 +42,7 @@ used_there catalog before (enc.Rnd key ∷ encs) a =
 -- ---- there are no more of them than keys of the catalog
 
 -- how many of the ids weren't used before
-left : List ℕ → List ℕ → ℕ
+abbrev left : List ℕ → List ℕ → ℕ
 left [] before = 0
 left (id ∷ ids) before = if list_any (λ k. eqb k id) before then left ids before else left ids before + 1
 
@@ -50,13 +50,13 @@ last : (b : Bool) → (b || false) ≡ (false || b)
 last true = refl
 last false = refl
 
-or_on : (a : Bool) {b c d : Bool} → b ≡ (c || d) → (a || b) ≡ ((a || c) || d)
-or_on true e = refl
-or_on false e = e
+or_on : (a b c d : Bool) → b ≡ (c || d) → (a || b) ≡ ((a || c) || d)
+or_on true b c d e = refl
+or_on false b c d e = e
 
 any_more : (p : ℕ → Bool) (xs : List ℕ) (x : ℕ) → list_any p (xs ++ x ∷ []) ≡ (list_any p xs || p x)
 any_more p [] x = last (p x)
-any_more p (y ∷ ys) x = or_on (p y) (any_more p ys x)
+any_more p (y ∷ ys) x = or_on (p y) (list_any p (ys ++ x ∷ [])) (list_any p ys) (p x) (any_more p ys x)
 
 left_le_one : (a b : Bool) (m n : ℕ) → m ≤ n → (if a || b then m else m + 1) ≤ (if a then n else n + 1)
 left_le_one true b m n le = le

@@ -2,7 +2,8 @@
 use Rattle.std.proofs.Common.{◌≡◌, ℕ, List, [], ◌∷◌, length, map, sym, ap, ◌∙◌, subst}
 use Rattle.std.specs.List.{All, AllZip}
 use Rattle.std.proofs.lemmas.List.{length-map}
-use Rattle.std.proofs.lemmas.List.Elements.{All-weaker, length_all_zip}
+use Rattle.std.proofs.lemmas.List.Elements.{All-weaker}
+use Rattle.std.proofs.lemmas.Slice.Zip.{AllZip-long}
 use Rattle.ae_base.specs.Atoms.{Atom}
 use Rattle.ae_base.specs.declared.faults.SqlFault.{SqlFault}
 use Rattle.catalog.specs.Catalogs.{Catalog}
@@ -35,7 +36,7 @@ changed_kinds count replies e = λ session version text params. subst (HasKinds 
 rows_wide : (columns : List ResultColumn) (rows : List (List Atom)) → AreResults is_short columns rows → All (λ row. length row ≡ length (map sent_column columns)) rows
 rows_wide columns rows r =
     All-weaker (AllZip (λ (column : ResultColumn) atom. IsAtomOf is_short column.ty column.enc atom) columns) (λ row. length row ≡ length (map sent_column columns))
-    (λ row z. sym (length_all_zip _ columns row z) ∙ sym (length-map columns sent_column)) rows r
+    (λ row z. AllZip-long (λ (column : ResultColumn) (atom : Atom). IsAtomOf is_short column.ty column.enc atom) columns row z ∙ sym (length-map columns sent_column)) rows r
 
 pub rows_kinds : (catalog : Catalog) (columns : List ResultColumn) (rows : List (List Atom)) (replies : List Reply) → AreResults is_short columns rows
     → replies ≡ replies_of catalog (engine.Rows columns rows) → AreExecuteKinds replies

@@ -3,10 +3,11 @@ use Rattle.std.proofs.Common.{◌≡◌, ℕ, ◌+◌, ◌*◌, ◌≤◌, Bool,
 use Rattle.std.specs.Prelude.{IsTrue, nat_le, encode_utf8_all}
 use Rattle.std.specs.List.{All, AllZip}
 use Rattle.std.specs.Char.{len_utf8}
+use Rattle.std.proofs.lemmas.Bool.{leb-true}
 use Rattle.std.proofs.lemmas.Bool.Decides.{nat_tests}
 use Rattle.std.proofs.lemmas.List.{length-append}
 use Rattle.std.proofs.lemmas.List.Elements.{All-nil, All-cons, All-head, All-tail, All-weaker}
-use Rattle.std.proofs.lemmas.List.Elements.{length_all_zip}
+use Rattle.std.proofs.lemmas.Slice.Zip.{AllZip-long}
 use Rattle.std.proofs.lemmas.Str.{length-encode}
 use Rattle.ae_base.specs.Atoms.{Atom}
 use Rattle.ae_base.specs.Types.{IsType}
@@ -15,6 +16,7 @@ use Rattle.ae_base.specs.declared.atoms.AtomOf.TheVariants.{Null, Plain, Sealed}
 use Rattle.ae_base.specs.declared.types.Enc.{Enc}
 use Rattle.ae_base.specs.declared.types.Ty.{Ty}
 use Rattle.ae_base.specs.declared.types.Ty.TheVariants as ty
+use Rattle.ae_base.specs.declared.values.Datum.{Datum}
 use Rattle.ae_base.specs.declared.values.Datum.TheVariants as datum
 use Rattle.engine.specs.WellTyped.{IsAtomOf, IsOfType, AreResults}
 use Rattle.engine.specs.declared.answers.ResultColumn.{ResultColumn}
@@ -33,7 +35,7 @@ bytes_le (c ∷ cs) = let l = len_le c in let e = length-encode c in let r = byt
 
 -- ---- atoms of a type
 
-datum_sendable : (t : Ty) (d : _) → IsOfType t d → IsType t → IsSendable (Plain d)
+datum_sendable : (t : Ty) (d : Datum) → IsOfType t d → IsType t → IsSendable (Plain d)
 datum_sendable t (datum.Num n) o p = tt
 datum_sendable ty.Int (datum.Text cs) o p = absurd o
 datum_sendable ty.BigInt (datum.Text cs) o p = absurd o
@@ -47,7 +49,7 @@ datum_sendable (ty.VarBinary most) (datum.Bin bytes) o p = omega arith
 atom_sendable : (t : Ty) (enc : Enc) (a : Atom) → IsAtomOf is_short t enc a → IsType t → IsSendable a
 atom_sendable t enc Null o p = tt
 atom_sendable t enc (Plain d) o p = datum_sendable t d o p
-atom_sendable t enc (Sealed cell) o p = grind (arith, nat_tests, o)
+atom_sendable t enc (Sealed cell) o p = leb-true (length cell) 16384 o.1
 
 -- ---- rows of columns of types
 
@@ -64,4 +66,4 @@ pub rows_sendable : (columns : List ResultColumn) (rows : List (List Atom)) → 
     → All (λ row. IsFew row × All IsSendable row) rows
 rows_sendable columns rows r few t =
     All-weaker (AllZip (λ (column : ResultColumn) atom. IsAtomOf is_short column.ty column.enc atom) columns) (λ row. IsFew row × All IsSendable row)
-    (λ row z. (subst (λ n. (1 ≤ n) × (n ≤ 512)) (length_all_zip _ columns row z) few, row_sendable columns row z t)) rows r
+    (λ row z. (subst (λ n. (1 ≤ n) × (n ≤ 512)) (sym (AllZip-long (λ (column : ResultColumn) (atom : Atom). IsAtomOf is_short column.ty column.enc atom) columns row z)) few, row_sendable columns row z t)) rows r

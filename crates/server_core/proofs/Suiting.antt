@@ -1,13 +1,13 @@
 -- The values of parameters, each tested in turn: those so far, and what is known of them all.
 use Rattle.std.proofs.Common.{◌≡◌, ℕ, ◌+◌, ◌<◌, ◌≤◌, Bool, true, false, List, [], ◌∷◌, length, map, drop, get_or, Result, Ok, Err, refl, sym, ap, ◌∙◌, subst, arith, if◌then◌else◌}
-use Rattle.std.specs.Prelude.{IsTrue}
+use Rattle.std.specs.Prelude.{IsTrue, int_le, pos, negsuc}
 use Rattle.std.specs.List.{All}
-use Rattle.std.proofs.lemmas.Bool.Decides.{nat_tests}
+use Rattle.std.proofs.lemmas.Bool.{and_parts, false≢true, le-leb, leb-true}
 use Rattle.std.proofs.lemmas.Int.{ints}
 use Rattle.std.proofs.lemmas.List.{drop_more}
 use Rattle.std.proofs.lemmas.List.Elements.{All-head, All-tail}
 use Rattle.ae_base.specs.Atoms.{Atom}
-use Rattle.ae_base.specs.Values.{is_within}
+use Rattle.ae_base.specs.Values.{is_within, units}
 use Rattle.ae_base.specs.declared.atoms.AtomOf.TheVariants.{Null, Plain, Sealed}
 use Rattle.ae_base.specs.declared.faults.SqlFault.{SqlFault}
 use Rattle.ae_base.specs.declared.faults.SqlFault.TheVariants as fault
@@ -45,31 +45,31 @@ module _ (encs : List Enc) (params : List SentParam) (i : ℕ) (e : Enc) (p : Se
 -- ---- each is of its type and encryption
 
 datum_of : (t : Ty) (d : Datum) → is_within d t ≡ true → IsOfType t d
-datum_of ty.Int (datum.Num n) h = grind (arith, ints, h)
+datum_of ty.Int (datum.Num n) h = let parts = and_parts (int_le (negsuc 2147483647) n) (int_le n (pos 2147483647)) h in grind (arith, ints)
 datum_of ty.BigInt (datum.Num n) h = tt
-datum_of (ty.NVarChar most) (datum.Num n) h = absurd cc
-datum_of (ty.VarBinary most) (datum.Num n) h = absurd cc
-datum_of ty.Int (datum.Text cs) h = absurd cc
-datum_of ty.BigInt (datum.Text cs) h = absurd cc
-datum_of (ty.NVarChar most) (datum.Text cs) h = grind (arith, nat_tests, h)
-datum_of (ty.VarBinary most) (datum.Text cs) h = absurd cc
-datum_of ty.Int (datum.Bin bytes) h = absurd cc
-datum_of ty.BigInt (datum.Bin bytes) h = absurd cc
-datum_of (ty.NVarChar most) (datum.Bin bytes) h = absurd cc
-datum_of (ty.VarBinary most) (datum.Bin bytes) h = grind (arith, nat_tests, h)
+datum_of (ty.NVarChar most) (datum.Num n) h = absurd (false≢true h)
+datum_of (ty.VarBinary most) (datum.Num n) h = absurd (false≢true h)
+datum_of ty.Int (datum.Text cs) h = absurd (false≢true h)
+datum_of ty.BigInt (datum.Text cs) h = absurd (false≢true h)
+datum_of (ty.NVarChar most) (datum.Text cs) h = leb-true (units cs) most h
+datum_of (ty.VarBinary most) (datum.Text cs) h = absurd (false≢true h)
+datum_of ty.Int (datum.Bin bytes) h = absurd (false≢true h)
+datum_of ty.BigInt (datum.Bin bytes) h = absurd (false≢true h)
+datum_of (ty.NVarChar most) (datum.Bin bytes) h = absurd (false≢true h)
+datum_of (ty.VarBinary most) (datum.Bin bytes) h = leb-true (length bytes) most h
 
 short_cell : (cell : List ℕ) → IsSendable (Sealed cell) → IsTrue (is_short cell)
-short_cell cell s = grind (arith, nat_tests)
+short_cell cell s = le-leb (length cell) 16384 s
 
 atom_of : (e : Enc) (t : Ty) (a : Atom) → is_of e t a ≡ true → IsSendable a → IsAtomOf is_short t e a
 atom_of enc.Plain t Null h s = tt
 atom_of enc.Plain t (Plain d) h s = datum_of t d h
-atom_of enc.Plain t (Sealed cell) h s = absurd cc
+atom_of enc.Plain t (Sealed cell) h s = absurd (false≢true h)
 atom_of (enc.Det key) t Null h s = tt
-atom_of (enc.Det key) t (Plain d) h s = absurd cc
+atom_of (enc.Det key) t (Plain d) h s = absurd (false≢true h)
 atom_of (enc.Det key) t (Sealed cell) h s = (tt, short_cell cell s)
 atom_of (enc.Rnd key) t Null h s = tt
-atom_of (enc.Rnd key) t (Plain d) h s = absurd cc
+atom_of (enc.Rnd key) t (Plain d) h s = absurd (false≢true h)
 atom_of (enc.Rnd key) t (Sealed cell) h s = (tt, short_cell cell s)
 
 -- the value that is suited, and why

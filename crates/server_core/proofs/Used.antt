@@ -1,8 +1,9 @@
 -- The parameters that are used: their order, their names and their number.
 use Rattle.std.proofs.Common.{◌≡◌, ℕ, ◌+◌, ◌<◌, ◌≤◌, Bool, true, false, ◌||◌, ◌&&◌, not, List, [], ◌∷◌, ◌++◌, length, map, drop, get_or, IsTrue, refl, sym, ap, ◌∙◌, arith, if◌then◌else◌}
-use Rattle.std.specs.List.{list_any}
+use Rattle.std.specs.List.{All, list_any}
 use Rattle.std.specs.Str.{bytes_eq}
 use Rattle.std.proofs.lemmas.List.{drop_more}
+use Rattle.std.proofs.lemmas.List.Elements.{All-nil, All-cons, All-head, All-tail}
 use Rattle.std.proofs.lemmas.Bool.{and_parts}
 use Rattle.ae_base.specs.Names.{all_differ}
 use Rattle.ae_base.specs.declared.batches.ParamDecl.{ParamDecl}
@@ -22,6 +23,9 @@ module _ (b : Bound) (ds : List ParamDecl) (es : List Enc) (place : ℕ) (d : Pa
 
 abbrev pub names_of : List UsedParam → List (List ℕ)
 names_of used = map (λ p. p.name) used
+
+abbrev pub encs_of : List UsedParam → List Enc
+encs_of used = map (λ p. p.enc) used
 
 abbrev pub declared_names : List ParamDecl → List (List ℕ)
 declared_names ds = map (λ d. d.name) ds
@@ -69,3 +73,13 @@ used_differ place b (d ∷ ds) (e ∷ es) h =
     let p = and_parts (not (list_any (bytes_eq d.name) (declared_names ds))) (all_differ (declared_names ds)) h in
     differ_one d.name e (used_from (place + 1) b ds es) (uses place b)
     (absent_used d.name (place + 1) b ds es (not-true (list_any (bytes_eq d.name) (declared_names ds)) p.0)) (used_differ (place + 1) b ds es p.1)
+
+-- what holds of each parameter's encryption holds of those that are used
+with_one : (P : Enc → Type 0) (name : List ℕ) (enc : Enc) (rest : List UsedParam) (is : Bool) → P enc → All P (encs_of rest) → All P (encs_of (if is then record { name = name; enc = enc } ∷ rest else rest))
+with_one P name enc rest true p a = All-cons P enc (encs_of rest) p a
+with_one P name enc rest false p a = a
+
+pub used_encs : (P : Enc → Type 0) (place : ℕ) (b : Bound) (ds : List ParamDecl) (es : List Enc) → All P es → All P (encs_of (used_from place b ds es))
+used_encs P place b [] es a = All-nil P
+used_encs P place b (d ∷ ds) [] a = All-nil P
+used_encs P place b (d ∷ ds) (e ∷ es) a = with_one P d.name e (used_from (place + 1) b ds es) (uses place b) (All-head P e es a) (used_encs P (place + 1) b ds es (All-tail P e es a))

@@ -3,6 +3,7 @@ use Rattle.std.specs.Prelude.{◌≡◌, ℕ, List, length, Ok, IsTrue}
 use Rattle.std.specs.List.{All}
 use Rattle.ae_base.specs.Atoms.{Atom}
 use Rattle.ae_base.specs.declared.batches.ParamDecl.{ParamDecl}
+use Rattle.sql_tree.specs.Bound.{Bound}
 use Rattle.catalog.specs.Catalogs.{Catalog}
 use Rattle.catalog.specs.WellFormed.{IsKeyThere}
 use Rattle.resolve.specs.Laws.{IsBoundOver}
@@ -16,17 +17,27 @@ use Rattle.wire_messages.specs.Messages.{IsFew}
 use Rattle.server_core.specs.Describing.{Meant}
 use Rattle.server_core.specs.States.{is_short}
 
--- it is bound over the catalog and the declarations, has the least typing of its rules, and is executed so far
-pub record IsUnderstood (catalog : Catalog) (declarations : List ParamDecl) (meant : Meant) : Type 0 where
+-- it is bound over the catalog and the declarations
+unfoldable pub IsNamed : Catalog → List ParamDecl → Bound → Type 0
+IsNamed catalog declarations bound = IsBoundOver catalog declarations bound
+
+-- it has the least typing of its rules, and is executed so far
+pub record Understanding (catalog : Catalog) (declarations : List ParamDecl) (meant : Meant) : Type 0 where
   pub bound : IsBoundOver catalog declarations meant.bound
   pub typed : inferred meant.bound ≡ Ok meant.encs
   pub executes : IsTrue (executes meant.bound)
 
+unfoldable pub IsUnderstood : Catalog → List ParamDecl → Meant → Type 0
+IsUnderstood catalog declarations meant = Understanding catalog declarations meant
+
 -- and each parameter has a value of its type and encryption
-pub record IsReady (catalog : Catalog) (declarations : List ParamDecl) (meant : Meant) (atoms : List Atom) : Type 0 where
-  pub understood : IsUnderstood catalog declarations meant
+pub record Readied (catalog : Catalog) (declarations : List ParamDecl) (meant : Meant) (atoms : List Atom) : Type 0 where
+  pub understood : Understanding catalog declarations meant
   pub count : length atoms ≡ length meant.bound.params
   pub values : AreValuesOf is_short meant.bound.params meant.encs atoms
+
+unfoldable pub IsReady : Catalog → List ParamDecl → Meant → List Atom → Type 0
+IsReady catalog declarations meant atoms = Readied catalog declarations meant atoms
 
 -- the rows of an answer are sendable, with their columns' keys, and nothing is changed
 pub record AreSendable (old new : World) (columns : List ResultColumn) (rows : List (List Atom)) : Type 0 where

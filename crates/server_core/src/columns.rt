@@ -4,6 +4,7 @@ ghost use Rattle.std.specs.Prelude.{◌≡◌, IfOk, map};
 ghost use Rattle.std.specs.List.{All};
 ghost use Rattle.ae_base.specs.Types.{IsType};
 ghost use Rattle.catalog.specs.WellFormed.{IsCatalog, IsKeyThere};
+ghost use Rattle.wire_messages.specs.KeyLists.{AreTheKeysOf};
 ghost use Rattle.wire_messages.specs.Messages.{IsFew};
 ghost use Rattle.server_core.specs.Serve as spec;
 
@@ -15,6 +16,7 @@ use catalog::laws::keys_are_told;
 use engine::answers::ResultColumn;
 use std::alloc::{AllocError, Global};
 use wire_messages::columns::SentColumn;
+use wire_messages::keys::KeyPart;
 use wire_messages::replies::Header;
 use wire_messages::texts::TitlePart;
 
@@ -33,8 +35,16 @@ pub fn header(
     keys_are_told();
     let columns = sent_columns(alloc, columns)?;
     let keys = keys_of(alloc, catalog, columns.as_slice())?;
+    Ok(headed(keys, columns))
+}
+
+fn headed(keys: Seq<KeyPart<'static>>, columns: Seq<SentColumn<'static>>) -> Header<'static>
+    requires keys { AreTheKeysOf (map (λ c. c.enc) columns) keys }
+    requires few { IsFew columns }
+    ensures { result ≡ record { keys = keys.entry; columns = columns.entry } }
+{
     match Header::new(keys, columns) {
-        Some(header) => Ok(header),
+        Some(header) => header,
         None => unreachable!(),
     }
 }
@@ -44,7 +54,7 @@ fn sent_columns(
     columns: Seq<ResultColumn>,
 ) -> Result<Seq<SentColumn<'static>>, AllocError>
     ensures exact { IfOk result (λ sent. sent ≡ map spec.sent_column columns) }
-    ensures types { IfOk result (λ sent. All (λ column. IsType column.ty) columns) }
+    ensures types { IfOk result (All (λ column. IsType column.ty)) }
 {
     let mut sent = Seq::new(alloc);
     for column in columns.into_vec() {

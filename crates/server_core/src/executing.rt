@@ -13,13 +13,14 @@ ghost use Rattle.server_core.specs.States.{IsState};
 ghost use Rattle.server_core.specs.Understood.{CanBeSent, IsReady};
 
 use crate::preparing::{Ready, prepared};
+use crate::replies::one_reply_in;
 use crate::rows::rows_replies;
 use ae_base::cells::Cell;
 use ae_base::lists::Seq;
 use ae_base::refusals::Refusal;
 use enc_types::laws::typings_are_of_columns;
 use engine::answers::Answer;
-use engine::laws::{rows_are_shown, step_keeps_worlds};
+use engine::laws::{rows_are_shown, step_keeps_worlds, typed_statements_are_admitted};
 use engine::worlds::World;
 use std::alloc::Global;
 use wire_messages::params::SentParam;
@@ -46,7 +47,7 @@ pub fn execute(
 
 /// Executes what is ready. Memory for the one reply to a definition or a change is taken before
 /// anything is changed; a query changes nothing.
-#[tactic(auto, using(crate::proofs::ReplyKinds::defined_kinds, crate::proofs::ReplyKinds::changed_kinds, crate::proofs::Steps::answered_so, crate::proofs::Steps::answered_fault))]
+#[tactic(auto, using(crate::proofs::ReplyKinds::defined_kinds, crate::proofs::ReplyKinds::changed_kinds, crate::proofs::ReplyKinds::rows_kinds, crate::proofs::Steps::answered_so, crate::proofs::Steps::answered_fault))]
 fn step(
     alloc: Global,
     world: &mut World<Cell>,
@@ -58,16 +59,12 @@ fn step(
     ensures state { IsState world.new }
     ensures kinds { IfOk result AreExecuteKinds }
 {
-    let mut replies = Vec::with_capacity(alloc, 1)?;
-    let done = match done(alloc, world, ready)? {
-        Answer::Rows { columns, rows } => {
-            return Ok(rows_replies(alloc, world.catalog(), columns, rows)?);
-        }
-        Answer::Changed(count) => Done::Changed(count),
-        Answer::Defined => Done::Defined,
-    };
-    replies.push_reserved(Reply::Ended(done));
-    Ok(Seq::from_vec(replies))
+    let room = Vec::with_capacity(alloc, 1)?;
+    match done(alloc, world, ready)? {
+        Answer::Rows { columns, rows } => Ok(rows_replies(alloc, world.catalog(), columns, rows)?),
+        Answer::Changed(count) => Ok(one_reply_in(room, Reply::Ended(Done::Changed(count)))),
+        Answer::Defined => Ok(one_reply_in(room, Reply::Ended(Done::Defined))),
+    }
 }
 
 /// What the world answers. It stays well typed, and rows come only where nothing is changed.
@@ -81,6 +78,7 @@ fn done(alloc: Global, world: &mut World<Cell>, ready: Ready) -> Result<Answer<C
     typings_are_of_columns();
     step_keeps_worlds();
     rows_are_shown();
+    typed_statements_are_admitted();
     let Ready { typed, atoms } = ready;
     let (bound, encs) = typed.into_parts();
     world.execute(alloc, bound, encs.as_slice(), atoms.as_slice())

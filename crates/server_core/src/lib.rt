@@ -12,6 +12,7 @@ mod meaning;
 mod params;
 pub mod peers;
 mod preparing;
+mod replies;
 mod requests;
 mod rows;
 pub mod server;

@@ -3,11 +3,10 @@
 ghost use Rattle.std.specs.Prelude.{◌≡◌, IfOk, IsTrue};
 ghost use Rattle.ae_base.specs.Results.{AnswersAs};
 ghost use Rattle.sql_tree.specs.Bound.{bound_of};
-ghost use Rattle.resolve.specs.Laws.{IsBoundOver};
 ghost use Rattle.engine.specs.Executes.{executes};
 ghost use Rattle.server_core.specs.Calls.{meant_of};
 ghost use Rattle.server_core.specs.Describing as spec;
-ghost use Rattle.server_core.specs.Understood.{IsUnderstood};
+ghost use Rattle.server_core.specs.Understood.{IsNamed, IsUnderstood};
 
 use ae_base::batches::ParamDecl;
 use ae_base::faults::SqlFault;
@@ -18,14 +17,14 @@ use engine::executing::executes;
 use inference::infer::infer;
 use resolve::laws::bound_statements_are;
 use resolve::statements::bind;
-use sql_parse::parsing::parse;
+use sql_parse::parsing::{discard, parse};
 use sql_tree::bound::Bound;
 use std::alloc::Global;
 use wire_messages::texts::StatementPart;
 
 /// What a text means with its parameters declared so, or its first fault: of parsing, binding,
 /// typing; then Syntax for what is not executed yet.
-#[tactic(auto, unfolding(crate::specs::Describing::understood))]
+#[tactic(auto, using(crate::proofs::Typings::understood_so), unfolding(crate::specs::Describing::understood))]
 pub fn understood(
     alloc: Global,
     catalog: &Catalog,
@@ -48,11 +47,13 @@ pub fn named(
     declarations: &[ParamDecl],
 ) -> Result<Bound, Refusal>
     ensures exact { AnswersAs bound_of result (spec.named catalog.now text.now declarations.now) }
-    ensures bound { IfOk result (λ bound. IsBoundOver catalog.now declarations.now (bound_of bound)) }
+    ensures bound { IfOk result (λ bound. IsNamed catalog.now declarations.now (bound_of bound)) }
 {
     bound_statements_are();
     let statement = parse(alloc, text.as_str())?;
-    bind(alloc, catalog, &statement, declarations)
+    let bound = bind(alloc, catalog, &statement, declarations);
+    discard(statement);
+    bound
 }
 
 #[tactic(auto, using(crate::proofs::Typings::typed_where, crate::proofs::Typings::clash_where))]

@@ -18,6 +18,7 @@ use ae_base::faults::{SqlFault, Versions};
 use ae_base::lists::Seq;
 use ae_base::refusals::Refusal;
 use catalog::catalogs::Catalog;
+use enc_types::laws::typings_are_of_columns;
 use enc_types::typed::Typed;
 use std::alloc::Global;
 use wire_messages::params::SentParam;
@@ -32,6 +33,7 @@ pub struct Ready {
 
 /// What a request to execute comes to before it is executed, or its first fault: Moved where the
 /// catalog's version is another, then those of the text, then those of the parameters.
+#[tactic(auto, using(crate::proofs::Readiness::sent_count, crate::proofs::Readiness::is_ready))]
 pub fn prepared(
     alloc: Global,
     catalog: &Catalog,
@@ -42,6 +44,7 @@ pub fn prepared(
     ensures exact { AnswersAs ready_of result (spec.prepared catalog.now version text.now params.now) }
     ensures ready { IfOk result (λ ready. IsReady catalog.now (map declaration_of params.now) (meant_of ready.typed) ready.atoms) }
 {
+    typings_are_of_columns();
     let typed = understood_at(alloc, catalog, version, text, params)?;
     let atoms = suited(alloc, typed.encs(), params)?;
     Ok(Ready { typed, atoms })

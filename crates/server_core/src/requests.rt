@@ -1,14 +1,15 @@
 //! What a request comes to, over a world.
 
-ghost use Rattle.std.specs.Prelude.{◌≡◌, ◌∷◌, [], IfOk};
+ghost use Rattle.std.specs.Prelude.{IfOk};
 ghost use Rattle.wire_messages.specs.Exchanges.{HasKinds};
 ghost use Rattle.server_core.specs.Calls.{AreDescribeKinds, Serves, ServesOrFails};
 ghost use Rattle.server_core.specs.Describing.{describe};
-ghost use Rattle.server_core.specs.Serve.{described};
+ghost use Rattle.server_core.specs.Serve as spec;
 ghost use Rattle.server_core.specs.States.{IsState};
 
 use crate::describing::describe;
 use crate::executing::execute;
+use crate::replies::one_reply;
 use ae_base::cells::Cell;
 use ae_base::lists::Seq;
 use ae_base::refusals::Refusal;
@@ -32,46 +33,51 @@ pub fn serve(
     ensures state { IsState world.new }
     ensures kinds { IfOk result (λ replies. HasKinds request.now replies) }
 {
-    let served = match request {
-        Request::Describe {
-            text,
-            declarations,
-            ..
-        } => answer(alloc, world, text, declarations),
-        Request::Execute {
-            version,
-            text,
-            params,
-            ..
-        } => execute(alloc, world, *version, text, params.as_slice()),
-    };
-    match served {
+    match answered(alloc, world, request) {
         Ok(replies) => Ok(replies),
         Err(Refusal::Fault(fault)) => one_reply(alloc, Reply::Refused(fault)),
         Err(Refusal::OutOfMemory) => Err(AllocError),
     }
 }
 
+/// The replies to a request, or the fault for which it is refused.
+fn answered(
+    alloc: Global,
+    world: &mut World<Cell>,
+    request: &Request<'_>,
+) -> Result<Seq<Reply<'static>>, Refusal>
+    requires { IsState world.old }
+    ensures served { ServesOrFails result (spec.serve world.old request.now) world.old world.new }
+    ensures state { IsState world.new }
+    ensures kinds { IfOk result (λ replies. HasKinds request.now replies) }
+{
+    match request {
+        Request::Describe {
+            text,
+            declarations,
+            ..
+        } => described(alloc, world, text, declarations),
+        Request::Execute {
+            version,
+            text,
+            params,
+            ..
+        } => execute(alloc, world, *version, text, params.as_slice()),
+    }
+}
+
 /// Answers a request to describe.
 #[tactic(auto, using(crate::proofs::ReplyKinds::described_kinds))]
-fn answer(
+fn described(
     alloc: Global,
     world: &World<Cell>,
     text: &StatementPart<'_>,
     declarations: &DeclarationParts<'_>,
 ) -> Result<Seq<Reply<'static>>, Refusal>
     requires { IsState world.now }
-    ensures served { ServesOrFails result (described world.now (describe world.now.catalog text.now declarations.now)) world.now world.now }
+    ensures served { ServesOrFails result (spec.described world.now (describe world.now.catalog text.now declarations.now)) world.now world.now }
     ensures kinds { IfOk result AreDescribeKinds }
 {
     let description = describe(alloc, world.catalog(), text, declarations)?;
     Ok(one_reply(alloc, Reply::Described(description))?)
-}
-
-fn one_reply(alloc: Global, reply: Reply<'static>) -> Result<Seq<Reply<'static>>, AllocError>
-    ensures { IfOk result (λ replies. replies ≡ reply.entry ∷ []) }
-{
-    let mut replies = Seq::new(alloc);
-    replies.push(reply)?;
-    Ok(replies)
 }

@@ -1,6 +1,6 @@
 //! The replies that carry an answer of rows.
 
-ghost use Rattle.std.specs.Prelude.{◌≡◌, ◌++◌, ◌∷◌, [], IfOk, length, map};
+ghost use Rattle.std.specs.Prelude.{◌≡◌, ◌++◌, ◌∷◌, [], IfOk, OnOk, length, map};
 ghost use Rattle.std.specs.List.{All};
 ghost use Rattle.catalog.specs.WellFormed.{IsCatalog, IsKeyThere};
 ghost use Rattle.engine.specs.Step.{Rows};
@@ -13,6 +13,7 @@ ghost use Rattle.server_core.specs.Serve.{replies_of};
 ghost use Rattle.server_core.specs.States.{is_short};
 
 use crate::columns::header;
+use crate::replies::{add_reply, one_reply};
 use ae_base::atoms::{Row, Rows};
 use ae_base::cells::Cell;
 use ae_base::lists::Seq;
@@ -23,6 +24,7 @@ use wire_messages::atoms::AtomPart;
 use wire_messages::replies::{Done, Header, Reply, RowParts};
 
 /// The replies that carry an answer: its columns, its rows, and their number.
+#[tactic(auto, using(crate::proofs::Sendable::rows_sendable))]
 pub fn rows_replies(
     alloc: Global,
     catalog: &Catalog,
@@ -47,15 +49,26 @@ fn carried(
     requires { All (λ row. IsFew row × All IsSendable row) rows }
     ensures { IfOk result (λ replies. replies ≡ Columns header.entry ∷ map Row rows ++ Ended (Answered (length rows)) ∷ []) }
 {
-    let rows = rows.into_vec();
     let count = rows.len() as u64;
-    let mut replies = Seq::new(alloc);
-    replies.push(Reply::Columns(header))?;
-    for row in rows {
-        replies.push(Reply::Row(sent_row(alloc, row)?))?;
-    }
-    replies.push(Reply::Ended(Done::Answered(count)))?;
+    let mut replies = one_reply(alloc, Reply::Columns(header))?;
+    add_rows(alloc, &mut replies, rows)?;
+    add_reply(&mut replies, Reply::Ended(Done::Answered(count)))?;
     Ok(replies)
+}
+
+/// Puts a reply for each row behind those before them.
+fn add_rows(
+    alloc: Global,
+    replies: &mut Seq<Reply<'static>>,
+    rows: Rows<Cell>,
+) -> Result<(), AllocError>
+    requires { All (λ row. IsFew row × All IsSendable row) rows }
+    ensures { OnOk result (replies.new ≡ replies.old ++ map Row rows) }
+{
+    for row in rows.into_vec() {
+        add_reply(replies, Reply::Row(sent_row(alloc, row)?))?;
+    }
+    Ok(())
 }
 
 fn sent_row(alloc: Global, row: Row<Cell>) -> Result<RowParts<'static>, AllocError>

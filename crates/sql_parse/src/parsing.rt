@@ -58,3 +58,8 @@ fn parse_tokens(alloc: Global, tokens: Seq<Token>) -> Result<Statement, Refusal>
     }
     Ok(statement)
 }
+
+/// Lets a statement go.
+pub fn discard(statement: Statement) {
+    let _statement = statement;
+}
