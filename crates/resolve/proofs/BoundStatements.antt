@@ -1,9 +1,7 @@
 -- What each bound statement is.
-use Rattle.std.proofs.Common.{◌≡◌, [], refl, subst, Bool, true, false, ◌||◌, Result, Ok}
+use Rattle.std.proofs.Common.{◌≡◌, refl, Bool, true, false, ◌||◌, Ok}
 use Rattle.ae_base.specs.Results.{◌>>=◌}
-use Rattle.sql_tree.specs.Bound.{Bound}
-use Rattle.bound_checks.specs.Clashes.{clashes}
-use Rattle.bound_checks.specs.Checks.{is_long_statement, is_too_long, checked}
+use Rattle.bound_checks.specs.Checks.{checked}
 use Rattle.bound_checks.proofs.Smallest.{smallest_first}
 use Rattle.resolve.specs.Bind.{named, bind}
 use Rattle.resolve.specs.Laws.{IsBoundOver, BoundStatementsAre}

@@ -1,8 +1,8 @@
 -- What is bound over some declarations is bound alike over others that have those it uses.
-use Rattle.std.proofs.Common.{◌≡◌, ℕ, ◌+◌, List, [], ◌∷◌, map, refl, ap, sym, subst, ◌∙◌, Bool, true, false, ◌||◌, Option, Some, None, Result, Ok, Err}
+use Rattle.std.proofs.Common.{◌≡◌, ℕ, ◌+◌, List, [], ◌∷◌, map, refl, ap, sym, subst, Bool, true, false, ◌||◌, Option, Some, None, Result, Ok}
 use Rattle.std.specs.List.{list_any}
 use Rattle.std.proofs.lemmas.Bool.{eq-eqb}
-use Rattle.ae_base.specs.Results.{◌>>=◌, each}
+use Rattle.ae_base.specs.Results.{each}
 use Rattle.ae_base.specs.declared.batches.ParamDecl.{ParamDecl}
 use Rattle.ae_base.specs.declared.tables.TableDef.{TableDef}
 use Rattle.ae_base.specs.declared.faults.SqlFault.{SqlFault}
@@ -18,7 +18,7 @@ use Rattle.sql_tree.specs.Bound as bound
 use Rattle.sql_tree.specs.Uses.{uses_in, uses_in_terms, uses_in_condition, uses_in_conditions, uses_in_filter, uses_in_row, uses_in_assignment, uses_in_value, uses_in_item, uses_in_join, uses_in_statement, renamed_operand, renamed_terms, renamed_condition, renamed_conditions, renamed_filter, renamed_row, renamed_assignment, renamed_value, renamed_item, renamed_join, renamed_query, renamed_statement}
 use Rattle.catalog.specs.Catalogs.{Catalog}
 use Rattle.resolve.specs.Walks.{each_from}
-use Rattle.resolve.specs.Scopes.{Scope, ScopeColumn, nothing_in_scope, scope_of, with_source, bound_source, param_place, column_place, named_place}
+use Rattle.resolve.specs.Scopes.{Scope, ScopeColumn, nothing_in_scope, scope_of, with_source, param_place, column_place, named_place}
 use Rattle.resolve.specs.Names.{short, bind_operand, bind_terms, bind_operands, bind_condition, bind_conditions, bind_filter}
 use Rattle.resolve.specs.Tables.{Joined, Sources, all_sources, table_for, sources_for}
 use Rattle.resolve.specs.Queries.{starred, title_of, bind_value, bind_item, bind_items, bind_join, bind_joins, bind_column_at, bind_key, bind_query}

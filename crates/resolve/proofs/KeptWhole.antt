@@ -1,5 +1,5 @@
 -- A whole statement is bound alike over other declarations that have those it uses, and over these alone.
-use Rattle.std.proofs.Common.{◌≡◌, ℕ, zero, suc, ◌+◌, ◌≤◌, List, [], ◌∷◌, map, refl, ap, sym, subst, ◌∙◌, arith, Option, Some, None, Bool, true, false, cond, Result, Ok, Err}
+use Rattle.std.proofs.Common.{◌≡◌, ℕ, zero, suc, ◌+◌, ◌≤◌, List, [], ◌∷◌, map, refl, ap, sym, subst, ◌∙◌, arith, Some, Bool, true, false, cond, Result, Ok, Err}
 use Rattle.std.specs.List.{position, position_from, slice_get}
 use Rattle.std.specs.Str.{bytes_eq}
 use Rattle.std.proofs.lemmas.Iterator.Adapters.{position_from-zero}
@@ -7,20 +7,16 @@ use Rattle.ae_base.specs.Results.{◌>>=◌, or_fault}
 use Rattle.ae_base.specs.declared.batches.ParamDecl.{ParamDecl}
 use Rattle.ae_base.specs.declared.faults.SqlFault.{SqlFault}
 use Rattle.ae_base.specs.declared.faults.SqlFault.TheVariants as fault
-use Rattle.ae_base.specs.declared.types.Enc.{Enc}
-use Rattle.ae_base.specs.declared.types.Ty.{Ty}
 use Rattle.sql_tree.specs.Statements.{Statement}
 use Rattle.sql_tree.specs.Bound.{Bound}
 use Rattle.sql_tree.specs.Uses.{uses, renamed}
-use Rattle.enc_types.specs.Least.{inferred}
-use Rattle.enc_types.specs.UsedAlone.{used_among, place_among, is_used, alone}
+use Rattle.enc_types.specs.UsedAlone.{used_among, place_among, is_used}
 use Rattle.enc_types.proofs.UsedAlone.{found_among, inferred_alone}
 use Rattle.bound_checks.specs.Checks.{checked}
 use Rattle.bound_checks.proofs.RenamedChecks.{checks_keep_the_used}
 use Rattle.catalog.specs.Catalogs.{Catalog}
-use Rattle.resolve.specs.Scopes.{param_place}
 use Rattle.resolve.specs.Bind.{type_of, named, bind}
-use Rattle.resolve.specs.Laws.{Keeps, BindKeepsTheUsed, IsPreparedAlone, PreparedAlone}
+use Rattle.resolve.specs.Laws.{Keeps, BindKeepsTheUsed, PreparedAlone}
 use Rattle.resolve.proofs.Parts.{one_part, first_part}
 use Rattle.resolve.proofs.Kept.{names_keep_the_used}
 use Rattle.resolve.proofs.OnCatalog.{stands_on}

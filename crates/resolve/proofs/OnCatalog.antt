@@ -1,5 +1,5 @@
 -- What is bound stands on the tables and keys of the catalog.
-use Rattle.std.proofs.Common.{◌≡◌, ℕ, ◌+◌, List, [], ◌∷◌, ◌++◌, map, take, refl, ap, sym, subst, ◌∙◌, Bool, true, false, cond, ◌==◌, length, Option, Some, None, Result, Ok, Err, IsSome, is_some}
+use Rattle.std.proofs.Common.{◌≡◌, ℕ, List, [], ◌∷◌, ◌++◌, map, take, refl, ap, sym, subst, ◌∙◌, Bool, true, false, cond, ◌==◌, length, Option, Some, None, Ok, Err, IsSome}
 use Rattle.std.specs.List.{All, find, list_any, flat_map}
 use Rattle.std.specs.Str.{bytes_eq}
 use Rattle.std.proofs.lemmas.Bool.{eq-eqb}
@@ -10,19 +10,15 @@ use Rattle.ae_base.specs.declared.tables.ColumnDef.{ColumnDef}
 use Rattle.ae_base.specs.declared.tables.TableDef.{TableDef}
 use Rattle.ae_base.specs.declared.types.Enc.{Enc}
 use Rattle.ae_base.specs.declared.types.Enc.TheVariants.{Plain}
-use Rattle.ae_base.specs.declared.faults.SqlFault.{SqlFault}
 use Rattle.ae_base.specs.declared.faults.SqlFault.TheVariants as fault
-use Rattle.sql_tree.specs.declared.operands.ColumnRef.{ColumnRef}
 use Rattle.sql_tree.specs.declared.statements.ColumnSpec.{ColumnSpec}
 use Rattle.sql_tree.specs.declared.statements.EncryptionKind.{EncryptionKind}
 use Rattle.sql_tree.specs.declared.statements.EncryptionKind.TheVariants.{Deterministic, Randomized}
 use Rattle.sql_tree.specs.declared.statements.Encryption.{Encryption}
 use Rattle.sql_tree.specs.declared.statements.SourceTable.{SourceTable}
 use Rattle.sql_tree.specs.declared.statements.UniqueSpec.{UniqueSpec}
-use Rattle.sql_tree.specs.declared.bound.BoundSource.{BoundSource}
 use Rattle.sql_tree.specs.declared.bound.BoundTable.{BoundTable}
 use Rattle.sql_tree.specs.declared.bound.ColumnSite.{ColumnSite}
-use Rattle.sql_tree.specs.Conditions.{Condition}
 use Rattle.sql_tree.specs.Statements as tree
 use Rattle.sql_tree.specs.Bound as bound
 use Rattle.sql_tree.specs.OnTables.{table_among, columns_in, sites_among, AreColumnsOn, IsSourceOn, sources_of, IsStatementOn, IsOnTables}
@@ -30,7 +26,6 @@ use Rattle.sql_tree.specs.Placed.{site_of}
 use Rattle.catalog.specs.Catalogs.{Catalog, master_named, key_named, table_named, key_of}
 use Rattle.catalog.specs.WellFormed.{IsKeyThere, AreKeysThere, IsCatalog}
 use Rattle.catalog.specs.declared.keys.ColumnKey.{ColumnKey}
-use Rattle.catalog.specs.declared.keys.MasterKey.{MasterKey}
 use Rattle.resolve.specs.Walks.{each_from}
 use Rattle.resolve.specs.Scopes.{Source, scope_of, with_source, bound_source, sites_of_source, sites_of}
 use Rattle.resolve.specs.Scopes as scopes

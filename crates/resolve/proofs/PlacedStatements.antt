@@ -16,13 +16,11 @@ use Rattle.sql_tree.specs.declared.operands.ColumnRef.{ColumnRef}
 use Rattle.sql_tree.specs.declared.statements.ColumnAt.{ColumnAt}
 use Rattle.sql_tree.specs.declared.statements.OrderKey.{OrderKey}
 use Rattle.sql_tree.specs.declared.statements.ColumnSpec.{ColumnSpec}
-use Rattle.sql_tree.specs.declared.statements.NameAt.{NameAt}
 use Rattle.sql_tree.specs.declared.statements.UniqueSpec.{UniqueSpec}
 use Rattle.sql_tree.specs.declared.bound.PlaceAt.{PlaceAt}
 use Rattle.sql_tree.specs.declared.bound.BoundOrderKey.{BoundOrderKey}
 use Rattle.sql_tree.specs.declared.bound.BoundTable.{BoundTable}
 use Rattle.sql_tree.specs.Conditions.{Condition}
-use Rattle.sql_tree.specs.Operands as operands
 use Rattle.sql_tree.specs.Statements as tree
 use Rattle.sql_tree.specs.Bound as bound
 use Rattle.sql_tree.specs.Placed.{IsPlaced, IsPlacedCondition, IsPlacedFilter, IsPlacedValue, ArePlacedJoins, IsPlacedInsert, IsPlacedQuery, IsPlacedTable, IsPlacedStatement, IsWellPlaced, site_of}
@@ -35,7 +33,7 @@ use Rattle.resolve.specs.Names.{bind_operand, bind_operands, bind_condition, bin
 use Rattle.resolve.specs.Tables.{Joined, Sources, all_sources, table_for, sources_for}
 use Rattle.resolve.specs.Queries.{starred, title_of, bind_value, bind_item, bind_items, bind_join, bind_joins, bind_column_at, bind_key, bind_query}
 use Rattle.resolve.specs.Changes.{table_scope, all_places, places_for, listed_place, bind_row, bind_insert, column_of, bind_assignment, assigned, bind_update, bind_delete}
-use Rattle.resolve.specs.Definitions.{is_key_path, is_wrapped_key, key_path, wrapped_key, master_for, bind_column, word_keys, key_column_behind, bind_key_column, bind_unique, listed_name, place_of_key, alone, places_of_list, table_of, bind_table}
+use Rattle.resolve.specs.Definitions.{key_path, wrapped_key, master_for, bind_column, word_keys, bind_key_column, bind_unique, listed_name, place_of_key, alone, places_of_list, table_of, bind_table}
 use Rattle.resolve.specs.Bind.{type_of, bound_over, table_sites, named}
 use Rattle.resolve.proofs.Parts.{one_part, two_parts, first_part}
 use Rattle.resolve.proofs.QueryParts.{made, ordered, grouped, filtered, joined}

@@ -1,18 +1,16 @@
 -- What is bound lies within its columns and parameters.
-use Rattle.std.proofs.Common.{◌≡◌, ℕ, ◌+◌, ◌<◌, ◌≤◌, List, [], ◌∷◌, ◌++◌, length, map, take, refl, ap, sym, subst, ◌∙◌, arith, Bool, true, false, ◌&&◌, ◌==◌, cond, nat_lt, nat_le, Option, Some, None, Result, Ok, Err, length-append, encode_utf8_all}
-use Rattle.std.specs.List.{All, list_any, position, position_or_len, flat_map}
+use Rattle.std.proofs.Common.{◌≡◌, ℕ, ◌+◌, ◌<◌, ◌≤◌, List, [], ◌∷◌, length, refl, ap, subst, arith, Bool, true, false, cond, nat_lt, nat_le, Option, Some, None, Result, Ok, Err}
+use Rattle.std.specs.List.{All, position, position_or_len}
 use Rattle.std.specs.Str.{bytes_eq}
 use Rattle.std.proofs.lemmas.Bool.{ltb-true, leb-true}
 use Rattle.std.proofs.lemmas.List.Elements.{All-cons}
-use Rattle.ae_base.specs.Results.{◌>>=◌, each, or_fault}
-use Rattle.ae_base.specs.Values.{units, value_is_within}
-use Rattle.ae_base.specs.Keys.{IsKeyPath, IsWrappedKey}
+use Rattle.ae_base.specs.Results.{each, or_fault}
+use Rattle.ae_base.specs.Values.{units}
 use Rattle.ae_base.specs.declared.batches.ParamDecl.{ParamDecl}
 use Rattle.ae_base.specs.declared.values.Value.{Value}
 use Rattle.ae_base.specs.declared.values.Value.TheVariants as value
 use Rattle.ae_base.specs.declared.values.Datum.TheVariants as datum
 use Rattle.ae_base.specs.declared.tables.ColumnDef.{ColumnDef}
-use Rattle.ae_base.specs.declared.tables.TableDef.{TableDef}
 use Rattle.ae_base.specs.declared.faults.SqlFault.{SqlFault}
 use Rattle.ae_base.specs.declared.faults.SqlFault.TheVariants as fault
 use Rattle.sql_tree.specs.declared.operands.ColumnRef.{ColumnRef}
