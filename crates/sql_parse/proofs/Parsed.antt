@@ -1,5 +1,5 @@
 -- What a text is parsed to, by what its tokens are.
-use Rattle.std.proofs.Common.{◌≡◌, ℕ, ◌<◌, ◌≤◌, Bool, true, false, ◌||◌, List, [], ◌∷◌, length, nat_lt, Option, Some, None, Result, Ok, Err, refl, sym, ◌∙◌, ap, subst, arith}
+use Rattle.std.proofs.Common.{◌≡◌, ℕ, ◌<◌, ◌≤◌, true, false, ◌||◌, List, [], ◌∷◌, length, nat_lt, Some, None, Result, Ok, Err, refl, sym, ◌∙◌, ap, subst, arith}
 use Rattle.std.proofs.lemmas.Bool.Decides.{nat_tests}
 use Rattle.ae_base.specs.Results.{AnswersAs}
 use Rattle.ae_base.specs.declared.faults.SqlFault.{SqlFault}
@@ -11,7 +11,7 @@ use Rattle.sql_tree.specs.declared.statements.Statement as code
 use Rattle.sql_tree.specs.Statements.{Statement, statement_of}
 use Rattle.sql_tree.specs.Tokens.{tokens_of, first_wide}
 use Rattle.sql_grammar.specs.Parse.{statement}
-use Rattle.sql_grammar.specs.Texts.{tree_of, opens_too_deep, has_long, passes_a_limit, parsed_tree, parsed_narrow, parsed_tokens, parsed}
+use Rattle.sql_grammar.specs.Texts.{tree_of, opens_too_deep, has_long, passes_a_limit, parsed_narrow, parsed_tokens, parsed}
 use Rattle.sql_parse.specs.Reads.{Fails}
 
 pub parsed_long : (text : List ℕ) → 65536 < length text → parsed text ≡ Err fault.TooLong

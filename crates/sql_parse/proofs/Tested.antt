@@ -1,5 +1,5 @@
 -- The rest of a sum, and the test behind it.
-use Rattle.std.proofs.Common.{◌≡◌, List, Option, Some, None, refl, ap, ◌∙◌}
+use Rattle.std.proofs.Common.{◌≡◌, List, Option, Some, None, ap, ◌∙◌}
 use Rattle.sql_tree.specs.declared.lexemes.Token.{Token}
 use Rattle.sql_tree.specs.Statements.{Operand}
 use Rattle.sql_grammar.specs.Readers.{Reading, made, both, many, optional}
