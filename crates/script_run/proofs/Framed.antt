@@ -11,7 +11,7 @@ use Rattle.ae_edge.proofs.Told.{told_map, adds_none, adds_then, adds_then_front,
 use Rattle.wire_messages.specs.Exchanges.{Exchange}
 use Rattle.wire_messages.specs.declared.replies.Reply.{Reply}
 use Rattle.wire_messages.specs.declared.requests.Request.{Request}
-use Rattle.wire_frames.specs.Spelling.{request_frame, reply_frame}
+use Rattle.wire_spelling.specs.Spelling.{request_frame, reply_frame}
 use Rattle.server_core.specs.Serve.{State, serve}
 use Rattle.conversation.specs.Paths.{Asked}
 use Rattle.conversation.proofs.Going.{flat_append}

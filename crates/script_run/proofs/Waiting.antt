@@ -4,7 +4,7 @@ use Rattle.std.specs.Prelude.{◌↔◌, IsSome, slice_index_or, option_to_list,
 use Rattle.std.proofs.lemmas.Bool.{false≢true}
 use Rattle.ae_edge.proofs.Told.{told_same, adds_none}
 use Rattle.wire_messages.specs.declared.replies.Reply.{Reply}
-use Rattle.wire_frames.specs.Spelling.{reply_frame}
+use Rattle.wire_spelling.specs.Spelling.{reply_frame}
 use Rattle.conversation.specs.Paths.{Took}
 use Rattle.run_words.specs.Shares.{Wire, Serves}
 use Rattle.run_words.specs.Ways.{IsFirst, TakesOne}

@@ -9,7 +9,7 @@ ghost use Rattle.conversation.specs.Sessions.{Tells};
 ghost use Rattle.conversation.specs.Talk.{Talk, Hears, Heard, heard_answer, nothing_shown};
 ghost use Rattle.run_words.specs.Printing as printing;
 ghost use Rattle.run_words.specs.declared.stops.Stop.TheVariants as stop_is;
-ghost use Rattle.wire_frames.specs.Spelling.{reply_frame};
+ghost use Rattle.wire_spelling.specs.Spelling.{reply_frame};
 ghost use Rattle.script_run.specs.Frames.{PutsBytes};
 ghost use Rattle.run_words.specs.Shares.{Outside, Desk};
 ghost use Rattle.run_words.specs.Ways.{Fails, Leads};

@@ -2,15 +2,15 @@
 
 ghost use Rattle.std.specs.Prelude.{◌≡◌, ◌+◌, [], IfOk, MatchOption, length};
 ghost use Rattle.wire_messages.specs.declared.replies.Reply.{Reply};
-ghost use Rattle.wire_frames.specs.Spelling.{reply_frame};
+ghost use Rattle.wire_spelling.specs.Spelling.{reply_frame};
 ghost use Rattle.run_words.specs.Shares.{Wire};
 ghost use Rattle.run_words.specs.Ways.{IsFirst, TakesOne};
 ghost use Rattle.script_run.specs.Lines.{Sends};
 
 use std::alloc::{AllocError, Global};
-use wire_frames::encode_reply;
 use wire_messages::replies::Reply;
 use wire_messages::requests::Request;
+use wire_spelling::encode_reply;
 
 /// How asking ended.
 #[derive(Clone, Copy, PartialEq, Eq, Debug)]

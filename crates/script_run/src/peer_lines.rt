@@ -2,7 +2,7 @@
 
 ghost use Rattle.std.specs.Prelude.{◌≡◌, ◌++◌, ◌∷◌, ◌≤◌, [], List, ℕ, OnOk, flat_map};
 ghost use Rattle.ae_edge.specs.Devices.{Adds, AddsFront, Rose};
-ghost use Rattle.wire_frames.specs.Spelling.{request_frame, reply_frame};
+ghost use Rattle.wire_spelling.specs.Spelling.{request_frame, reply_frame};
 ghost use Rattle.run_words.specs.Shares.{Wire};
 ghost use Rattle.script_run.specs.Frames.{PutsBytes};
 
@@ -13,9 +13,9 @@ use ae_edge::streams::{PutAll, put_all};
 use server_core::peers::Peer;
 use std::alloc::Global;
 use std::collections::VecDeque;
-use wire_frames::{push_reply, push_request};
 use wire_messages::replies::Reply;
 use wire_messages::requests::Request;
+use wire_spelling::{push_reply, push_request};
 
 /// A peer behind a tap: what passes is put on it, frame by frame.
 #[derive(Drop)]

@@ -2,7 +2,7 @@
 use Rattle.std.proofs.Common.{◌≡◌, ◌≤◌, take}
 use Rattle.std.specs.Prelude.{flat_map}
 use Rattle.ae_edge.specs.Devices.{Adds}
-use Rattle.wire_frames.specs.Spelling.{reply_frame}
+use Rattle.wire_spelling.specs.Spelling.{reply_frame}
 use Rattle.script_run.proofs.peer_lines.put_replies.Given as goal
 
 abbrev pub invariant-loop-reply : goal.invariant-loop-reply

@@ -1,6 +1,6 @@
 -- The frame of a request.
 use Rattle.std.proofs.Common.{refl, ◌∙◌, ap, ◌++◌}
-use Rattle.wire_frames.specs.Spelling.{request_frame}
+use Rattle.wire_spelling.specs.Spelling.{request_frame}
 use Rattle.script_run.proofs.Framed.{puts_so, puts_none}
 use Rattle.script_run.proofs.peer_lines.put_request.Goals as goal
 
