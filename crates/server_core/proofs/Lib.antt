@@ -11,3 +11,4 @@ mod Suiting
 mod Told
 mod Typings
 mod Used
+mod Versions

@@ -1,5 +1,5 @@
 -- The parameters that a description tells, and their keys.
-use Rattle.std.proofs.Common.{◌≡◌, ◌≤◌, List, length, map, sym, subst, arith}
+use Rattle.std.proofs.Common.{◌≡◌, ◌≤◌, ℕ, List, refl, length, map, sym, subst, arith}
 use Rattle.std.specs.Prelude.{IsTrue}
 use Rattle.ae_base.specs.Names.{all_differ}
 use Rattle.ae_base.specs.declared.batches.KeyMeta.{KeyMeta}
@@ -9,11 +9,12 @@ use Rattle.catalog.specs.Laws.{KeysAreTold}
 use Rattle.catalog.specs.WellFormed.{IsCatalog, IsKeyThere}
 use Rattle.enc_types.specs.Laws.{TypingsAreOfColumns}
 use Rattle.wire_messages.specs.KeyLists.{AreTheKeysOf}
+use Rattle.wire_messages.specs.Messages.{Description}
 use Rattle.wire_messages.specs.declared.params.UsedParam.{UsedParam}
 use Rattle.server_core.proofs.Listing.{are_the_keys}
 use Rattle.server_core.proofs.Readiness.{keys_there}
 use Rattle.server_core.proofs.Used.{declared_names, encs_of, names_of, few_used, used_differ, used_encs}
-use Rattle.server_core.specs.Describing.{Meant, keys_of, used_from}
+use Rattle.server_core.specs.Describing.{Meant, description, keys_of, used_from}
 use Rattle.server_core.specs.Understood.{IsUnderstood}
 
 module _ (catalog : Catalog) (declarations : List ParamDecl) (meant : Meant) (params : List UsedParam) (is : params ≡ used_from 0 meant.bound declarations meant.encs) where
@@ -30,3 +31,7 @@ module _ (catalog : Catalog) (declarations : List ParamDecl) (meant : Meant) (pa
 
   pub told_differ : IsTrue (all_differ (declared_names declarations)) → IsTrue (all_differ (names_of params))
   told_differ differ = subst (λ ps. IsTrue (all_differ (names_of ps))) (sym is) (used_differ 0 meant.bound declarations meant.encs differ)
+
+  pub description_is : (keys : List KeyMeta) (version : ℕ) (d : Description) → version ≡ catalog.version → keys ≡ keys_of catalog (encs_of params) → d ≡ record { version = version; keys = keys; params = params }
+      → d ≡ description catalog declarations meant
+  description_is keys version d v k e = rw (e, v, k, is) refl

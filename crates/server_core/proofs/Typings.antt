@@ -18,6 +18,7 @@ use Rattle.engine.specs.Executes.{executes}
 use Rattle.enc_types.specs.declared.typed.Typed.{Typed}
 use Rattle.enc_types.specs.Least.{inferred}
 use Rattle.enc_types.specs.Rules.{at_of, rules}
+use Rattle.enc_types.specs.declared.rules.Rule.{Rule}
 use Rattle.inference.specs.Infers.{IsClashOf}
 use Rattle.inference.specs.declared.infer.EncryptionClash.{EncryptionClash}
 use Rattle.server_core.specs.Calls.{meant_of}
@@ -58,3 +59,9 @@ understood_so catalog declarations bound typed (Ok kept) b e k x = record {
   executes = x;
 }
 understood_so catalog declarations bound typed (Err e) b f k x = tt
+
+-- the places that are told of a clash
+pub shows_places : {E : Type 0} (b : Bound) (clash : EncryptionClash) (chain : List Rule) (result : Result (List ℕ) E) → IsClashOf b.params b.columns (rules b) clash → chain ≡ clash.chain
+    → IfOk result (λ places. places ≡ map at_of chain) → IfOk result (Shows b (inferred b))
+shows_places b clash chain (Ok places) c e p = shows_chain b clash places c (subst (λ (rs : List Rule). places ≡ map at_of rs) e p)
+shows_places b clash chain (Err f) c e p = tt

@@ -40,7 +40,6 @@ pub fn describe(
     Ok(description(alloc, catalog, copies.as_slice(), &typed)?)
 }
 
-#[tactic(auto, using(crate::proofs::Readiness::encs_count, crate::proofs::Told::told_keys, crate::proofs::Told::told_few, crate::proofs::Told::told_differ))]
 fn description(
     alloc: Global,
     catalog: &Catalog,

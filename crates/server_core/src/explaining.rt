@@ -35,7 +35,7 @@ pub fn explain(
     }
 }
 
-#[tactic(auto, using(crate::proofs::Typings::shows_nothing, crate::proofs::Typings::shows_chain))]
+#[tactic(auto, using(crate::proofs::Typings::shows_nothing))]
 fn chain_of(alloc: Global, bound: Bound) -> Result<Seq<u32>, AllocError>
     ensures { IfOk result (Shows (bound_of bound) (inferred (bound_of bound))) }
 {

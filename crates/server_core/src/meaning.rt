@@ -56,7 +56,7 @@ pub fn named(
     bound
 }
 
-#[tactic(auto, using(crate::proofs::Typings::typed_where, crate::proofs::Typings::clash_where))]
+#[tactic(auto, using(crate::proofs::Typings::typed_where))]
 fn typed(alloc: Global, bound: Bound) -> Result<Typed, Refusal>
     ensures exact { AnswersAs meant_of result (spec.typed (bound_of bound)) }
     ensures bound { IfOk result (λ typed. typed.bound ≡ bound) }

@@ -33,7 +33,6 @@ pub struct Ready {
 
 /// What a request to execute comes to before it is executed, or its first fault: Moved where the
 /// catalog's version is another, then those of the text, then those of the parameters.
-#[tactic(auto, using(crate::proofs::Readiness::sent_count, crate::proofs::Readiness::is_ready))]
 pub fn prepared(
     alloc: Global,
     catalog: &Catalog,
