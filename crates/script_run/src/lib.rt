@@ -6,7 +6,6 @@ pub mod around;
 mod calls;
 pub mod env;
 mod hearing;
-mod law;
 pub mod lines;
 pub mod peer_lines;
 pub mod programs;

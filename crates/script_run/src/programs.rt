@@ -11,7 +11,6 @@ ghost use Rattle.script_run.specs.declared.runs.Unread.TheVariants as unread;
 ghost use Rattle.script_run.specs.Ends.{IsRead, IsScript, RunsScript, TakesScript, most_script_bytes};
 ghost use Rattle.script_run.specs.Plain.{PrintsPlain, IsDoneOrFault};
 
-use crate::law::served_is_plain;
 use crate::runs::{Ran, Unread, run_over};
 use ae_base::blobs::Blob;
 use ae_edge::entropies::Entropy;
@@ -19,6 +18,7 @@ use ae_edge::sinks::Sink;
 use ae_edge::sources::Source;
 use ae_edge::streams::{ReadAll, read_all};
 use ae_edge::vaults::Vault;
+use plain_meaning::laws::served_is_plain;
 use script_lang::scripts::{ScriptFault, read_script};
 use server_core::peers::Peer;
 use std::alloc::Global;
