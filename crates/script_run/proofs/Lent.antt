@@ -23,7 +23,7 @@ use Rattle.script_lang.specs.Limits.{IsWithinLimits}
 use Rattle.script_run.specs.declared.runs.Ran.{Ran}
 use Rattle.script_run.specs.declared.runs.Ran.TheVariants as ran
 use Rattle.script_run.specs.declared.runs.Unread.TheVariants as unread
-use Rattle.script_run.specs.Ends.{Lent, Names, outside, CameTo, RunsTo, RunsScript, TakesScript, IsScript, IsRead, ran_of, most_script_bytes}
+use Rattle.script_run.specs.Ends.{Lent, outside, CameTo, RunsTo, RunsScript, TakesScript, IsScript, IsRead, most_script_bytes}
 
 -- ---- the same is lent after it
 
@@ -67,14 +67,6 @@ peer_same a b c d e = cc
 
 -- ---- how it ended
 
-pub came : (ended : Result (Unit {0}) Stop) (refused : Bool) (steps : List Step) (old new : Lent) → CameTo ended refused steps old new → RunsTo (ran_of ended refused) steps old new
-came (Ok o) true steps old new c = c
-came (Ok o) false steps old new c = c
-came (Err s) refused steps old new c = (refused, c)
-
-nothing_lent : Names
-nothing_lent = record { out = []; entropy = []; vault = []; wire = [] }
-
 -- it ended before it began
 pub unstarted : (steps : List Step) (lent : Lent) → RunsTo (ran.Stopped stop.OutOfMemory) steps lent lent
 unstarted steps lent = (
@@ -83,9 +75,15 @@ unstarted steps lent = (
     sessions = nobody;
     waiting = [];
     taken = 0;
-    before = nothing_lent;
-    after = nothing_lent;
-    leads = breaks_between _ _ _ _ (stay (talk steps nobody) (outside nothing_lent false [] 0 lent));
+    out = [];
+    entropy = [];
+    vault = [];
+    wire = [];
+    out_after = [];
+    entropy_after = [];
+    vault_after = [];
+    wire_after = [];
+    leads = breaks_between _ _ _ _ (stay (talk steps nobody) (outside [] [] [] [] false [] 0 lent));
     read = tt;
   },
 )
@@ -116,10 +114,13 @@ longer_front bytes left h =
     omega (arith, h.2)
 
 -- there are lists of every length
+many_of : (n z : ℕ) → (bytes : List ℕ) × (n < length bytes)
+many_of n z =
+    let l : length (replicate (n + 1) z) ≡ n + 1 = length-replicate (n + 1) z in
+    (replicate (n + 1) z, omega (arith, l))
+
 many : (n : ℕ) → (bytes : List ℕ) × (n < length bytes)
-many n =
-    let l : length (replicate (n + 1) 0) ≡ n + 1 = length-replicate (n + 1) 0 in
-    (replicate (n + 1) 0, omega arith)
+many n = many_of n 0
 
 pub too_many_bytes : (old new : Option (List ℕ)) → WhereTold (ReadsAll most_script_bytes read.TooLong) old new → (bytes : List ℕ) × IfSome old (λ xs. bytes ≡ xs) × (most_script_bytes < length bytes)
 too_many_bytes (Some xs) (Some left) h = (xs, refl, longer_front xs left h)

@@ -21,11 +21,12 @@ use Rattle.plain_meaning.specs.Steps.{talk}
 use Rattle.run_words.specs.Printing.{printed_outcome, print, has_refusal}
 use Rattle.run_words.specs.Shares.{Outside, Serves, text_of}
 use Rattle.run_words.specs.Ways.{Goes, Halts, Breaks, Fails, IsStuck}
+use Rattle.run_words.specs.declared.stops.Stop.{Stop}
 use Rattle.run_words.specs.declared.stops.Stop.TheVariants as stop
 use Rattle.script_run.specs.declared.runs.Ran.{Ran}
 use Rattle.script_run.specs.declared.runs.Ran.TheVariants as ran
 use Rattle.script_run.specs.declared.runs.Unread.TheVariants as unread
-use Rattle.script_run.specs.Ends.{Lent, Names, outside, CameTo, RunsTo, IsScript, RunsSteps, RunsScript}
+use Rattle.script_run.specs.Ends.{Lent, outside, CameTo, RunsTo, IsScript, RunsSteps, RunsScript}
 use Rattle.script_run.specs.Plain.{meaning, PrintsPlain, IsDoneOrFault}
 use Rattle.script_run.proofs.Passing.{ahead, path_passes}
 
@@ -174,30 +175,34 @@ module _ (law : ServedIsPlain) (keys : KeyMap) (steps : List Step) (limits : All
   agrees_so : (entropy : List ℕ) → Agrees (over serve keys (talk steps nobody) 0 entropy empty_state []) (meaning keys steps)
   agrees_so entropy = law keys steps limits entropy
 
-  starts : (names : Names) → Starts keys (outside names false [] 0 old)
-  starts names = record { state = state; keys = told; waiting = refl }
+  starts : (ended : Result (Unit {0}) Stop) (refused : Bool) (c : CameTo ended refused steps old new) → Starts keys (outside c.out c.entropy c.vault c.wire false [] 0 old)
+  starts ended refused c = record { state = state; keys = told; waiting = refl }
 
   ends : (refused : Bool) → CameTo (Ok tt) refused steps old new → Adds (print (meaning keys steps)) old.out new.out × (has_refusal (meaning keys steps) ≡ refused)
   ends refused c =
-      let x = outside c.before false [] 0 old in
-      let y = outside c.after refused c.waiting c.taken new in (
-        done_prints keys steps (meaning keys steps) agrees_so x y (starts c.before) c.sessions c.leads c.read,
-        sym (done_refuses keys steps (meaning keys steps) agrees_so x y (starts c.before) c.sessions c.leads c.read),
+      let x = outside c.out c.entropy c.vault c.wire false [] 0 old in
+      let y = outside c.out_after c.entropy_after c.vault_after c.wire_after refused c.waiting c.taken new in
+      let st = starts (Ok tt) refused c in (
+        done_prints keys steps (meaning keys steps) agrees_so x y st c.sessions c.leads c.read,
+        sym (done_refuses keys steps (meaning keys steps) agrees_so x y st c.sessions c.leads c.read),
       )
+
+  stops_at : (s : Stop) (x y : Outside) → Starts keys x → Fails s (talk steps nobody) x y → x.desk.out ≡ old.out → y.desk.out ≡ new.out → PrintsPlain (ran.Stopped s) keys steps old.out new.out
+  stops_at (stop.BadReply place) x y st h e f = no_stray keys steps (meaning keys steps) agrees_so x y st place h
+  stops_at stop.EntropyFault x y st h e f = rw (← e, ← f) (halts_prints keys steps (meaning keys steps) agrees_so x y st _ h.0)
+  stops_at stop.VaultFault x y st h e f = rw (← e, ← f) (halts_prints keys steps (meaning keys steps) agrees_so x y st _ h.0)
+  stops_at stop.WriteFault x y st h e f = rw (← e, ← f) (breaks_prints keys steps (meaning keys steps) agrees_so x y st h.0)
+  stops_at stop.OutOfMemory x y st h e f = rw (← e, ← f) (breaks_prints keys steps (meaning keys steps) agrees_so x y st h)
+
+  stops : (s : Stop) (refused : Bool) → CameTo (Err s) refused steps old new → PrintsPlain (ran.Stopped s) keys steps old.out new.out
+  stops s refused c =
+      stops_at s (outside c.out c.entropy c.vault c.wire false [] 0 old) (outside c.out_after c.entropy_after c.vault_after c.wire_after refused c.waiting c.taken new)
+      (starts (Err s) refused c) c.leads refl refl
 
   pub steps_plain : (r : Ran) → RunsTo r steps old new → PrintsPlain r keys steps old.out new.out
   steps_plain ran.Done c = ends false c
   steps_plain ran.Refusals c = ends true c
-  steps_plain (ran.Stopped (stop.BadReply place)) c =
-      no_stray keys steps (meaning keys steps) agrees_so (outside c.1.before false [] 0 old) (outside c.1.after c.0 c.1.waiting c.1.taken new) (starts c.1.before) place c.1.leads
-  steps_plain (ran.Stopped stop.EntropyFault) c =
-      halts_prints keys steps (meaning keys steps) agrees_so (outside c.1.before false [] 0 old) (outside c.1.after c.0 c.1.waiting c.1.taken new) (starts c.1.before) _ c.1.leads.0
-  steps_plain (ran.Stopped stop.VaultFault) c =
-      halts_prints keys steps (meaning keys steps) agrees_so (outside c.1.before false [] 0 old) (outside c.1.after c.0 c.1.waiting c.1.taken new) (starts c.1.before) _ c.1.leads.0
-  steps_plain (ran.Stopped stop.WriteFault) c =
-      breaks_prints keys steps (meaning keys steps) agrees_so (outside c.1.before false [] 0 old) (outside c.1.after c.0 c.1.waiting c.1.taken new) (starts c.1.before) c.1.leads.0
-  steps_plain (ran.Stopped stop.OutOfMemory) c =
-      breaks_prints keys steps (meaning keys steps) agrees_so (outside c.1.before false [] 0 old) (outside c.1.after c.0 c.1.waiting c.1.taken new) (starts c.1.before) c.1.leads
+  steps_plain (ran.Stopped s) c = stops s c.0 c.1
   steps_plain (ran.Unread why) c = absurd c
 
 -- the steps of a script are one list

@@ -35,20 +35,14 @@ pub record Lent : Type 0 where
   pub entropy_faults : ℕ
   pub vault_faults : ℕ
 
--- the names of what is lent
-pub record Names : Type 0 where
-  pub out : List GName
-  pub entropy : List GName
-  pub vault : List GName
-  pub wire : List (List GName)
-
--- with what a run keeps for itself: whether a refusal was printed, the replies that wait, and how many bytes those have that were taken
-abbrev pub outside : Names → Bool → List Reply → ℕ → Lent → Outside
-outside names refused waiting taken l = record {
+-- with the names of what is lent, and what a run keeps for itself: whether a refusal was printed, the replies that wait, and how
+-- many bytes those have that were taken
+abbrev pub outside : List GName → List GName → List GName → List (List GName) → Bool → List Reply → ℕ → Lent → Outside
+outside out_names entropy_names vault_names wire_names refused waiting taken l = record {
   desk = record {
-    out_names = names.out;
-    entropy_names = names.entropy;
-    vault_names = names.vault;
+    out_names = out_names;
+    entropy_names = entropy_names;
+    vault_names = vault_names;
     out = l.out;
     entropy = l.entropy;
     keys = l.keys;
@@ -57,7 +51,7 @@ outside names refused waiting taken l = record {
     entropy_faults = l.entropy_faults;
     vault_faults = l.vault_faults;
   };
-  wire = record { names = names.wire; tap = l.tap; log = l.log; state = l.state; waiting = waiting; taken = taken; faults = l.tap_faults };
+  wire = record { names = wire_names; tap = l.tap; log = l.log; state = l.state; waiting = waiting; taken = taken; faults = l.tap_faults };
 }
 
 -- from 64 idle sessions the script's conversation was followed to its end, with no reply left, or stopped
@@ -65,18 +59,16 @@ pub record CameTo (ended : Result (Unit {0}) Stop) (refused : Bool) (steps : Lis
   pub sessions : List Session
   pub waiting : List Reply
   pub taken : ℕ
-  pub before : Names
-  pub after : Names
-  pub leads : Leads ended (talk steps nobody) (λ o. talks.Ends sessions) (outside before false [] 0 old) (outside after refused waiting taken new)
+  pub out : List GName
+  pub entropy : List GName
+  pub vault : List GName
+  pub wire : List (List GName)
+  pub out_after : List GName
+  pub entropy_after : List GName
+  pub vault_after : List GName
+  pub wire_after : List (List GName)
+  pub leads : Leads ended (talk steps nobody) (λ o. talks.Ends sessions) (outside out entropy vault wire false [] 0 old) (outside out_after entropy_after vault_after wire_after refused waiting taken new)
   pub read : IfOk ended (λ o. waiting ≡ [])
-
-abbrev pub end_of : Bool → Ran
-end_of true = ran.Refusals
-end_of false = ran.Done
-
-abbrev pub ran_of : Result (Unit {0}) Stop → Bool → Ran
-ran_of (Ok o) refused = end_of refused
-ran_of (Err stop) refused = ran.Stopped stop
 
 -- what a run of these steps leaves, by how it ended
 abbrev pub RunsTo : Ran → List Step → Lent → Lent → Type 0

@@ -17,12 +17,18 @@ use wire_messages::replies::Reply;
 use wire_messages::requests::Request;
 use wire_spelling::{push_reply, push_request};
 
+/// Replies that wait.
+#[derive(Drop)]
+pub struct Waiting {
+    pub replies: VecDeque<Reply<'static>>,
+}
+
 /// A peer behind a tap: what passes is put on it, frame by frame.
 #[derive(Drop)]
 pub struct PeerLine<'a, T: Sink, P: Peer> {
     pub tap: T,
     pub peer: P,
-    pub waiting: &'a mut VecDeque<Reply<'static>>,
+    pub waiting: &'a mut Waiting,
     pub taken: u64,
 }
 
@@ -89,7 +95,7 @@ impl<T: Sink, P: Peer> Line for PeerLine<'_, T, P> {
       tap = T.held l.tap;
       log = P.log l.peer;
       state = P.state l.peer;
-      waiting = l.waiting.now.items;
+      waiting = l.waiting.now.replies.items;
       taken = l.taken;
       faults = T.faults l.tap;
     } };
@@ -105,14 +111,14 @@ impl<T: Sink, P: Peer> Line for PeerLine<'_, T, P> {
             PutAll::OutOfMemory => return Sent::OutOfMemory,
         }
         let mut more = VecDeque::from_vec(replies.into_vec());
-        match self.waiting.append(&mut more) {
+        match self.waiting.replies.append(&mut more) {
             Ok(()) => Sent::Whole,
             Err(_) => Sent::OutOfMemory,
         }
     }
 
     fn front(&self) -> Option<&Reply<'static>> {
-        match self.waiting.front() {
+        match self.waiting.replies.front() {
             Some(reply) => Some(reply),
             None => None,
         }
@@ -124,6 +130,6 @@ impl<T: Sink, P: Peer> Line for PeerLine<'_, T, P> {
 
     fn take(&mut self, behind: u64) {
         self.taken = behind;
-        let _ = self.waiting.pop_front();
+        let _ = self.waiting.replies.pop_front();
     }
 }

@@ -4,12 +4,11 @@ ghost use Rattle.std.specs.Prelude.{◌≡◌, ◌∷◌, [], IfOk, length};
 ghost use Rattle.key_store.specs.Stores.{IsOf};
 ghost use Rattle.conversation.specs.Talk.{Ends};
 ghost use Rattle.run_words.specs.Ways.{Leads};
-ghost use Rattle.script_run.specs.Ends as ends;
 ghost use Rattle.script_run.specs.Ends.{RunsTo, outside};
 ghost use Rattle.plain_meaning.specs.Steps.{talk};
 
 use crate::env::Env;
-use crate::peer_lines::PeerLine;
+use crate::peer_lines::{PeerLine, Waiting};
 use crate::steps::{nobody, run_all};
 use ae_edge::entropies::Entropy;
 use ae_edge::sinks::Sink;
@@ -61,26 +60,16 @@ fn run_lent<W: Sink, T: Sink, E: Entropy, V: Vault, P: Peer>(
     ensures same_vault { env.new.vault.ghost_name ≡ env.old.vault.ghost_name }
     ensures same_tap { env.new.line.tap.ghost_name ≡ env.old.line.tap.ghost_name }
     ensures same_peer { env.new.line.peer.ghost_name ≡ env.old.line.peer.ghost_name }
-    ensures read { IfOk result (λ _. env.new.line.waiting.now.items ≡ []) }
+    ensures read { IfOk result (λ _. env.new.line.waiting.now.replies.items ≡ []) }
     ensures leads { Leads result (talk steps.now sessions.old.items) (λ _. Ends sessions.new.items)
-        (outside (record { out = env.old.out.ghost_name ∷ []; entropy = env.old.entropy.ghost_name ∷ []; vault = env.old.vault.ghost_name ∷ []; wire = (env.old.line.tap.ghost_name ∷ []) ∷ (env.old.line.peer.ghost_name ∷ []) ∷ [] })
-        env.old.refused env.old.line.waiting.now.items env.old.line.taken
+        (outside (env.old.out.ghost_name ∷ []) (env.old.entropy.ghost_name ∷ []) (env.old.vault.ghost_name ∷ []) ((env.old.line.tap.ghost_name ∷ []) ∷ (env.old.line.peer.ghost_name ∷ []) ∷ [])
+        env.old.refused env.old.line.waiting.now.replies.items env.old.line.taken
         (record { out = W.held env.old.out.now; tap = T.held env.old.line.tap.now; entropy = E.to_come env.old.entropy.now; keys = V.keys env.old.vault.now; log = P.log env.old.line.peer.now; state = P.state env.old.line.peer.now; out_faults = W.faults env.old.out.now; tap_faults = T.faults env.old.line.tap.now; entropy_faults = E.faults env.old.entropy.now; vault_faults = V.faults env.old.vault.now }))
-        (outside (record { out = env.new.out.ghost_name ∷ []; entropy = env.new.entropy.ghost_name ∷ []; vault = env.new.vault.ghost_name ∷ []; wire = (env.new.line.tap.ghost_name ∷ []) ∷ (env.new.line.peer.ghost_name ∷ []) ∷ [] })
-        env.new.refused env.new.line.waiting.now.items env.new.line.taken
+        (outside (env.new.out.ghost_name ∷ []) (env.new.entropy.ghost_name ∷ []) (env.new.vault.ghost_name ∷ []) ((env.new.line.tap.ghost_name ∷ []) ∷ (env.new.line.peer.ghost_name ∷ []) ∷ [])
+        env.new.refused env.new.line.waiting.now.replies.items env.new.line.taken
         (record { out = W.held env.new.out.now; tap = T.held env.new.line.tap.now; entropy = E.to_come env.new.entropy.now; keys = V.keys env.new.vault.now; log = P.log env.new.line.peer.now; state = P.state env.new.line.peer.now; out_faults = W.faults env.new.out.now; tap_faults = T.faults env.new.line.tap.now; entropy_faults = E.faults env.new.entropy.now; vault_faults = V.faults env.new.vault.now })) }
 {
     run_all(alloc, env, sessions, steps)
-}
-
-/// How a run ended that went to its end, or stopped.
-fn ran_of(ended: Result<(), Stop>, refused: bool) -> Ran
-    ensures { result ≡ ends.ran_of ended refused }
-{
-    match ended {
-        Ok(()) => { if refused { Ran::Refusals } else { Ran::Done } }
-        Err(stop) => Ran::Stopped(stop),
-    }
 }
 
 /// Runs the steps of a script over a peer: the text goes to `out`, and every frame to `tap` in the
@@ -106,7 +95,9 @@ pub fn run_over<W: Sink, T: Sink, E: Entropy, V: Vault, P: Peer>(
         Ok(store) => store,
         Err(_) => return Ran::Stopped(Stop::OutOfMemory),
     };
-    let mut waiting = VecDeque::new(alloc);
+    let mut waiting = Waiting {
+        replies: VecDeque::new(alloc),
+    };
     let mut env = Env {
         out,
         entropy,
@@ -120,6 +111,14 @@ pub fn run_over<W: Sink, T: Sink, E: Entropy, V: Vault, P: Peer>(
         },
         store: &mut store,
     };
-    let ended = run_lent(alloc, &mut env, &mut sessions, steps);
-    ran_of(ended, env.refused)
+    match run_lent(alloc, &mut env, &mut sessions, steps) {
+        Ok(()) => {
+            if env.refused {
+                Ran::Refusals
+            } else {
+                Ran::Done
+            }
+        }
+        Err(stop) => Ran::Stopped(stop),
+    }
 }
