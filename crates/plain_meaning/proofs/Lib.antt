@@ -1,6 +1,11 @@
 mod Agreement
+mod History
 mod OpenWorlds
+mod Pairs
 mod Reading
+mod Sealed
+mod SealedTalk
 mod Sending
+mod Told
 mod Understood
 mod Values

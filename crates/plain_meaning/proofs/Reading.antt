@@ -42,7 +42,7 @@ opening_plain metas (c ∷ cs) k fails h =
     ap (λ e. opening_one metas e (λ key. opening metas (types_shown cs) (λ ks. k (key ∷ ks)) fails) fails) h.0
     ∙ opening_plain metas cs (λ ks. k (None ∷ ks)) fails h.1
 
-kind_of_type : (t : Ty) (d : Datum) → IsOfType t d → is_of_kind d t ≡ true
+pub kind_of_type : (t : Ty) (d : Datum) → IsOfType t d → is_of_kind d t ≡ true
 kind_of_type ty.Int (datum.Num n) h = refl
 kind_of_type ty.Int (datum.Text characters) h = absurd h
 kind_of_type ty.Int (datum.Bin bytes) h = absurd h

@@ -35,7 +35,7 @@ of_type (ty.VarBinary most) (datum.Num n) h = absurd cc
 of_type (ty.VarBinary most) (datum.Text characters) h = absurd cc
 of_type (ty.VarBinary most) (datum.Bin bytes) h = grind (arith, nat_tests)
 
-value_of_type : (cell : List ℕ → Bool) (t : Ty) (e : Enc) (v : Value) → value_is_within v t ≡ true → IsAtomOf cell t e (plain_atom v)
+pub value_of_type : (cell : List ℕ → Bool) (t : Ty) (e : Enc) (v : Value) → value_is_within v t ≡ true → IsAtomOf cell t e (plain_atom v)
 value_of_type cell t e value.Null h = tt
 value_of_type cell t e (value.Is d) h = of_type t d h
 
