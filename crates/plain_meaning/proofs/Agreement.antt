@@ -79,7 +79,7 @@ pub record Laws : Type 0 where
 abbrev pub text : (Session → World → List outcomes.Outcome) → Came → List outcomes.Outcome
 text rest c = c.comes ∷ rest c.session c.world
 
-printed : (comes : outcomes.Outcome) (end : End) (outs wanted : List outcomes.Outcome) → EndsWith end outs wanted → EndsWith end (comes ∷ outs) (comes ∷ wanted)
+pub printed : (comes : outcomes.Outcome) (end : End) (outs wanted : List outcomes.Outcome) → EndsWith end outs wanted → EndsWith end (comes ∷ outs) (comes ∷ wanted)
 printed comes (Done sessions) outs wanted h = ap (λ xs. comes ∷ xs) h
 printed comes Dry outs wanted h = record { rest = h.rest; is = ap (λ xs. comes ∷ xs) h.is }
 printed comes (BadReply n) outs wanted h = absurd h
@@ -152,11 +152,11 @@ none_held catalog (suc n) = (tt, none_held catalog n)
 
 -- ---- small facts
 
-types_sent : (columns : List ResultColumn) → map (λ (c : SentColumn). let t : ColumnType = record { ty = c.ty; enc = c.enc } in t) (map sent_column columns) ≡ types_shown columns
+pub types_sent : (columns : List ResultColumn) → map (λ (c : SentColumn). let t : ColumnType = record { ty = c.ty; enc = c.enc } in t) (map sent_column columns) ≡ types_shown columns
 types_sent [] = refl
 types_sent (c ∷ cs) = ap (λ ts. record { ty = c.ty; enc = c.enc } ∷ ts) (types_sent cs)
 
-titles_sent : (columns : List ResultColumn) → map (λ (c : SentColumn). c.title) (map sent_column columns) ≡ map (λ (c : ResultColumn). c.title) columns
+pub titles_sent : (columns : List ResultColumn) → map (λ (c : SentColumn). c.title) (map sent_column columns) ≡ map (λ (c : ResultColumn). c.title) columns
 titles_sent [] = refl
 titles_sent (c ∷ cs) = ap (λ ts. c.title ∷ ts) (titles_sent cs)
 
@@ -168,14 +168,14 @@ uses_plain : (us : List Use) → ArePlain us → Each IsPlain (map (λ (u : Use)
 uses_plain [] h = tt
 uses_plain (u ∷ us) h = (h.0, uses_plain us h.1)
 
-whole_count : (rows : List (List Atom)) → length rows ≡ 0 + length rows
+pub whole_count : (rows : List (List Atom)) → length rows ≡ 0 + length rows
 whole_count rows = omega arith
 
-stays : (w : World) (r : Result engine.Done SqlFault) (f : SqlFault) → (engine.outcome w r).answer ≡ Err f → (engine.outcome w r).world ≡ w
+pub stays : (w : World) (r : Result engine.Done SqlFault) (f : SqlFault) → (engine.outcome w r).answer ≡ Err f → (engine.outcome w r).world ≡ w
 stays w (Ok done) f e = absurd cc
 stays w (Err g) f e = refl
 
-has_master : (catalog : Catalog) (s : BoundStatement) → ((name master wrapped : List ℕ) → s ≡ bound.CreateKey name master wrapped → IsSome (master_named catalog master)) → HasMaster catalog s
+pub has_master : (catalog : Catalog) (s : BoundStatement) → ((name master wrapped : List ℕ) → s ≡ bound.CreateKey name master wrapped → IsSome (master_named catalog master)) → HasMaster catalog s
 has_master catalog (bound.CreateMaster name path) h = tt
 has_master catalog (bound.CreateKey name master wrapped) h = h name master wrapped refl
 has_master catalog (bound.CreateTable table) h = tt
@@ -191,7 +191,7 @@ first_of : (o : Option (List ℕ)) (b : Bool) → unfit_by o b ≡ None → o �
 first_of None b h = refl
 first_of (Some name) b h = absurd cc
 
-first_fits : (batch : Batch) → why_unfit batch ≡ None → first_unfit batch.params ≡ None
+pub first_fits : (batch : Batch) → why_unfit batch ≡ None → first_unfit batch.params ≡ None
 first_fits batch h = first_of (first_unfit batch.params) (nat_lt 65536 (length (encode_utf8_all batch.text))) h
 
 module _ (laws : Laws) (keys : KeyMap) where
@@ -380,7 +380,7 @@ module _ (laws : Laws) (keys : KeyMap) where
 
 -- ---- from the beginning
 
-nothing_kept : IsCatalog nothing_defined
+pub nothing_kept : IsCatalog nothing_defined
 nothing_kept = record {
   masters_differ = λ i j d lt within. absurd (omega arith);
   keys_differ = λ i j d lt within. absurd (omega arith);

@@ -1,9 +1,11 @@
 mod Agreement
+mod Growing
 mod History
 mod OpenWorlds
 mod Pairs
 mod Reading
 mod Sealed
+mod SealedAgreement
 mod SealedTalk
 mod Sending
 mod Told

@@ -84,7 +84,7 @@ counts_same : (f : ℕ → ℕ) (items : List BoundItem) → list_any (λ (item 
 counts_same f [] = refl
 counts_same f (item ∷ items) = let one = count_same f item.value in let rest = counts_same f items in rw (one, rest) refl
 
-executes_same : (f : ℕ → ℕ) (s : BoundStatement) → executes_statement (renamed_statement f s) ≡ executes_statement s
+pub executes_same : (f : ℕ → ℕ) (s : BoundStatement) → executes_statement (renamed_statement f s) ≡ executes_statement s
 executes_same f (bound.CreateMaster name path) = refl
 executes_same f (bound.CreateKey name master wrapped) = refl
 executes_same f (bound.CreateTable table) = refl
