@@ -1,5 +1,4 @@
 -- As its steps run, or a line is bad.
-use Rattle.std.proofs.Common.{refl, ◌∙◌, arith}
 use Rattle.script_run.proofs.Lent.{runs_script, was_read}
 use Rattle.script_run.proofs.programs.run_bytes.Goals as goal
 

@@ -1,5 +1,5 @@
 -- A batch is described, or it was refused, which is printed.
-use Rattle.conversation.specs.Turns.{described_on, pending_on}
+use Rattle.conversation.specs.Turns.{described_on}
 use Rattle.run_words.proofs.Going.{leads_then}
 use Rattle.script_run.specs.Onward.{ready_on}
 use Rattle.script_run.proofs.Turning.{pending_idle}

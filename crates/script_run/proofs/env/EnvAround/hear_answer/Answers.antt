@@ -1,6 +1,5 @@
 -- By what waits, and what it says.
-use Rattle.std.proofs.Common.{Some, None, refl}
-use Rattle.conversation.specs.Devices.{Devices}
+use Rattle.std.proofs.Common.{None, refl}
 use Rattle.conversation.specs.declared.sessions.Session.TheVariants.{Sent}
 use Rattle.run_words.proofs.Going.{stay, breaks_between}
 use Rattle.script_run.proofs.Awaited.{of_first}

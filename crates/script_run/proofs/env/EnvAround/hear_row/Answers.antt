@@ -1,6 +1,5 @@
 -- By what waits, and what it says.
-use Rattle.std.proofs.Common.{Some, None, refl}
-use Rattle.conversation.specs.Devices.{Devices}
+use Rattle.std.proofs.Common.{Some, None}
 use Rattle.run_words.proofs.Going.{stay, breaks_between}
 use Rattle.script_run.proofs.Heeded.{none_next, first_next, row_leads, rows_left, less_left, kept_so, after_same, row_stray, row_halts}
 use Rattle.script_run.proofs.env.EnvAround.hear_row.Goals as goal

@@ -1,7 +1,5 @@
 -- It was asked, whole or in part, or it wasn't.
-use Rattle.std.proofs.Common.{refl, sym, ◌∙◌, ap, ◌++◌}
-use Rattle.wire_spelling.specs.Spelling.{request_frame, reply_frame}
-use Rattle.std.specs.Prelude.{flat_map}
+use Rattle.std.proofs.Common.{refl, ◌∙◌, ap, ◌++◌}
 use Rattle.ae_edge.proofs.Told.{front_of, front_same}
 use Rattle.script_run.proofs.Framed.{both_same, unasked, asked_part, asked_whole}
 use Rattle.script_run.proofs.peer_lines.PeerLineLine.ask.Goals as goal
