@@ -1,5 +1,5 @@
 -- The values of parameters, each tested in turn: those so far, and what is known of them all.
-use Rattle.std.proofs.Common.{◌≡◌, ℕ, ◌+◌, ◌<◌, ◌≤◌, Bool, true, false, List, [], ◌∷◌, length, map, drop, get_or, Result, Ok, Err, refl, sym, ap, ◌∙◌, subst, arith, if◌then◌else◌}
+use Rattle.std.proofs.Common.{◌≡◌, ℕ, ◌+◌, ◌<◌, ◌≤◌, Bool, true, false, List, [], ◌∷◌, ◌++◌, length, map, drop, get_or, Result, Ok, Err, refl, sym, ap, ◌∙◌, subst, arith, if◌then◌else◌}
 use Rattle.std.specs.Prelude.{IsTrue, int_le, pos, negsuc}
 use Rattle.std.specs.List.{All}
 use Rattle.std.proofs.lemmas.Bool.{and_parts, false≢true, le-leb, leb-true}
@@ -77,16 +77,16 @@ record IsSuited (e : Enc) (p : SentParam) (atom : Atom) : Type 0 where
   pub is : atom ≡ p.atom
   pub of : is_of e p.ty p.atom ≡ true
 
-suited_by : (same of shaped : Bool) (p : SentParam) (atom : Atom) {f g : SqlFault}
+suited_by : (same of shaped : Bool) (p : SentParam) (atom : Atom) (f g : SqlFault)
     → (if (if same then of else false) then (if shaped then Ok p.atom else Err f) else Err g) ≡ Ok atom → (atom ≡ p.atom) × (of ≡ true)
-suited_by true true true p atom e = (cc, refl)
-suited_by true true false p atom e = absurd cc
-suited_by true false shaped p atom e = absurd cc
-suited_by false of shaped p atom e = absurd cc
+suited_by true true true p atom f g e = (cc, refl)
+suited_by true true false p atom f g e = absurd cc
+suited_by true false shaped p atom f g e = absurd cc
+suited_by false of shaped p atom f g e = absurd cc
 
 is_suited : (e : Enc) (p : SentParam) (atom : Atom) → suited_atom e p ≡ Ok atom → IsSuited e p atom
 is_suited e p atom h =
-    let s = suited_by (enc_eq p.enc e) (is_of e p.ty p.atom) (is_shaped p.ty p.atom) p atom {f = fault.BadCell p.name} {g = fault.ParamClash p.name} h in
+    let s = suited_by (enc_eq p.enc e) (is_of e p.ty p.atom) (is_shaped p.ty p.atom) p atom (fault.BadCell p.name) (fault.ParamClash p.name) h in
     record { is = s.0; of = s.1 }
 
 pub record AreSuited (encs : List Enc) (params : List SentParam) (atoms : List Atom) : Type 0 where
@@ -94,7 +94,7 @@ pub record AreSuited (encs : List Enc) (params : List SentParam) (atoms : List A
   pub values : AreValuesOf is_short (map type_of (map declaration_of params)) encs atoms
 
 pub are_suited : (encs : List Enc) (params : List SentParam) (atoms : List Atom) → suited encs params ≡ Ok atoms → length encs ≡ length params → All IsSendable atoms → AreSuited encs params atoms
-are_suited encs [] atoms h n s = let e : [] ≡ atoms = cc in subst (λ as. AreSuited encs [] as) e (record { count = refl; values = tt })
+are_suited encs [] atoms h n s = let e : [] ≡ atoms = cc in subst (λ items. AreSuited encs [] items) e (record { count = refl; values = tt })
 are_suited [] (p ∷ params) atoms h n s = absurd (omega arith)
 are_suited (e ∷ encs) (p ∷ params) atoms h n s =
     let c = came_before (suited_atom e p) (suited encs params) atoms h in
@@ -103,5 +103,5 @@ are_suited (e ∷ encs) (p ∷ params) atoms h n s =
     let rest = are_suited encs params c.others c.then m (All-tail IsSendable c.first c.others short) in
     let first = is_suited e p c.first c.is in
     let head = subst IsSendable first.is (All-head IsSendable c.first c.others short) in
-    subst (λ as. AreSuited (e ∷ encs) (p ∷ params) as) (sym c.all)
+    subst (λ items. AreSuited (e ∷ encs) (p ∷ params) items) (sym c.all)
     (record { count = ap suc rest.count; values = (subst (IsAtomOf is_short p.ty e) (sym first.is) (atom_of e p.ty p.atom first.of head), rest.values) })

@@ -26,6 +26,7 @@ use wire_messages::replies::Description;
 use wire_messages::texts::StatementPart;
 
 /// The description of a text with its parameters declared so, or its first fault.
+#[tactic(none)]
 pub fn describe(
     alloc: Global,
     catalog: &Catalog,

@@ -24,7 +24,7 @@ use wire_messages::texts::StatementPart;
 
 /// What a text means with its parameters declared so, or its first fault: of parsing, binding,
 /// typing; then Syntax for what is not executed yet.
-#[tactic(auto, using(crate::proofs::Typings::understood_so), unfolding(crate::specs::Describing::understood))]
+#[tactic(auto, unfolding(crate::specs::Describing::understood))]
 pub fn understood(
     alloc: Global,
     catalog: &Catalog,
