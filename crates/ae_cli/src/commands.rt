@@ -10,6 +10,7 @@ ghost use Rattle.script_run.specs.declared.runs.Ran.{Ran};
 ghost use Rattle.script_run.specs.Ends.{IsScript, RunsScript, TakesScript};
 ghost use Rattle.script_run.specs.Plain.{IsDoneOrFault, PrintsPlain};
 ghost use Rattle.script_run.specs.Statuses.{status_of};
+ghost use Rattle.script_run.specs.Transcript.{TapsTranscript};
 
 use crate::words::{is_run, usage};
 use ae_base::texts::Txt;
@@ -51,6 +52,9 @@ pub fn ae_main<S: Source, V: Vault, E: Entropy, L: Source, W: Sink, T: Sink, P: 
     // A run over a peer that serves from the empty state, with keys that are told: the text is plain SQL's over the same values.
     ensures plain { is_run words.now ≡ true → P.state peer.old ≡ Some empty_state → (keys : KeyMap) (bytes : List ℕ) (steps : List Step) → V.keys vault.old ≡ Some keys → S.left script.old ≡ Some bytes → IsScript bytes steps
         → (ran : Ran) × (result ≡ status_of ran) × PrintsPlain ran keys steps (W.held out.old) (W.held out.new) }
+    // And the tap has the frames of the conversation over that server, whatever random bytes were drawn.
+    ensures transcript { is_run words.now ≡ true → P.state peer.old ≡ Some empty_state → (keys : KeyMap) (bytes : List ℕ) (steps : List Step) → V.keys vault.old ≡ Some keys → S.left script.old ≡ Some bytes → IsScript bytes steps
+        → (ran : Ran) × (result ≡ status_of ran) × TapsTranscript ran keys steps (E.to_come entropy.old) (E.to_come entropy.new) (T.held tap.old) (T.held tap.new) }
     // There a good script is run to its end, unless memory or a device fails.
     ensures complete { is_run words.now ≡ true → P.state peer.old ≡ Some empty_state → (keys : KeyMap) (bytes : List ℕ) (steps : List Step) → V.keys vault.old ≡ Some keys → S.left script.old ≡ Some bytes → IsScript bytes steps
         → (ran : Ran) × (result ≡ status_of ran) × IsDoneOrFault ran }

@@ -5,5 +5,6 @@ pub mod Lent
 pub mod Passing
 pub mod Places
 pub mod Plainly
+pub mod Tapping
 pub mod Turning
 pub mod Waiting

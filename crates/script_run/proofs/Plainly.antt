@@ -206,7 +206,7 @@ module _ (law : ServedIsPlain) (keys : KeyMap) (steps : List Step) (limits : All
   steps_plain (ran.Unread why) c = absurd c
 
 -- the steps of a script are one list
-one_script : (bytes : List ℕ) (steps others : List Step) → IsScript bytes steps → IsScript bytes others → others ≡ steps
+pub one_script : (bytes : List ℕ) (steps others : List Step) → IsScript bytes steps → IsScript bytes others → others ≡ steps
 one_script bytes steps others s o = let a = s.read in let b = o.read in cc
 
 runs_so : (law : ServedIsPlain) (r : Ran) (keys : KeyMap) (bytes : List ℕ) (steps : List Step) (old new : Lent) → old.state ≡ Some empty_state → old.keys ≡ Some keys

@@ -6,3 +6,4 @@ pub mod Lines
 pub mod Onward
 pub mod Plain
 pub mod Statuses
+pub mod Transcript

@@ -10,6 +10,7 @@ ghost use Rattle.script_run.specs.declared.runs.Ran.TheVariants as ran;
 ghost use Rattle.script_run.specs.declared.runs.Unread.TheVariants as unread;
 ghost use Rattle.script_run.specs.Ends.{IsRead, IsScript, RunsScript, TakesScript, most_script_bytes};
 ghost use Rattle.script_run.specs.Plain.{PrintsPlain, IsDoneOrFault};
+ghost use Rattle.script_run.specs.Transcript.{TapsTranscript};
 
 use crate::runs::{Ran, Unread, run_over};
 use ae_base::blobs::Blob;
@@ -96,6 +97,9 @@ pub fn run<S: Source, V: Vault, E: Entropy, W: Sink, T: Sink, P: Peer>(
     // Over a peer that serves from the empty state, with keys that are told, the text is plain SQL's over the same values.
     ensures plain { (keys : KeyMap) (bytes : List ℕ) (steps : List Step) → P.state peer.old ≡ Some empty_state → V.keys vault.old ≡ Some keys → S.left script.old ≡ Some bytes → IsScript bytes steps
         → PrintsPlain result keys steps (W.held out.old) (W.held out.new) }
+    // And the tap has the frames of the conversation over that server, whatever random bytes were drawn.
+    ensures transcript { (keys : KeyMap) (bytes : List ℕ) (steps : List Step) → P.state peer.old ≡ Some empty_state → V.keys vault.old ≡ Some keys → S.left script.old ≡ Some bytes → IsScript bytes steps
+        → TapsTranscript result keys steps (E.to_come entropy.old) (E.to_come entropy.new) (T.held tap.old) (T.held tap.new) }
     // There a good script is run to its end, unless memory or a device fails: each reply is awaited.
     ensures complete { (keys : KeyMap) (bytes : List ℕ) (steps : List Step) → P.state peer.old ≡ Some empty_state → V.keys vault.old ≡ Some keys → S.left script.old ≡ Some bytes → IsScript bytes steps
         → IsDoneOrFault result }

@@ -1,5 +1,6 @@
 -- Over a server that serves from the empty state it is what its script means.
 use Rattle.script_run.proofs.Plainly.{runs_plain, runs_whole, told_bytes}
+use Rattle.script_run.proofs.Tapping.{runs_tap}
 use Rattle.script_run.proofs.programs.run.Goals as goal
 
 pub returns-clause-content : goal.returns-clause-content
@@ -25,3 +26,6 @@ returns-clause-plain g c = λ keys bytes steps w k s i. let h = c.run_source.ens
 
 pub returns-clause-complete : goal.returns-clause-complete
 returns-clause-complete g c = λ keys bytes steps w k s i. let h = c.run_source.ensures.content in let e = told_bytes _ bytes _ s h.1 in let r = h.2 in runs_whole c.served_is_plain.ensures _ keys bytes steps _ _ w k i (rw e at r)
+
+pub returns-clause-transcript : goal.returns-clause-transcript
+returns-clause-transcript g c = λ keys bytes steps w k s i. let h = c.run_source.ensures.content in let e = told_bytes _ bytes _ s h.1 in let r = h.2 in runs_tap _ keys bytes steps _ _ w k i (rw e at r)
