@@ -26,7 +26,6 @@ use wire_messages::replies::Description;
 use wire_messages::texts::StatementPart;
 
 /// The description of a text with its parameters declared so, or its first fault.
-#[tactic(none)]
 pub fn describe(
     alloc: Global,
     catalog: &Catalog,
@@ -37,9 +36,43 @@ pub fn describe(
     ensures { Answers result (spec.describe catalog.now text.now declarations.now) }
 {
     let copies = declared(alloc, declarations.as_slice())?;
-    let typed = understood(alloc, catalog, text, copies.as_slice())?;
-    Ok(description(alloc, catalog, copies.as_slice(), &typed)?)
+    of_declared(alloc, catalog, text, copies.as_slice())
 }
+
+fn of_declared(
+    alloc: Global,
+    catalog: &Catalog,
+    text: &StatementPart<'_>,
+    declarations: &[ParamDecl],
+) -> Result<Description<'static>, Refusal>
+    requires catalog { IsCatalog catalog.now }
+    requires few { length declarations.now ≤ 128 }
+    requires differ { IsTrue (all_differ (map (λ d. d.name) declarations.now)) }
+    ensures { Answers result (spec.describe catalog.now text.now declarations.now) }
+{
+    let typed = understood(alloc, catalog, text, declarations)?;
+    Ok(of_typed(alloc, catalog, declarations, typed)?)
+}
+
+fn of_typed(
+    alloc: Global,
+    catalog: &Catalog,
+    declarations: &[ParamDecl],
+    typed: Typed,
+) -> Result<Description<'static>, AllocError>
+    requires catalog { IsCatalog catalog.now }
+    requires few { length declarations.now ≤ 128 }
+    requires differ { IsTrue (all_differ (map (λ d. d.name) declarations.now)) }
+    requires understood { IsUnderstood catalog.now declarations.now (meant_of typed) }
+    ensures { IfOk result (λ d. d ≡ spec.description catalog.now declarations.now (meant_of typed)) }
+{
+    let made = description(alloc, catalog, declarations, &typed);
+    let_go(typed);
+    made
+}
+
+/// Lets a statement go: its tree is taken apart here alone.
+fn let_go(_typed: Typed) {}
 
 fn description(
     alloc: Global,
