@@ -1,5 +1,5 @@
 -- What a run puts on its tap over a server is the transcript, or a front of it.
-use Rattle.std.proofs.Common.{◌≡◌, ◌≤◌, ℕ, ◌+◌, List, [], ◌∷◌, ◌++◌, Option, Some, None, Ok, Err, Bool, refl, sym, ◌∙◌, ap, subst, append_assoc, append-nil, length, arith}
+use Rattle.std.proofs.Common.{◌≡◌, ◌≤◌, ℕ, ◌+◌, List, [], ◌∷◌, ◌++◌, Option, Some, None, Ok, Err, Bool, true, false, refl, sym, ◌∙◌, ap, subst, append_assoc, append-nil, length, arith}
 use Rattle.std.specs.Prelude.{flat_map, IfSome, Result}
 use Rattle.ae_edge.specs.Devices.{WhereTold, Adds, AddsFront, IsFront}
 use Rattle.ae_edge.specs.Vaults.{KeyMap}
