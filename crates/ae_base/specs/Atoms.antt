@@ -1,7 +1,9 @@
 -- Atoms as contracts see them: a cell is the list of bytes that it stands for.
-use Rattle.std.specs.Prelude.{List, ℕ, Bool, true, false}
+use Rattle.std.specs.Prelude.{List, ℕ, Bool, true, false, Option, Some, None}
 use Rattle.std.specs.Str.{bytes_eq}
 use Rattle.ae_base.specs.Values.{datum_eq}
+use Rattle.ae_base.specs.declared.values.Value.{Value}
+use Rattle.ae_base.specs.declared.values.Value.TheVariants as value
 use Rattle.ae_base.specs.declared.atoms.AtomOf.{AtomOf}
 use Rattle.ae_base.specs.declared.atoms.AtomOf.TheVariants.{Null, Plain, Sealed}
 
@@ -32,3 +34,14 @@ alike Null (Plain b) = false
 alike Null (Sealed b) = false
 alike (Plain a) b = atom_eq (Plain a) b
 alike (Sealed a) b = atom_eq (Sealed a) b
+
+-- a value as it is
+abbrev pub plain_atom : Value → AtomOf (List ℕ)
+plain_atom value.Null = Null
+plain_atom (value.Is datum) = Plain datum
+
+-- the value of an atom that isn't sealed
+abbrev pub value_of_atom : AtomOf (List ℕ) → Option Value
+value_of_atom Null = Some value.Null
+value_of_atom (Plain datum) = Some (value.Is datum)
+value_of_atom (Sealed cell) = None

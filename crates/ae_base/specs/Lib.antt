@@ -1,6 +1,12 @@
 pub mod Atoms
+pub mod Batches
 pub mod Faults
+pub mod Keys
 pub mod Names
+pub mod Results
+pub mod Sessions
+pub mod Sizes
 pub mod Types
 pub mod ValueLaws
 pub mod Values
+pub mod Versions

@@ -1,6 +1,10 @@
-use crate::blobs::Blob;
-use crate::lists::{Duplicate, Seq};
-use crate::names::Name;
+ghost use Rattle.std.specs.Prelude.{◌≡◌};
+ghost use Rattle.std.specs.Str.{bytes_eq};
+
+use crate::keys::{KeyPath, WrappedKey};
+use crate::lists::Duplicate;
+use crate::names::{Name, ParamName};
+use crate::params::{Named, ParamList};
 use crate::texts::Txt;
 use crate::types::{KeyId, Ty};
 use crate::values::Value;
@@ -9,7 +13,7 @@ use std::alloc::AllocError;
 /// A parameter's declaration: its name, without `@`, and its type.
 #[derive(Drop)]
 pub struct ParamDecl {
-    pub name: Name,
+    pub name: ParamName,
     pub ty: Ty,
 }
 
@@ -20,11 +24,17 @@ pub struct Param {
     pub value: Value,
 }
 
+/// Declarations, as a statement is described with.
+pub type Declarations = ParamList<ParamDecl>;
+
+/// Declarations with their values.
+pub type Params = ParamList<Param>;
+
 /// One statement with its parameters.
 #[derive(Drop)]
 pub struct Batch {
     pub text: Txt,
-    pub params: Seq<Param>,
+    pub params: Params,
 }
 
 /// What a client is told of a column encryption key: its number and name, the path of the master
@@ -33,8 +43,24 @@ pub struct Batch {
 pub struct KeyMeta {
     pub id: KeyId,
     pub name: Name,
-    pub path: Txt,
-    pub wrapped: Blob,
+    pub path: KeyPath,
+    pub wrapped: WrappedKey,
+}
+
+impl Named for ParamDecl {
+    ghost called = { λ declaration. declaration.name };
+
+    fn same_name(&self, other: &ParamDecl) -> bool {
+        self.name == other.name
+    }
+}
+
+impl Named for Param {
+    ghost called = { λ param. param.declaration.name };
+
+    fn same_name(&self, other: &Param) -> bool {
+        self.declaration.name == other.declaration.name
+    }
 }
 
 impl Duplicate for ParamDecl {

@@ -1,10 +1,103 @@
-ghost use Rattle.std.specs.Prelude.{◌≡◌};
+ghost use Rattle.std.specs.Prelude.{◌≡◌, ◌≢◌, ◌↔◌, IfSome, IsSome};
+ghost use Rattle.ae_base.specs.Versions.{IsUniqueNumber};
 ghost use Rattle.ae_base.specs.Faults.{code_of, name_of};
 
 use crate::lists::Duplicate;
-use crate::names::Name;
+use crate::names::{Name, ParamName};
 use std::alloc::AllocError;
 use std::fmt;
+use std::marker::Model;
+
+/// The version of the catalog by which a statement was described, and the other one that stands.
+#[derive(Clone, Copy)]
+pub struct Versions {
+    seen: u64,
+    now: u64,
+}
+
+impl Model for Versions {
+    ghost use Rattle.std.specs.Prelude.{◌≢◌};
+    ghost use Rattle.ae_base.specs.Versions as specs;
+
+    ghost Value = { specs.Versions };
+
+    ghost view = { λ v. record { seen = v.seen; now = v.now } };
+
+    ghost invariant = { λ v. v.seen ≢ v.now };
+
+    ghost inverse = { λ v. record { seen = v.seen; now = v.now } };
+}
+
+impl Versions {
+    /// The versions, where they differ.
+    pub fn that_differ(seen: u64, now: u64) -> Option<Versions>
+        ensures versions { IfSome result (λ v. v ≡ record { seen = seen; now = now }) }
+        ensures exactly { IsSome result ↔ (seen ≢ now) }
+    {
+        if seen == now {
+            return None;
+        }
+        Some(Versions { seen, now })
+    }
+
+    /// The version by which the statement was described.
+    pub fn seen(self) -> u64
+        ensures { result ≡ self.seen }
+    {
+        self.seen
+    }
+
+    /// The version that stands.
+    pub fn now(self) -> u64
+        ensures version { result ≡ self.now }
+        ensures differ { self.seen ≢ self.now }
+    {
+        self.now
+    }
+}
+
+/// The number of a unique key of a table, in text order from 1 to 8.
+#[derive(Clone, Copy, PartialEq, Eq, Debug)]
+pub struct UniqueNumber {
+    number: u8,
+}
+
+impl Model for UniqueNumber {
+    ghost use Rattle.std.specs.Prelude.{ℕ};
+    ghost use Rattle.ae_base.specs.Versions.{IsUniqueNumber};
+
+    ghost Value = { ℕ };
+
+    ghost view = { λ k. k.number };
+
+    ghost invariant = { λ k. IsUniqueNumber k.number };
+
+    ghost inverse = { λ n. record { number = n } };
+}
+
+impl UniqueNumber {
+    /// The most unique keys of a table.
+    pub const MOST: u8 = 8;
+
+    /// The key of a number, where there is one.
+    pub fn from_number(number: u8) -> Option<UniqueNumber>
+        ensures value { IfSome result (λ key. key ≡ number) }
+        ensures exactly { IsSome result ↔ IsUniqueNumber number }
+    {
+        if number == 0 || number > UniqueNumber::MOST {
+            return None;
+        }
+        Some(UniqueNumber { number })
+    }
+
+    /// The number.
+    pub fn number(self) -> u8
+        ensures value { result ≡ self }
+        ensures within { IsUniqueNumber result }
+    {
+        self.number
+    }
+}
 
 /// Why the server refuses a request. Places are offsets in the statement's text, in bytes from 0.
 #[derive(Drop)]
@@ -24,7 +117,7 @@ pub enum SqlFault {
     /// A name that two things have, or that is given twice.
     Ambiguous(Name),
     /// A parameter that isn't declared.
-    NoParam(Name),
+    NoParam(ParamName),
     /// No column encryption key, or master key, of the name.
     NoKey(Name),
     /// An item or a column that isn't grouped.
@@ -33,12 +126,12 @@ pub enum SqlFault {
     TypeClash { at: u32 },
     /// No encryption typing exists.
     EncryptionClash { at: u32 },
-    /// The catalog has changed since the statement was described. The two versions differ.
-    Moved { seen: u64, now: u64 },
+    /// The catalog has changed since the statement was described.
+    Moved(Versions),
     /// A parameter that isn't encrypted as the statement asks.
-    ParamClash(Name),
+    ParamClash(ParamName),
     /// A parameter whose cell has the wrong shape.
-    BadCell(Name),
+    BadCell(ParamName),
     /// A sum past 64 bits.
     Overflow,
     /// NULL for a column that takes none.
@@ -49,8 +142,8 @@ pub enum SqlFault {
     TooManyRows,
     /// More than 100,000 rows in a table.
     TableFull,
-    /// Two rows alike on a unique key, by the key's number from 1 to 8.
-    DuplicateKey(u8),
+    /// Two rows alike on a unique key.
+    DuplicateKey(UniqueNumber),
     /// A definition of a name that its kind has already.
     Exists(Name),
     /// A drop of a name that isn't there.
@@ -79,7 +172,7 @@ impl SqlFault {
             SqlFault::NotGrouped { .. } => 25,
             SqlFault::TypeClash { .. } => 26,
             SqlFault::EncryptionClash { .. } => 30,
-            SqlFault::Moved { .. } => 40,
+            SqlFault::Moved(_) => 40,
             SqlFault::ParamClash(_) => 41,
             SqlFault::BadCell(_) => 42,
             SqlFault::Overflow => 50,
@@ -112,7 +205,7 @@ impl SqlFault {
             SqlFault::NotGrouped { .. } => "NotGrouped",
             SqlFault::TypeClash { .. } => "TypeClash",
             SqlFault::EncryptionClash { .. } => "EncryptionClash",
-            SqlFault::Moved { .. } => "Moved",
+            SqlFault::Moved(_) => "Moved",
             SqlFault::ParamClash(_) => "ParamClash",
             SqlFault::BadCell(_) => "BadCell",
             SqlFault::Overflow => "Overflow",
@@ -161,8 +254,10 @@ impl fmt::Display for SqlFault {
             SqlFault::NoParam(name) | SqlFault::ParamClash(name) | SqlFault::BadCell(name) => {
                 write!(f, " @{}", name.as_str())
             }
-            SqlFault::Moved { seen, now } => write!(f, " seen {seen} now {now}"),
-            SqlFault::DuplicateKey(number) => write!(f, " {number}"),
+            SqlFault::Moved(versions) => {
+                write!(f, " seen {} now {}", versions.seen(), versions.now())
+            }
+            SqlFault::DuplicateKey(number) => write!(f, " {}", number.number()),
         }
     }
 }
@@ -182,10 +277,7 @@ impl Duplicate for SqlFault {
             SqlFault::NotGrouped { at } => SqlFault::NotGrouped { at: *at },
             SqlFault::TypeClash { at } => SqlFault::TypeClash { at: *at },
             SqlFault::EncryptionClash { at } => SqlFault::EncryptionClash { at: *at },
-            SqlFault::Moved { seen, now } => SqlFault::Moved {
-                seen: *seen,
-                now: *now,
-            },
+            SqlFault::Moved(versions) => SqlFault::Moved(*versions),
             SqlFault::ParamClash(name) => SqlFault::ParamClash(name.copy()?),
             SqlFault::BadCell(name) => SqlFault::BadCell(name.copy()?),
             SqlFault::Overflow => SqlFault::Overflow,

@@ -61,7 +61,8 @@ impl Txt {
     }
 }
 
-fn char_count(text: &str) -> usize
+/// How many characters a borrowed text has.
+pub fn char_count(text: &str) -> usize
     ensures { result ≡ length (chars text.now) }
 {
     text.chars().count()

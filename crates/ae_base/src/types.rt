@@ -1,23 +1,123 @@
 ghost use Rattle.std.specs.Prelude.{◌≡◌, ◌≤◌, ℕ, IfSome, IsSome, ◌↔◌};
+ghost use Rattle.ae_base.specs.Sizes.{IsTextSize, IsBinarySize};
 
 use std::marker::Model;
 
-/// A column's or a parameter's declared type. The number of `NVarChar` counts UTF-16 units, from 1
-/// to 4000, and that of `VarBinary` bytes, from 1 to 8000.
+/// The size of an NVARCHAR: the most UTF-16 units that its values have, from 1 to 4000.
 #[derive(Clone, Copy, PartialEq, Eq, Debug)]
-pub enum Ty {
-    Int,
-    BigInt,
-    NVarChar(u16),
-    VarBinary(u16),
+pub struct TextSize {
+    units: u16,
 }
 
-impl Ty {
-    /// The most units that an `NVarChar` is declared with.
-    pub const MOST_UNITS: u16 = 4000;
+impl Model for TextSize {
+    ghost use Rattle.std.specs.Prelude.{ℕ};
+    ghost use Rattle.ae_base.specs.Sizes.{IsTextSize};
 
-    /// The most bytes that a `VarBinary` is declared with.
-    pub const MOST_BYTES: u16 = 8000;
+    ghost Value = { ℕ };
+
+    ghost view = { λ s. s.units };
+
+    ghost invariant = { λ s. IsTextSize s.units };
+
+    ghost inverse = { λ n. record { units = n } };
+}
+
+impl TextSize {
+    /// The largest size.
+    pub const MOST: u16 = 4000;
+
+    /// The size of so many units, where there is one.
+    pub fn from_number(units: u16) -> Option<TextSize>
+        ensures value { IfSome result (λ size. size ≡ units) }
+        ensures exactly { IsSome result ↔ IsTextSize units }
+    {
+        if units == 0 || units > TextSize::MOST {
+            return None;
+        }
+        Some(TextSize { units })
+    }
+
+    /// The largest size, of 4,000 units.
+    pub fn largest() -> TextSize
+        ensures { result ≡ 4000 }
+    {
+        TextSize {
+            units: TextSize::MOST,
+        }
+    }
+
+    /// The number of units.
+    pub fn number(self) -> u16
+        ensures value { result ≡ self }
+        ensures within { IsTextSize result }
+    {
+        self.units
+    }
+}
+
+/// The size of a VARBINARY: the most bytes that its values have, from 1 to 8000.
+#[derive(Clone, Copy, PartialEq, Eq, Debug)]
+pub struct BinarySize {
+    bytes: u16,
+}
+
+impl Model for BinarySize {
+    ghost use Rattle.std.specs.Prelude.{ℕ};
+    ghost use Rattle.ae_base.specs.Sizes.{IsBinarySize};
+
+    ghost Value = { ℕ };
+
+    ghost view = { λ s. s.bytes };
+
+    ghost invariant = { λ s. IsBinarySize s.bytes };
+
+    ghost inverse = { λ n. record { bytes = n } };
+}
+
+impl BinarySize {
+    /// The largest size.
+    pub const MOST: u16 = 8000;
+
+    /// The size of so many bytes, where there is one.
+    pub fn from_number(bytes: u16) -> Option<BinarySize>
+        ensures value { IfSome result (λ size. size ≡ bytes) }
+        ensures exactly { IsSome result ↔ IsBinarySize bytes }
+    {
+        if bytes == 0 || bytes > BinarySize::MOST {
+            return None;
+        }
+        Some(BinarySize { bytes })
+    }
+
+    /// The largest size, of 8,000 bytes.
+    pub fn largest() -> BinarySize
+        ensures { result ≡ 8000 }
+    {
+        BinarySize {
+            bytes: BinarySize::MOST,
+        }
+    }
+
+    /// The number of bytes.
+    pub fn number(self) -> u16
+        ensures value { result ≡ self }
+        ensures within { IsBinarySize result }
+    {
+        self.bytes
+    }
+}
+
+/// A column's or a parameter's declared type.
+#[derive(Clone, Copy, PartialEq, Eq, Debug)]
+pub enum Ty {
+    /// Numbers of 32 bits.
+    Int,
+    /// Numbers of 64 bits.
+    BigInt,
+    /// Texts of at most so many UTF-16 units.
+    NVarChar(TextSize),
+    /// At most so many bytes.
+    VarBinary(BinarySize),
 }
 
 /// The number of a column encryption key, from 1. A number is never used again.

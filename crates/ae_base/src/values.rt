@@ -55,7 +55,7 @@ fn text_fits(text: &Txt, ty: Ty) -> bool
 {
     let characters = text.as_str();
     match ty {
-        Ty::NVarChar(most) => has_units_within(characters, most),
+        Ty::NVarChar(most) => has_units_within(characters, most.number()),
         Ty::Int | Ty::BigInt | Ty::VarBinary(_) => false,
     }
 }
@@ -65,7 +65,7 @@ fn bytes_fit(bytes: &[u8], ty: Ty) -> bool
     ensures value { result ≡ is_within (Bin bytes.now) ty }
 {
     match ty {
-        Ty::VarBinary(most) => bytes.len() <= most as usize,
+        Ty::VarBinary(most) => bytes.len() <= most.number() as usize,
         Ty::Int | Ty::BigInt | Ty::NVarChar(_) => false,
     }
 }

@@ -30,3 +30,19 @@ IsRefusedUsage status.TooLong = ⊥
 IsRefusedUsage (status.BadFrame place) = ⊥
 IsRefusedUsage (status.BadReply place) = ⊥
 IsRefusedUsage (status.NoMasterKey path) = ⊥
+
+-- the statuses that a run can have
+abbrev pub IsOfRun : Status → Type 0
+IsOfRun status.Done = Unit {0}
+IsOfRun status.Refusals = Unit {0}
+IsOfRun status.ReadFault = Unit {0}
+IsOfRun status.WriteFault = Unit {0}
+IsOfRun status.OutOfMemory = Unit {0}
+IsOfRun status.EntropyFault = Unit {0}
+IsOfRun status.VaultFault = Unit {0}
+IsOfRun (status.BadScript line) = Unit {0}
+IsOfRun status.TooLong = Unit {0}
+IsOfRun (status.BadReply place) = Unit {0}
+IsOfRun (status.Usage text) = ⊥
+IsOfRun (status.BadFrame place) = ⊥
+IsOfRun (status.NoMasterKey path) = ⊥

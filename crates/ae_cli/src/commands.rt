@@ -1,12 +1,16 @@
 //! The top call: the words of a command line, and what the command does.
 
-ghost use Rattle.std.specs.Prelude.{◌≡◌, ◌⊎◌, ℕ, List, Some, true, false};
-ghost use Rattle.ae_cli.specs.Words.{IsRefusedUsage, is_run};
+ghost use Rattle.std.specs.Prelude.{◌≡◌, ◌⊎◌, ℕ, List, IfSome, Some, true, false};
+ghost use Rattle.ae_cli.specs.Words.{IsOfRun, IsRefusedUsage, is_run};
 ghost use Rattle.ae_edge.specs.Devices.{Rose, WhereTold};
-ghost use Rattle.engine.specs.Worlds.{empty_world};
+ghost use Rattle.ae_edge.specs.Vaults.{KeyMap};
 ghost use Rattle.script_lang.specs.declared.steps.Step.{Step};
-ghost use Rattle.script_run.specs.Programs.{IsDoneOrFault, IsOfRun, IsScript, Outside, RunsPlain, RunsScript, TakesScript};
-ghost use Rattle.script_run.specs.Runs.{Wire};
+ghost use Rattle.server_core.specs.Serve.{empty_state};
+ghost use Rattle.script_run.specs.declared.runs.Ran.{Ran};
+ghost use Rattle.script_run.specs.Ends.{IsScript, RunsScript, TakesScript};
+ghost use Rattle.script_run.specs.Plain.{IsDoneOrFault, PrintsPlain};
+ghost use Rattle.script_run.specs.Statuses.{status_of};
+ghost use Rattle.script_run.specs.Transcript.{TapsTranscript};
 
 use crate::words::{is_run, usage};
 use ae_base::texts::Txt;
@@ -22,8 +26,9 @@ use std::alloc::Global;
 /// Does what the words ask for, of which the first is the program's name, and says how it ended.
 ///
 /// So far there is one command, `run`: it reads a script from `script`, runs its steps through a
-/// driver and the peer, puts the text to `out` and every frame to `tap`. It touches no vault, no
-/// random source and no replies. Other words are `Usage`, and touch nothing.
+/// driver and the peer, puts the text to `out` and every frame to `tap`. The driver opens keys
+/// through the vault, and draws from the random source. A run touches no replies. Other words are
+/// `Usage`, and touch nothing.
 pub fn ae_main<S: Source, V: Vault, E: Entropy, L: Source, W: Sink, T: Sink, P: Peer>(
     alloc: Global,
     words: &[Txt],
@@ -36,33 +41,34 @@ pub fn ae_main<S: Source, V: Vault, E: Entropy, L: Source, W: Sink, T: Sink, P: 
     peer: &mut P,
 ) -> Status
     // Words that are no command are refused, and nothing is touched; there may be no memory to say so.
-    ensures usage { is_run words.now ≡ false → IsRefusedUsage result × (script.new ≡ script.old) × (out.new ≡ out.old) × (tap.new ≡ tap.old) × (peer.new ≡ peer.old) }
+    ensures usage { is_run words.now ≡ false → IsRefusedUsage result × (script.new ≡ script.old) × (vault.new ≡ vault.old) × (entropy.new ≡ entropy.old) × (out.new ≡ out.old) × (tap.new ≡ tap.old) × (peer.new ≡ peer.old) }
     // A run has no other status than these.
     ensures named { is_run words.now ≡ true → IsOfRun result }
-    // A run over any peer: what stands at the text, at the tap and at the peer, by the status.
-    ensures content { is_run words.now ≡ true → WhereTold (λ bytes left. RunsScript result
-        (record { out = W.held out.old; wire = record { tap = T.held tap.old; log = P.log peer.old; world = P.world peer.old } })
-        (record { out = W.held out.new; wire = record { tap = T.held tap.new; log = P.log peer.new; world = P.world peer.new } }) bytes)
-        (S.left script.old) (S.left script.new) }
-    // A run over a peer that serves from the empty world: the text is plain SQL's over the same values.
-    ensures plain { is_run words.now ≡ true → P.world peer.old ≡ Some empty_world → WhereTold (λ bytes left. RunsPlain result
-        (record { out = W.held out.old; wire = record { tap = T.held tap.old; log = P.log peer.old; world = P.world peer.old } })
-        (record { out = W.held out.new; wire = record { tap = T.held tap.new; log = P.log peer.new; world = P.world peer.new } }) bytes)
-        (S.left script.old) (S.left script.new) }
+    // A run over any peer: there are bytes, the script's where it tells them, of which this is a run: how far its conversation was
+    // followed, what each device has of it, and why it was followed no further.
+    ensures content { is_run words.now ≡ true → (ran : Ran) × (result ≡ status_of ran) × (bytes : List ℕ) × IfSome (S.left script.old) (λ left. bytes ≡ left) × RunsScript ran bytes
+        (record { out = W.held out.old; tap = T.held tap.old; entropy = E.to_come entropy.old; keys = V.keys vault.old; log = P.log peer.old; state = P.state peer.old; out_faults = W.faults out.old; tap_faults = T.faults tap.old; entropy_faults = E.faults entropy.old; vault_faults = V.faults vault.old })
+        (record { out = W.held out.new; tap = T.held tap.new; entropy = E.to_come entropy.new; keys = V.keys vault.new; log = P.log peer.new; state = P.state peer.new; out_faults = W.faults out.new; tap_faults = T.faults tap.new; entropy_faults = E.faults entropy.new; vault_faults = V.faults vault.new }) }
+    // A run over a peer that serves from the empty state, with keys that are told: the text is plain SQL's over the same values.
+    ensures plain { is_run words.now ≡ true → P.state peer.old ≡ Some empty_state → (keys : KeyMap) (bytes : List ℕ) (steps : List Step) → V.keys vault.old ≡ Some keys → S.left script.old ≡ Some bytes → IsScript bytes steps
+        → (ran : Ran) × (result ≡ status_of ran) × PrintsPlain ran keys steps (W.held out.old) (W.held out.new) }
+    // And the tap has the frames of the conversation over that server, whatever random bytes were drawn.
+    ensures transcript { is_run words.now ≡ true → P.state peer.old ≡ Some empty_state → (keys : KeyMap) (bytes : List ℕ) (steps : List Step) → V.keys vault.old ≡ Some keys → S.left script.old ≡ Some bytes → IsScript bytes steps
+        → (ran : Ran) × (result ≡ status_of ran) × TapsTranscript ran keys steps (E.to_come entropy.old) (E.to_come entropy.new) (T.held tap.old) (T.held tap.new) }
     // There a good script is run to its end, unless memory or a device fails.
-    ensures complete { is_run words.now ≡ true → P.world peer.old ≡ Some empty_world → (bytes : List ℕ) (steps : List Step) →
-        S.left script.old ≡ Some bytes → IsScript bytes steps → IsDoneOrFault result }
-    // What was taken of the script, by the status.
-    ensures taken { is_run words.now ≡ true → WhereTold (TakesScript result) (S.left script.old) (S.left script.new) }
+    ensures complete { is_run words.now ≡ true → P.state peer.old ≡ Some empty_state → (keys : KeyMap) (bytes : List ℕ) (steps : List Step) → V.keys vault.old ≡ Some keys → S.left script.old ≡ Some bytes → IsScript bytes steps
+        → (ran : Ran) × (result ≡ status_of ran) × IsDoneOrFault ran }
+    // What was taken of the script, by how the run ended.
+    ensures taken { is_run words.now ≡ true → (ran : Ran) × (result ≡ status_of ran) × WhereTold (TakesScript ran) (S.left script.old) (S.left script.new) }
     // The faults of the outside come only where a count rose.
     ensures read { result ≡ Status.ReadFault → Rose (S.faults script.old) (S.faults script.new) }
     ensures write { result ≡ Status.WriteFault → Rose (W.faults out.old) (W.faults out.new) ⊎ Rose (T.faults tap.old) (T.faults tap.new) }
-    ensures vault { vault.new ≡ vault.old }
-    ensures entropy { entropy.new ≡ entropy.old }
+    ensures entropy { result ≡ Status.EntropyFault → Rose (E.faults entropy.old) (E.faults entropy.new) }
+    ensures vault { result ≡ Status.VaultFault → Rose (V.faults vault.old) (V.faults vault.new) }
     ensures replies { replies.new ≡ replies.old }
 {
     if is_run(words) {
-        run(alloc, script, out, tap, peer)
+        Status::from(run(alloc, script, vault, entropy, out, tap, peer))
     } else {
         usage(alloc)
     }

@@ -1,9 +1,9 @@
 //! Files that are opened at their first use.
 
-ghost use Rattle.std.specs.Prelude.{◌≡◌, ◌≤◌, None};
+ghost use Rattle.std.specs.Prelude.{◌≡◌, ◌≤◌, [], None};
 ghost use Rattle.ae_edge.specs.Devices.{Rose};
-ghost use Rattle.ae_edge.specs.Sinks.{IsPut, PutsKnown};
-ghost use Rattle.ae_edge.specs.Sources.{IsPiece, TakesKnown};
+ghost use Rattle.ae_edge.specs.Sinks.{CountsPut, IsPut, PutsKnown};
+ghost use Rattle.ae_edge.specs.Sources.{CountsTake, IsPiece, TakesKnown};
 ghost use Rattle.ae_cli.specs.Files.{IsKept, OpensThen};
 
 use ae_edge::adapters::sink::StdSink;
@@ -59,10 +59,13 @@ impl<R: Files + Drop> Sink for FileSink<R> {
 
     ghost faults = { λ s. s.faults };
 
+    ghost names = { λ s. [] };
+
     fn put(&mut self, bytes: &[u8]) -> Put
         ensures piece { IsPut bytes.now result }
         ensures count { self.old.faults ≤ self.new.faults }
         ensures failed { result ≡ Put.Failed → Rose self.old.faults self.new.faults }
+        ensures counts { CountsPut result self.old.faults self.new.faults }
         ensures files { self.new.files ≡ self.old.files }
         ensures name { self.new.name ≡ self.old.name }
         ensures shut { self.new.file ≡ None → result ≡ Put.Failed }
@@ -128,11 +131,14 @@ impl<R: Files + Drop> Source for FileSource<R> {
 
     ghost faults = { λ s. s.faults };
 
+    ghost names = { λ s. [] };
+
     fn take(&mut self, alloc: Global, max: usize) -> Taken
         requires { 1 ≤ max }
         ensures piece { IsPiece max result }
         ensures count { self.old.faults ≤ self.new.faults }
         ensures failed { result ≡ Taken.Failed → Rose self.old.faults self.new.faults }
+        ensures counts { CountsTake result self.old.faults self.new.faults }
         ensures files { self.new.files ≡ self.old.files }
         ensures name { self.new.name ≡ self.old.name }
         ensures shut { self.new.file ≡ None → result ≡ Taken.Failed }

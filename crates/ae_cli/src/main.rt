@@ -3,11 +3,12 @@
 
 mod commands;
 mod files;
+#[cfg(test)]
+mod tests;
 mod words;
 
 ghost use Rattle.std.specs.Prelude.{◌≡◌, true, false};
-ghost use Rattle.script_run.specs.Programs.{IsOfRun};
-ghost use Rattle.ae_cli.specs.Words.{IsRefusedUsage, is_run};
+ghost use Rattle.ae_cli.specs.Words.{IsOfRun, IsRefusedUsage, is_run};
 
 use ae_base::lists::Seq;
 use ae_base::texts::Txt;

@@ -1,6 +1,7 @@
 -- What a call on a source takes.
 use Rattle.std.specs.Prelude.{◌≡◌, ℕ, ◌<◌, ◌≤◌, List, [], ◌++◌, length, Option}
 use Rattle.std.specs.Io.KnownBytes.{Consumes, IsAtEnd, Keeps}
+use Rattle.ae_edge.specs.Devices.{Rose}
 use Rattle.ae_edge.specs.declared.sources.Taken.{Taken}
 use Rattle.ae_edge.specs.declared.sources.Taken.TheVariants.{Bytes, End, Failed, OutOfMemory}
 
@@ -17,6 +18,13 @@ Takes (Bytes bytes) old new = old ≡ bytes ++ new
 Takes End old new = (old ≡ []) × (new ≡ [])
 Takes Failed old new = new ≡ old
 Takes OutOfMemory old new = new ≡ old
+
+-- the count of faults stays, but where the call failed
+abbrev pub CountsTake : Taken → ℕ → ℕ → Type 0
+CountsTake (Bytes bytes) old new = new ≡ old
+CountsTake End old new = new ≡ old
+CountsTake Failed old new = Rose old new
+CountsTake OutOfMemory old new = new ≡ old
 
 -- where the bytes of a reader are known, a call gives the next of them, and an end comes only at their end; else they stay
 abbrev pub TakesKnown : Taken → Option (List ℕ) → Option (List ℕ) → Type 0

@@ -1,6 +1,6 @@
 -- A source that is read to its end, and bytes that are put whole.
 use Rattle.std.specs.Prelude.{◌≡◌, ℕ, ◌+◌, ◌≤◌, List, [], ◌++◌, length, Option}
-use Rattle.ae_edge.specs.Devices.{Adds, AddsFront}
+use Rattle.ae_edge.specs.Devices.{Adds, AddsFront, Rose}
 use Rattle.ae_edge.specs.declared.streams.ReadAll.{ReadAll}
 use Rattle.ae_edge.specs.declared.streams.ReadAll.TheVariants as read
 use Rattle.ae_edge.specs.declared.streams.PutAll.{PutAll}
@@ -17,6 +17,13 @@ ReadsAll limit read.TooLong old new = HasTaken (λ n. n ≡ limit + 1) old new
 ReadsAll limit read.ReadFault old new = HasTaken (λ n. n ≤ limit) old new
 ReadsAll limit read.OutOfMemory old new = HasTaken (λ n. n ≤ limit + 1) old new
 
+-- the count of faults stays, but where a call failed
+abbrev pub CountsReadAll : ReadAll → ℕ → ℕ → Type 0
+CountsReadAll (read.Whole bytes) old new = new ≡ old
+CountsReadAll read.TooLong old new = new ≡ old
+CountsReadAll read.ReadFault old new = Rose old new
+CountsReadAll read.OutOfMemory old new = new ≡ old
+
 -- what was read whole is within the limit
 abbrev pub IsWithin : ℕ → ReadAll → Type 0
 IsWithin limit (read.Whole bytes) = length bytes ≤ limit
@@ -29,3 +36,9 @@ abbrev pub PutsAll : List ℕ → PutAll → Option (List ℕ) → Option (List 
 PutsAll bytes put.Whole old new = Adds bytes old new
 PutsAll bytes put.WriteFault old new = AddsFront bytes old new
 PutsAll bytes put.OutOfMemory old new = AddsFront bytes old new
+
+-- the count of faults stays, but where a call failed
+abbrev pub CountsPutAll : PutAll → ℕ → ℕ → Type 0
+CountsPutAll put.Whole old new = new ≡ old
+CountsPutAll put.WriteFault old new = Rose old new
+CountsPutAll put.OutOfMemory old new = new ≡ old

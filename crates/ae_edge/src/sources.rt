@@ -1,6 +1,7 @@
-ghost use Rattle.std.specs.Prelude.{◌≡◌, ◌≤◌, ℕ, List, Option};
+ghost use Rattle.std.specs.Prelude.{◌≡◌, ◌≤◌, ◌∷◌, [], ℕ, List, Option};
+ghost use Rattle.std.specs.Borrow.{GName};
 ghost use Rattle.ae_edge.specs.Devices.{Rose, WhereTold};
-ghost use Rattle.ae_edge.specs.Sources.{IsPiece, Takes};
+ghost use Rattle.ae_edge.specs.Sources.{CountsTake, IsPiece, Takes};
 
 use ae_base::blobs::Blob;
 use std::alloc::Global;
@@ -25,12 +26,30 @@ pub trait Source {
     /// How many calls have failed. It never falls.
     ghost faults: { Self → ℕ };
 
+    /// The names of what it is lent.
+    ghost names: { Self → List GName };
+
     /// Takes the next bytes, at least one and at most `max`. After `Failed` and without memory the
     /// same bytes are left.
     fn take(&mut self, alloc: Global, max: usize) -> Taken
         requires { 1 ≤ max }
+        ensures same { names self.new ≡ names self.old }
         ensures piece { IsPiece max result }
         ensures content { WhereTold (Takes result) (left self.old) (left self.new) }
         ensures count { faults self.old ≤ faults self.new }
-        ensures failed { result ≡ Taken.Failed → Rose (faults self.old) (faults self.new) };
+        ensures failed { result ≡ Taken.Failed → Rose (faults self.old) (faults self.new) }
+        ensures counts { CountsTake result (faults self.old) (faults self.new) };
+}
+
+/// One that is lent.
+impl<S: Source> Source for &mut S {
+    ghost left = { λ s. S.left s.now };
+
+    ghost faults = { λ s. S.faults s.now };
+
+    ghost names = { λ s. s.ghost_name ∷ [] };
+
+    fn take(&mut self, alloc: Global, max: usize) -> Taken {
+        (**self).take(alloc, max)
+    }
 }

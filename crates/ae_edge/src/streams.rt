@@ -1,6 +1,6 @@
 ghost use Rattle.std.specs.Prelude.{◌≡◌, ◌≤◌};
 ghost use Rattle.ae_edge.specs.Devices.{Rose, WhereTold};
-ghost use Rattle.ae_edge.specs.Streams.{IsWithin, PutsAll, ReadsAll};
+ghost use Rattle.ae_edge.specs.Streams.{IsWithin, CountsPutAll, PutsAll, CountsReadAll, ReadsAll};
 
 use crate::sinks::{Put, Sink};
 use crate::sources::{Source, Taken};
@@ -22,10 +22,12 @@ pub enum ReadAll {
 /// Reads a source to its end, within a limit in bytes. At most one byte more than the limit is
 /// taken; what was taken before a fault or without memory is lost.
 pub fn read_all<S: Source>(source: &mut S, alloc: Global, limit: usize) -> ReadAll
+    ensures same { S.names source.new ≡ S.names source.old }
     ensures within { IsWithin limit result }
     ensures content { WhereTold (ReadsAll limit result) (S.left source.old) (S.left source.new) }
     ensures count { S.faults source.old ≤ S.faults source.new }
     ensures fault { result ≡ ReadAll.ReadFault → Rose (S.faults source.old) (S.faults source.new) }
+    ensures counts { CountsReadAll result (S.faults source.old) (S.faults source.new) }
 {
     let mut bytes = Vec::new(alloc);
     'pieces: while bytes.len() <= limit {
@@ -57,9 +59,11 @@ pub enum PutAll {
 
 /// Puts all of some bytes, in as many calls as it takes.
 pub fn put_all<W: Sink>(sink: &mut W, bytes: &[u8]) -> PutAll
+    ensures same { W.names sink.new ≡ W.names sink.old }
     ensures content { PutsAll bytes.now result (W.held sink.old) (W.held sink.new) }
     ensures count { W.faults sink.old ≤ W.faults sink.new }
     ensures fault { result ≡ PutAll.WriteFault → Rose (W.faults sink.old) (W.faults sink.new) }
+    ensures counts { CountsPutAll result (W.faults sink.old) (W.faults sink.new) }
 {
     let mut rest = bytes;
     'pieces: while !rest.is_empty() {

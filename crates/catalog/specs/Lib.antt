@@ -1,2 +1,4 @@
 pub mod Catalogs
 pub mod Definitions
+pub mod Laws
+pub mod WellFormed

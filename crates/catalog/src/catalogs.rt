@@ -1,17 +1,19 @@
-ghost use Rattle.std.specs.Prelude.{◌≡◌};
-ghost use Rattle.std.specs.List.{position};
-ghost use Rattle.std.specs.Option.{option_copied};
-ghost use Rattle.std.specs.Str.{bytes_eq};
-ghost use Rattle.catalog.specs.Catalogs.{nothing_defined, table_named, is_full_of_tables, with_table};
+ghost use Rattle.std.specs.Prelude.{◌≡◌, ◌≤◌, IfOk, IsSome};
+ghost use Rattle.std.specs.List.{list_any};
+ghost use Rattle.std.specs.Option.{option_copied, option_map};
+ghost use Rattle.catalog.specs.Catalogs.{nothing_defined, master_named, key_named, table_named, master_place, key_place, table_place, key_of, key_meta, is_under, is_table_under, is_master_used, is_key_used, is_at_last_version, is_full_of_masters, is_full_of_keys, is_full_of_tables, with_master, with_key, with_table, without_master, without_key, without_table};
 ghost use Rattle.catalog.specs.Definitions.{Defines};
 
-use crate::faults::CatalogFault;
 use crate::keys::{ColumnKey, MasterKey};
+use ae_base::batches::KeyMeta;
 use ae_base::faults::SqlFault;
-use ae_base::lists::Seq;
+use ae_base::keys::{KeyPath, WrappedKey};
+use ae_base::lists::{Duplicate, Seq};
 use ae_base::names::Name;
+use ae_base::refusals::Refusal;
 use ae_base::tables::TableDef;
-use std::alloc::Global;
+use ae_base::types::{Enc, KeyId};
+use std::alloc::{AllocError, Global};
 use std::marker::Model;
 
 /// Master keys, column keys and tables, each in the order of their definitions, and the version,
@@ -26,14 +28,23 @@ pub struct Catalog {
 }
 
 impl Model for Catalog {
+    ghost use Rattle.std.specs.Prelude.{◌≤◌};
     ghost use Rattle.catalog.specs.Catalogs as lists;
 
     ghost Value = { lists.Catalog };
 
     ghost view = { λ c. record { masters = c.masters; keys = c.keys; tables = c.tables; next_id = c.next_id; version = c.version } };
+
+    ghost invariant = { λ c. 1 ≤ c.next_id };
 }
 
 impl Catalog {
+    /// The most master keys that a catalog has.
+    pub const MOST_MASTERS: usize = 64;
+
+    /// The most column keys that a catalog has.
+    pub const MOST_KEYS: usize = 64;
+
     /// The most tables that a catalog has.
     pub const MOST_TABLES: usize = 256;
 
@@ -57,6 +68,59 @@ impl Catalog {
         self.version
     }
 
+    /// The path of the master key of a name. It takes no memory.
+    pub fn master(&self, name: &Name) -> Option<&KeyPath>
+        ensures { option_copied result ≡ option_map (λ master. master.path) (master_named self.now name.now) }
+    {
+        match self.master_key(name) {
+            None => None,
+            Some(master) => Some(&master.path),
+        }
+    }
+
+    fn master_key(&self, name: &Name) -> Option<&MasterKey>
+        ensures { option_copied result ≡ master_named self.now name.now }
+    {
+        self.masters
+            .as_slice()
+            .iter()
+            .find(|master| master.name == *name)
+    }
+
+    fn master_place(&self, name: &Name) -> Option<usize>
+        ensures { result ≡ master_place self.now name.now }
+    {
+        self.masters
+            .as_slice()
+            .iter()
+            .position(|master| master.name == *name)
+    }
+
+    /// The number of the column key of a name. It takes no memory.
+    pub fn key(&self, name: &Name) -> Option<KeyId>
+        ensures { result ≡ option_map (λ key. key.id) (key_named self.now name.now) }
+    {
+        match self.column_key(name) {
+            None => None,
+            Some(key) => Some(key.id),
+        }
+    }
+
+    fn column_key(&self, name: &Name) -> Option<&ColumnKey>
+        ensures { option_copied result ≡ key_named self.now name.now }
+    {
+        self.keys.as_slice().iter().find(|key| key.name == *name)
+    }
+
+    fn key_place(&self, name: &Name) -> Option<usize>
+        ensures { result ≡ key_place self.now name.now }
+    {
+        self.keys
+            .as_slice()
+            .iter()
+            .position(|key| key.name == *name)
+    }
+
     /// The table of a name. It takes no memory.
     pub fn table(&self, name: &Name) -> Option<&TableDef>
         ensures { option_copied result ≡ table_named self.now name.now }
@@ -69,7 +133,7 @@ impl Catalog {
 
     /// The place of the table of a name among the tables, from 0. It takes no memory.
     pub fn table_place(&self, name: &Name) -> Option<usize>
-        ensures { result ≡ position (λ table. bytes_eq table.name name.now) self.now.tables }
+        ensures { result ≡ table_place self.now name.now }
     {
         self.tables
             .as_slice()
@@ -77,27 +141,221 @@ impl Catalog {
             .position(|table| table.name == *name)
     }
 
+    fn key_of(&self, id: KeyId) -> Option<&ColumnKey>
+        ensures { option_copied result ≡ key_of self.now id }
+    {
+        self.keys.as_slice().iter().find(|key| key.id == id)
+    }
+
+    /// What a client is told of the column key of a number.
+    pub fn key_meta(&self, id: KeyId) -> Result<Option<KeyMeta>, AllocError>
+        ensures { IfOk result (λ meta. meta ≡ key_meta self.now id) }
+    {
+        let Some(key) = self.key_of(id) else {
+            return Ok(None);
+        };
+        let Some(master) = self.master_key(&key.master) else {
+            return Ok(None);
+        };
+        Ok(Some(key.meta(master)?))
+    }
+
+    /// Whether a column key names the master key of a name.
+    fn is_master_used(&self, name: &Name) -> bool
+        ensures { result ≡ is_master_used self.now name.now }
+    {
+        self.keys.as_slice().iter().any(|key| key.master == *name)
+    }
+
+    /// Whether a column of a table is encrypted under the column key of a number.
+    fn is_id_used(&self, id: KeyId) -> bool
+        ensures { result ≡ list_any (is_table_under id) self.now.tables }
+    {
+        self.tables
+            .as_slice()
+            .iter()
+            .any(|table| is_table_under(table, id))
+    }
+
+    /// Whether a column of a table is encrypted under the column key of a name.
+    fn is_key_used(&self, name: &Name) -> bool
+        ensures { result ≡ is_key_used self.now name.now }
+    {
+        self.keys
+            .as_slice()
+            .iter()
+            .any(|key| key.name == *name && self.is_id_used(key.id))
+    }
+
+    fn is_at_last_version(&self) -> bool
+        ensures { result ≡ is_at_last_version self.now }
+    {
+        self.version == u64::MAX
+    }
+
+    /// Whether no further master key can be defined: there are 64, or the last version is used.
+    pub fn is_full_of_masters(&self) -> bool
+        ensures { result ≡ is_full_of_masters self.now }
+    {
+        self.masters.len() >= Catalog::MOST_MASTERS || self.is_at_last_version()
+    }
+
+    /// Whether no further column key can be defined: there are 64, or the last number or the last
+    /// version is used.
+    pub fn is_full_of_keys(&self) -> bool
+        ensures { result ≡ is_full_of_keys self.now }
+    {
+        self.keys.len() >= Catalog::MOST_KEYS
+            || self.next_id > u32::MAX as u64
+            || self.is_at_last_version()
+    }
+
     /// Whether no further table can be defined: there are 256, or the last version is used.
     pub fn is_full_of_tables(&self) -> bool
         ensures { result ≡ is_full_of_tables self.now }
     {
-        self.tables.len() >= Catalog::MOST_TABLES || self.version == u64::MAX
+        self.tables.len() >= Catalog::MOST_TABLES || self.is_at_last_version()
+    }
+
+    /// Defines a master key, at the end of the list. `Exists` for a name that a master key has, else
+    /// `Full` where no further one can be defined. After a fault or for want of memory the catalog
+    /// is as before.
+    pub fn create_master(&mut self, name: Name, path: KeyPath) -> Result<(), Refusal>
+        ensures { Defines result self.old self.new (with_master self.old name path) }
+    {
+        if self.master(&name).is_some() {
+            return Err(Refusal::Fault(SqlFault::Exists(name)));
+        }
+        if self.is_full_of_masters() {
+            return Err(Refusal::Fault(SqlFault::Full));
+        }
+        self.masters.push(MasterKey { name, path })?;
+        self.version += 1;
+        Ok(())
+    }
+
+    /// Defines a column key under a master key that is there, at the end of the list. It gets the
+    /// next number. `Exists` for a name that a column key has, else `Full` where no further one can
+    /// be defined. After a fault or for want of memory the catalog is as before.
+    pub fn create_key(
+        &mut self,
+        name: Name,
+        master: &Name,
+        wrapped: WrappedKey,
+    ) -> Result<(), Refusal>
+        requires { IsSome (master_named self.old master.now) }
+        ensures { Defines result self.old self.new (with_key self.old name master.now wrapped) }
+    {
+        if self.key(&name).is_some() {
+            return Err(Refusal::Fault(SqlFault::Exists(name)));
+        }
+        if self.is_full_of_keys() {
+            return Err(Refusal::Fault(SqlFault::Full));
+        }
+        self.keys.push(ColumnKey {
+            id: KeyId::from_number(self.next_id as u32).unwrap(),
+            name,
+            master: master.copy()?,
+            wrapped,
+        })?;
+        self.next_id += 1;
+        self.version += 1;
+        Ok(())
     }
 
     /// Defines a table, at the end of the list. `Exists` for a name that a table has, else `Full`
-    /// where no further table can be defined. After a refusal or for want of memory the catalog is
+    /// where no further table can be defined. After a fault or for want of memory the catalog is
     /// as before.
-    pub fn create_table(&mut self, table: TableDef) -> Result<(), CatalogFault>
+    pub fn create_table(&mut self, table: TableDef) -> Result<(), Refusal>
         ensures { Defines result self.old self.new (with_table self.old table) }
     {
         if self.table(&table.name).is_some() {
-            return Err(CatalogFault::Refused(SqlFault::Exists(table.name)));
+            return Err(Refusal::Fault(SqlFault::Exists(table.name)));
         }
         if self.is_full_of_tables() {
-            return Err(CatalogFault::Refused(SqlFault::Full));
+            return Err(Refusal::Fault(SqlFault::Full));
         }
         self.tables.push(table)?;
         self.version += 1;
         Ok(())
     }
+
+    /// Takes out the master key of a name. `NoSuch` where there is none, else `KeyInUse` where a
+    /// column key names it, else `Full` where the last version is used. After a fault or for want
+    /// of memory, which a fault's name may take, the catalog is as before.
+    pub fn drop_master(&mut self, name: &Name) -> Result<(), Refusal>
+        ensures { Defines result self.old self.new (without_master self.old name.now) }
+    {
+        let Some(place) = self.master_place(name) else {
+            return Err(Refusal::Fault(SqlFault::NoSuch(name.copy()?)));
+        };
+        if self.is_master_used(name) {
+            return Err(Refusal::Fault(SqlFault::KeyInUse(name.copy()?)));
+        }
+        if self.is_at_last_version() {
+            return Err(Refusal::Fault(SqlFault::Full));
+        }
+        self.masters.remove(place);
+        self.version += 1;
+        Ok(())
+    }
+
+    /// Takes out the column key of a name; its number is never used again. `NoSuch` where there is
+    /// none, else `KeyInUse` where a column is encrypted under it, else `Full` where the last
+    /// version is used. After a fault or for want of memory, which a fault's name may take, the
+    /// catalog is as before.
+    pub fn drop_key(&mut self, name: &Name) -> Result<(), Refusal>
+        ensures { Defines result self.old self.new (without_key self.old name.now) }
+    {
+        let Some(place) = self.key_place(name) else {
+            return Err(Refusal::Fault(SqlFault::NoSuch(name.copy()?)));
+        };
+        if self.is_key_used(name) {
+            return Err(Refusal::Fault(SqlFault::KeyInUse(name.copy()?)));
+        }
+        if self.is_at_last_version() {
+            return Err(Refusal::Fault(SqlFault::Full));
+        }
+        self.keys.remove(place);
+        self.version += 1;
+        Ok(())
+    }
+
+    /// Takes out the table of a name. `NoSuch` where there is none, else `Full` where the last
+    /// version is used. After a fault or for want of memory, which a fault's name may take, the
+    /// catalog is as before.
+    pub fn drop_table(&mut self, name: &Name) -> Result<(), Refusal>
+        ensures { Defines result self.old self.new (without_table self.old name.now) }
+    {
+        let Some(place) = self.table_place(name) else {
+            return Err(Refusal::Fault(SqlFault::NoSuch(name.copy()?)));
+        };
+        if self.is_at_last_version() {
+            return Err(Refusal::Fault(SqlFault::Full));
+        }
+        self.tables.remove(place);
+        self.version += 1;
+        Ok(())
+    }
+}
+
+/// Whether a value so encrypted is under the column key of a number.
+fn is_under(enc: Enc, id: KeyId) -> bool
+    ensures { result ≡ is_under id enc }
+{
+    match enc {
+        Enc::Plain => false,
+        Enc::Det(key) | Enc::Rnd(key) => key == id,
+    }
+}
+
+/// Whether a column of the table is encrypted under the column key of a number.
+fn is_table_under(table: &TableDef, id: KeyId) -> bool
+    ensures { result ≡ is_table_under id table.now }
+{
+    table
+        .columns
+        .as_slice()
+        .iter()
+        .any(|column| is_under(column.enc, id))
 }

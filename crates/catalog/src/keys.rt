@@ -1,13 +1,18 @@
-use ae_base::blobs::Blob;
+ghost use Rattle.std.specs.Prelude.{◌≡◌, IfOk};
+ghost use Rattle.catalog.specs.Catalogs.{meta_of};
+
+use ae_base::batches::KeyMeta;
+use ae_base::keys::{KeyPath, WrappedKey};
+use ae_base::lists::Duplicate;
 use ae_base::names::Name;
-use ae_base::texts::Txt;
 use ae_base::types::KeyId;
+use std::alloc::AllocError;
 
 /// A column master key, and the path of its bytes in a key store.
 #[derive(Drop)]
 pub struct MasterKey {
     pub name: Name,
-    pub path: Txt,
+    pub path: KeyPath,
 }
 
 /// A column encryption key: its number, its name, the name of the master key that wraps it, and the
@@ -17,5 +22,19 @@ pub struct ColumnKey {
     pub id: KeyId,
     pub name: Name,
     pub master: Name,
-    pub wrapped: Blob,
+    pub wrapped: WrappedKey,
+}
+
+impl ColumnKey {
+    /// What a client is told of the key, its master key being given.
+    pub fn meta(&self, master: &MasterKey) -> Result<KeyMeta, AllocError>
+        ensures { IfOk result (λ meta. meta ≡ meta_of self.now master.now) }
+    {
+        Ok(KeyMeta {
+            id: self.id,
+            name: self.name.copy()?,
+            path: master.path.copy()?,
+            wrapped: self.wrapped.copy()?,
+        })
+    }
 }

@@ -2,5 +2,5 @@
 #![tactic(auto)]
 
 pub mod catalogs;
-pub mod faults;
 pub mod keys;
+pub mod laws;

@@ -2,7 +2,7 @@
 
 use ae_base::blobs::Blob;
 use ae_base::texts::Txt;
-use ae_base::types::Ty;
+use ae_base::types::{BinarySize, TextSize, Ty};
 use ae_base::values::Datum;
 use std::alloc::Global;
 use std::process::Abort;
@@ -22,8 +22,8 @@ pub(crate) fn ty_of(column: Column) -> Option<Ty> {
     Some(match column {
         Column::Int => Ty::Int,
         Column::BigInt => Ty::BigInt,
-        Column::Text(most) => Ty::NVarChar(most),
-        Column::Binary(most) => Ty::VarBinary(most),
+        Column::Text(most) => Ty::NVarChar(TextSize::from_number(most)?),
+        Column::Binary(most) => Ty::VarBinary(BinarySize::from_number(most)?),
     })
 }
 

@@ -1,1 +1,11 @@
-pub mod DeclaredOrder
+pub mod Bounds
+pub mod Columns
+pub mod Declared
+pub mod Fitting
+pub mod Draws
+pub mod Found
+pub mod Keys
+pub mod Listing
+pub mod Rows
+pub mod Told
+pub mod Uses

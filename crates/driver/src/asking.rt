@@ -1,99 +1,64 @@
-//! What is asked: the checks of a batch, and the parameters as they are sent.
+//! The request to describe a batch.
 
-ghost use Rattle.std.specs.Prelude.{◌≡◌, IfOk, MatchOption, None, Some, map};
-ghost use Rattle.std.specs.Str.{bytes_eq};
-ghost use Rattle.ae_base.specs.declared.atoms.AtomOf.{AtomOf};
-ghost use Rattle.wire_frames.specs.Views.{atom_of, declaration_of, sent_of, used_of};
-ghost use Rattle.driver.specs.Sessions as session;
+ghost use Rattle.std.specs.Prelude.{◌≡◌, IfOk, None, map};
+ghost use Rattle.conversation.specs.Batches.{why_unfit};
+ghost use Rattle.wire_messages.specs.declared.requests.Request.TheVariants as request;
+ghost use Rattle.wire_messages.specs.Texts.{IsStatementText};
 
-use ae_base::batches::Param;
+use ae_base::batches::{Batch, Param, Params};
 use ae_base::lists::{Duplicate, Seq};
-use ae_base::names::Name;
-use ae_base::values::Value;
+use ae_base::params::ParamList;
+use ae_base::sessions::SessionId;
+use ae_base::texts::Txt;
 use std::alloc::{AllocError, Global};
-use wire_frames::messages::{AtomPart, DatumPart, Declaration, SentParam, UsedParam};
-use wire_frames::parts::NamePart;
+use wire_messages::params::{Declaration, DeclarationParts};
+use wire_messages::parts::TxtPart;
+use wire_messages::requests::Request;
+use wire_messages::texts::StatementPart;
 
-/// The first parameter whose value doesn't fit its type.
-pub fn first_unfit(params: &[Param]) -> Option<&Name>
-    ensures { MatchOption result (session.first_unfit params.now ≡ None) (λ name. session.first_unfit params.now ≡ Some name.now) }
-{
-    for param in params {
-        if !param.value.fits(param.declaration.ty) {
-            return Some(&param.declaration.name);
-        }
-    }
-    None
-}
-
-/// The declarations of parameters.
-pub fn declarations_of(
+/// The request to describe a batch in a session.
+#[tactic(auto, using(conversation::proofs::Fitting::fit_is_short))]
+pub fn describe<'r>(
     alloc: Global,
-    params: &[Param],
-) -> Result<Seq<Declaration<'static>>, AllocError>
-    ensures { IfOk result (λ declarations. map declaration_of declarations ≡ map (λ p. p.declaration) params.now) }
+    number: SessionId,
+    batch: &Batch,
+) -> Result<Request<'r>, AllocError>
+    requires { why_unfit batch.now ≡ None }
+    ensures { IfOk result (λ asked. asked ≡ request.Describe number batch.now.text (map (λ p. p.declaration) batch.now.params)) }
 {
-    let mut declarations = Seq::new(alloc);
-    for param in params {
-        declarations.push(Declaration::own(param.declaration.copy()?))?;
-    }
-    Ok(declarations)
-}
-
-fn is_named(param: &Param, name: &NamePart<'_>) -> bool
-    ensures { result ≡ bytes_eq param.now.declaration.name name.now }
-{
-    param.declaration.name.as_str() == name.as_str()
-}
-
-fn param_named<'a>(params: &'a [Param], name: &NamePart<'_>) -> Option<&'a Param>
-    ensures { MatchOption result (session.param_named params.now name.now ≡ None) (λ p. session.param_named params.now name.now ≡ Some p.now) }
-{
-    for param in params {
-        if is_named(param, name) {
-            return Some(param);
-        }
-    }
-    None
-}
-
-fn plain_atom(value: &Value) -> Result<AtomPart<'static>, AllocError>
-    ensures { IfOk result (λ atom. atom_of atom ≡ session.plain_atom value.now) }
-{
-    Ok(match value {
-        Value::Null => AtomPart::Null,
-        Value::Is(datum) => AtomPart::Plain(DatumPart::own(datum.copy()?)),
+    Ok(Request::Describe {
+        session: number,
+        text: statement(batch.text.copy()?),
+        declarations: declared(alloc, &batch.params)?,
     })
 }
 
-fn sent_param(
-    alloc: Global,
-    used: &UsedParam<'_>,
-    param: &Param,
-) -> Result<SentParam<'static>, AllocError>
-    ensures { IfOk result (λ sent. sent_of sent ≡ record { name = used.now.name; ty = param.now.declaration.ty; enc = used.now.enc; atom = session.plain_atom param.now.value }) }
+/// A text that is a statement's.
+pub fn statement<'r>(text: Txt) -> StatementPart<'r>
+    requires { IsStatementText text }
+    ensures { result ≡ text }
 {
-    Ok(SentParam {
-        name: NamePart::own(used.name.to_name(alloc)?),
-        ty: param.declaration.ty,
-        enc: used.enc,
-        atom: plain_atom(&param.value)?,
-    })
+    match StatementPart::from_part(TxtPart::own(text)) {
+        Some(part) => part,
+        None => unreachable!(),
+    }
 }
 
-/// Each used parameter with its value.
-pub fn sent_params(
-    alloc: Global,
-    params: &[Param],
-    used: &[UsedParam<'_>],
-) -> Result<Seq<SentParam<'static>>, AllocError>
-    ensures { IfOk result (λ sent. map sent_of sent ≡ session.sent_params params.now (map used_of used.now)) }
+fn declared<'r>(alloc: Global, params: &Params) -> Result<DeclarationParts<'r>, AllocError>
+    ensures { IfOk result (λ parts. parts ≡ map (λ p. p.declaration) params.now) }
 {
-    let mut sent = Seq::new(alloc);
-    for part in used {
-        if let Some(param) = param_named(params, &part.name) {
-            sent.push(sent_param(alloc, part, param)?)?;
-        }
+    match ParamList::from_seq(declarations(alloc, params.as_slice())?) {
+        Some(parts) => Ok(parts),
+        None => unreachable!(),
     }
-    Ok(sent)
+}
+
+fn declarations<'r>(alloc: Global, params: &[Param]) -> Result<Seq<Declaration<'r>>, AllocError>
+    ensures { IfOk result (λ parts. parts ≡ map (λ p. p.declaration) params.now) }
+{
+    let mut parts = Seq::new(alloc);
+    for param in params {
+        parts.push(Declaration::own(param.declaration.copy()?))?;
+    }
+    Ok(parts)
 }

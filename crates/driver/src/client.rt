@@ -1,70 +1,80 @@
 //! The driver: its sessions, each by its number.
 
-ghost use Rattle.std.specs.Prelude.{◌≡◌, ◌≤◌, ℕ, IfOk, length};
+ghost use Rattle.std.specs.Prelude.{◌≡◌, ℕ, IfOk, Option, length};
 ghost use Rattle.std.specs.List.{All};
-ghost use Rattle.wire_frames.specs.Views.{reply_of};
-ghost use Rattle.driver.specs.Calls.{Asks, Reads, session_at, IsOnlyAt};
-ghost use Rattle.driver.specs.Sessions as session;
-ghost use Rattle.driver.specs.Views.{describe_answer_of, reply_answer_of};
+ghost use Rattle.conversation.specs.declared.sessions.Session.{Session};
+ghost use Rattle.ae_edge.specs.Vaults.{KeyMap};
+ghost use Rattle.key_store.specs.Stores.{IsOf};
+ghost use Rattle.conversation.specs.Devices.{Devices, devices, with_vault};
+ghost use Rattle.conversation.specs.Sessions as held;
+ghost use Rattle.driver.specs.Calls.{Comes, Describes, Executes, IsSent, Replies, IsOnlyAt};
 
-use crate::answers::{DescribeAnswer, ReplyAnswer};
-use crate::errors::CallError;
-use crate::sessions::Session;
+use crate::executing::execute;
+use crate::replies::replied;
+use crate::starting::{begin, described};
 use ae_base::batches::Batch;
+use ae_base::sessions::SessionId;
+use ae_edge::entropies::Entropy;
+use ae_edge::vaults::Vault;
+use conversation::answers::{DescribeAnswer, ReplyAnswer};
+use conversation::faults::{DriverFault, Halt};
+use conversation::sessions::Session;
+use key_store::KeyStore;
 use std::alloc::{AllocError, Global};
 use std::marker::Model;
-use wire_frames::messages::{Reply, Request};
+use std::mem;
+use wire_messages::replies::Reply;
+use wire_messages::requests::Request;
 
-/// The client's end of 64 sessions, which contracts see as the list of what each holds.
+/// The client's end of 64 sessions, used with one vault.
 #[derive(Drop)]
 pub struct Driver {
     sessions: Vec<Session>,
+    store: KeyStore,
 }
 
 impl Model for Driver {
-    ghost use Rattle.std.specs.Prelude.{◌≡◌, List, length};
-    ghost use Rattle.driver.specs.Sessions as session;
+    ghost use Rattle.std.specs.Prelude.{◌≡◌, length};
+    ghost use Rattle.driver.specs.Clients.{Client};
 
-    ghost Value = { List session.Session };
+    ghost Value = { Client };
 
-    ghost view = { λ d. d.sessions.items };
+    ghost view = { λ d. record { sessions = d.sessions.items; kept = d.store } };
 
     ghost invariant = { λ d. length d.sessions.items ≡ 64 };
 }
 
 impl Driver {
-    /// How many sessions a driver has. They are numbered from 1.
-    pub const SESSIONS: u16 = 64;
-
-    /// A driver whose sessions hold nothing.
+    /// A driver whose sessions hold nothing, and which keeps no key.
     pub fn new(alloc: Global) -> Result<Driver, AllocError>
-        ensures count { IfOk result (λ driver. length driver ≡ 64) }
-        ensures idle { IfOk result (λ driver. All (λ s. s ≡ session.Idle) driver) }
+        ensures count { IfOk result (λ driver. length driver.sessions ≡ 64) }
+        ensures idle { IfOk result (λ driver. All (λ s. s ≡ Session.Idle) driver.sessions) }
+        ensures of_vault { IfOk result (λ driver. (keys : Option KeyMap) → IsOf keys driver.kept) }
     {
-        let mut sessions = Vec::with_capacity(alloc, Driver::SESSIONS as usize)?;
-        for _ in 0..Driver::SESSIONS {
-            sessions.push(Session::new())?;
-        }
-        Ok(Driver { sessions })
+        Ok(Driver {
+            sessions: idle_sessions(alloc)?,
+            store: KeyStore::new(alloc)?,
+        })
     }
 
-    /// Begins a batch in a session from 1 to 64: the request to describe it. Refused where the
-    /// session has a batch, where a value doesn't fit its declared type, by the first such
-    /// parameter, and where the text has more than 65,536 bytes, in this order. A refusal leaves
-    /// the driver as it was, as want of memory does.
-    pub fn begin(
+    /// Begins a batch in a session: the request to describe it. Refused where the session has a
+    /// batch, where a value doesn't fit its declared type, by the first such parameter, and where
+    /// the text has more than 65,536 bytes, in this order. A refusal leaves the session as it was,
+    /// as want of memory does.
+    pub fn begin<'r>(
         &mut self,
         alloc: Global,
-        number: u16,
-        batch: &Batch,
-    ) -> Result<Request<'static>, CallError>
-        requires from_one { 1 ≤ number }
-        requires within { number ≤ 64 }
-        ensures asked { Asks (session.begin (session_at self.old number) number batch.now) result (session_at self.old number) (session_at self.new number) }
-        ensures others { IsOnlyAt number self.old self.new }
+        number: SessionId,
+        batch: Batch,
+    ) -> Result<Result<Request<'r>, DriverFault>, AllocError>
+        ensures begun { Comes result (held.begin (held.session_at self.old.sessions number) number batch) (held.session_at self.old.sessions number) (held.session_at self.new.sessions number) }
+        ensures others { IsOnlyAt number self.old.sessions self.new.sessions }
+        ensures kept { self.new.kept ≡ self.old.kept }
     {
-        let session = &mut self.sessions[number as usize - 1];
-        session.begin(alloc, number, batch)
+        let slot = &mut self.sessions[number.number() as usize - 1];
+        let turn = begin(alloc, mem::replace(slot, Session::Idle), number, batch);
+        *slot = turn.after;
+        turn.answer
     }
 
     /// Takes the reply to a session's request to describe a batch. A reply that isn't awaited
@@ -72,45 +82,78 @@ impl Driver {
     pub fn described(
         &mut self,
         alloc: Global,
-        number: u16,
+        number: SessionId,
         reply: &Reply<'_>,
-    ) -> Result<DescribeAnswer, CallError>
-        requires from_one { 1 ≤ number }
-        requires within { number ≤ 64 }
-        ensures read { Reads describe_answer_of (session.described (session_at self.old number) (reply_of reply.now)) result (session_at self.old number) (session_at self.new number) }
-        ensures others { IsOnlyAt number self.old self.new }
+    ) -> Result<DescribeAnswer, Halt>
+        ensures described { Describes result (held.described (held.session_at self.old.sessions number) reply.now) (held.session_at self.old.sessions number) (held.session_at self.new.sessions number) }
+        ensures others { IsOnlyAt number self.old.sessions self.new.sessions }
+        ensures kept { self.new.kept ≡ self.old.kept }
     {
-        let session = &mut self.sessions[number as usize - 1];
-        session.described(alloc, reply)
+        let slot = &mut self.sessions[number.number() as usize - 1];
+        let turn = described(alloc, mem::replace(slot, Session::Idle), reply);
+        *slot = turn.after;
+        turn.answer
     }
 
-    /// Executes the described batch of a session: the request to do so, with each used
-    /// parameter's value. Refused where none is described. Want of memory leaves the driver as it
-    /// was.
-    pub fn execute(&mut self, alloc: Global, number: u16) -> Result<Request<'static>, CallError>
-        requires from_one { 1 ≤ number }
-        requires within { number ≤ 64 }
-        ensures asked { Asks (session.execute (session_at self.old number) number) result (session_at self.old number) (session_at self.new number) }
-        ensures others { IsOnlyAt number self.old self.new }
+    /// Executes the described batch of a session: the request to do so. Refused where none is
+    /// described, and where a key of a parameter isn't opened, which ends the batch. A vault or a
+    /// source of random bytes that fails, and want of memory, leave the session as it was; bytes
+    /// that were drawn stay drawn.
+    pub fn execute<'r, V: Vault, E: Entropy>(
+        &mut self,
+        alloc: Global,
+        number: SessionId,
+        vault: &mut V,
+        entropy: &mut E,
+    ) -> Result<Result<Request<'r>, DriverFault>, Halt>
+        requires { IsOf (V.keys vault.old) self.old.kept }
+        ensures executed { Executes result number (held.session_at self.old.sessions number) (held.session_at self.new.sessions number) (devices (E.to_come entropy.old) (E.faults entropy.old) (E.names entropy.old) (V.keys vault.old) (V.faults vault.old) (V.names vault.old)) (devices (E.to_come entropy.new) (E.faults entropy.new) (E.names entropy.new) (V.keys vault.new) (V.faults vault.new) (V.names vault.new)) }
+        ensures sent { IsSent result (held.session_at self.new.sessions number) }
+        ensures others { IsOnlyAt number self.old.sessions self.new.sessions }
+        ensures of_vault { IsOf (V.keys vault.new) self.new.kept }
     {
-        let session = &mut self.sessions[number as usize - 1];
-        session.execute(alloc, number)
+        let slot = &mut self.sessions[number.number() as usize - 1];
+        let session = mem::replace(slot, Session::Idle);
+        let turn = execute(alloc, &mut self.store, vault, entropy, session, number);
+        *slot = turn.after;
+        turn.answer
     }
 
     /// Takes a reply to a session's request to execute a batch. A reply that isn't awaited leaves
-    /// the driver as it was, as want of memory does.
-    pub fn replied(
+    /// the session as it was, as a vault that fails and want of memory do.
+    pub fn replied<V: Vault>(
         &mut self,
         alloc: Global,
-        number: u16,
+        number: SessionId,
         reply: &Reply<'_>,
-    ) -> Result<ReplyAnswer, CallError>
-        requires from_one { 1 ≤ number }
-        requires within { number ≤ 64 }
-        ensures read { Reads reply_answer_of (session.replied (session_at self.old number) (reply_of reply.now)) result (session_at self.old number) (session_at self.new number) }
-        ensures others { IsOnlyAt number self.old self.new }
+        vault: &mut V,
+    ) -> Result<ReplyAnswer, Halt>
+        requires { IsOf (V.keys vault.old) self.old.kept }
+        ensures replied { (beside : Devices) → Replies result (held.replied (held.session_at self.old.sessions number) reply.now) (held.session_at self.old.sessions number) (held.session_at self.new.sessions number) (with_vault beside (V.keys vault.old) (V.faults vault.old) (V.names vault.old)) (with_vault beside (V.keys vault.new) (V.faults vault.new) (V.names vault.new)) }
+        ensures others { IsOnlyAt number self.old.sessions self.new.sessions }
+        ensures of_vault { IsOf (V.keys vault.new) self.new.kept }
     {
-        let session = &mut self.sessions[number as usize - 1];
-        session.replied(alloc, reply)
+        let slot = &mut self.sessions[number.number() as usize - 1];
+        let session = mem::replace(slot, Session::Idle);
+        let turn = replied(alloc, &mut self.store, vault, session, reply);
+        *slot = turn.after;
+        turn.answer
     }
+}
+
+fn idle() -> Session
+    ensures { result ≡ Session.Idle }
+{
+    Session::Idle
+}
+
+fn idle_sessions(alloc: Global) -> Result<Vec<Session>, AllocError>
+    ensures count { IfOk result (λ sessions. length sessions.items ≡ 64) }
+    ensures idle { IfOk result (λ sessions. All (λ s. s ≡ Session.Idle) sessions.items) }
+{
+    let mut sessions = Vec::with_capacity(alloc, SessionId::MOST as usize)?;
+    for _ in 0..SessionId::MOST {
+        sessions.push(idle())?;
+    }
+    Ok(sessions)
 }

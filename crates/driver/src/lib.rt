@@ -1,12 +1,19 @@
-//! The client's end: what it asks for a batch, and what the replies mean.
+//! The driver: the client's end of 64 sessions. It seals what it is given and opens what it is
+//! answered; what passes between it and the server is the caller's to carry.
 #![tactic(auto)]
 
-pub mod answers;
 mod asking;
 mod client;
-pub mod errors;
-pub mod faults;
+mod describing;
+mod executing;
+mod opening;
+mod parts;
 mod reading;
-mod sessions;
+mod replies;
+mod sealing;
+mod starting;
 
 pub use client::Driver;
+pub use executing::execute;
+pub use replies::replied;
+pub use starting::{begin, described};

@@ -1,121 +1,64 @@
-//! What is read: the parts of a reply, and whether they are awaited.
+//! The rows of an answer: whether they are awaited, and the values that they hold.
 
-ghost use Rattle.std.specs.Prelude.{◌≡◌, List, ◌∷◌, IfOk, map};
-ghost use Rattle.std.specs.Str.{bytes_eq};
-ghost use Rattle.ae_base.specs.declared.batches.Param.{Param};
-ghost use Rattle.wire_frames.specs.Views.{atom_of, column_of, used_of};
-ghost use Rattle.driver.specs.Sessions as session;
+ghost use Rattle.std.specs.Prelude.{◌≡◌, ℕ, List, IfOk, Result, Err};
+ghost use Rattle.ae_base.specs.declared.types.Ty.{Ty};
+ghost use Rattle.cell_codec.specs.Cells.{unsealed, UnsealsTo};
+ghost use Rattle.cell_codec.specs.declared.faults.CellFault.{CellFault};
+ghost use Rattle.value_norm.specs.Reading as norm_reading;
+ghost use Rattle.wire_messages.specs.Atoms.{atom_of};
+ghost use Rattle.conversation.specs.Cells.{is_atom_of, is_encrypted, is_of_kind, is_row_of, normal, value_in, read_atom, read_atoms};
 
-use ae_base::batches::Param;
 use ae_base::lists::Seq;
-use ae_base::texts::Txt;
-use ae_base::types::Ty;
-use ae_base::values::Value;
-use std::alloc::{AllocError, Global};
-use wire_frames::messages::{AtomPart, DatumPart, SentColumn, UsedParam};
-use wire_frames::parts::{NamePart, TxtPart};
+use ae_base::types::{Enc, Ty};
+use ae_base::values::{Datum, Value};
+use cell_codec::{CellFault, unseal};
+use conversation::faults::{CellFailure, DriverFault, Halt};
+use conversation::sessions::ColumnType;
+use hmac_kdf::CellKeys;
+use std::alloc::Global;
+use value_norm::{ReadError, from_cell_bytes};
+use wire_messages::atoms::{AtomCase, AtomPart};
+use wire_messages::parts::CellPart;
 
-fn has_name_of(part: &UsedParam<'_>, param: &Param) -> bool
-    ensures { result ≡ bytes_eq part.now.name param.now.declaration.name }
+fn is_encrypted(enc: Enc) -> bool
+    ensures { result ≡ is_encrypted enc }
 {
-    part.name.as_str() == param.declaration.name.as_str()
+    match enc {
+        Enc::Plain => false,
+        Enc::Det(_) | Enc::Rnd(_) => true,
+    }
 }
 
-// The used parameters behind one that is declared: without the first where that one is it.
-fn behind<'s, 'a>(used: &'s [UsedParam<'a>], param: &Param) -> &'s [UsedParam<'a>]
-    ensures { (more : List Param) → session.in_order (map (λ u. u.name) (map used_of used.now)) (param.now ∷ more) ≡ session.in_order (map (λ u. u.name) (map used_of result.now)) more }
+fn is_case_of(column: ColumnType, case: &AtomCase<'_>) -> bool
+    ensures { result ≡ is_atom_of column (atom_of case.now) }
 {
-    match used {
-        [first, rest @ ..] => {
-            if has_name_of(first, param) {
-                rest
-            } else {
-                used
-            }
+    match case {
+        AtomCase::Null => true,
+        AtomCase::Num(_) => {
+            !is_encrypted(column.enc) && matches!(column.ty, Ty::Int | Ty::BigInt)
         }
-        [] => used,
+        AtomCase::Text(_) => !is_encrypted(column.enc) && matches!(column.ty, Ty::NVarChar(_)),
+        AtomCase::Bin(_) => !is_encrypted(column.enc) && matches!(column.ty, Ty::VarBinary(_)),
+        AtomCase::Sealed(_) => is_encrypted(column.enc),
     }
 }
 
-/// Whether the names are declared ones, in the order of their declarations.
-pub fn in_order(used: &[UsedParam<'_>], params: &[Param]) -> bool
-    ensures { result ≡ session.in_order (map (λ u. u.name) (map used_of used.now)) params.now }
+fn is_atom_of(column: ColumnType, atom: &AtomPart<'_>) -> bool
+    ensures { result ≡ is_atom_of column atom.now }
 {
-    let mut rest = used;
-    for param in params {
-        rest = behind(rest, param);
-    }
-    rest.is_empty()
-}
-
-/// An own copy of used parameters.
-pub fn copied_params(
-    alloc: Global,
-    used: &[UsedParam<'_>],
-) -> Result<Seq<UsedParam<'static>>, AllocError>
-    ensures { IfOk result (λ copy. copy ≡ used.now) }
-{
-    let mut copy = Seq::new(alloc);
-    for part in used {
-        copy.push(UsedParam {
-            name: NamePart::own(part.name.to_name(alloc)?),
-            enc: part.enc,
-        })?;
-    }
-    Ok(copy)
-}
-
-/// An own copy of columns.
-pub fn copied_columns(
-    alloc: Global,
-    columns: &[SentColumn<'_>],
-) -> Result<Seq<SentColumn<'static>>, AllocError>
-    ensures { IfOk result (λ copy. copy ≡ columns.now) }
-{
-    let mut copy = Seq::new(alloc);
-    for column in columns {
-        copy.push(SentColumn {
-            name: TxtPart::own(column.name.to_txt(alloc)?),
-            ty: column.ty,
-            enc: column.enc,
-        })?;
-    }
-    Ok(copy)
-}
-
-/// The names of columns.
-pub fn names_of(alloc: Global, columns: &[SentColumn<'_>]) -> Result<Seq<Txt>, AllocError>
-    ensures { IfOk result (λ names. names ≡ map (λ c. c.name) (map column_of columns.now)) }
-{
-    let mut names = Seq::new(alloc);
-    for column in columns {
-        names.push(column.name.to_txt(alloc)?)?;
-    }
-    Ok(names)
-}
-
-fn is_of_base(ty: Ty, atom: &AtomPart<'_>) -> bool
-    ensures { result ≡ session.is_of_base ty (atom_of atom.now) }
-{
-    match atom {
-        AtomPart::Null => true,
-        AtomPart::Plain(DatumPart::Num(_)) => matches!(ty, Ty::Int | Ty::BigInt),
-        AtomPart::Plain(DatumPart::Text(_)) => matches!(ty, Ty::NVarChar(_)),
-        AtomPart::Plain(DatumPart::Bin(_)) => matches!(ty, Ty::VarBinary(_)),
-        AtomPart::Sealed(_) => false,
-    }
+    is_case_of(column, atom.case())
 }
 
 /// Whether the atoms are those of a row of the columns.
-pub fn is_row_of(columns: &[SentColumn<'_>], atoms: &[AtomPart<'_>]) -> bool
-    ensures { result ≡ session.is_row_of (map column_of columns.now) (map atom_of atoms.now) }
+pub fn is_row_of(columns: &[ColumnType], atoms: &[AtomPart<'_>]) -> bool
+    ensures { result ≡ is_row_of columns.now atoms.now }
 {
     let mut rest = atoms;
     for column in columns {
         match rest {
             [] => return false,
             [atom, more @ ..] => {
-                if !is_of_base(column.ty, atom) {
+                if !is_atom_of(*column, atom) {
                     return false;
                 }
                 rest = more;
@@ -125,22 +68,96 @@ pub fn is_row_of(columns: &[SentColumn<'_>], atoms: &[AtomPart<'_>]) -> bool
     rest.is_empty()
 }
 
-fn value_of(alloc: Global, atom: &AtomPart<'_>) -> Result<Value, AllocError>
-    ensures { IfOk result (λ value. value ≡ session.value_of (atom_of atom.now)) }
+fn read_bytes(alloc: Global, bytes: &[u8], ty: Ty) -> Result<Result<Value, CellFailure>, Halt>
+    ensures { IfOk result (λ read. read ≡ normal (norm_reading.value_of bytes.now ty)) }
 {
-    Ok(match atom {
-        AtomPart::Null | AtomPart::Sealed(_) => Value::Null,
-        AtomPart::Plain(datum) => Value::Is(datum.to_datum(alloc)?),
-    })
+    match from_cell_bytes(alloc, bytes, ty) {
+        Ok(datum) => Ok(Ok(Value::Is(datum))),
+        Err(ReadError::NotNormal) => Ok(Err(CellFailure::NotNormal)),
+        Err(ReadError::OutOfMemory) => Err(Halt::OutOfMemory),
+    }
 }
 
-/// The values of a row.
-pub fn values_of(alloc: Global, atoms: &[AtomPart<'_>]) -> Result<Seq<Value>, AllocError>
-    ensures { IfOk result (λ values. values ≡ map session.value_of (map atom_of atoms.now)) }
+fn failed(fault: CellFault) -> Result<Result<Value, CellFailure>, Halt>
+    ensures { (ty : Ty) (opened : Result (List ℕ) CellFault) → UnsealsTo (Err fault) opened → IfOk result (λ read. read ≡ value_in ty opened) }
+{
+    match fault {
+        CellFault::BadVersion => Ok(Err(CellFailure::BadVersion)),
+        CellFault::BadLength => Ok(Err(CellFailure::BadLength)),
+        CellFault::BadTag => Ok(Err(CellFailure::BadTag)),
+        CellFault::BadPadding => Ok(Err(CellFailure::BadPadding)),
+        CellFault::OutOfMemory => Err(Halt::OutOfMemory),
+    }
+}
+
+fn read_cell(
+    alloc: Global,
+    keys: &CellKeys,
+    ty: Ty,
+    cell: &CellPart<'_>,
+) -> Result<Result<Value, CellFailure>, Halt>
+    ensures { IfOk result (λ read. read ≡ value_in ty (unsealed keys.now cell.now)) }
+{
+    let cell = cell.to_cell(alloc)?;
+    match unseal(alloc, keys, &cell) {
+        Ok(bytes) => read_bytes(alloc, bytes.as_slice(), ty),
+        Err(fault) => failed(fault),
+    }
+}
+
+fn read_case(
+    alloc: Global,
+    key: &Option<CellKeys>,
+    ty: Ty,
+    case: &AtomCase<'_>,
+) -> Result<Result<Value, CellFailure>, Halt>
+    ensures { IfOk result (λ read. read ≡ read_atom key.now ty (atom_of case.now)) }
+{
+    match case {
+        AtomCase::Null => Ok(Ok(Value::Null)),
+        AtomCase::Num(n) => Ok(Ok(Value::Is(Datum::Num(*n)))),
+        AtomCase::Text(text) => Ok(Ok(Value::Is(Datum::Text(text.to_txt(alloc)?)))),
+        AtomCase::Bin(bytes) => Ok(Ok(Value::Is(Datum::Bin(bytes.to_blob(alloc)?)))),
+        AtomCase::Sealed(cell) => match key {
+            Some(keys) => read_cell(alloc, keys, ty, cell),
+            None => Ok(Err(CellFailure::NotNormal)),
+        },
+    }
+}
+
+fn read_atom(
+    alloc: Global,
+    key: &Option<CellKeys>,
+    ty: Ty,
+    atom: &AtomPart<'_>,
+) -> Result<Result<Value, CellFailure>, Halt>
+    ensures { IfOk result (λ read. read ≡ read_atom key.now ty atom.now) }
+{
+    read_case(alloc, key, ty, atom.case())
+}
+
+/// The values of a row, which is numbered from 1, or the first cell that can't be opened.
+pub fn read_row(
+    alloc: Global,
+    row: u64,
+    columns: &[ColumnType],
+    keys: &[Option<CellKeys>],
+    atoms: &[AtomPart<'_>],
+) -> Result<Result<Seq<Value>, DriverFault>, Halt>
+    ensures { IfOk result (λ read. read ≡ read_atoms row 1 columns.now keys.now atoms.now) }
 {
     let mut values = Seq::new(alloc);
-    for atom in atoms {
-        values.push(value_of(alloc, atom)?)?;
+    for i in 0..columns.len().min(keys.len()).min(atoms.len()) {
+        match read_atom(alloc, &keys[i], columns[i].ty, &atoms[i])? {
+            Ok(value) => values.push(value)?,
+            Err(why) => {
+                return Ok(Err(DriverFault::CellFailed {
+                    row,
+                    column: i as u64 + 1,
+                    why,
+                }));
+            }
+        }
     }
-    Ok(values)
+    Ok(Ok(values))
 }

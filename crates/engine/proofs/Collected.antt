@@ -1,36 +1,60 @@
 -- Lists of results that are made item by item, up to the first fault.
 use Rattle.std.proofs.Common.{◌≡◌, List, [], ◌∷◌, ◌++◌, Result, Ok, Err, refl, ap, sym, ◌∙◌, append_assoc}
-use Rattle.ae_base.specs.declared.faults.SqlFault.{SqlFault}
 use Rattle.std.proofs.lemmas.List.{append-nil}
-use Rattle.engine.specs.declared.answers.ExecuteFault.{ExecuteFault}
-use Rattle.engine.specs.declared.answers.ExecuteFault.TheVariants.{Refused, OutOfMemory}
-use Rattle.engine.specs.Answers.{Gets}
-use Rattle.engine.specs.Step.{◌>>=◌}
+use Rattle.ae_base.specs.Results.{◌>>=◌, Answers}
+use Rattle.ae_base.specs.declared.refusals.Refusal.{Refusal}
+use Rattle.ae_base.specs.declared.refusals.Refusal.TheVariants.{Fault, OutOfMemory}
 
 -- the items so far, and then those of the rest
-abbrev pub collected : {A : Type 0} → List A → Result (List A) SqlFault → Result (List A) SqlFault
+abbrev pub collected : {A E : Type 0} → List A → Result (List A) E → Result (List A) E
 collected done rest = rest >>= λ items. Ok (done ++ items)
 
 -- one item, and then those of the rest
-abbrev pub before : {A : Type 0} → Result A SqlFault → Result (List A) SqlFault → Result (List A) SqlFault
+abbrev pub before : {A E : Type 0} → Result A E → Result (List A) E → Result (List A) E
 before one rest = one >>= λ item. rest >>= λ items. Ok (item ∷ items)
 
-pub collected-before : {A : Type 0} (done : List A) (item : A) (rest : Result (List A) SqlFault) → collected done (before (Ok item) rest) ≡ collected (done ++ item ∷ []) rest
+pub collected-before : {A E : Type 0} (done : List A) (item : A) (rest : Result (List A) E) → collected done (before (Ok item) rest) ≡ collected (done ++ item ∷ []) rest
 collected-before done item (Err fault) = refl
 collected-before done item (Ok items) = ap Ok (sym (append_assoc done (item ∷ []) items))
 
-pub collected_more : {A : Type 0} (whole : Result (List A) SqlFault) (done : List A) (one : Result A SqlFault) (rest : Result (List A) SqlFault) (item : A)
+pub collected-start : {A E : Type 0} (rest : Result (List A) E) → collected [] rest ≡ rest
+collected-start (Err fault) = refl
+collected-start (Ok items) = refl
+
+pub collected_more : {A E : Type 0} (whole : Result (List A) E) (done : List A) (one : Result A E) (rest : Result (List A) E) (item : A)
     → whole ≡ collected done (before one rest) → one ≡ Ok item → whole ≡ collected (done ++ item ∷ []) rest
 collected_more whole done one rest item w e = w ∙ ap (λ o. collected done (before o rest)) e ∙ collected-before done item rest
 
-pub collected_fault : {A : Type 0} (whole : Result (List A) SqlFault) (done : List A) (one : Result A SqlFault) (rest : Result (List A) SqlFault) (fault : SqlFault)
+pub collected_fault : {A E : Type 0} (whole : Result (List A) E) (done : List A) (one : Result A E) (rest : Result (List A) E) (fault : E)
     → whole ≡ collected done (before one rest) → one ≡ Err fault → whole ≡ Err fault
 collected_fault whole done one rest fault w e = w ∙ ap (λ o. collected done (before o rest)) e
 
-pub collected_all : {A : Type 0} (whole : Result (List A) SqlFault) (done : List A) (rest : Result (List A) SqlFault) → whole ≡ collected done rest → rest ≡ Ok [] → whole ≡ Ok done
+pub collected_all : {A E : Type 0} (whole : Result (List A) E) (done : List A) (rest : Result (List A) E) → whole ≡ collected done rest → rest ≡ Ok [] → whole ≡ Ok done
 collected_all whole done rest w e = w ∙ ap (collected done) e ∙ ap Ok (append-nil done)
 
 -- a fault of a part is one of the whole; want of memory is no fault
-pub fault_passed : {A B : Type 0} (e : ExecuteFault) (part : Result A SqlFault) (whole : Result B SqlFault) → Gets {A = A} (Err e) part → ((f : SqlFault) → part ≡ Err f → whole ≡ Err f) → Gets {A = B} (Err e) whole
-fault_passed (Refused f) part whole h pass = pass f h
+pub fault_passed : {A B E : Type 0} (e : Refusal E) (part : Result A E) (whole : Result B E) → Answers {A = A} (Err e) part → ((f : E) → part ≡ Err f → whole ≡ Err f) → Answers {A = B} (Err e) whole
+fault_passed (Fault f) part whole h pass = pass f h
 fault_passed OutOfMemory part whole h pass = tt
+
+-- what was made of a value that came
+pub record Came {A B E : Type 0} (o : Result A E) (f : A → Result B E) (y : B) : Type 0 where
+  pub value : A
+  pub is : o ≡ Ok value
+  pub then : f value ≡ Ok y
+
+pub came : {A B E : Type 0} (o : Result A E) (f : A → Result B E) (y : B) → (o >>= f) ≡ Ok y → Came o f y
+came (Ok x) f y e = record { value = x; is = refl; then = e }
+came (Err x) f y e = absurd cc
+
+pub record CameBefore {A E : Type 0} (one : Result A E) (rest : Result (List A) E) (items : List A) : Type 0 where
+  pub first : A
+  pub others : List A
+  pub is : one ≡ Ok first
+  pub then : rest ≡ Ok others
+  pub all : items ≡ first ∷ others
+
+pub came_before : {A E : Type 0} (one : Result A E) (rest : Result (List A) E) (items : List A) → before one rest ≡ Ok items → CameBefore one rest items
+came_before (Ok x) (Ok xs) items e = record { first = x; others = xs; is = refl; then = refl; all = cc }
+came_before (Ok x) (Err f) items e = absurd cc
+came_before (Err f) rest items e = absurd cc

@@ -1,4 +1,13 @@
+pub mod Admitted
 pub mod Collected
 pub mod Contents
-pub mod Rows
-pub mod Walking
+pub mod Kept
+pub mod Moving
+pub mod Pairs
+pub mod Rowwise
+pub mod Shown
+pub mod Simulating
+pub mod Suited
+pub mod Twins
+pub mod Values
+pub mod Walks

@@ -1,6 +1,14 @@
 pub mod Answers
 pub mod BoundOn
-pub mod Faults
+pub mod Columns
+pub mod Correspond
+pub mod Executes
+pub mod Keys
+pub mod Laws
+pub mod Queries
+pub mod Rows
 pub mod Step
-pub mod Walks
+pub mod Typed
+pub mod WellTyped
+pub mod Wide
 pub mod Worlds

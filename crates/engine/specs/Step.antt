@@ -1,35 +1,30 @@
 -- What a statement does to a world, by whole lists: its answer or its fault, and the world after it.
-use Rattle.std.specs.Prelude.{ℕ, zero, suc, ◌+◌, List, [], ◌∷◌, ◌++◌, length, flat_map, Option, Some, None, Result, Ok, Err, false, ◌==◌, nat_le, if◌then◌else◌, unwrap_or}
-use Rattle.std.specs.List.{slice_get, position, find}
-use Rattle.std.specs.Option.{option_map}
-use Rattle.std.specs.Str.{bytes_eq}
-use Rattle.ae_base.specs.Values.{is_within}
-use Rattle.ae_base.specs.declared.types.Ty.TheVariants.{Int}
-use Rattle.ae_base.specs.declared.types.Enc.TheVariants as enc
+use Rattle.std.specs.Prelude.{ℕ, List, [], ◌∷◌, ◌++◌, length, map, filter, count_by, Option, Some, None, Result, Ok, Err, Bool, true, false, not}
+use Rattle.std.specs.List.{remove}
+use Rattle.ae_base.specs.Atoms.{Atom}
+use Rattle.ae_base.specs.Results.{◌>>=◌, each}
+use Rattle.ae_base.specs.declared.faults.SqlFault.{SqlFault}
 use Rattle.ae_base.specs.declared.tables.ColumnDef.{ColumnDef}
 use Rattle.ae_base.specs.declared.tables.TableDef.{TableDef}
-use Rattle.ae_base.specs.declared.faults.SqlFault.{SqlFault}
-use Rattle.ae_base.specs.declared.faults.SqlFault.TheVariants as fault
-use Rattle.ae_base.specs.declared.atoms.AtomOf.{AtomOf}
-use Rattle.ae_base.specs.declared.atoms.AtomOf.TheVariants.{Null, Plain, Sealed}
-use Rattle.sql_tree.specs.declared.bound.ResultColumn.{ResultColumn}
-use Rattle.sql_tree.specs.Bound.{Bound, BoundOperand, BoundCondition, BoundInsert, BoundQuery}
+use Rattle.ae_base.specs.declared.types.Enc.{Enc}
+use Rattle.ae_base.specs.declared.types.Ty.{Ty}
+use Rattle.sql_tree.specs.declared.bound.ColumnSite.{ColumnSite}
+use Rattle.sql_tree.specs.Bound.{BoundCondition, BoundInsert, BoundUpdate, BoundDelete, BoundQuery, BoundStatement, Bound}
 use Rattle.sql_tree.specs.Bound as bound
-use Rattle.catalog.specs.Catalogs.{Catalog, with_table}
-use Rattle.scalar.specs.Eval.{eval, truth}
-use Rattle.scalar.specs.declared.truth.Truth.{Truth}
-use Rattle.scalar.specs.declared.truth.Truth.TheVariants as truths
-use Rattle.engine.specs.Worlds.{World}
-
-infixl 10 ◌>>=◌
-abbrev pub ◌>>=◌ : {A B : Type 0} → Result A SqlFault → (A → Result B SqlFault) → Result B SqlFault
-(Ok x) >>= f = f x
-(Err e) >>= f = Err e
+use Rattle.sql_tree.specs.OnTables.{columns_among, table_among}
+use Rattle.catalog.specs.Catalogs.{Catalog, with_master, with_key, with_table, without_master, without_key, without_table}
+use Rattle.operators.specs.Events.{asks}
+use Rattle.engine.specs.declared.answers.ResultColumn.{ResultColumn}
+use Rattle.engine.specs.Columns.{result_column}
+use Rattle.engine.specs.Keys.{first_twins, unless_twins}
+use Rattle.engine.specs.Queries.{found_in}
+use Rattle.engine.specs.Rows.{new_rows, values_into, replaced}
+use Rattle.engine.specs.Worlds.{World, place_of, rows_of, with_rows}
 
 -- ---- answers
 
 pub data Answer : Type 0 where
-  Rows : (columns : List ResultColumn) (rows : List (List (AtomOf (List ℕ)))) → Answer
+  Rows : (columns : List ResultColumn) (rows : List (List Atom)) → Answer
   Changed : (count : ℕ) → Answer
   Defined : Answer
 
@@ -37,145 +32,99 @@ pub record Outcome : Type 0 where
   pub answer : Result Answer SqlFault
   pub world : World
 
+-- what was done
+pub record Done : Type 0 where
+  pub answer : Answer
+  pub world : World
+
 -- a fault gives back the old world
-abbrev pub outcome : World → Result (Answer × World) SqlFault → Outcome
-outcome world (Ok done) = record { answer = Ok done.0; world = done.1 }
+abbrev pub outcome : World → Result Done SqlFault → Outcome
+outcome world (Ok done) = record { answer = Ok done.answer; world = done.world }
 outcome world (Err fault) = record { answer = Err fault; world = world }
 
--- ---- the rows of a table
+-- ---- definitions
 
-abbrev pub table_place : Catalog → List ℕ → Option ℕ
-table_place catalog name = position (λ table. bytes_eq table.name name) catalog.tables
+abbrev pub defined : World → Result Catalog SqlFault → Result Done SqlFault
+defined world result = result >>= λ catalog. Ok (record { answer = Defined; world = record world { catalog = catalog } })
 
-abbrev pub rows_of : World → List ℕ → List (List (AtomOf (List ℕ)))
-rows_of world name = unwrap_or (slice_get world.contents (unwrap_or (table_place world.catalog name) 0)) []
+-- a new table has no rows
+abbrev pub create_table : World → TableDef → Result Done SqlFault
+create_table world table =
+    with_table world.catalog table >>= λ catalog. Ok (record { answer = Defined; world = record { catalog = catalog; contents = world.contents ++ [] ∷ [] } })
 
--- the rows at a place, replaced
-abbrev pub replaced : {A : Type 0} → ℕ → A → List A → List A
-replaced place x [] = []
-replaced zero x (y ∷ ys) = x ∷ ys
-replaced (suc place) x (y ∷ ys) = y ∷ replaced place x ys
+abbrev pub drop_table : World → List ℕ → Result Done SqlFault
+drop_table world name =
+    without_table world.catalog name >>= λ catalog. Ok (record { answer = Defined; world = record { catalog = catalog; contents = remove world.contents (place_of world name) } })
 
-abbrev pub with_rows : World → List ℕ → List (List (AtomOf (List ℕ))) → World
-with_rows world name rows = record { catalog = world.catalog; contents = replaced (unwrap_or (table_place world.catalog name) 0) rows world.contents }
+-- ---- rows
 
--- ---- CREATE TABLE
+abbrev pub columns_of : World → List ℕ → List ColumnDef
+columns_of world name = columns_among world.catalog.tables name
 
-abbrev pub create_table : World → TableDef → Result (Answer × World) SqlFault
-create_table world table = with_table world.catalog table >>= λ catalog. Ok (Defined, record { catalog = catalog; contents = world.contents ++ [] ∷ [] })
+abbrev pub uniques_in : Option TableDef → List (List ℕ)
+uniques_in None = []
+uniques_in (Some table) = table.uniques
 
--- ---- INSERT
+abbrev pub uniques_of : World → List ℕ → List (List ℕ)
+uniques_of world name = uniques_in (table_among world.catalog.tables name)
 
--- NULL for a column that takes none, then a plain value that isn't within its column's type; a sealed one was tested when
--- it came
-abbrev pub admitted : ColumnDef → AtomOf (List ℕ) → Result (AtomOf (List ℕ)) SqlFault
-admitted column Null = if column.not_null then Err (fault.NullNotAllowed column.name) else Ok Null
-admitted column (Plain datum) = if is_within datum column.ty then Ok (Plain datum) else Err (fault.Truncated column.name)
-admitted column (Sealed cell) = Ok (Sealed cell)
-
-abbrev pub or_overflow : {A : Type 0} → Option A → Result A SqlFault
-or_overflow None = Err fault.Overflow
-or_overflow (Some x) = Ok x
-
-abbrev pub no_column : ColumnDef
-no_column = record { name = []; ty = Int; enc = enc.Plain; not_null = false }
-
-abbrev pub column_at : List ColumnDef → ℕ → ColumnDef
-column_at columns place = unwrap_or (slice_get columns place) no_column
-
--- the values of a row, each with the place of its column, or the first fault from left to right
-abbrev pub row_values : List ColumnDef → List (AtomOf (List ℕ)) → List ℕ → List BoundOperand → Result (List (ℕ × AtomOf (List ℕ))) SqlFault
-row_values columns params [] values = Ok []
-row_values columns params (place ∷ places) [] = Ok []
-row_values columns params (place ∷ places) (v ∷ vs) =
-    or_overflow (eval [] params v) >>= λ atom.
-    admitted (column_at columns place) atom >>= λ kept.
-    row_values columns params places vs >>= λ rest.
-    Ok ((place, kept) ∷ rest)
-
-abbrev pub value_at : List (ℕ × AtomOf (List ℕ)) → ℕ → Option (AtomOf (List ℕ))
-value_at values place = option_map (λ v. v.1) (find (λ v. v.0 == place) values)
-
--- the value that was given for a column, or NULL where it wasn't named
-abbrev pub value_for : ColumnDef → Option (AtomOf (List ℕ)) → Result (AtomOf (List ℕ)) SqlFault
-value_for column (Some atom) = Ok atom
-value_for column None = admitted column Null
-
--- the row in table order
-abbrev pub completed : ℕ → List (ℕ × AtomOf (List ℕ)) → List ColumnDef → Result (List (AtomOf (List ℕ))) SqlFault
-completed place values [] = Ok []
-completed place values (column ∷ columns) =
-    value_for column (value_at values place) >>= λ atom.
-    completed (place + 1) values columns >>= λ rest.
-    Ok (atom ∷ rest)
-
-abbrev pub new_row : BoundInsert → List (AtomOf (List ℕ)) → List BoundOperand → Result (List (AtomOf (List ℕ))) SqlFault
-new_row insert params values = row_values insert.columns params insert.named values >>= λ given. completed 0 given insert.columns
-
--- row by row: TableFull where the table would have 100,001 rows, else the row or its fault
-abbrev pub new_rows : BoundInsert → List (AtomOf (List ℕ)) → ℕ → List (List BoundOperand) → Result (List (List (AtomOf (List ℕ)))) SqlFault
-new_rows insert params count [] = Ok []
-new_rows insert params count (values ∷ more) =
-    (if nat_le 100000 count then Err fault.TableFull else new_row insert params values) >>= λ row.
-    new_rows insert params (count + 1) more >>= λ rows.
-    Ok (row ∷ rows)
-
--- the new rows stand at the end
-abbrev pub insert : World → BoundInsert → List (AtomOf (List ℕ)) → Result (Answer × World) SqlFault
-insert world i params =
+-- the new rows, if the unique keys admit them behind the old ones
+abbrev pub rows_to_insert : World → BoundInsert → List Atom → Result (List (List Atom)) SqlFault
+rows_to_insert world i params =
     let old = rows_of world i.table in
-    new_rows i params (length old) i.rows >>= λ rows.
-    Ok (Changed (length i.rows), with_rows world i.table (old ++ rows))
+    new_rows (columns_of world i.table) i.named params (length old) i.rows >>= λ rows. unless_twins (first_twins 1 (uniques_of world i.table) (old ++ rows)) rows
 
--- ---- SELECT
+-- they stand at the end
+abbrev pub insert : World → BoundInsert → List Atom → Result Done SqlFault
+insert world i params =
+    rows_to_insert world i params >>= λ rows. Ok (record { answer = Changed (length rows); world = with_rows world i.table (rows_of world i.table ++ rows) })
 
--- what the walk meets: a row for which the conditions are true, or a fault
-abbrev pub Event : Type 0
-Event = Result (List (AtomOf (List ℕ))) SqlFault
+-- a row, and whether the filter was true of it
+pub record Tested : Type 0 where
+  pub hit : Bool
+  pub row : List Atom
 
--- what follows where a condition is true, nothing where it isn't, or its overflow
-abbrev pub where_true : Option Truth → List Event → List Event
-where_true None events = Err fault.Overflow ∷ []
-where_true (Some truths.True) events = events
-where_true (Some truths.False) events = []
-where_true (Some truths.Unknown) events = []
+abbrev pub selects : List Atom → Option BoundCondition → List Atom → Result Bool SqlFault
+selects params None row = Ok true
+selects params (Some condition) row = asks params condition row
 
-abbrev pub passes : Option BoundCondition → List (AtomOf (List ℕ)) → List (AtomOf (List ℕ)) → Option Truth
-passes None row params = Some truths.True
-passes (Some condition) row params = truth row params condition
+-- the SET values are those of the old row
+abbrev pub updated_row : World → BoundUpdate → List Atom → List Atom → Bool → Result Tested SqlFault
+updated_row world u params row true =
+    values_into (columns_of world u.table) row params (map (λ a. a.place) u.assignments) (map (λ a. a.value) u.assignments) >>= λ given.
+    Ok (record { hit = true; row = replaced 0 given row })
+updated_row world u params row false = Ok (record { hit = false; row = row })
 
--- with a row of tables fixed so far: ON is asked of each row of the next table, and WHERE once all rows are fixed
-abbrev pub walk : World → Option BoundCondition → List (AtomOf (List ℕ)) → List bound.BoundJoin → List (AtomOf (List ℕ)) → List Event
-walk world filter params [] row = where_true (passes filter row params) (Ok row ∷ [])
-walk world filter params (join ∷ joins) row =
-    flat_map (λ next. where_true (truth (row ++ next) params join.on) (walk world filter params joins (row ++ next))) (rows_of world join.table)
+abbrev pub update : World → BoundUpdate → List Atom → Result Done SqlFault
+update world u params =
+    each (λ row. selects params u.filter row >>= updated_row world u params row) (rows_of world u.table) >>= λ tested.
+    unless_twins (first_twins 1 (uniques_of world u.table) (map (λ t. t.row) tested)) tested >>= λ tested.
+    Ok (record { answer = Changed (count_by (λ t. t.hit) tested); world = with_rows world u.table (map (λ t. t.row) tested) })
 
--- the tables are walked in nested order, the first outermost
-abbrev pub events_of : World → BoundQuery → List (AtomOf (List ℕ)) → List Event
-events_of world q params = flat_map (walk world q.filter params q.joins) (rows_of world q.from)
+abbrev pub tested_row : List Atom → Bool → Result Tested SqlFault
+tested_row row hit = Ok (record { hit = hit; row = row })
 
--- the items of a row from left to right
-abbrev pub items_of : List BoundOperand → List (AtomOf (List ℕ)) → List (AtomOf (List ℕ)) → Result (List (AtomOf (List ℕ))) SqlFault
-items_of [] row params = Ok []
-items_of (item ∷ items) row params = or_overflow (eval row params item) >>= λ atom. items_of items row params >>= λ rest. Ok (atom ∷ rest)
+abbrev pub delete : World → BoundDelete → List Atom → Result Done SqlFault
+delete world d params =
+    each (λ row. selects params d.filter row >>= tested_row row) (rows_of world d.table) >>= λ tested.
+    Ok (record { answer = Changed (count_by (λ t. t.hit) tested); world = with_rows world d.table (map (λ t. t.row) (filter (λ t. not t.hit) tested)) })
 
--- the items of each true row; the first fault is the answer, and TooManyRows stands in the place of the 1,000,001st true row
-abbrev pub results : List BoundOperand → List (AtomOf (List ℕ)) → ℕ → List Event → Result (List (List (AtomOf (List ℕ)))) SqlFault
-results items params count [] = Ok []
-results items params count (Err fault ∷ events) = Err fault
-results items params count (Ok row ∷ events) =
-    (if nat_le 1000000 count then Err fault.TooManyRows else items_of items row params) >>= λ result.
-    results items params (count + 1) events >>= λ rest.
-    Ok (result ∷ rest)
+abbrev pub select : World → List ColumnSite → List Ty → List Enc → BoundQuery → List Atom → Result Done SqlFault
+select world columns tys encs q params =
+    found_in world q params >>= λ rows. Ok (record { answer = Rows (map (result_column columns tys encs) q.items) rows; world = world })
 
-abbrev pub select : World → BoundQuery → List (AtomOf (List ℕ)) → Result (Answer × World) SqlFault
-select world q params = results q.items params 0 (events_of world q params) >>= λ rows. Ok (Rows q.columns rows, world)
+abbrev pub done_by : World → Bound → List Enc → BoundStatement → List Atom → Result Done SqlFault
+done_by world b encs (bound.CreateMaster name path) params = defined world (with_master world.catalog name path)
+done_by world b encs (bound.CreateKey name master wrapped) params = defined world (with_key world.catalog name master wrapped)
+done_by world b encs (bound.CreateTable table) params = create_table world table.def
+done_by world b encs (bound.DropTable name) params = drop_table world name
+done_by world b encs (bound.DropMaster name) params = defined world (without_master world.catalog name)
+done_by world b encs (bound.DropKey name) params = defined world (without_key world.catalog name)
+done_by world b encs (bound.Insert i) params = insert world i params
+done_by world b encs (bound.Update u) params = update world u params
+done_by world b encs (bound.Delete d) params = delete world d params
+done_by world b encs (bound.Select q) params = select world b.columns b.params encs q params
 
-abbrev pub changed : World → Bound → List (AtomOf (List ℕ)) → Result (Answer × World) SqlFault
-changed world (bound.CreateTable table) params = create_table world table
-changed world (bound.Insert i) params = insert world i params
-changed world (bound.Select q) params = select world q params
-
--- what a statement answers, and the world after it
-abbrev pub step : World → Bound → List (AtomOf (List ℕ)) → Outcome
-step world statement params = outcome world (changed world statement params)
+-- what a statement answers, and the world after it, where its parameters are encrypted so and have these values
+abbrev pub step : World → Bound → List Enc → List Atom → Outcome
+step world b encs params = outcome world (done_by world b encs b.statement params)

@@ -1,22 +1,21 @@
-ghost use Rattle.std.specs.Prelude.{◌≡◌, ◌≤◌, ◌+◌, [], ◌∷◌, length, map, IfOk, IfSome, Some};
+ghost use Rattle.std.specs.Prelude.{◌≡◌, ◌<◌, ◌≤◌, ◌+◌, [], ◌∷◌, length, map};
 ghost use Rattle.std.specs.List.{All};
 ghost use Rattle.std.specs.Option.{option_copied};
+ghost use Rattle.ae_base.specs.Results.{Answers, AnswersAs};
 ghost use Rattle.sql_tree.specs.Operands.{operand_of};
-ghost use Rattle.sql_tree.specs.Bound.{insert_of, values_of};
-ghost use Rattle.engine.specs.Answers.{Gets};
-ghost use Rattle.engine.specs.BoundOn.{AreValuesFor, Suits};
-ghost use Rattle.engine.specs.Step as step;
-ghost use Rattle.engine.specs.Step.{column_at};
-ghost use Rattle.engine.specs.Worlds.{IsOf, IsRowOf};
+ghost use Rattle.sql_tree.specs.Bound.{row_of};
+ghost use Rattle.sql_tree.specs.Placed.{IsPlaced};
+ghost use Rattle.engine.specs.Rows as rows;
 
-use crate::answers::ExecuteFault;
 use ae_base::atoms::{Atom, AtomOf, Row, Rows};
 use ae_base::faults::SqlFault;
 use ae_base::lists::{Duplicate, Seq};
+use ae_base::refusals::Refusal;
 use ae_base::sameness::Same;
 use ae_base::tables::ColumnDef;
 use scalar::operands::eval;
-use sql_tree::bound::{BoundInsert, BoundOperand};
+use scalar::rows::LentRow;
+use sql_tree::bound::{BoundOperand, BoundRow};
 use std::alloc::Global;
 
 /// The most rows that a table has.
@@ -25,22 +24,23 @@ pub(crate) const MOST_ROWS: usize = 100000;
 /// The new rows of a table that has so many already, or the first fault.
 pub(crate) fn new_rows<K: Same>(
     alloc: Global,
-    insert: &BoundInsert,
+    columns: &[ColumnDef],
+    named: &[usize],
+    bound: &[BoundRow],
     params: &[Atom<K>],
     count: usize,
-) -> Result<Rows<K>, ExecuteFault>
-    requires bound { All (AreValuesFor insert.now.columns params.now insert.now.named) (map values_of insert.now.rows) }
+) -> Result<Rows<K>, Refusal>
+    requires named { All (λ place. place < length columns.now) named.now }
+    requires rows { All (λ row. (length row.values ≡ length named.now) × All (IsPlaced 0 (length params.now)) row.values) (map row_of bound.now) }
     requires most { count ≤ 100000 }
-    ensures exact { Gets result (step.new_rows (insert_of insert.now) params.now count (map values_of insert.now.rows)) }
-    ensures typed { IfOk result (λ rows. All (IsRowOf insert.now.columns) rows) }
-    ensures most { IfOk result (λ rows. count + length rows ≤ 100000) }
+    ensures { Answers result (rows.new_rows columns.now named.now params.now count (map row_of bound.now)) }
 {
     let mut rows = Rows::new(alloc);
-    for values in insert.rows.as_slice() {
+    for row in bound {
         if rows.len() >= MOST_ROWS - count {
-            return Err(ExecuteFault::Refused(SqlFault::TableFull));
+            return Err(Refusal::Fault(SqlFault::TableFull));
         }
-        rows.push(new_row(alloc, insert, values.values.as_slice(), params)?)?;
+        rows.push(new_row(alloc, columns, named, row.values.as_slice(), params)?)?;
     }
     Ok(rows)
 }
@@ -48,39 +48,66 @@ pub(crate) fn new_rows<K: Same>(
 /// A new row, or its first fault.
 fn new_row<K: Same>(
     alloc: Global,
-    insert: &BoundInsert,
+    columns: &[ColumnDef],
+    named: &[usize],
     values: &[BoundOperand],
     params: &[Atom<K>],
-) -> Result<Row<K>, ExecuteFault>
-    requires { AreValuesFor insert.now.columns params.now insert.now.named (map operand_of values.now) }
-    ensures exact { Gets result (step.new_row (insert_of insert.now) params.now (map operand_of values.now)) }
-    ensures typed { IfOk result (IsRowOf insert.now.columns) }
+) -> Result<Row<K>, Refusal>
+    requires named { All (λ place. place < length columns.now) named.now }
+    requires count { length values.now ≡ length named.now }
+    requires values { All (IsPlaced 0 (length params.now)) (map operand_of values.now) }
+    ensures { Answers result (rows.new_row columns.now named.now params.now (map operand_of values.now)) }
 {
-    let columns = insert.columns.as_slice();
-    let given = row_values(alloc, columns, params, insert.named.as_slice(), values)?;
+    let nothing = Row::new(alloc);
+    let given = values_into(
+        alloc,
+        columns,
+        &LentRow::whole(&nothing),
+        params,
+        named,
+        values,
+    )?;
     completed(alloc, columns, given.as_slice())
 }
 
-/// The values of a row, each with the place of its column, or the first fault from left to right.
-fn row_values<K: Same>(
+/// The values that are put into the columns of these places, or the first fault from left to right.
+fn values_into<'a, K: Same>(
     alloc: Global,
     columns: &[ColumnDef],
-    params: &[Atom<K>],
+    row: &LentRow<'a, K>,
+    params: &'a [Atom<K>],
     named: &[usize],
-    values: &[BoundOperand],
-) -> Result<Seq<(usize, Atom<K>)>, ExecuteFault>
-    requires { AreValuesFor columns.now params.now named.now (map operand_of values.now) }
-    ensures exact { Gets result (step.row_values columns.now params.now named.now (map operand_of values.now)) }
-    ensures typed { IfOk result (λ given. All (λ v. IsOf (column_at columns.now v.0) v.1) given) }
+    values: &'a [BoundOperand],
+) -> Result<Seq<(usize, Atom<K>)>, Refusal>
+    requires named { All (λ place. place < length columns.now) named.now }
+    requires count { length values.now ≡ length named.now }
+    requires values { All (IsPlaced (length row.now) (length params.now)) (map operand_of values.now) }
+    ensures { Answers result (rows.values_into columns.now row.now params.now named.now (map operand_of values.now)) }
 {
     let mut given = Seq::new(alloc);
     for (i, value) in values.iter().enumerate() {
-        let place = named[i];
-        let atom = eval(value, &Row::new(alloc), params)?;
-        let kept = admitted(&columns[place], atom)?;
-        given.push((place, kept))?;
+        given.push(value_into(columns, row, params, named[i], value)?)?;
     }
     Ok(given)
+}
+
+/// A value that is put into the column of a place.
+pub(crate) fn value_into<'a, K: Same>(
+    columns: &[ColumnDef],
+    row: &LentRow<'a, K>,
+    params: &'a [Atom<K>],
+    place: usize,
+    value: &'a BoundOperand,
+) -> Result<(usize, Atom<K>), Refusal>
+    requires place { place < length columns.now }
+    requires value { IsPlaced (length row.now) (length params.now) (operand_of value.now) }
+    ensures { Answers result (rows.value_into columns.now row.now params.now place (operand_of value.now)) }
+{
+    match eval(value, row, params) {
+        Ok(atom) => Ok((place, admitted(&columns[place], atom)?)),
+        Err(Refusal::Fault(_)) => Err(Refusal::Fault(SqlFault::Overflow)),
+        Err(Refusal::OutOfMemory) => Err(Refusal::OutOfMemory),
+    }
 }
 
 /// The row in table order: the value that was given, or NULL for a column that wasn't named.
@@ -88,23 +115,19 @@ fn completed<K: Same>(
     alloc: Global,
     columns: &[ColumnDef],
     given: &[(usize, Atom<K>)],
-) -> Result<Row<K>, ExecuteFault>
-    requires { All (λ v. IsOf (column_at columns.now v.0) v.1) given.now }
-    ensures exact { Gets result (step.completed 0 given.now columns.now) }
-    ensures typed { IfOk result (IsRowOf columns.now) }
+) -> Result<Row<K>, Refusal>
+    ensures { Answers result (rows.completed 0 given.now columns.now) }
 {
     let mut row = Row::new(alloc);
     for (place, column) in columns.iter().enumerate() {
-        row.push(value_for(column, value_at(given, place))?)?;
+        row.push(value_or_null(column, value_at(given, place))?)?;
     }
     Ok(row)
 }
 
 /// The value that was given for a column, or NULL where it wasn't named.
-fn value_for<K: Same>(column: &ColumnDef, given: Option<&Atom<K>>) -> Result<Atom<K>, ExecuteFault>
-    requires { IfSome (option_copied given) (IsOf column.now) }
-    ensures exact { Gets result (step.value_for column.now (option_copied given.entry)) }
-    ensures typed { IfOk result (IsOf column.now) }
+fn value_or_null<K: Same>(column: &ColumnDef, given: Option<&Atom<K>>) -> Result<Atom<K>, Refusal>
+    ensures { Answers result (rows.value_or_null column.now (option_copied given.entry)) }
 {
     match given {
         Some(atom) => Ok(atom.copy()?),
@@ -114,7 +137,7 @@ fn value_for<K: Same>(column: &ColumnDef, given: Option<&Atom<K>>) -> Result<Ato
 
 /// The value that was given for the column of a place.
 fn value_at<K: Same>(given: &[(usize, Atom<K>)], place: usize) -> Option<&Atom<K>>
-    ensures { option_copied result ≡ step.value_at given.now place }
+    ensures { option_copied result ≡ rows.value_at given.now place }
 {
     given
         .iter()
@@ -123,19 +146,18 @@ fn value_at<K: Same>(given: &[(usize, Atom<K>)], place: usize) -> Option<&Atom<K
 }
 
 /// A value as its column takes it: no NULL where the column takes none, and else within the type.
-fn admitted<K: Same>(column: &ColumnDef, atom: Atom<K>) -> Result<Atom<K>, ExecuteFault>
-    ensures exact { Gets result (step.admitted column.now atom) }
-    ensures typed { Suits column.now (Some atom) → IfOk result (IsOf column.now) }
+fn admitted<K: Same>(column: &ColumnDef, atom: Atom<K>) -> Result<Atom<K>, Refusal>
+    ensures { Answers result (rows.admitted column.now atom) }
 {
     match atom.case() {
         AtomOf::Null => {
             if column.not_null {
-                return Err(ExecuteFault::Refused(SqlFault::NullNotAllowed(column.name.copy()?)));
+                return Err(Refusal::Fault(SqlFault::NullNotAllowed(column.name.copy()?)));
             }
         }
         AtomOf::Plain(datum) => {
             if !datum.fits(column.ty) {
-                return Err(ExecuteFault::Refused(SqlFault::Truncated(column.name.copy()?)));
+                return Err(Refusal::Fault(SqlFault::Truncated(column.name.copy()?)));
             }
         }
         AtomOf::Sealed(_) => {}

@@ -2,7 +2,11 @@
 #![tactic(auto)]
 
 pub mod answers;
+mod columns;
+pub mod executing;
 mod inserts;
+mod keys;
+pub mod laws;
 mod queries;
 pub mod tables;
 pub mod worlds;

@@ -1,4 +1,4 @@
-// Devices in memory.
+// Devices in memory, and devices that are lent.
 
 use ae_base::texts::Txt;
 use ae_edge::entropies::{Draw, Entropy};
@@ -56,8 +56,9 @@ fn source_of(alloc: Global, piece: usize, failing: &[u64]) -> Result<MemSource, 
 fn takes_the_same_bytes_after_a_failing_call(rt: HostRuntime) -> Result<(), Fail> {
     let alloc = rt.alloc();
     let mut source = source_of(alloc, 3, &[1])?;
-    assert!(rt; matches!(read_all(&mut source, alloc, 7), ReadAll::ReadFault));
-    assert!(rt; has_read(read_all(&mut source, alloc, 7), b"defg"));
+    let mut lent = &mut source;
+    assert!(rt; matches!(read_all(&mut lent, alloc, 7), ReadAll::ReadFault));
+    assert!(rt; has_read(read_all(&mut lent, alloc, 7), b"defg"));
     Ok(())
 }
 
@@ -65,9 +66,10 @@ fn takes_the_same_bytes_after_a_failing_call(rt: HostRuntime) -> Result<(), Fail
 fn holds_what_was_put_before_a_failing_call(rt: HostRuntime) -> Result<(), Fail> {
     let failing = Vec::from_slice(rt.alloc(), &[1u64])?;
     let mut sink = MemSink::new(rt.alloc(), failing);
-    assert_eq!(rt; put_all(&mut sink, b"a"), PutAll::Whole);
-    assert_eq!(rt; put_all(&mut sink, b"b"), PutAll::WriteFault);
-    assert_eq!(rt; put_all(&mut sink, b"c"), PutAll::Whole);
+    let mut lent = &mut sink;
+    assert_eq!(rt; put_all(&mut lent, b"a"), PutAll::Whole);
+    assert_eq!(rt; put_all(&mut lent, b"b"), PutAll::WriteFault);
+    assert_eq!(rt; put_all(&mut lent, b"c"), PutAll::Whole);
     assert_eq!(rt; sink.bytes(), b"ac".as_slice());
     Ok(())
 }
@@ -78,13 +80,21 @@ fn vault_of(alloc: Global) -> Result<MemVault, Fail> {
     Ok(MemVault::new(keys, Vec::from_slice(alloc, &[1u64])?))
 }
 
+fn master<V: Vault>(mut vault: &mut V, path: &Txt) -> MasterKey {
+    Vault::master(&mut vault, path)
+}
+
 #[test]
 fn finds_the_keys_of_its_paths(rt: HostRuntime) -> Result<(), Fail> {
     let mut vault = vault_of(rt.alloc())?;
     let main = Txt::copied(rt.alloc(), "main")?;
-    assert!(rt; is_key(vault.master(&main), &KEY));
-    assert!(rt; matches!(vault.master(&main), MasterKey::Failed));
+    assert!(rt; is_key(master(&mut vault, &main), &KEY));
+    assert!(rt; matches!(master(&mut vault, &main), MasterKey::Failed));
     Ok(())
+}
+
+fn draw<E: Entropy>(mut entropy: &mut E) -> Draw {
+    Entropy::draw(&mut entropy)
 }
 
 #[test]
@@ -92,9 +102,9 @@ fn draws_sixteen_bytes_or_fails(rt: HostRuntime) -> Result<(), Fail> {
     let bytes = Vec::from_slice(rt.alloc(), &[1u8; 47])?;
     let failing = Vec::from_slice(rt.alloc(), &[1u64])?;
     let mut entropy = MemEntropy::new(bytes, failing);
-    assert!(rt; is_drawn(entropy.draw(), 1));
-    assert!(rt; matches!(entropy.draw(), Draw::Failed));
-    assert!(rt; is_drawn(entropy.draw(), 1));
-    assert!(rt; matches!(entropy.draw(), Draw::Failed));
+    assert!(rt; is_drawn(draw(&mut entropy), 1));
+    assert!(rt; matches!(draw(&mut entropy), Draw::Failed));
+    assert!(rt; is_drawn(draw(&mut entropy), 1));
+    assert!(rt; matches!(draw(&mut entropy), Draw::Failed));
     Ok(())
 }

@@ -1,3 +1,11 @@
-pub mod Befores
+pub mod BoundStatements
+pub mod Joins
+pub mod Kept
+pub mod KeptWhole
+pub mod OnCatalog
+pub mod Parts
+pub mod PlacedStatements
+pub mod Places
+pub mod QueryParts
 pub mod Trees
 pub mod Walks

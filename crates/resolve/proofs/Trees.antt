@@ -1,62 +1,167 @@
--- Sums and junctions as they lie in memory.
-use Rattle.std.proofs.Common.{◌≡◌, ℕ, List, refl, ap, sym, ◌∙◌, Box, Vec, Global, false, ◌||◌}
-use mathlib.Core.Former.{Count}
+-- Sums and junctions as they lie in memory, and how their parts are bound one after another.
+use Rattle.std.proofs.Common.{◌≡◌, ℕ, ◌+◌, ◌<◌, ◌≤◌, List, [], ◌∷◌, ◌++◌, length, get_or, drop, refl, ap, sym, ◌∙◌, Box, Vec, Global, Result, Ok, Err}
+use Rattle.std.proofs.lemmas.List.{at_drop_more, at_drop_all}
+use Rattle.ae_base.specs.Results.{◌>>=◌}
+use Rattle.ae_base.specs.declared.batches.ParamDecl.{ParamDecl}
+use Rattle.ae_base.specs.declared.faults.SqlFault.{SqlFault}
+use Rattle.sql_tree.specs.declared.operands.ColumnRef.{ColumnRef}
+use Rattle.sql_tree.specs.Operands.{Operand, Terms, operand_of, term_before}
 use Rattle.sql_tree.specs.Operands as operands
+use Rattle.sql_tree.specs.Conditions.{Condition, Conditions, condition_of}
 use Rattle.sql_tree.specs.Conditions as conditions
+use Rattle.sql_tree.specs.Listed.{terms_listed, conditions_listed}
 use Rattle.sql_tree.specs.declared.operands.Operand as code
 use Rattle.sql_tree.specs.declared.operands.Term as code_term
 use Rattle.sql_tree.specs.declared.conditions.Condition as code_condition
-use Rattle.resolve.specs.Bind.{uses_in, uses_in_terms, uses_in_condition, uses_in_conditions}
-use Rattle.resolve.specs.Listed.{terms_listed, conditions_listed}
+use Rattle.sql_tree.proofs.Trees.{operand_of-Sum, condition_of-AllOf, condition_of-AnyOf}
+use Rattle.resolve.specs.Scopes.{Scope}
+use Rattle.resolve.specs.Names.{bind_operand, bind_terms, bind_condition, bind_conditions}
 
-terms_of-row : {C P : Type 0} (m : _) (row : code.Row_of-Term C P m) → operands.terms_of row ≡ terms_listed (code.items-the_row-Term C P m row)
-terms_of-row m code.end_of-Term = refl
-terms_of-row m (code.more_of-Term term rest) = ap (operands.term_before term) (terms_of-row _ rest)
+pub sum_seen : {C P : Type 0} (first : Box (code.Operand C P) Global) (terms : Vec (code_term.Term C P) Global)
+    → operand_of (code.Sum first terms) ≡ operands.Sum (operand_of first.value) (terms_listed terms.items)
+sum_seen first terms = operand_of-Sum first terms
 
-abbrev terms_row : code.Operand ℕ ℕ → (m : Count) × code.Row_of-Term ℕ ℕ m
-terms_row (code.Sum' p first shape terms) = (_, terms)
-terms_row _ = (_, code.end_of-Term)
+pub all_seen : {C P : Type 0} (all : Vec (code_condition.Condition C P) Global) → condition_of (code_condition.AllOf all) ≡ conditions.AllOf (conditions_listed all.items)
+all_seen all = condition_of-AllOf all
 
-pub operand_of-Sum : (first : Box (code.Operand ℕ ℕ) Global) (terms : Vec (code_term.Term ℕ ℕ) Global)
-    → operands.operand_of (code.Sum first terms) ≡ operands.Sum (operands.operand_of first.value) (terms_listed terms.items)
-operand_of-Sum first terms =
-    let row = terms_row (code.Sum first terms) in
-    ap (operands.Sum (operands.operand_of first.value)) (terms_of-row row.0 row.1 ∙ ap terms_listed (code.items_hidden-the_row-Term-0 ℕ ℕ terms))
+pub any_seen : {C P : Type 0} (any : Vec (code_condition.Condition C P) Global) → condition_of (code_condition.AnyOf any) ≡ conditions.AnyOf (conditions_listed any.items)
+any_seen any = condition_of-AnyOf any
 
-conditions_of-row : {C P : Type 0} (m : _) (row : code_condition.Row_of-Condition C P m) → conditions.conditions_of row ≡ conditions_listed (code_condition.items-the_row-Condition C P m row)
-conditions_of-row m code_condition.end_of-Condition = refl
-conditions_of-row m (code_condition.more_of-Condition condition rest) = ap (conditions.Then (conditions.condition_of condition)) (conditions_of-row _ rest)
+-- ---- terms
 
-abbrev conditions_row : code_condition.Condition ℕ ℕ → (m : Count) × code_condition.Row_of-Condition ℕ ℕ m
-conditions_row (code_condition.AllOf' shape all) = (_, all)
-conditions_row (code_condition.AnyOf' shape all) = (_, all)
-conditions_row _ = (_, code_condition.end_of-Condition)
+abbrev pub then_terms : {C P : Type 0} → Terms C P → Terms C P → Terms C P
+then_terms operands.NoMore more = more
+then_terms (operands.PlusThen at operand terms) more = operands.PlusThen at operand (then_terms terms more)
+then_terms (operands.MinusThen at operand terms) more = operands.MinusThen at operand (then_terms terms more)
 
-pub condition_of-AllOf : (all : Vec (code_condition.Condition ℕ ℕ) Global) → conditions.condition_of (code_condition.AllOf all) ≡ conditions.AllOf (conditions_listed all.items)
-condition_of-AllOf all =
-    let row = conditions_row (code_condition.AllOf all) in
-    ap conditions.AllOf (conditions_of-row row.0 row.1 ∙ ap conditions_listed (code_condition.items_hidden-the_row-Condition-0 ℕ ℕ all))
+pub then_no_terms : {C P : Type 0} (terms : Terms C P) → then_terms terms operands.NoMore ≡ terms
+then_no_terms operands.NoMore = refl
+then_no_terms (operands.PlusThen at operand terms) = ap (operands.PlusThen at operand) (then_no_terms terms)
+then_no_terms (operands.MinusThen at operand terms) = ap (operands.MinusThen at operand) (then_no_terms terms)
 
-pub condition_of-AnyOf : (any : Vec (code_condition.Condition ℕ ℕ) Global) → conditions.condition_of (code_condition.AnyOf any) ≡ conditions.AnyOf (conditions_listed any.items)
-condition_of-AnyOf any =
-    let row = conditions_row (code_condition.AnyOf any) in
-    ap conditions.AnyOf (conditions_of-row row.0 row.1 ∙ ap conditions_listed (code_condition.items_hidden-the_row-Condition-0 ℕ ℕ any))
+-- the terms that are bound stand before the rest
+abbrev pub onto_terms : Terms ℕ ℕ → Result (Terms ℕ ℕ) SqlFault → Result (Terms ℕ ℕ) SqlFault
+onto_terms front rest = rest >>= λ more. Ok (then_terms front more)
 
--- what is used behind the first value of a sum that doesn't use it
-pub uses_in-Sum : (place : ℕ) (operand one : code.Operand ℕ ℕ) (first : Box (code.Operand ℕ ℕ) Global) (terms : Vec (code_term.Term ℕ ℕ) Global) (items : List (code_term.Term ℕ ℕ))
-    → operand ≡ code.Sum first terms → one ≡ first.value → items ≡ terms.items → uses_in place (operands.operand_of one) ≡ false
-    → uses_in place (operands.operand_of operand) ≡ uses_in_terms place (terms_listed items)
-uses_in-Sum place operand one first terms items e f g h =
-    ap (uses_in place) (ap operands.operand_of e ∙ operand_of-Sum first terms)
-    ∙ ap (λ b. b || uses_in_terms place (terms_listed terms.items)) (ap (λ x. uses_in place (operands.operand_of x)) (sym f) ∙ h)
-    ∙ ap (λ x. uses_in_terms place (terms_listed x)) (sym g)
+terms_push : (terms : List (code_term.Term ℕ ℕ)) (term : code_term.Term ℕ ℕ) (more : Terms ℕ ℕ)
+    → then_terms (terms_listed (terms ++ term ∷ [])) more ≡ then_terms (terms_listed terms) (then_terms (terms_listed (term ∷ [])) more)
+terms_push [] (code_term.Plus at operand) more = refl
+terms_push [] (code_term.Minus at operand) more = refl
+terms_push (code_term.Plus at operand ∷ terms) term more = ap (operands.PlusThen at (operand_of operand)) (terms_push terms term more)
+terms_push (code_term.Minus at operand ∷ terms) term more = ap (operands.MinusThen at (operand_of operand)) (terms_push terms term more)
 
-pub uses_in-AllOf : (place : ℕ) (condition : code_condition.Condition ℕ ℕ) (all : Vec (code_condition.Condition ℕ ℕ) Global) (items : List (code_condition.Condition ℕ ℕ))
-    → condition ≡ code_condition.AllOf all → items ≡ all.items → uses_in_condition place (conditions.condition_of condition) ≡ uses_in_conditions place (conditions_listed items)
-uses_in-AllOf place condition all items e f =
-    ap (uses_in_condition place) (ap conditions.condition_of e ∙ condition_of-AllOf all) ∙ ap (λ x. uses_in_conditions place (conditions_listed x)) (sym f)
+one_operand : (A : Operand ℕ ℕ → Terms ℕ ℕ → Terms ℕ ℕ) (one : Result (Operand ℕ ℕ) SqlFault) (rest : Result (Terms ℕ ℕ) SqlFault)
+    → ((o : Operand ℕ ℕ) (m : Terms ℕ ℕ) → A o m ≡ then_terms (A o operands.NoMore) m)
+    → (one >>= λ o. rest >>= λ more. Ok (A o more)) ≡ ((one >>= λ o. Ok (A o operands.NoMore)) >>= λ front. rest >>= λ more. Ok (then_terms front more))
+one_operand A (Err e) rest h = refl
+one_operand A (Ok o) (Err e) h = refl
+one_operand A (Ok o) (Ok m) h = ap Ok (h o m)
 
-pub uses_in-AnyOf : (place : ℕ) (condition : code_condition.Condition ℕ ℕ) (any : Vec (code_condition.Condition ℕ ℕ) Global) (items : List (code_condition.Condition ℕ ℕ))
-    → condition ≡ code_condition.AnyOf any → items ≡ any.items → uses_in_condition place (conditions.condition_of condition) ≡ uses_in_conditions place (conditions_listed items)
-uses_in-AnyOf place condition any items e f =
-    ap (uses_in_condition place) (ap conditions.condition_of e ∙ condition_of-AnyOf any) ∙ ap (λ x. uses_in_conditions place (conditions_listed x)) (sym f)
+term_first : (scope : Scope) (declarations : List ParamDecl) (term : code_term.Term ColumnRef (List ℕ)) (rest : Terms ColumnRef (List ℕ))
+    → bind_terms scope declarations (term_before term rest) ≡ (bind_terms scope declarations (terms_listed (term ∷ [])) >>= λ front. bind_terms scope declarations rest >>= λ more. Ok (then_terms front more))
+term_first scope declarations (code_term.Plus at operand) rest =
+    one_operand (operands.PlusThen at) (bind_operand scope declarations (operand_of operand)) (bind_terms scope declarations rest) (λ o m. refl)
+term_first scope declarations (code_term.Minus at operand) rest =
+    one_operand (operands.MinusThen at) (bind_operand scope declarations (operand_of operand)) (bind_terms scope declarations rest) (λ o m. refl)
+
+onto_terms_push : (bound : List (code_term.Term ℕ ℕ)) (term : code_term.Term ℕ ℕ) (rest : Result (Terms ℕ ℕ) SqlFault)
+    → onto_terms (terms_listed bound) (rest >>= λ more. Ok (then_terms (terms_listed (term ∷ [])) more)) ≡ onto_terms (terms_listed (bound ++ term ∷ [])) rest
+onto_terms_push bound term (Err e) = refl
+onto_terms_push bound term (Ok more) = ap Ok (sym (terms_push bound term more))
+
+terms_next : (scope : Scope) (declarations : List ParamDecl) (whole : Result (Terms ℕ ℕ) SqlFault) (bound : List (code_term.Term ℕ ℕ)) (terms : List (code_term.Term ColumnRef (List ℕ))) (i : ℕ) (term : code_term.Term ColumnRef (List ℕ))
+    → i < length terms → term ≡ get_or terms i term → whole ≡ onto_terms (terms_listed bound) (bind_terms scope declarations (terms_listed (drop i terms)))
+    → whole ≡ onto_terms (terms_listed bound) (bind_terms scope declarations (terms_listed (term ∷ [])) >>= λ front. bind_terms scope declarations (terms_listed (drop (i + 1) terms)) >>= λ more. Ok (then_terms front more))
+terms_next scope declarations whole bound terms i term lt e w =
+    w ∙ at_drop_more (λ left. onto_terms (terms_listed bound) (bind_terms scope declarations (terms_listed left))) terms i term lt
+    ∙ ap (λ z. onto_terms (terms_listed bound) (bind_terms scope declarations (terms_listed (z ∷ drop (i + 1) terms)))) (sym e)
+    ∙ ap (onto_terms (terms_listed bound)) (term_first scope declarations term (terms_listed (drop (i + 1) terms)))
+
+-- a term that is bound stands behind those before it
+pub terms_more : (scope : Scope) (declarations : List ParamDecl) (whole : Result (Terms ℕ ℕ) SqlFault) (bound : List (code_term.Term ℕ ℕ)) (one : code_term.Term ℕ ℕ) (terms : List (code_term.Term ColumnRef (List ℕ))) (i : ℕ) (term : code_term.Term ColumnRef (List ℕ))
+    → i < length terms → term ≡ get_or terms i term → whole ≡ onto_terms (terms_listed bound) (bind_terms scope declarations (terms_listed (drop i terms)))
+    → bind_terms scope declarations (terms_listed (term ∷ [])) ≡ Ok (terms_listed (one ∷ []))
+    → whole ≡ onto_terms (terms_listed (bound ++ one ∷ [])) (bind_terms scope declarations (terms_listed (drop (i + 1) terms)))
+terms_more scope declarations whole bound one terms i term lt e w h =
+    terms_next scope declarations whole bound terms i term lt e w
+    ∙ ap (λ r. onto_terms (terms_listed bound) (r >>= λ front. bind_terms scope declarations (terms_listed (drop (i + 1) terms)) >>= λ more. Ok (then_terms front more))) h
+    ∙ onto_terms_push bound one (bind_terms scope declarations (terms_listed (drop (i + 1) terms)))
+
+-- one that isn't is the fault of the whole
+pub terms_fault : (scope : Scope) (declarations : List ParamDecl) (whole : Result (Terms ℕ ℕ) SqlFault) (bound : List (code_term.Term ℕ ℕ)) (fault : SqlFault) (terms : List (code_term.Term ColumnRef (List ℕ))) (i : ℕ) (term : code_term.Term ColumnRef (List ℕ))
+    → i < length terms → term ≡ get_or terms i term → whole ≡ onto_terms (terms_listed bound) (bind_terms scope declarations (terms_listed (drop i terms)))
+    → bind_terms scope declarations (terms_listed (term ∷ [])) ≡ Err fault → whole ≡ Err fault
+terms_fault scope declarations whole bound fault terms i term lt e w h =
+    terms_next scope declarations whole bound terms i term lt e w
+    ∙ ap (λ r. onto_terms (terms_listed bound) (r >>= λ front. bind_terms scope declarations (terms_listed (drop (i + 1) terms)) >>= λ more. Ok (then_terms front more))) h
+
+-- ---- conditions
+
+abbrev pub then_conditions : {C P : Type 0} → Conditions C P → Conditions C P → Conditions C P
+then_conditions conditions.NoMore more = more
+then_conditions (conditions.Then condition all) more = conditions.Then condition (then_conditions all more)
+
+abbrev pub onto_conditions : Conditions ℕ ℕ → Result (Conditions ℕ ℕ) SqlFault → Result (Conditions ℕ ℕ) SqlFault
+onto_conditions front rest = rest >>= λ more. Ok (then_conditions front more)
+
+conditions_push : (all : List (code_condition.Condition ℕ ℕ)) (one : code_condition.Condition ℕ ℕ) (more : Conditions ℕ ℕ)
+    → then_conditions (conditions_listed (all ++ one ∷ [])) more ≡ then_conditions (conditions_listed all) (conditions.Then (condition_of one) more)
+conditions_push [] one more = refl
+conditions_push (c ∷ all) one more = ap (conditions.Then (condition_of c)) (conditions_push all one more)
+
+pub onto_conditions_push : (bound : List (code_condition.Condition ℕ ℕ)) (one : code_condition.Condition ℕ ℕ) (rest : Result (Conditions ℕ ℕ) SqlFault)
+    → onto_conditions (conditions_listed bound) (rest >>= λ more. Ok (conditions.Then (condition_of one) more)) ≡ onto_conditions (conditions_listed (bound ++ one ∷ [])) rest
+onto_conditions_push bound one (Err e) = refl
+onto_conditions_push bound one (Ok more) = ap Ok (sym (conditions_push bound one more))
+
+pub then_no_conditions : {C P : Type 0} (all : Conditions C P) → then_conditions all conditions.NoMore ≡ all
+then_no_conditions conditions.NoMore = refl
+then_no_conditions (conditions.Then condition all) = ap (conditions.Then condition) (then_no_conditions all)
+
+-- ---- a sum, part by part
+
+sum_parts : (scope : Scope) (declarations : List ParamDecl) (operand one : code.Operand ColumnRef (List ℕ)) (first : Box (code.Operand ColumnRef (List ℕ)) Global) (terms : Vec (code_term.Term ColumnRef (List ℕ)) Global) (items : List (code_term.Term ColumnRef (List ℕ)))
+    → operand ≡ code.Sum first terms → one ≡ first.value → items ≡ terms.items
+    → bind_operand scope declarations (operand_of operand)
+    ≡ (bind_operand scope declarations (operand_of one) >>= λ o. bind_terms scope declarations (terms_listed items) >>= λ more. Ok (operands.Sum o more))
+sum_parts scope declarations operand one first terms items e f g =
+    ap (λ o. bind_operand scope declarations (operand_of o)) e
+    ∙ ap (bind_operand scope declarations) (operand_of-Sum first terms ∙ ap (λ x. operands.Sum (operand_of x) (terms_listed terms.items)) (sym f) ∙ ap (λ x. operands.Sum (operand_of one) (terms_listed x)) (sym g))
+
+pub sum_fault : (scope : Scope) (declarations : List ParamDecl) (operand one : code.Operand ColumnRef (List ℕ)) (first : Box (code.Operand ColumnRef (List ℕ)) Global) (terms : Vec (code_term.Term ColumnRef (List ℕ)) Global) (items : List (code_term.Term ColumnRef (List ℕ)))
+    → operand ≡ code.Sum first terms → one ≡ first.value → items ≡ terms.items → (bound : Operand ℕ ℕ) (fault : SqlFault)
+    → bind_operand scope declarations (operand_of one) ≡ Ok bound → bind_terms scope declarations (terms_listed items) ≡ Err fault
+    → bind_operand scope declarations (operand_of operand) ≡ Err fault
+sum_fault scope declarations operand one first terms items e f g bound fault h k =
+    sum_parts scope declarations operand one first terms items e f g
+    ∙ ap (λ r. r >>= λ o. bind_terms scope declarations (terms_listed items) >>= λ more. Ok (operands.Sum o more)) h
+    ∙ ap (λ r. r >>= λ more. Ok (operands.Sum bound more)) k
+
+pub sum_bound : (scope : Scope) (declarations : List ParamDecl) (operand one : code.Operand ColumnRef (List ℕ)) (first : Box (code.Operand ColumnRef (List ℕ)) Global) (terms : Vec (code_term.Term ColumnRef (List ℕ)) Global) (items : List (code_term.Term ColumnRef (List ℕ)))
+    → operand ≡ code.Sum first terms → one ≡ first.value → items ≡ terms.items → (bound : Operand ℕ ℕ) (more : Terms ℕ ℕ)
+    → bind_operand scope declarations (operand_of one) ≡ Ok bound → bind_terms scope declarations (terms_listed items) ≡ Ok more
+    → bind_operand scope declarations (operand_of operand) ≡ Ok (operands.Sum bound more)
+sum_bound scope declarations operand one first terms items e f g bound more h k =
+    sum_parts scope declarations operand one first terms items e f g
+    ∙ ap (λ r. r >>= λ o. bind_terms scope declarations (terms_listed items) >>= λ m. Ok (operands.Sum o m)) h
+    ∙ ap (λ r. r >>= λ m. Ok (operands.Sum bound m)) k
+
+pub terms_done : (scope : Scope) (declarations : List ParamDecl) (whole : Result (Terms ℕ ℕ) SqlFault) (front : Terms ℕ ℕ) (terms : List (code_term.Term ColumnRef (List ℕ))) (i : ℕ)
+    → length terms ≤ i → whole ≡ onto_terms front (bind_terms scope declarations (terms_listed (drop i terms))) → whole ≡ Ok front
+terms_done scope declarations whole front terms i le w =
+    w ∙ at_drop_all (λ left. onto_terms front (bind_terms scope declarations (terms_listed left))) terms i le ∙ ap Ok (then_no_terms front)
+
+pub conditions_more : (scope : Scope) (declarations : List ParamDecl) (whole : Result (Conditions ℕ ℕ) SqlFault) (bound : List (code_condition.Condition ℕ ℕ)) (one : code_condition.Condition ℕ ℕ) (all : List (code_condition.Condition ColumnRef (List ℕ))) (i : ℕ) (condition : code_condition.Condition ColumnRef (List ℕ))
+    → i < length all → condition ≡ get_or all i condition → whole ≡ onto_conditions (conditions_listed bound) (bind_conditions scope declarations (conditions_listed (drop i all)))
+    → bind_condition scope declarations (condition_of condition) ≡ Ok (condition_of one)
+    → whole ≡ onto_conditions (conditions_listed (bound ++ one ∷ [])) (bind_conditions scope declarations (conditions_listed (drop (i + 1) all)))
+conditions_more scope declarations whole bound one all i condition lt e w h =
+    w ∙ at_drop_more (λ left. onto_conditions (conditions_listed bound) (bind_conditions scope declarations (conditions_listed left))) all i condition lt
+    ∙ ap (λ z. onto_conditions (conditions_listed bound) (bind_conditions scope declarations (conditions_listed (z ∷ drop (i + 1) all)))) (sym e)
+    ∙ ap (λ r. onto_conditions (conditions_listed bound) (r >>= λ o. bind_conditions scope declarations (conditions_listed (drop (i + 1) all)) >>= λ more. Ok (conditions.Then o more))) h
+    ∙ onto_conditions_push bound one (bind_conditions scope declarations (conditions_listed (drop (i + 1) all)))
+
+pub conditions_done : (scope : Scope) (declarations : List ParamDecl) (whole : Result (Conditions ℕ ℕ) SqlFault) (front : Conditions ℕ ℕ) (all : List (code_condition.Condition ColumnRef (List ℕ))) (i : ℕ)
+    → length all ≤ i → whole ≡ onto_conditions front (bind_conditions scope declarations (conditions_listed (drop i all))) → whole ≡ Ok front
+conditions_done scope declarations whole front all i le w =
+    w ∙ at_drop_all (λ left. onto_conditions front (bind_conditions scope declarations (conditions_listed left))) all i le ∙ ap Ok (then_no_conditions front)

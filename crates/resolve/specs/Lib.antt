@@ -1,6 +1,11 @@
 pub mod Bind
-pub mod Kinds
-pub mod Listed
-pub mod Named
-pub mod Results
+pub mod Changes
+pub mod Definitions
+pub mod Dropped
+pub mod Laws
+pub mod Names
+pub mod Queries
 pub mod Scopes
+pub mod Seen
+pub mod Tables
+pub mod Walks

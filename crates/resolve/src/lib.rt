@@ -1,12 +1,13 @@
 //! Binding: each name of a statement becomes the place of its column or parameter.
 #![tactic(auto)]
 
-pub mod faults;
-mod inserts;
-mod kinds;
+mod boxes;
+mod changes;
+mod conditions;
+mod definitions;
+pub mod laws;
 mod operands;
 mod queries;
 mod scopes;
+mod sources;
 pub mod statements;
-mod tables;
-pub mod uses;

@@ -1,33 +1,50 @@
-ghost use Rattle.std.specs.Prelude.{◌≡◌};
-ghost use Rattle.std.specs.Option.{option_map};
-ghost use Rattle.sql_tree.specs.Operands.{operand_of};
-ghost use Rattle.sql_tree.specs.Conditions.{condition_of};
-ghost use Rattle.resolve.specs.Bind.{bind_operand, bind_condition, bind_filter};
-ghost use Rattle.resolve.specs.Results.{Gives};
-ghost use Rattle.resolve.specs.Scopes.{scope_seen};
+ghost use Rattle.std.specs.Prelude.{Ok, [], ◌∷◌, map};
+ghost use Rattle.sql_tree.specs.Listed.{terms_listed};
+ghost use Rattle.sql_tree.specs.Operands.{Sum, operand_of};
+ghost use Rattle.ae_base.specs.Results.{Answers, AnswersAs};
+ghost use Rattle.resolve.specs.Names.{bind_operand, bind_operands, bind_terms, short};
+ghost use Rattle.resolve.specs.Seen.{scope_seen};
 
-use crate::faults::BindFault;
+use crate::boxes::boxed;
 use crate::scopes::{Scope, column_place, param_place};
 use ae_base::batches::ParamDecl;
 use ae_base::faults::SqlFault;
-use ae_base::lists::Duplicate;
-use ae_base::names::Name;
-use sql_tree::bound::{BoundCondition, BoundOperand};
-use sql_tree::conditions::Condition;
-use sql_tree::operands::{ColumnRef, Operand};
+use ae_base::lists::{Duplicate, Seq};
+use ae_base::names::ParamName;
+use ae_base::refusals::Refusal;
+use ae_base::values::Value;
+use sql_tree::bound::{BoundOperand, literal_type};
+use sql_tree::operands::{ColumnRef, Operand, Term};
+use std::alloc::Global;
 
+/// A literal past its type is refused.
+fn short(value: &Value) -> Result<(), Refusal>
+    ensures { Answers result (short value.now) }
+{
+    if value.fits(literal_type(value)) {
+        Ok(())
+    } else {
+        Err(Refusal::Fault(SqlFault::TooLong))
+    }
+}
+
+#[cycle(bind_operand)]
 pub(crate) fn bind_operand(
+    alloc: Global,
     scope: &Scope<'_>,
     declarations: &[ParamDecl],
-    operand: &Operand<ColumnRef, Name>,
-) -> Result<BoundOperand, BindFault>
-    ensures { Gives operand_of result (bind_operand (scope_seen scope.now) declarations.now (operand_of operand.now)) }
+    operand: &Operand<ColumnRef, ParamName>,
+) -> Result<BoundOperand, Refusal>
+    ensures { AnswersAs operand_of result (bind_operand (scope_seen scope.now) declarations.now (operand_of operand.now)) }
 {
     match operand {
-        Operand::Literal { at, value } => Ok(Operand::Literal {
-            at: *at,
-            value: value.copy()?,
-        }),
+        Operand::Literal { at, value } => {
+            short(value)?;
+            Ok(Operand::Literal {
+                at: *at,
+                value: value.copy()?,
+            })
+        }
         Operand::Param { at, param } => Ok(Operand::Param {
             at: *at,
             param: param_place(declarations, param)?,
@@ -36,42 +53,83 @@ pub(crate) fn bind_operand(
             at: *at,
             column: column_place(scope, column)?,
         }),
-        Operand::Minus { .. } | Operand::Sum { .. } => Err(BindFault::Refused(SqlFault::Syntax)),
+        Operand::Minus { at, operand } => {
+            let operand = bind_operand(alloc, scope, declarations, operand)?;
+            Ok(Operand::Minus {
+                at: *at,
+                operand: boxed(alloc, operand)?,
+            })
+        }
+        Operand::Sum { first, terms } => {
+            let first = bind_operand(alloc, scope, declarations, first)?;
+            let terms = bind_terms(alloc, scope, declarations, terms)?;
+            sum_of(alloc, first, terms)
+        }
     }
 }
 
-pub(crate) fn bind_condition(
+#[tactic(auto, using(crate::proofs::Trees::sum_seen))]
+fn sum_of(
+    alloc: Global,
+    first: BoundOperand,
+    terms: Seq<Term<usize, usize>>,
+) -> Result<BoundOperand, Refusal>
+    ensures { AnswersAs operand_of result (Ok (Sum (operand_of first) (terms_listed terms))) }
+{
+    Ok(Operand::Sum {
+        first: boxed(alloc, first)?,
+        terms: terms.into_vec(),
+    })
+}
+
+#[cycle(bind_operand)]
+fn bind_terms(
+    alloc: Global,
     scope: &Scope<'_>,
     declarations: &[ParamDecl],
-    condition: &Condition<ColumnRef, Name>,
-) -> Result<BoundCondition, BindFault>
-    ensures { Gives condition_of result (bind_condition (scope_seen scope.now) declarations.now (condition_of condition.now)) }
+    terms: &[Term<ColumnRef, ParamName>],
+) -> Result<Seq<Term<usize, usize>>, Refusal>
+    ensures { AnswersAs terms_listed result (bind_terms (scope_seen scope.now) declarations.now (terms_listed terms.now)) }
 {
-    match condition {
-        Condition::Compare {
-            at,
-            comparison,
-            left,
-            right,
-        } => Ok(Condition::Compare {
+    let mut bound = Seq::new(alloc);
+    for term in terms {
+        bound.push(bind_term(alloc, scope, declarations, term)?)?;
+    }
+    Ok(bound)
+}
+
+#[cycle(bind_operand)]
+fn bind_term(
+    alloc: Global,
+    scope: &Scope<'_>,
+    declarations: &[ParamDecl],
+    term: &Term<ColumnRef, ParamName>,
+) -> Result<Term<usize, usize>, Refusal>
+    ensures { AnswersAs (λ bound. terms_listed (bound ∷ [])) result (bind_terms (scope_seen scope.now) declarations.now (terms_listed (term.now ∷ []))) }
+{
+    match term {
+        Term::Plus { at, operand } => Ok(Term::Plus {
             at: *at,
-            comparison: *comparison,
-            left: bind_operand(scope, declarations, left)?,
-            right: bind_operand(scope, declarations, right)?,
+            operand: bind_operand(alloc, scope, declarations, operand)?,
         }),
-        _ => Err(BindFault::Refused(SqlFault::Syntax)),
+        Term::Minus { at, operand } => Ok(Term::Minus {
+            at: *at,
+            operand: bind_operand(alloc, scope, declarations, operand)?,
+        }),
     }
 }
 
-pub(crate) fn bind_filter(
+pub(crate) fn bind_operands(
+    alloc: Global,
     scope: &Scope<'_>,
     declarations: &[ParamDecl],
-    filter: &Option<Condition<ColumnRef, Name>>,
-) -> Result<Option<BoundCondition>, BindFault>
-    ensures { Gives (option_map condition_of) result (bind_filter (scope_seen scope.now) declarations.now (option_map condition_of filter.now)) }
+    operands: &[Operand<ColumnRef, ParamName>],
+) -> Result<Seq<BoundOperand>, Refusal>
+    ensures { AnswersAs (map operand_of) result (bind_operands (scope_seen scope.now) declarations.now (map operand_of operands.now)) }
 {
-    match filter {
-        Some(condition) => Ok(Some(bind_condition(scope, declarations, condition)?)),
-        None => Ok(None),
+    let mut bound = Seq::new(alloc);
+    for operand in operands {
+        bound.push(bind_operand(alloc, scope, declarations, operand)?)?;
     }
+    Ok(bound)
 }

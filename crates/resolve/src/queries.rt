@@ -1,94 +1,126 @@
-ghost use Rattle.std.specs.Prelude.{◌≡◌, map};
+ghost use Rattle.std.specs.Prelude.{◌≡◌, [], ◌∷◌, IfOk, map};
+ghost use Rattle.ae_base.specs.Results.{each, Answers, AnswersAs};
 ghost use Rattle.sql_tree.specs.Operands.{operand_of};
-ghost use Rattle.sql_tree.specs.Bound.{bound_of};
-ghost use Rattle.sql_tree.specs.Statements.{item_of, items_of, query_of};
-ghost use Rattle.resolve.specs.Bind.{each, bind_item, bind_items, result_column, has_later, bind_query, visible, scope_of};
-ghost use Rattle.resolve.specs.Results.{Gives};
-ghost use Rattle.resolve.specs.Scopes.{scope_seen};
+ghost use Rattle.sql_tree.specs.Bound as bound;
+ghost use Rattle.sql_tree.specs.Statements as tree;
+ghost use Rattle.resolve.specs.Scopes.{bound_source, scope_of};
+ghost use Rattle.resolve.specs.Tables.{all_sources};
+ghost use Rattle.resolve.specs.Queries.{bind_column_at, bind_item, bind_items, bind_join, bind_joins, bind_key, bind_query, bind_value, operand_title, starred, title_of};
+ghost use Rattle.resolve.specs.Seen.{column_seen, joined_seen, scope_seen, source_seen, sources_seen};
 
-use crate::faults::BindFault;
-use crate::kinds::filter_clash;
-use crate::operands::{bind_filter, bind_operand};
-use crate::scopes::{Scope, table_for};
+use crate::conditions::{bind_condition, bind_filter};
+use crate::operands::bind_operand;
+use crate::scopes::{Scope, ScopeColumn, Source, column_place};
+use crate::sources::{Joined, Sources};
 use ae_base::batches::ParamDecl;
-use ae_base::faults::SqlFault;
 use ae_base::lists::{Duplicate, Seq};
-use ae_base::names::Name;
-use ae_base::tables::{ColumnDef, TableDef};
-use catalog::catalogs::Catalog;
-use sql_tree::bound::{Bound, BoundOperand, BoundQuery, ResultColumn};
-use sql_tree::operands::Operand;
-use sql_tree::statements::{Item, ItemValue, Items, Query, SourceTable};
-use std::alloc::Global;
+use ae_base::names::{ParamName, Title};
+use ae_base::refusals::Refusal;
+use sql_tree::bound::{
+    BoundItem, BoundItemValue, BoundJoin, BoundOrderKey, BoundQuery, BoundSource, PlaceAt,
+};
+use sql_tree::operands::{ColumnRef, Operand};
+use sql_tree::statements::{ColumnAt, Item, ItemValue, Items, OrderKey, Query};
+use std::alloc::{AllocError, Global};
 
-pub(crate) fn bind_query(
+/// The scope of all tables of a query.
+pub(crate) fn whole_scope<'a>(alloc: Global, sources: &Sources<'a>) -> Result<Scope<'a>, AllocError>
+    ensures { IfOk result (λ scope. scope_seen scope ≡ scope_of (all_sources (sources_seen sources.now))) }
+{
+    let mut scope = Scope::nothing(alloc);
+    scope.add(sources.from)?;
+    for join in sources.joins.as_slice() {
+        scope.add(join.source)?;
+    }
+    Ok(scope)
+}
+
+fn bound_source(source: &Source<'_>) -> Result<BoundSource, AllocError>
+    ensures { IfOk result (λ bound. bound ≡ bound_source (source_seen source.now)) }
+{
+    Ok(BoundSource {
+        table: source.table.copy()?,
+        width: source.def.columns.len(),
+    })
+}
+
+fn starred(alloc: Global, at: u32, scope: &Scope<'_>) -> Result<Seq<BoundItem>, AllocError>
+    ensures { IfOk result (λ items. map bound.item_of items ≡ starred at 0 (scope_seen scope.now).columns) }
+{
+    let mut items = Seq::new(alloc);
+    for (place, column) in scope.columns.as_slice().iter().enumerate() {
+        items.push(starred_item(at, place, column)?)?;
+    }
+    Ok(items)
+}
+
+fn starred_item(at: u32, place: usize, column: &ScopeColumn<'_>) -> Result<BoundItem, AllocError>
+    ensures { IfOk result (λ item. starred at place (column_seen column.now ∷ []) ≡ bound.item_of item ∷ []) }
+{
+    Ok(BoundItem {
+        title: Title::from_name(column.column.name.copy()?),
+        value: BoundItemValue::Value(Operand::Column { at, column: place }),
+    })
+}
+
+/// The title of a column of the result: the alias, else the column's name, else nothing.
+fn title_of(alloc: Global, item: &Item) -> Result<Title, AllocError>
+    ensures { IfOk result (λ title. title ≡ title_of (tree.item_of item.now)) }
+{
+    match (&item.alias, &item.value) {
+        (Some(alias), _) => Ok(Title::from_name(alias.copy()?)),
+        (None, ItemValue::Value(operand)) => operand_title(alloc, operand),
+        (None, ItemValue::Count { .. }) => Ok(Title::empty(alloc)),
+    }
+}
+
+fn operand_title(
     alloc: Global,
-    catalog: &Catalog,
-    declarations: &[ParamDecl],
-    query: &Query,
-) -> Result<Bound, BindFault>
-    ensures { Gives bound_of result (bind_query catalog.now declarations.now (query_of query.now)) }
+    operand: &Operand<ColumnRef, ParamName>,
+) -> Result<Title, AllocError>
+    ensures { IfOk result (λ title. title ≡ operand_title (operand_of operand.now)) }
 {
-    if has_later(query) {
-        return Err(BindFault::Refused(SqlFault::Syntax));
-    }
-    let def = table_for(catalog, &query.from.table)?;
-    let columns = def.columns.as_slice();
-    let scope = scope_of(&query.from, def);
-    let items = bind_items(alloc, &scope, declarations, &query.items)?;
-    let filter = bind_filter(&scope, declarations, &query.filter)?;
-    filter_clash(columns, declarations, &filter)?;
-    Ok(Bound::Select(BoundQuery {
-        columns: result_columns(alloc, &def.columns, items.as_slice())?,
-        from: query.from.table.copy()?,
-        joins: Seq::new(alloc),
-        filter,
-        items,
-    }))
-}
-
-/// Whether a clause that is executed later stands in the query.
-fn has_later(query: &Query) -> bool
-    ensures { result ≡ has_later (query_of query.now) }
-{
-    query.distinct.is_some()
-        || query.top.is_some()
-        || !query.joins.is_empty()
-        || !query.group_by.is_empty()
-        || !query.order_by.is_empty()
-}
-
-/// A table's visible name: its alias, else its own.
-fn visible(source: &SourceTable) -> &Name
-    ensures { result.now ≡ visible source.now }
-{
-    match &source.alias {
-        Some(alias) => alias,
-        None => &source.table,
+    match operand {
+        Operand::Column { column, .. } => Ok(Title::from_name(column.name.copy()?)),
+        Operand::Literal { .. }
+        | Operand::Param { .. }
+        | Operand::Minus { .. }
+        | Operand::Sum { .. } => Ok(Title::empty(alloc)),
     }
 }
 
-fn scope_of<'a>(source: &'a SourceTable, def: &'a TableDef) -> Scope<'a>
-    ensures { scope_seen result ≡ scope_of source.now def.now }
-{
-    Scope::Table {
-        visible: visible(source),
-        columns: def.columns.as_slice(),
-    }
-}
-
-fn bind_items(
+fn bind_value(
     alloc: Global,
     scope: &Scope<'_>,
     declarations: &[ParamDecl],
-    items: &Items,
-) -> Result<Seq<BoundOperand>, BindFault>
-    ensures { Gives (map operand_of) result (bind_items (scope_seen scope.now) declarations.now (items_of items.now)) }
+    value: &ItemValue,
+) -> Result<BoundItemValue, Refusal>
+    ensures { AnswersAs bound.item_value_of result (bind_value (scope_seen scope.now) declarations.now (tree.value_of value.now)) }
 {
-    match items {
-        Items::Star { .. } => Err(BindFault::Refused(SqlFault::Syntax)),
-        Items::List(items) => bind_list(alloc, scope, declarations, items.as_slice()),
+    match value {
+        ItemValue::Value(operand) => Ok(BoundItemValue::Value(bind_operand(
+            alloc,
+            scope,
+            declarations,
+            operand,
+        )?)),
+        ItemValue::Count { at } => Ok(BoundItemValue::Count { at: *at }),
     }
+}
+
+fn bind_item(
+    alloc: Global,
+    scope: &Scope<'_>,
+    declarations: &[ParamDecl],
+    item: &Item,
+) -> Result<BoundItem, Refusal>
+    ensures { AnswersAs bound.item_of result (bind_item (scope_seen scope.now) declarations.now (tree.item_of item.now)) }
+{
+    let title = title_of(alloc, item)?;
+    Ok(BoundItem {
+        title,
+        value: bind_value(alloc, scope, declarations, &item.value)?,
+    })
 }
 
 fn bind_list(
@@ -96,59 +128,123 @@ fn bind_list(
     scope: &Scope<'_>,
     declarations: &[ParamDecl],
     items: &[Item],
-) -> Result<Seq<BoundOperand>, BindFault>
-    ensures { Gives (map operand_of) result (each (bind_item (scope_seen scope.now) declarations.now) (map item_of items.now)) }
+) -> Result<Seq<BoundItem>, Refusal>
+    ensures { AnswersAs (map bound.item_of) result (each (bind_item (scope_seen scope.now) declarations.now) (map tree.item_of items.now)) }
 {
-    let mut operands = Seq::new(alloc);
+    let mut list = Seq::new(alloc);
     for item in items {
-        operands.push(bind_item(scope, declarations, item)?)?;
+        list.push(bind_item(alloc, scope, declarations, item)?)?;
     }
-    Ok(operands)
+    Ok(list)
 }
 
-fn bind_item(
+fn bind_items(
+    alloc: Global,
     scope: &Scope<'_>,
     declarations: &[ParamDecl],
-    item: &Item,
-) -> Result<BoundOperand, BindFault>
-    ensures { Gives operand_of result (bind_item (scope_seen scope.now) declarations.now (item_of item.now)) }
+    items: &Items,
+) -> Result<Seq<BoundItem>, Refusal>
+    ensures { AnswersAs (map bound.item_of) result (bind_items (scope_seen scope.now) declarations.now (tree.items_of items.now)) }
 {
-    match &item.value {
-        ItemValue::Value(operand) => bind_operand(scope, declarations, operand),
-        ItemValue::Count { .. } => Err(BindFault::Refused(SqlFault::Syntax)),
+    match items {
+        Items::Star { at } => Ok(starred(alloc, *at, scope)?),
+        Items::List(items) => bind_list(alloc, scope, declarations, items.as_slice()),
     }
 }
 
-fn result_columns(
+fn bind_join(
     alloc: Global,
-    columns: &Seq<ColumnDef>,
-    items: &[BoundOperand],
-) -> Result<Seq<ResultColumn>, BindFault>
-    ensures { Gives (λ results. results) result (each (result_column columns.now) (map operand_of items.now)) }
+    scope: &Scope<'_>,
+    declarations: &[ParamDecl],
+    join: &Joined<'_>,
+) -> Result<BoundJoin, Refusal>
+    ensures { AnswersAs bound.join_of result (bind_join (scope_seen scope.now) declarations.now (joined_seen join.now)) }
 {
-    let mut results = Seq::new(alloc);
-    for item in items {
-        results.push(result_column(columns, item)?)?;
-    }
-    Ok(results)
+    let source = bound_source(&join.source)?;
+    Ok(BoundJoin {
+        source,
+        on: bind_condition(alloc, scope, declarations, join.on)?,
+    })
 }
 
-/// A column of the result, with the name, the type and the encryption of its column.
-fn result_column(columns: &Seq<ColumnDef>, item: &BoundOperand) -> Result<ResultColumn, BindFault>
-    ensures { Gives (λ column. column) result (result_column columns.now (operand_of item.now)) }
+fn bind_joins(
+    alloc: Global,
+    declarations: &[ParamDecl],
+    from: Source<'_>,
+    joins: &[Joined<'_>],
+) -> Result<Seq<BoundJoin>, Refusal>
+    ensures { AnswersAs (map bound.join_of) result (bind_joins declarations.now (scope_of (source_seen from.entry ∷ [])) (map joined_seen joins.now)) }
 {
-    match item {
-        Operand::Column { column, .. } => match columns.as_slice().get(*column) {
-            Some(column) => Ok(ResultColumn {
-                name: column.name.copy()?.into_txt(),
-                ty: column.ty,
-                enc: column.enc,
-            }),
-            None => Err(BindFault::Refused(SqlFault::Syntax)),
-        },
-        Operand::Literal { .. }
-        | Operand::Param { .. }
-        | Operand::Minus { .. }
-        | Operand::Sum { .. } => Err(BindFault::Refused(SqlFault::Syntax)),
+    let mut scope = Scope::nothing(alloc);
+    scope.add(from)?;
+    let mut list = Seq::new(alloc);
+    for join in joins {
+        scope.add(join.source)?;
+        list.push(bind_join(alloc, &scope, declarations, join)?)?;
     }
+    Ok(list)
+}
+
+fn bind_columns(
+    alloc: Global,
+    scope: &Scope<'_>,
+    columns: &[ColumnAt],
+) -> Result<Seq<PlaceAt>, Refusal>
+    ensures { Answers result (each (bind_column_at (scope_seen scope.now)) columns.now) }
+{
+    let mut list = Seq::new(alloc);
+    for column in columns {
+        let place = column_place(scope, &column.column)?;
+        list.push(PlaceAt {
+            at: column.at,
+            place,
+        })?;
+    }
+    Ok(list)
+}
+
+fn bind_keys(
+    alloc: Global,
+    scope: &Scope<'_>,
+    keys: &[OrderKey],
+) -> Result<Seq<BoundOrderKey>, Refusal>
+    ensures { Answers result (each (bind_key (scope_seen scope.now)) keys.now) }
+{
+    let mut list = Seq::new(alloc);
+    for key in keys {
+        let place = column_place(scope, &key.column.column)?;
+        list.push(BoundOrderKey {
+            at: key.column.at,
+            place,
+            descending: key.descending,
+        })?;
+    }
+    Ok(list)
+}
+
+/// The query with its names as places.
+pub(crate) fn bind_query(
+    alloc: Global,
+    declarations: &[ParamDecl],
+    sources: &Sources<'_>,
+    query: &Query,
+) -> Result<BoundQuery, Refusal>
+    ensures { AnswersAs bound.query_of result (bind_query declarations.now (sources_seen sources.now) (tree.query_of query.now)) }
+{
+    let scope = whole_scope(alloc, sources)?;
+    let items = bind_items(alloc, &scope, declarations, &query.items)?;
+    let joins = bind_joins(alloc, declarations, sources.from, sources.joins.as_slice())?;
+    let filter = bind_filter(alloc, &scope, declarations, &query.filter)?;
+    let group_by = bind_columns(alloc, &scope, query.group_by.as_slice())?;
+    let order_by = bind_keys(alloc, &scope, query.order_by.as_slice())?;
+    Ok(BoundQuery {
+        distinct: query.distinct,
+        top: query.top,
+        items,
+        from: bound_source(&sources.from)?,
+        joins,
+        filter,
+        group_by,
+        order_by,
+    })
 }

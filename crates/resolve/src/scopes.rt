@@ -1,51 +1,90 @@
-ghost use Rattle.std.specs.Prelude.{◌≡◌};
-ghost use Rattle.std.specs.List.{position_from};
+ghost use Rattle.std.specs.Prelude.{◌≡◌, ◌++◌, OnOk, map};
+ghost use Rattle.std.specs.List.{list_any, position};
 ghost use Rattle.std.specs.Str.{bytes_eq};
-ghost use Rattle.resolve.specs.Bind.{table_for, param_place, column_place, is_meant, places_from, one_place, nothing_in_scope};
-ghost use Rattle.resolve.specs.Results.{Gives};
-ghost use Rattle.resolve.specs.Scopes.{scope_seen, table_scope, columns_of};
+ghost use Rattle.ae_base.specs.Results.{Answers};
+ghost use Rattle.resolve.specs.Scopes.{column_place, columns_under, is_meant, is_of, known_source, new_place, nothing_in_scope, one_place, param_place, places_from, with_source};
+ghost use Rattle.resolve.specs.Seen.{column_seen, scope_seen, source_seen};
 
-use crate::faults::BindFault;
 use ae_base::batches::ParamDecl;
 use ae_base::faults::SqlFault;
-use ae_base::lists::Duplicate;
-use ae_base::names::Name;
+use ae_base::lists::{Duplicate, Seq};
+use ae_base::names::{Name, ParamName};
+use ae_base::refusals::Refusal;
 use ae_base::tables::{ColumnDef, TableDef};
-use catalog::catalogs::Catalog;
 use sql_tree::operands::ColumnRef;
+use std::alloc::{AllocError, Global};
 
-/// What a name can mean: nothing, or the columns of a table with its visible name.
-#[derive(Drop)]
-pub(crate) enum Scope<'a> {
-    Nothing,
-    Table {
-        visible: &'a Name,
-        columns: &'a [ColumnDef],
-    },
+/// A table that a statement reads, under its visible name.
+#[derive(Clone, Copy, Drop)]
+pub(crate) struct Source<'a> {
+    pub table: &'a Name,
+    pub visible: &'a Name,
+    pub def: &'a TableDef,
 }
 
-/// The table of a name.
-pub(crate) fn table_for<'a>(catalog: &'a Catalog, name: &Name) -> Result<&'a TableDef, BindFault>
-    ensures { Gives (λ table. table.now) result (table_for catalog.now name.now) }
-{
-    match catalog.table(name) {
-        Some(table) => Ok(table),
-        None => Err(BindFault::Refused(SqlFault::NoTable(name.copy()?))),
+/// A column in scope, with the visible name of its table.
+#[derive(Clone, Copy, Drop)]
+pub(crate) struct ScopeColumn<'a> {
+    pub visible: &'a Name,
+    pub column: &'a ColumnDef,
+}
+
+/// What a name can mean: the visible names of the tables, and their columns one after another.
+#[derive(Drop)]
+pub(crate) struct Scope<'a> {
+    pub sources: Seq<&'a Name>,
+    pub columns: Seq<ScopeColumn<'a>>,
+}
+
+impl<'a> Scope<'a> {
+    /// The scope in which no name means anything.
+    pub fn nothing(alloc: Global) -> Scope<'a>
+        ensures { scope_seen result ≡ nothing_in_scope }
+    {
+        Scope {
+            sources: Seq::new(alloc),
+            columns: Seq::new(alloc),
+        }
     }
+
+    /// Puts the columns of a table behind those that are there.
+    pub fn add(&mut self, source: Source<'a>) -> Result<(), AllocError>
+        ensures { OnOk result (scope_seen self.new ≡ with_source (scope_seen self.old) (source_seen source.entry)) }
+    {
+        self.sources.push(source.visible)?;
+        add_columns(
+            &mut self.columns,
+            source.visible,
+            source.def.columns.as_slice(),
+        )
+    }
+}
+
+fn add_columns<'a>(
+    found: &mut Seq<ScopeColumn<'a>>,
+    visible: &'a Name,
+    columns: &'a [ColumnDef],
+) -> Result<(), AllocError>
+    ensures { OnOk result (map column_seen found.new ≡ map column_seen found.old ++ columns_under visible.now columns.now) }
+{
+    for column in columns {
+        found.push(ScopeColumn { visible, column })?;
+    }
+    Ok(())
 }
 
 /// The place of a declared parameter, from 0.
-pub(crate) fn param_place(declarations: &[ParamDecl], name: &Name) -> Result<usize, BindFault>
-    ensures { Gives (λ place. place) result (param_place declarations.now name.now) }
+pub(crate) fn param_place(declarations: &[ParamDecl], name: &ParamName) -> Result<usize, Refusal>
+    ensures { Answers result (param_place declarations.now name.now) }
 {
     match declared(declarations, name) {
         Some(place) => Ok(place),
-        None => Err(BindFault::Refused(SqlFault::NoParam(name.copy()?))),
+        None => Err(Refusal::Fault(SqlFault::NoParam(name.copy()?))),
     }
 }
 
-fn declared(declarations: &[ParamDecl], name: &Name) -> Option<usize>
-    ensures { result ≡ position_from (λ declaration. bytes_eq declaration.name name.now) 0 declarations.now }
+fn declared(declarations: &[ParamDecl], name: &ParamName) -> Option<usize>
+    ensures { result ≡ position (λ declaration. bytes_eq declaration.name name.now) declarations.now }
 {
     declarations
         .iter()
@@ -53,60 +92,77 @@ fn declared(declarations: &[ParamDecl], name: &Name) -> Option<usize>
 }
 
 /// The place of the column that a name means, from 0.
-pub(crate) fn column_place(scope: &Scope<'_>, column: &ColumnRef) -> Result<usize, BindFault>
-    ensures { Gives (λ place. place) result (column_place (scope_seen scope.now) column.now) }
-{
-    match scope {
-        Scope::Nothing => in_nothing(column),
-        Scope::Table { visible, columns } => in_table(visible, columns, column),
-    }
-}
-
-fn in_nothing(column: &ColumnRef) -> Result<usize, BindFault>
-    ensures { Gives (λ place. place) result (column_place nothing_in_scope column.now) }
-{
-    match &column.qualifier {
-        Some(qualifier) => Err(BindFault::Refused(SqlFault::NoTable(qualifier.copy()?))),
-        None => Err(BindFault::Refused(SqlFault::NoColumn(column.name.copy()?))),
-    }
-}
-
-fn in_table(visible: &Name, columns: &[ColumnDef], column: &ColumnRef) -> Result<usize, BindFault>
-    ensures { Gives (λ place. place) result (column_place (table_scope visible.now columns.now) column.now) }
+pub(crate) fn column_place(scope: &Scope<'_>, column: &ColumnRef) -> Result<usize, Refusal>
+    ensures { Answers result (column_place (scope_seen scope.now) column.now) }
 {
     if let Some(qualifier) = &column.qualifier {
-        if *qualifier != *visible {
-            return Err(BindFault::Refused(SqlFault::NoTable(qualifier.copy()?)));
+        if !is_source(scope.sources.as_slice(), qualifier) {
+            return Err(Refusal::Fault(SqlFault::NoTable(qualifier.copy()?)));
         }
     }
-    one_place(visible, columns, column)
+    one_place(scope.columns.as_slice(), column)
+}
+
+/// Whether a table is visible under a name.
+pub(crate) fn is_source(sources: &[&Name], name: &Name) -> bool
+    ensures { result ≡ list_any (bytes_eq name.now) (map (λ source. source.now) sources.now) }
+{
+    for source in sources {
+        let source: &Name = source;
+        if *name == *source {
+            return true;
+        }
+    }
+    false
 }
 
 /// The place of the one column that a name means.
-fn one_place(visible: &Name, columns: &[ColumnDef], column: &ColumnRef) -> Result<usize, BindFault>
-    ensures { Gives (λ place. place) result (one_place column.now.name (places_from 0 column.now (columns_of visible.now columns.now))) }
+fn one_place(columns: &[ScopeColumn<'_>], column: &ColumnRef) -> Result<usize, Refusal>
+    ensures { Answers result (one_place column.now.name (places_from 0 column.now (map column_seen columns.now))) }
 {
     let mut found = None;
     for (place, candidate) in columns.iter().enumerate() {
-        if is_meant(column, visible, candidate) {
+        if is_meant(column, candidate) {
             if found.is_some() {
-                return Err(BindFault::Refused(SqlFault::Ambiguous(column.name.copy()?)));
+                return Err(Refusal::Fault(SqlFault::Ambiguous(column.name.copy()?)));
             }
             found = Some(place);
         }
     }
     match found {
         Some(place) => Ok(place),
-        None => Err(BindFault::Refused(SqlFault::NoColumn(column.name.copy()?))),
+        None => Err(Refusal::Fault(SqlFault::NoColumn(column.name.copy()?))),
     }
 }
 
-fn is_meant(column: &ColumnRef, visible: &Name, candidate: &ColumnDef) -> bool
-    ensures { result ≡ is_meant column.now (record { source = visible.now; column = candidate.now }) }
+fn is_meant(column: &ColumnRef, candidate: &ScopeColumn<'_>) -> bool
+    ensures { result ≡ is_meant column.now (column_seen candidate.now) }
 {
-    candidate.name == column.name
+    candidate.column.name == column.name
         && match &column.qualifier {
-            Some(qualifier) => *qualifier == *visible,
+            Some(qualifier) => *qualifier == *candidate.visible,
             None => true,
         }
+}
+
+/// The place of a column of a table.
+pub(crate) fn place_named(columns: &[ColumnDef], name: &Name) -> Option<usize>
+    ensures { result ≡ position (λ column. bytes_eq column.name name.now) columns.now }
+{
+    columns.iter().position(|column| column.name == *name)
+}
+
+/// The place of a column of a table that wasn't given before.
+pub(crate) fn new_place(
+    columns: &[ColumnDef],
+    name: &Name,
+    is_given: bool,
+) -> Result<usize, Refusal>
+    ensures { Answers result (new_place columns.now name.now is_given) }
+{
+    match place_named(columns, name) {
+        Some(_) if is_given => Err(Refusal::Fault(SqlFault::Ambiguous(name.copy()?))),
+        Some(place) => Ok(place),
+        None => Err(Refusal::Fault(SqlFault::NoColumn(name.copy()?))),
+    }
 }

@@ -4,10 +4,7 @@ use std::alloc::{AllocError, Global};
 pub(crate) fn kinds_of(alloc: Global, frames: &[u8]) -> Result<Vec<u8>, AllocError> {
     let mut kinds = Vec::new(alloc);
     let mut rest = frames;
-    for _ in 0..frames.len() {
-        let [_, kind, a, b, c, d, behind @ ..] = rest else {
-            break
-        };
+    'frames: while let [_, kind, a, b, c, d, behind @ ..] = rest {
         kinds.push(*kind)?;
         let length = u32::from_be_bytes([*a, *b, *c, *d]) as usize;
         rest = behind.get(length..).unwrap_or(&[]);

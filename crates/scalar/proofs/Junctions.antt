@@ -1,25 +1,22 @@
 -- AND and OR over a list, from left to right.
-use Rattle.std.proofs.Common.{◌≡◌, ℕ, zero, suc, ◌+◌, ◌<◌, List, [], ◌∷◌, length, get_or, drop, map, refl, ap, sym, subst, ◌∙◌, arith, Option, Some, None, Vec, Global}
+use Rattle.std.proofs.Common.{◌≡◌, ℕ, zero, suc, ◌<◌, List, [], ◌∷◌, length, get_or, map, refl, ap, sym, subst, ◌∙◌, arith, Result, Ok, Vec, Global}
 use Rattle.std.specs.List.{All}
-use Rattle.std.proofs.lemmas.List.{at_drop_more}
 use Rattle.std.proofs.lemmas.List.Elements.{All-head, All-tail}
 use mathlib.Core.Former.{Count}
-use Rattle.ae_base.specs.declared.atoms.AtomOf.{AtomOf}
-use Rattle.sql_tree.specs.declared.conditions.Comparison.TheVariants as comparison
 use Rattle.sql_tree.specs.declared.conditions.Condition as code
 use Rattle.sql_tree.specs.declared.operands.Operand as code_operand
 use Rattle.sql_tree.specs.Operands.{operand_of}
 use Rattle.sql_tree.specs.Conditions as conditions
 use Rattle.sql_tree.specs.Conditions.{condition_of, conditions_of}
 use Rattle.scalar.specs.declared.truth.Truth.{Truth}
-use Rattle.scalar.specs.declared.truth.Truth.TheVariants.{True, False, Unknown}
-use Rattle.scalar.specs.Eval.{◌>>=◌, eval, compare, conjunction, disjunction, in_list, truth, truth_all, truth_any}
-use Rattle.scalar.specs.Listed.{conditions_listed}
-use Rattle.scalar.specs.Places.{IsOperandWithin, IsConditionWithin, AreConditionsWithin}
+use Rattle.ae_base.specs.Results.{◌>>=◌}
+use Rattle.scalar.specs.declared.faults.Overflow.{Overflow}
+use Rattle.sql_tree.specs.Listed.{conditions_listed}
+use Rattle.sql_tree.specs.Placed.{IsPlaced, IsPlacedCondition, ArePlacedConditions}
 
 -- a truth so far, and that of the rest
-abbrev pub joined : (Truth → Truth → Truth) → Truth → Option Truth → Option Truth
-joined f so_far rest = rest >>= λ t. Some (f so_far t)
+abbrev pub joined : (Truth → Truth → Truth) → Truth → Result Truth Overflow → Result Truth Overflow
+joined f so_far rest = rest >>= λ t. Ok (f so_far t)
 
 -- ---- conditions as they lie in memory
 
@@ -46,22 +43,22 @@ condition_of-AnyOf condition any items e f =
 
 -- ---- places
 
-pub condition_within : (width count : ℕ) (xs : List (code.Condition ℕ ℕ)) (i : ℕ) (x : code.Condition ℕ ℕ) → i < length xs → x ≡ get_or xs i x → AreConditionsWithin width count (conditions_listed xs)
-    → IsConditionWithin width count (condition_of x)
-condition_within width count xs i x lt e h = subst (λ y. IsConditionWithin width count (condition_of y)) (sym e) (there xs i x lt h)
+pub condition_within : (width count : ℕ) (xs : List (code.Condition ℕ ℕ)) (i : ℕ) (x : code.Condition ℕ ℕ) → i < length xs → x ≡ get_or xs i x → ArePlacedConditions width count (conditions_listed xs)
+    → IsPlacedCondition width count (condition_of x)
+condition_within width count xs i x lt e h = subst (λ y. IsPlacedCondition width count (condition_of y)) (sym e) (there xs i x lt h)
   where
-    there : (xs : List (code.Condition ℕ ℕ)) (i : ℕ) (default : code.Condition ℕ ℕ) → i < length xs → AreConditionsWithin width count (conditions_listed xs)
-        → IsConditionWithin width count (condition_of (get_or xs i default))
+    there : (xs : List (code.Condition ℕ ℕ)) (i : ℕ) (default : code.Condition ℕ ℕ) → i < length xs → ArePlacedConditions width count (conditions_listed xs)
+        → IsPlacedCondition width count (condition_of (get_or xs i default))
     there [] i default lt h = absurd (omega arith)
     there (x ∷ xs) zero default lt h = h.0
     there (x ∷ xs) (suc i) default lt h = there xs i default (omega arith) h.1
 
-pub operand_within : (width count : ℕ) (xs : List (code_operand.Operand ℕ ℕ)) (i : ℕ) (x : code_operand.Operand ℕ ℕ) → i < length xs → x ≡ get_or xs i x → All (IsOperandWithin width count) (map operand_of xs)
-    → IsOperandWithin width count (operand_of x)
-operand_within width count xs i x lt e h = subst (λ y. IsOperandWithin width count (operand_of y)) (sym e) (there xs i x lt h)
+pub operand_within : (width count : ℕ) (xs : List (code_operand.Operand ℕ ℕ)) (i : ℕ) (x : code_operand.Operand ℕ ℕ) → i < length xs → x ≡ get_or xs i x → All (IsPlaced width count) (map operand_of xs)
+    → IsPlaced width count (operand_of x)
+operand_within width count xs i x lt e h = subst (λ y. IsPlaced width count (operand_of y)) (sym e) (there xs i x lt h)
   where
-    there : (xs : List (code_operand.Operand ℕ ℕ)) (i : ℕ) (default : code_operand.Operand ℕ ℕ) → i < length xs → All (IsOperandWithin width count) (map operand_of xs)
-        → IsOperandWithin width count (operand_of (get_or xs i default))
+    there : (xs : List (code_operand.Operand ℕ ℕ)) (i : ℕ) (default : code_operand.Operand ℕ ℕ) → i < length xs → All (IsPlaced width count) (map operand_of xs)
+        → IsPlaced width count (operand_of (get_or xs i default))
     there [] i default lt h = absurd (omega arith)
-    there (x ∷ xs) zero default lt h = All-head (IsOperandWithin width count) (operand_of x) (map operand_of xs) h
-    there (x ∷ xs) (suc i) default lt h = there xs i default (omega arith) (All-tail (IsOperandWithin width count) (operand_of x) (map operand_of xs) h)
+    there (x ∷ xs) zero default lt h = All-head (IsPlaced width count) (operand_of x) (map operand_of xs) h
+    there (x ∷ xs) (suc i) default lt h = there xs i default (omega arith) (All-tail (IsPlaced width count) (operand_of x) (map operand_of xs) h)

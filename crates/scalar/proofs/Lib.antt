@@ -1,2 +1,4 @@
+pub mod Correspondence
 pub mod Junctions
+pub mod Renaming
 pub mod Terms

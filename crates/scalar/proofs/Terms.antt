@@ -1,5 +1,5 @@
 -- The terms of a sum one by one.
-use Rattle.std.proofs.Common.{◌≡◌, ℕ, zero, suc, ◌+◌, ◌<◌, List, [], ◌∷◌, length, get_or, drop, refl, ap, sym, subst, ◌∙◌, arith, Option, Some, None, unwrap_or, Box, Vec, Global}
+use Rattle.std.proofs.Common.{◌≡◌, ℕ, zero, suc, ◌+◌, ◌<◌, List, [], ◌∷◌, length, get_or, drop, refl, ap, sym, subst, ◌∙◌, arith, Result, Ok, Err, unwrap_or, Box, Vec, Global}
 use Rattle.std.proofs.lemmas.Option.{slice_get_read}
 use mathlib.Core.Former.{Count}
 use Rattle.std.proofs.lemmas.List.{at_drop_more}
@@ -8,9 +8,11 @@ use Rattle.ae_base.specs.declared.atoms.AtomOf.TheVariants.{Null}
 use Rattle.sql_tree.specs.Operands as operands
 use Rattle.sql_tree.specs.declared.operands.Operand as code
 use Rattle.sql_tree.specs.declared.operands.Term as code_term
-use Rattle.scalar.specs.Eval.{◌>>=◌, atom_at, eval, eval_terms}
-use Rattle.scalar.specs.Listed.{terms_listed}
-use Rattle.scalar.specs.Places.{IsOperandWithin, AreTermsWithin}
+use Rattle.ae_base.specs.Results.{◌>>=◌}
+use Rattle.scalar.specs.declared.faults.Overflow.{Overflow}
+use Rattle.scalar.specs.Eval.{atom_at, number_or_null, eval, eval_terms}
+use Rattle.sql_tree.specs.Listed.{terms_listed}
+use Rattle.sql_tree.specs.Placed.{IsPlaced, ArePlaced}
 
 terms_of-row : {C P : Type 0} (m : _) (row : code.Row_of-Term C P m) → operands.terms_of row ≡ terms_listed (code.items-the_row-Term C P m row)
 terms_of-row m code.end_of-Term = refl
@@ -28,31 +30,31 @@ operand_of-Sum first terms =
 
 -- the terms of a sum lie within the places where the sum does
 pub terms_within : (width count : ℕ) (operand : code.Operand ℕ ℕ) (first : Box (code.Operand ℕ ℕ) Global) (terms : Vec (code_term.Term ℕ ℕ) Global) (items : List (code_term.Term ℕ ℕ))
-    → operand ≡ code.Sum first terms → items ≡ terms.items → IsOperandWithin width count (operands.operand_of operand) → AreTermsWithin width count (terms_listed items)
+    → operand ≡ code.Sum first terms → items ≡ terms.items → IsPlaced width count (operands.operand_of operand) → ArePlaced width count (terms_listed items)
 terms_within width count operand first terms items e f h =
-    let g : IsOperandWithin width count (operands.Sum (operands.operand_of first.value) (terms_listed items)) =
-    subst (IsOperandWithin width count) (ap operands.operand_of e ∙ operand_of-Sum first terms ∙ ap (λ x. operands.Sum (operands.operand_of first.value) (terms_listed x)) (sym f)) h in
+    let g : IsPlaced width count (operands.Sum (operands.operand_of first.value) (terms_listed items)) =
+    subst (IsPlaced width count) (ap operands.operand_of e ∙ operand_of-Sum first terms ∙ ap (λ x. operands.Sum (operands.operand_of first.value) (terms_listed x)) (sym f)) h in
     g.1
 
 -- a sum is its first value and then its terms
 pub sum_of_parts : (row params : List (AtomOf (List ℕ))) (operand one : code.Operand ℕ ℕ) (first : Box (code.Operand ℕ ℕ) Global) (terms : Vec (code_term.Term ℕ ℕ) Global) (items : List (code_term.Term ℕ ℕ))
-    (sum : AtomOf (List ℕ)) → operand ≡ code.Sum first terms → one ≡ first.value → items ≡ terms.items → eval row params (operands.operand_of one) ≡ Some sum
-    → eval row params (operands.operand_of operand) ≡ eval_terms row params sum (terms_listed items)
+    (sum : AtomOf (List ℕ)) → operand ≡ code.Sum first terms → one ≡ first.value → items ≡ terms.items → eval row params (operands.operand_of one) ≡ Ok sum
+    → eval row params (operands.operand_of operand) ≡ eval_terms row params (number_or_null sum) (terms_listed items)
 sum_of_parts row params operand one first terms items sum e f g h =
     ap (eval row params) (ap operands.operand_of e ∙ operand_of-Sum first terms)
-    ∙ ap (λ x. x >>= λ a. eval_terms row params a (terms_listed terms.items)) (ap (λ x. eval row params (operands.operand_of x)) (sym f) ∙ h)
-    ∙ ap (λ x. eval_terms row params sum (terms_listed x)) (sym g)
+    ∙ ap (λ x. x >>= λ a. eval_terms row params (number_or_null a) (terms_listed terms.items)) (ap (λ x. eval row params (operands.operand_of x)) (sym f) ∙ h)
+    ∙ ap (λ x. eval_terms row params (number_or_null sum) (terms_listed x)) (sym g)
 
--- and none where its first value is none
-pub sum_of_none : (row params : List (AtomOf (List ℕ))) (operand one : code.Operand ℕ ℕ) (first : Box (code.Operand ℕ ℕ) Global) (terms : Vec (code_term.Term ℕ ℕ) Global)
-    → operand ≡ code.Sum first terms → one ≡ first.value → eval row params (operands.operand_of one) ≡ None → eval row params (operands.operand_of operand) ≡ None
-sum_of_none row params operand one first terms e f h =
+-- and the overflow of its first value, where that has one
+pub sum_of_fault : (row params : List (AtomOf (List ℕ))) (operand one : code.Operand ℕ ℕ) (first : Box (code.Operand ℕ ℕ) Global) (terms : Vec (code_term.Term ℕ ℕ) Global) (fault : Overflow)
+    → operand ≡ code.Sum first terms → one ≡ first.value → eval row params (operands.operand_of one) ≡ Err fault → eval row params (operands.operand_of operand) ≡ Err fault
+sum_of_fault row params operand one first terms fault e f h =
     ap (eval row params) (ap operands.operand_of e ∙ operand_of-Sum first terms)
-    ∙ ap (λ x. x >>= λ a. eval_terms row params a (terms_listed terms.items)) (ap (λ x. eval row params (operands.operand_of x)) (sym f) ∙ h)
+    ∙ ap (λ x. x >>= λ a. eval_terms row params (number_or_null a) (terms_listed terms.items)) (ap (λ x. eval row params (operands.operand_of x)) (sym f) ∙ h)
 
 -- a term lies within the places where all do
 within_there : (width count : ℕ) (terms : List (code_term.Term ℕ ℕ)) (i : ℕ) (default : code_term.Term ℕ ℕ) → i < length terms
-    → AreTermsWithin width count (terms_listed terms) → AreTermsWithin width count (operands.term_before (get_or terms i default) operands.NoMore)
+    → ArePlaced width count (terms_listed terms) → ArePlaced width count (operands.term_before (get_or terms i default) operands.NoMore)
 within_there width count [] i default lt h = absurd (omega arith)
 within_there width count (code_term.Plus at operand ∷ terms) zero default lt h = (h.0, tt)
 within_there width count (code_term.Minus at operand ∷ terms) zero default lt h = (h.0, tt)
@@ -60,17 +62,17 @@ within_there width count (code_term.Plus at operand ∷ terms) (suc i) default l
 within_there width count (code_term.Minus at operand ∷ terms) (suc i) default lt h = within_there width count terms i default (omega arith) h.1
 
 pub term_within : (width count : ℕ) (terms : List (code_term.Term ℕ ℕ)) (i : ℕ) (term : code_term.Term ℕ ℕ) → i < length terms → term ≡ get_or terms i term
-    → AreTermsWithin width count (terms_listed terms) → AreTermsWithin width count (operands.term_before term operands.NoMore)
+    → ArePlaced width count (terms_listed terms) → ArePlaced width count (operands.term_before term operands.NoMore)
 term_within width count terms i term lt e h =
-    subst (λ x. AreTermsWithin width count (operands.term_before x operands.NoMore)) (sym e) (within_there width count terms i term lt h)
+    subst (λ x. ArePlaced width count (operands.term_before x operands.NoMore)) (sym e) (within_there width count terms i term lt h)
 
-last_then : {A B : Type 0} (o : Option A) (g : A → Option B) → (o >>= g) ≡ ((o >>= λ a. Some a) >>= g)
-last_then None g = refl
-last_then (Some a) g = refl
+last_then : {A B E : Type 0} (o : Result A E) (g : A → Result B E) → (o >>= g) ≡ ((o >>= λ a. Ok a) >>= g)
+last_then (Err e) g = refl
+last_then (Ok a) g = refl
 
-both_then : {A B C : Type 0} (o : Option A) (f : A → Option B) (g : B → Option C) → (o >>= λ a. f a >>= g) ≡ ((o >>= λ a. f a >>= λ b. Some b) >>= g)
-both_then None f g = refl
-both_then (Some a) f g = last_then (f a) g
+both_then : {A B C E : Type 0} (o : Result A E) (f : A → Result B E) (g : B → Result C E) → (o >>= λ a. f a >>= g) ≡ ((o >>= λ a. f a >>= λ b. Ok b) >>= g)
+both_then (Err e) f g = refl
+both_then (Ok a) f g = last_then (f a) g
 
 one_then : (row params : List (AtomOf (List ℕ))) (sum : AtomOf (List ℕ)) (term : code_term.Term ℕ ℕ) (terms : List (code_term.Term ℕ ℕ))
     → eval_terms row params sum (terms_listed (term ∷ terms)) ≡ (eval_terms row params sum (terms_listed (term ∷ [])) >>= λ next. eval_terms row params next (terms_listed terms))
@@ -86,19 +88,22 @@ term_then row params sum terms i term lt e =
     ∙ one_then row params sum term (drop (i + 1) terms)
 
 -- the sum goes on with the next term
-pub sum_more : (row params : List (AtomOf (List ℕ))) (whole : Option (AtomOf (List ℕ))) (sum next : AtomOf (List ℕ)) (terms : List (code_term.Term ℕ ℕ)) (i : ℕ) (term : code_term.Term ℕ ℕ)
+pub sum_more : (row params : List (AtomOf (List ℕ))) (whole : Result (AtomOf (List ℕ)) Overflow) (sum next : AtomOf (List ℕ)) (terms : List (code_term.Term ℕ ℕ)) (i : ℕ) (term : code_term.Term ℕ ℕ)
     → i < length terms → term ≡ get_or terms i term → whole ≡ eval_terms row params sum (terms_listed (drop i terms))
-    → eval_terms row params sum (terms_listed (term ∷ [])) ≡ Some next → whole ≡ eval_terms row params next (terms_listed (drop (i + 1) terms))
+    → eval_terms row params sum (terms_listed (term ∷ [])) ≡ Ok next → whole ≡ eval_terms row params next (terms_listed (drop (i + 1) terms))
 sum_more row params whole sum next terms i term lt e w h =
     w ∙ term_then row params sum terms i term lt e ∙ ap (λ x. x >>= λ next. eval_terms row params next (terms_listed (drop (i + 1) terms))) h
 
 -- or it ends there
-pub sum_none : (row params : List (AtomOf (List ℕ))) (whole : Option (AtomOf (List ℕ))) (sum : AtomOf (List ℕ)) (terms : List (code_term.Term ℕ ℕ)) (i : ℕ) (term : code_term.Term ℕ ℕ)
+pub sum_fault : (row params : List (AtomOf (List ℕ))) (whole : Result (AtomOf (List ℕ)) Overflow) (sum : AtomOf (List ℕ)) (fault : Overflow) (terms : List (code_term.Term ℕ ℕ)) (i : ℕ) (term : code_term.Term ℕ ℕ)
     → i < length terms → term ≡ get_or terms i term → whole ≡ eval_terms row params sum (terms_listed (drop i terms))
-    → eval_terms row params sum (terms_listed (term ∷ [])) ≡ None → whole ≡ None
-sum_none row params whole sum terms i term lt e w h =
+    → eval_terms row params sum (terms_listed (term ∷ [])) ≡ Err fault → whole ≡ Err fault
+sum_fault row params whole sum fault terms i term lt e w h =
     w ∙ term_then row params sum terms i term lt e ∙ ap (λ x. x >>= λ next. eval_terms row params next (terms_listed (drop (i + 1) terms))) h
 
+abbrev pub ok_atom : AtomOf (List ℕ) → Result (AtomOf (List ℕ)) Overflow
+ok_atom atom = Ok atom
+
 -- an atom that was read is the one at its place
-pub atom_read : (atoms : List (AtomOf (List ℕ))) (i : ℕ) (atom : AtomOf (List ℕ)) → i < length atoms → atom ≡ get_or atoms i atom → Some atom ≡ Some (atom_at atoms i)
-atom_read atoms i atom lt e = ap (λ x. Some (unwrap_or x Null)) (sym (slice_get_read atoms (length atoms) i atom refl lt e))
+pub atom_read : (atoms : List (AtomOf (List ℕ))) (i : ℕ) (atom : AtomOf (List ℕ)) → i < length atoms → atom ≡ get_or atoms i atom → ok_atom atom ≡ ok_atom (atom_at atoms i)
+atom_read atoms i atom lt e = ap (λ x. ok_atom (unwrap_or x Null)) (sym (slice_get_read atoms (length atoms) i atom refl lt e))

@@ -1,6 +1,7 @@
 -- What an operand is worth in a row, and what a condition says of it, in three truth values (ISO/IEC 9075-2, comparison
--- predicate and boolean value expression). None stands where a sum leaves 64 bits: every part is evaluated, from left to right.
-use Rattle.std.specs.Prelude.{ℕ, ℤ, pos, negsuc, ◌+ℤ◌, ◌-ℤ◌, neg_ℤ, List, [], ◌∷◌, Option, Some, None, Bool, true, false, ◌&&◌, not, int_le, if◌then◌else◌, unwrap_or}
+-- predicate and boolean value expression). A sum that leaves 64 bits is
+-- the overflow: every part is evaluated, from left to right, and the first overflow is the answer.
+use Rattle.std.specs.Prelude.{ℕ, ℤ, pos, negsuc, ◌+ℤ◌, ◌-ℤ◌, neg_ℤ, List, [], ◌∷◌, Option, Some, None, Result, Ok, Err, Bool, true, false, ◌&&◌, not, int_le, if◌then◌else◌, unwrap_or}
 use Rattle.std.specs.List.{slice_get}
 use Rattle.std.specs.Str.{bytes_eq}
 use Rattle.std.specs.Ordering.{int_cmp, nat_cmp}
@@ -11,66 +12,78 @@ use Rattle.ae_base.specs.declared.values.Value.{Value}
 use Rattle.ae_base.specs.declared.values.Value.TheVariants as value
 use Rattle.ae_base.specs.declared.values.Datum.{Datum}
 use Rattle.ae_base.specs.declared.values.Datum.TheVariants.{Num, Text, Bin}
-use Rattle.ae_base.specs.declared.atoms.AtomOf.{AtomOf}
+use Rattle.ae_base.specs.Atoms.{Atom}
+use Rattle.ae_base.specs.Results.{◌>>=◌}
 use Rattle.ae_base.specs.declared.atoms.AtomOf.TheVariants.{Null, Plain, Sealed}
 use Rattle.sql_tree.specs.declared.conditions.Comparison.{Comparison}
 use Rattle.sql_tree.specs.declared.conditions.Comparison.TheVariants as comparison
 use Rattle.sql_tree.specs.Operands as operands
 use Rattle.sql_tree.specs.Conditions as conditions
 use Rattle.sql_tree.specs.Bound.{BoundOperand, BoundCondition}
+use Rattle.scalar.specs.declared.faults.Overflow.{Overflow}
 use Rattle.scalar.specs.declared.truth.Truth.{Truth}
 use Rattle.scalar.specs.declared.truth.Truth.TheVariants as truths
 
-infixl 10 ◌>>=◌
-abbrev pub ◌>>=◌ : {A B : Type 0} → Option A → (A → Option B) → Option B
-None >>= f = None
-(Some x) >>= f = f x
-
 -- ---- operands
 
-abbrev pub atom_of_value : Value → AtomOf (List ℕ)
+abbrev pub atom_of_value : Value → Atom
 atom_of_value value.Null = Null
 atom_of_value (value.Is datum) = Plain datum
 
+abbrev pub overflow : Overflow
+overflow = record {}
+
+abbrev pub or_overflow : Option ℤ → Result Atom Overflow
+or_overflow None = Err overflow
+or_overflow (Some n) = Ok (Plain (Num n))
+
 -- a number that 64 bits hold
-abbrev pub within_64_bits : ℤ → Option (AtomOf (List ℕ))
-within_64_bits n = if int_le (negsuc 9223372036854775807) n && int_le n (pos 9223372036854775807) then Some (Plain (Num n)) else None
+abbrev pub within_64_bits : ℤ → Result Atom Overflow
+within_64_bits n = if int_le (negsuc 9223372036854775807) n && int_le n (pos 9223372036854775807) then Ok (Plain (Num n)) else Err overflow
 
 -- a sum of two numbers; NULL with anything is NULL
-abbrev pub combined : (ℤ → ℤ → ℤ) → AtomOf (List ℕ) → AtomOf (List ℕ) → Option (AtomOf (List ℕ))
+abbrev pub combined : (ℤ → ℤ → ℤ) → Atom → Atom → Result Atom Overflow
 combined f (Plain (Num a)) (Plain (Num b)) = within_64_bits (f a b)
-combined f (Plain (Num a)) Null = Some Null
-combined f (Plain (Num a)) (Plain (Text t)) = Some Null
-combined f (Plain (Num a)) (Plain (Bin t)) = Some Null
-combined f (Plain (Num a)) (Sealed c) = Some Null
-combined f (Plain (Text t)) b = Some Null
-combined f (Plain (Bin t)) b = Some Null
-combined f Null b = Some Null
-combined f (Sealed c) b = Some Null
+combined f (Plain (Num a)) Null = Ok Null
+combined f (Plain (Num a)) (Plain (Text t)) = Ok Null
+combined f (Plain (Num a)) (Plain (Bin t)) = Ok Null
+combined f (Plain (Num a)) (Sealed c) = Ok Null
+combined f (Plain (Text t)) b = Ok Null
+combined f (Plain (Bin t)) b = Ok Null
+combined f Null b = Ok Null
+combined f (Sealed c) b = Ok Null
 
-abbrev pub negated : AtomOf (List ℕ) → Option (AtomOf (List ℕ))
+abbrev pub negated : Atom → Result Atom Overflow
 negated (Plain (Num a)) = within_64_bits (neg_ℤ a)
-negated (Plain (Text t)) = Some Null
-negated (Plain (Bin t)) = Some Null
-negated Null = Some Null
-negated (Sealed c) = Some Null
+negated (Plain (Text t)) = Ok Null
+negated (Plain (Bin t)) = Ok Null
+negated Null = Ok Null
+negated (Sealed c) = Ok Null
+
+-- what is no number counts as NULL in a sum
+abbrev pub number_or_null : Atom → Atom
+number_or_null (Plain (Num a)) = Plain (Num a)
+number_or_null (Plain (Text t)) = Null
+number_or_null (Plain (Bin t)) = Null
+number_or_null Null = Null
+number_or_null (Sealed c) = Null
 
 -- the atom at a place of a row
-abbrev pub atom_at : List (AtomOf (List ℕ)) → ℕ → AtomOf (List ℕ)
+abbrev pub atom_at : List Atom → ℕ → Atom
 atom_at row place = unwrap_or (slice_get row place) Null
 
 -- the value of an operand in a row, with the parameters' values
 abbrev mutual
-  pub eval : List (AtomOf (List ℕ)) → List (AtomOf (List ℕ)) → BoundOperand → Option (AtomOf (List ℕ))
-  eval row params (operands.Literal at v) = Some (atom_of_value v)
-  eval row params (operands.Param at place) = Some (atom_at params place)
-  eval row params (operands.Column at place) = Some (atom_at row place)
+  pub eval : List Atom → List Atom → BoundOperand → Result Atom Overflow
+  eval row params (operands.Literal at v) = Ok (atom_of_value v)
+  eval row params (operands.Param at place) = Ok (atom_at params place)
+  eval row params (operands.Column at place) = Ok (atom_at row place)
   eval row params (operands.Minus at operand) = eval row params operand >>= negated
-  eval row params (operands.Sum first terms) = eval row params first >>= λ sum. eval_terms row params sum terms
+  eval row params (operands.Sum first terms) = eval row params first >>= λ sum. eval_terms row params (number_or_null sum) terms
 
   -- a sum goes from left to right
-  pub eval_terms : List (AtomOf (List ℕ)) → List (AtomOf (List ℕ)) → AtomOf (List ℕ) → operands.Terms ℕ ℕ → Option (AtomOf (List ℕ))
-  eval_terms row params sum operands.NoMore = Some sum
+  pub eval_terms : List Atom → List Atom → Atom → operands.Terms ℕ ℕ → Result Atom Overflow
+  eval_terms row params sum operands.NoMore = Ok sum
   eval_terms row params sum (operands.PlusThen at operand more) =
       eval row params operand >>= λ term. combined (λ a b. a +ℤ b) sum term >>= λ next. eval_terms row params next more
   eval_terms row params sum (operands.MinusThen at operand more) =
@@ -114,11 +127,7 @@ abbrev pub truth_of : Bool → Truth
 truth_of true = truths.True
 truth_of false = truths.False
 
-abbrev pub ordered : Comparison → Option Ordering → Truth
-ordered compared None = truths.Unknown
-ordered compared (Some order) = truth_of (holds compared order)
-
--- of sealed values only sameness is known
+-- where only sameness is known
 abbrev pub same_or_not : Comparison → Bool → Truth
 same_or_not comparison.Equal same = truth_of same
 same_or_not comparison.NotEqual same = truth_of (not same)
@@ -127,14 +136,19 @@ same_or_not comparison.LessEqual same = truths.Unknown
 same_or_not comparison.Greater same = truths.Unknown
 same_or_not comparison.GreaterEqual same = truths.Unknown
 
--- a comparison with NULL is unknown
-abbrev pub compare : Comparison → AtomOf (List ℕ) → AtomOf (List ℕ) → Truth
+-- nothing is the same as a value of another kind
+abbrev pub ordered : Comparison → Option Ordering → Truth
+ordered compared None = same_or_not compared false
+ordered compared (Some order) = truth_of (holds compared order)
+
+-- a comparison with NULL is unknown; of sealed values only sameness is known, and none is the same as a plain one
+abbrev pub compare : Comparison → Atom → Atom → Truth
 compare compared Null b = truths.Unknown
 compare compared (Plain a) Null = truths.Unknown
 compare compared (Plain a) (Plain b) = ordered compared (datum_cmp a b)
-compare compared (Plain a) (Sealed b) = truths.Unknown
+compare compared (Plain a) (Sealed b) = same_or_not compared false
 compare compared (Sealed a) Null = truths.Unknown
-compare compared (Sealed a) (Plain b) = truths.Unknown
+compare compared (Sealed a) (Plain b) = same_or_not compared false
 compare compared (Sealed a) (Sealed b) = same_or_not compared (bytes_eq a b)
 
 -- ---- truth tables
@@ -162,35 +176,35 @@ abbrev pub if_negated : Bool → Truth → Truth
 if_negated true t = negation t
 if_negated false t = t
 
-abbrev pub null_truth : AtomOf (List ℕ) → Truth
+abbrev pub null_truth : Atom → Truth
 null_truth Null = truths.True
 null_truth (Plain datum) = truths.False
 null_truth (Sealed cell) = truths.False
 
 -- x IN (a, b) is x = a OR x = b
-abbrev pub in_list : List (AtomOf (List ℕ)) → List (AtomOf (List ℕ)) → AtomOf (List ℕ) → List BoundOperand → Option Truth
-in_list row params x [] = Some truths.False
+abbrev pub in_list : List Atom → List Atom → Atom → List BoundOperand → Result Truth Overflow
+in_list row params x [] = Ok truths.False
 in_list row params x (y ∷ ys) =
-    eval row params y >>= λ b. in_list row params x ys >>= λ rest. Some (disjunction (compare comparison.Equal x b) rest)
+    eval row params y >>= λ b. in_list row params x ys >>= λ rest. Ok (disjunction (compare comparison.Equal x b) rest)
 
 -- the truth of a condition in a row: AND and OR stop for nothing
 abbrev mutual
-  pub truth : List (AtomOf (List ℕ)) → List (AtomOf (List ℕ)) → BoundCondition → Option Truth
+  pub truth : List Atom → List Atom → BoundCondition → Result Truth Overflow
   truth row params (conditions.Compare at compared left right) =
-      eval row params left >>= λ a. eval row params right >>= λ b. Some (compare compared a b)
-  truth row params (conditions.IsNull negated operand) = eval row params operand >>= λ a. Some (if_negated negated (null_truth a))
+      eval row params left >>= λ a. eval row params right >>= λ b. Ok (compare compared a b)
+  truth row params (conditions.IsNull negated operand) = eval row params operand >>= λ a. Ok (if_negated negated (null_truth a))
   truth row params (conditions.In at negated operand list) =
-      eval row params operand >>= λ x. in_list row params x list >>= λ t. Some (if_negated negated t)
-  truth row params (conditions.Not condition) = truth row params condition >>= λ t. Some (negation t)
+      eval row params operand >>= λ x. in_list row params x list >>= λ t. Ok (if_negated negated t)
+  truth row params (conditions.Not condition) = truth row params condition >>= λ t. Ok (negation t)
   truth row params (conditions.AllOf all) = truth_all row params all
   truth row params (conditions.AnyOf any) = truth_any row params any
 
-  pub truth_all : List (AtomOf (List ℕ)) → List (AtomOf (List ℕ)) → conditions.Conditions ℕ ℕ → Option Truth
-  truth_all row params conditions.NoMore = Some truths.True
+  pub truth_all : List Atom → List Atom → conditions.Conditions ℕ ℕ → Result Truth Overflow
+  truth_all row params conditions.NoMore = Ok truths.True
   truth_all row params (conditions.Then condition more) =
-      truth row params condition >>= λ t. truth_all row params more >>= λ rest. Some (conjunction t rest)
+      truth row params condition >>= λ t. truth_all row params more >>= λ rest. Ok (conjunction t rest)
 
-  pub truth_any : List (AtomOf (List ℕ)) → List (AtomOf (List ℕ)) → conditions.Conditions ℕ ℕ → Option Truth
-  truth_any row params conditions.NoMore = Some truths.False
+  pub truth_any : List Atom → List Atom → conditions.Conditions ℕ ℕ → Result Truth Overflow
+  truth_any row params conditions.NoMore = Ok truths.False
   truth_any row params (conditions.Then condition more) =
-      truth row params condition >>= λ t. truth_any row params more >>= λ rest. Some (disjunction t rest)
+      truth row params condition >>= λ t. truth_any row params more >>= λ rest. Ok (disjunction t rest)

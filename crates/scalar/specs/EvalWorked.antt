@@ -1,5 +1,5 @@
 -- Some truths and sums, computed.
-use Rattle.std.specs.Prelude.{◌≡◌, pos, negsuc, codes, [], ◌∷◌, ℕ, Some, None, refl}
+use Rattle.std.specs.Prelude.{◌≡◌, pos, negsuc, codes, [], ◌∷◌, ℕ, Ok, Err, refl}
 use Rattle.ae_base.specs.declared.values.Value.TheVariants as value
 use Rattle.ae_base.specs.declared.values.Datum.TheVariants.{Num, Text}
 use Rattle.ae_base.specs.declared.atoms.AtomOf.TheVariants.{Null, Plain, Sealed}
@@ -7,7 +7,7 @@ use Rattle.sql_tree.specs.declared.conditions.Comparison.TheVariants as comparis
 use Rattle.sql_tree.specs.Operands as operands
 use Rattle.sql_tree.specs.Bound.{BoundOperand}
 use Rattle.scalar.specs.declared.truth.Truth.TheVariants as truths
-use Rattle.scalar.specs.Eval.{eval, compare, conjunction, disjunction, negation}
+use Rattle.scalar.specs.Eval.{eval, overflow, compare, conjunction, disjunction, negation}
 
 pub conjunctions :
     (conjunction truths.True truths.True ≡ truths.True) × (conjunction truths.True truths.False ≡ truths.False) × (conjunction truths.True truths.Unknown ≡ truths.Unknown)
@@ -38,7 +38,7 @@ number n = operands.Literal 0 (value.Is (Num (pos n)))
 
 -- NULL makes the rest NULL, and a sum past 64 bits is none
 pub sums :
-    (eval [] [] (operands.Sum (operands.Literal 0 value.Null) (operands.PlusThen 0 (number 9223372036854775807) (operands.PlusThen 0 (number 1) operands.NoMore))) ≡ Some Null)
-    × (eval [] [] (operands.Sum (number 9223372036854775807) (operands.PlusThen 0 (number 1) (operands.PlusThen 0 (operands.Literal 0 value.Null) operands.NoMore))) ≡ None)
-    × (eval [] [] (operands.Minus 0 (number 3)) ≡ Some (Plain (Num (negsuc 2))))
+    (eval [] [] (operands.Sum (operands.Literal 0 value.Null) (operands.PlusThen 0 (number 9223372036854775807) (operands.PlusThen 0 (number 1) operands.NoMore))) ≡ Ok Null)
+    × (eval [] [] (operands.Sum (number 9223372036854775807) (operands.PlusThen 0 (number 1) (operands.PlusThen 0 (operands.Literal 0 value.Null) operands.NoMore))) ≡ Err overflow)
+    × (eval [] [] (operands.Minus 0 (number 3)) ≡ Ok (Plain (Num (negsuc 2))))
 sums = (refl, refl, refl)

@@ -1,6 +1,6 @@
+pub mod Classes
 pub mod Eval
 pub mod EvalWorked
+pub mod Laws
 pub mod Lent
-pub mod Listed
-pub mod Places
-pub mod Results
+pub mod Typed

@@ -1,12 +1,12 @@
 ghost use Rattle.std.specs.Prelude.{◌≡◌, ◌+ℤ◌, ◌-ℤ◌, IfOk};
-ghost use Rattle.std.specs.Option.{option_map};
 ghost use Rattle.ae_base.specs.declared.atoms.AtomOf.TheVariants.{Plain};
 ghost use Rattle.ae_base.specs.declared.values.Datum.TheVariants.{Num};
 ghost use Rattle.std.specs.Ordering.{nat_cmp};
 ghost use Rattle.std.specs.Str.{chars};
 ghost use Rattle.std.specs.Cmp.Lexicographic.{slice_cmp};
-ghost use Rattle.scalar.specs.Eval.{atom_of_value, combined, negated, compare, ordered, same_or_not, null_truth};
+ghost use Rattle.scalar.specs.Eval.{atom_of_value, combined, negated, number_or_null, compare, ordered, same_or_not, null_truth, or_overflow};
 
+use crate::faults::Overflow;
 use crate::truth::Truth;
 use ae_base::atoms::{Atom, AtomOf};
 use ae_base::blobs::Blob;
@@ -92,41 +92,53 @@ impl<'a, K: Same> Lent<'a, K> {
         }))
     }
 
-    pub(crate) fn plus(&self, term: &Lent<'_, K>) -> Option<Lent<'a, K>>
+    pub(crate) fn plus(&self, term: &Lent<'_, K>) -> Result<Lent<'a, K>, Overflow>
         ensures { result ≡ combined (λ a b. a +ℤ b) self.now term.now }
     {
         match (&self.lent, &term.lent) {
             (LentOf::Number(a), LentOf::Number(b)) => Lent::number(a.checked_add(*b)),
-            _ => Some(Lent { lent: LentOf::Null }),
+            _ => Ok(Lent { lent: LentOf::Null }),
         }
     }
 
-    pub(crate) fn minus(&self, term: &Lent<'_, K>) -> Option<Lent<'a, K>>
+    pub(crate) fn minus(&self, term: &Lent<'_, K>) -> Result<Lent<'a, K>, Overflow>
         ensures { result ≡ combined (λ a b. a -ℤ b) self.now term.now }
     {
         match (&self.lent, &term.lent) {
             (LentOf::Number(a), LentOf::Number(b)) => Lent::number(a.checked_sub(*b)),
-            _ => Some(Lent { lent: LentOf::Null }),
+            _ => Ok(Lent { lent: LentOf::Null }),
         }
     }
 
-    pub(crate) fn negated(&self) -> Option<Lent<'a, K>>
+    pub(crate) fn negated(&self) -> Result<Lent<'a, K>, Overflow>
         ensures { result ≡ negated self.now }
     {
         match &self.lent {
             LentOf::Number(a) => Lent::number(a.checked_neg()),
-            _ => Some(Lent { lent: LentOf::Null }),
+            _ => Ok(Lent { lent: LentOf::Null }),
         }
     }
 
-    fn number(n: Option<i64>) -> Option<Lent<'a, K>>
-        ensures { result ≡ option_map (λ n. Plain (Num n)) n }
+    /// The number, or NULL for what is none.
+    pub(crate) fn number_or_null(&self) -> Lent<'a, K>
+        ensures { result ≡ number_or_null self.now }
+    {
+        match &self.lent {
+            LentOf::Number(a) => Lent {
+                lent: LentOf::Number(*a),
+            },
+            _ => Lent { lent: LentOf::Null },
+        }
+    }
+
+    fn number(n: Option<i64>) -> Result<Lent<'a, K>, Overflow>
+        ensures { result ≡ or_overflow n }
     {
         match n {
-            Some(n) => Some(Lent {
+            Some(n) => Ok(Lent {
                 lent: LentOf::Number(n),
             }),
-            None => None,
+            None => Err(Overflow),
         }
     }
 
@@ -151,7 +163,8 @@ impl<'a, K: Same> Lent<'a, K> {
                 ordered(comparison, a.as_slice().cmp(&b.as_slice()))
             }
             (LentOf::Sealed(a), LentOf::Sealed(b)) => same_or_not(comparison, **a == **b),
-            _ => Truth::Unknown,
+            (LentOf::Null, _) | (_, LentOf::Null) => Truth::Unknown,
+            _ => same_or_not(comparison, false),
         }
     }
 }

@@ -3,6 +3,8 @@
 
 pub mod conditions;
 pub mod faults;
+pub mod laws;
 mod lent;
 pub mod operands;
+pub mod rows;
 pub mod truth;

@@ -1,4 +1,7 @@
 mod AllLines
 mod AnyCase
-mod DeclaredParts
 mod FirstLine
+mod Fronts
+mod OneLine
+mod Semicolons
+mod Within

@@ -1,11 +1,12 @@
--- A script as steps: batches ended by GO or by the end of the script, each with its declared parameters.
-use Rattle.std.specs.Prelude.{ℕ, ℤ, ◌+◌, pos, neg_ℤ, List, [], ◌∷◌, ◌++◌, length, map, take, drop, take_while, codes, Option, Some, None, Result, Ok, Err, Bool, ◌&&◌, ◌||◌, not, nat_lt, nat_le, int_le, negsuc, ◌==◌, if◌then◌else◌, slice_index}
-use Rattle.std.specs.List.{list_any}
+-- A script as steps: batches ended by GO or by the end of the script, half batches, and what executes them.
+use Rattle.std.specs.Prelude.{ℕ, ℤ, ◌+◌, ◌-◌, ◌*◌, pos, neg_ℤ, List, [], ◌∷◌, ◌++◌, length, map, take, drop, take_while, codes, Option, Some, None, unwrap_or, is_some, Result, Ok, Err, Bool, false, ◌&&◌, ◌||◌, not, nat_le, int_le, ◌==◌, if◌then◌else◌, slice_index}
+use Rattle.std.specs.Option.{option_map, option_and_then}
 use Rattle.std.specs.Str.{bytes_eq, chars, is_utf8}
+use Rattle.ae_base.specs.Names.{admits}
 use Rattle.ae_base.specs.declared.values.Value.{Value}
 use Rattle.ae_base.specs.declared.values.Value.TheVariants as value
 use Rattle.ae_base.specs.declared.values.Datum.TheVariants as datum
-use Rattle.ae_base.specs.declared.types.Ty.TheVariants as ty
+use Rattle.ae_base.specs.declared.types.Ty.{Ty}
 use Rattle.ae_base.specs.declared.batches.Param.{Param}
 use Rattle.ae_base.specs.declared.batches.Batch.{Batch}
 use Rattle.sql_tree.specs.declared.lexemes.Keyword.TheVariants as keyword
@@ -13,9 +14,10 @@ use Rattle.sql_tree.specs.declared.lexemes.Symbol.TheVariants as symbol
 use Rattle.sql_tree.specs.declared.lexemes.Lexeme.{Lexeme}
 use Rattle.sql_tree.specs.declared.lexemes.Lexeme.TheVariants as lexeme
 use Rattle.sql_tree.specs.declared.lexemes.Token.{Token}
-use Rattle.sql_tree.specs.Tokens.{tokens_of, first_wide, in_capitals, begins_word, is_word_byte}
+use Rattle.sql_tree.specs.Tokens.{tokens_of, first_wide, in_capitals, begins_word, is_word_byte, is_digit}
+use Rattle.sql_grammar.specs.Making.{type_of}
 use Rattle.script_lang.specs.declared.steps.Step.{Step}
-use Rattle.script_lang.specs.declared.steps.Step.TheVariants.{Whole}
+use Rattle.script_lang.specs.declared.steps.Step.TheVariants.{Whole, Half, Execute}
 
 -- ---- lines
 
@@ -48,6 +50,9 @@ is_blank b = (b == 32) || (b == 9)
 abbrev pub behind_blanks : List ℕ → List ℕ
 behind_blanks line = drop (length (take_while is_blank line)) line
 
+abbrev pub is_blank_line : List ℕ → Bool
+is_blank_line line = length (behind_blanks line) == 0
+
 -- the first word of a line, and what follows it
 abbrev pub first_word : List ℕ → List ℕ
 first_word line = let rest = behind_blanks line in if begins_word (slice_index rest 0) then take_while is_word_byte rest else []
@@ -58,24 +63,19 @@ behind_word line = drop (length (first_word line)) (behind_blanks line)
 abbrev pub is_word : List ℕ → List ℕ → Bool
 is_word word line = bytes_eq (in_capitals (first_word line)) word
 
--- ---- what is refused until later: a line with a byte past ASCII, each line that begins with a colon, and a
--- declaration whose type isn't INT, or whose value is neither NULL nor a number that fits it
-abbrev pub is_refused_so_far : List ℕ → Bool
-is_refused_so_far line = list_any (λ b. nat_lt 127 b) line || (slice_index (behind_blanks line) 0 == 58)
-
-abbrev pub fits_so_far : ℤ → Bool
-fits_so_far n = int_le (negsuc 2147483647) n && int_le n (pos 2147483647)
-
 -- ---- declarations: DECLARE @name [AS] type = literal [;]
 
+-- a number of 64 bits
 abbrev pub integer : ℤ → Option Value
-integer n = if fits_so_far n then Some (value.Is (datum.Num n)) else None
+integer n = if int_le (neg_ℤ (pos 9223372036854775808)) n && int_le n (pos 9223372036854775807) then Some (value.Is (datum.Num n)) else None
 
--- literal := [-] number | NULL
+-- literal := [-] number | text | binary | NULL
 abbrev pub literal : List Lexeme → Option Value
 literal (lexeme.Keyword keyword.Null ∷ []) = Some value.Null
 literal (lexeme.Number n ∷ []) = integer (pos n)
 literal (lexeme.Symbol symbol.Minus ∷ lexeme.Number n ∷ []) = integer (neg_ℤ (pos n))
+literal (lexeme.Text characters ∷ []) = Some (value.Is (datum.Text characters))
+literal (lexeme.Binary bytes ∷ []) = Some (value.Is (datum.Bin bytes))
 literal other = None
 
 -- one ; at the end is left away
@@ -84,76 +84,167 @@ without_semicolon [] = []
 without_semicolon (lexeme.Symbol symbol.Semicolon ∷ []) = []
 without_semicolon (l ∷ ls) = l ∷ without_semicolon ls
 
-abbrev pub param : List ℕ → List ℕ → Option Value → Option Param
-param name type None = None
-param name type (Some v) =
-    if bytes_eq (in_capitals type) (codes "INT")
-    then Some (record { declaration = record { name = name; ty = ty.Int }; value = v })
-    else None
+-- [AS]
+abbrev pub behind_as : List Lexeme → List Lexeme
+behind_as (lexeme.Keyword keyword.As ∷ rest) = rest
+behind_as other = other
+
+-- DECLARE @name: its first word is an identifier like another
+abbrev pub name_front : List Lexeme → Option (List ℕ × List Lexeme)
+name_front (lexeme.Ident word ∷ lexeme.Param name ∷ rest) = Some (name, rest)
+name_front other = None
+
+-- the number in parentheses, where it is there
+abbrev pub size_front : List Lexeme → Option ℕ × List Lexeme
+size_front (lexeme.Symbol symbol.Open ∷ lexeme.Number n ∷ lexeme.Symbol symbol.Close ∷ rest) = (Some n, rest)
+size_front other = (None, other)
+
+abbrev pub behind_equal : List Lexeme → Option (List Lexeme)
+behind_equal (lexeme.Symbol symbol.Equal ∷ rest) = Some rest
+behind_equal other = None
+
+abbrev pub word_front : List Lexeme → Option (List ℕ × List Lexeme)
+word_front (lexeme.Ident word ∷ rest) = Some (word, rest)
+word_front other = None
+
+-- a type with = behind it, and the lexemes behind that
+abbrev pub sized : List ℕ → Option ℕ × List Lexeme → Option (Ty × List Lexeme)
+sized word front = option_and_then (λ rest. option_map (λ ty. (ty, rest)) (type_of (word, front.0))) (behind_equal front.1)
+
+abbrev pub type_front : List Lexeme → Option (Ty × List Lexeme)
+type_front ls = option_and_then (λ front. sized front.0 (size_front front.1)) (word_front ls)
+
+abbrev pub with_value : List ℕ → Ty × List Lexeme → Option Param
+with_value name front = option_map (λ v. record { declaration = record { name = name; ty = front.0 }; value = v }) (literal (without_semicolon front.1))
 
 abbrev pub declared : List Lexeme → Option Param
-declared (lexeme.Ident word ∷ lexeme.Param name ∷ lexeme.Keyword keyword.As ∷ lexeme.Ident type ∷ lexeme.Symbol symbol.Equal ∷ rest) =
-    param name type (literal (without_semicolon rest))
-declared (lexeme.Ident word ∷ lexeme.Param name ∷ lexeme.Ident type ∷ lexeme.Symbol symbol.Equal ∷ rest) =
-    param name type (literal (without_semicolon rest))
-declared other = None
+declared ls = option_and_then (λ front. option_and_then (with_value front.0) (type_front (behind_as front.1))) (name_front ls)
 
 -- a number on the line is at most 9223372036854775808
 abbrev pub declared_by : Option (List Token) → Option Param
 declared_by None = None
-declared_by (Some tokens) = narrow tokens (first_wide 9223372036854775808 tokens)
-  where
-    narrow : List Token → Option ℕ → Option Param
-    narrow tokens None = declared (map (λ t. t.lexeme) tokens)
-    narrow tokens (Some at) = None
+declared_by (Some tokens) = if is_some (first_wide 9223372036854775808 tokens) then None else declared (map (λ t. t.lexeme) tokens)
 
 abbrev pub declaration_of : List ℕ → Option Param
 declaration_of line = declared_by (tokens_of line)
 
 -- ---- the walk over the lines
 
--- the batch so far: its parameters, and its statement's lines
+-- the session, and the batch that is begun: its parameters, and its statement once a line of it has come
 pub record Begun : Type 0 where
+  pub session : ℕ
   pub params : List Param
-  pub lines : List (List ℕ)
+  pub statement : Option (List ℕ)
 
-abbrev pub nothing_begun : Begun
-nothing_begun = record { params = []; lines = [] }
+abbrev pub nothing_begun : ℕ → Begun
+nothing_begun session = record { session = session; params = []; statement = None }
 
--- the lines joined by LF
-abbrev pub joined : List (List ℕ) → List ℕ
-joined [] = []
-joined (line ∷ []) = line
-joined (line ∷ next ∷ lines) = line ++ 10 ∷ joined (next ∷ lines)
+-- neither a DECLARE nor a line of a statement has come
+abbrev pub is_between : Begun → Bool
+is_between begun = (length begun.params == 0) && not (is_some begun.statement)
 
 abbrev pub batch_of : Begun → Batch
-batch_of begun = record { text = chars (joined begun.lines); params = begun.params }
+batch_of begun = record { text = chars (unwrap_or begun.statement []); params = begun.params }
 
--- a batch without a DECLARE and without a statement line is no step
-abbrev pub ended : Begun → List Step
-ended begun = if (length begun.params == 0) && (length begun.lines == 0) then [] else Whole 1 (batch_of begun) ∷ []
+-- the steps that a line makes, and what is begun behind it
+pub record After : Type 0 where
+  pub steps : List Step
+  pub begun : Begun
+
+abbrev pub goes_on : Begun → Option After
+goes_on begun = Some (record { steps = []; begun = begun })
+
+-- a batch without a DECLARE and without a line of a statement is no step
+abbrev pub ended : Begun → After
+ended begun =
+    if is_between begun then record { steps = []; begun = begun }
+    else record { steps = Whole begun.session (batch_of begun) ∷ []; begun = nothing_begun begun.session }
+
+-- ---- lines that begin with a colon
+
+-- what follows a word at the front, where it stands there
+abbrev pub behind : List ℕ → List ℕ → Option (List ℕ)
+behind word rest = if bytes_eq (take (length word) rest) word then Some (drop (length word) rest) else None
+
+-- a number from 1 to 64 without a leading zero, and blanks
+abbrev pub session_of : List ℕ → Option ℕ
+session_of (a ∷ rest) =
+    if nat_le 49 a && nat_le a 57
+    then (
+    if is_blank_line rest then Some (a - 48) else
+    if is_digit (slice_index rest 0) && nat_le (10 * (a - 48) + (slice_index rest 0 - 48)) 64 && is_blank_line (drop 1 rest)
+    then Some (10 * (a - 48) + (slice_index rest 0 - 48)) else None
+    )
+    else None
+session_of [] = None
+
+-- :describe stands behind a line of a batch and ends it
+abbrev pub after_describe : Begun → Option After
+after_describe begun =
+    if is_between begun then None
+    else Some (record { steps = Half begun.session (batch_of begun) ∷ []; begun = nothing_begun begun.session })
+
+-- :execute and :session N stand between batches
+abbrev pub after_execute : Begun → Option After
+after_execute begun = if is_between begun then Some (record { steps = Execute begun.session ∷ []; begun = begun }) else None
+
+abbrev pub in_session : Begun → Option ℕ → Option After
+in_session begun None = None
+in_session begun (Some session) = if is_between begun then goes_on (nothing_begun session) else None
+
+-- the session that :session N names
+abbrev pub named_session : List ℕ → Option ℕ
+named_session rest = option_and_then session_of (behind (codes ":session ") rest)
+
+abbrev pub is_alone : Option (List ℕ) → Bool
+is_alone None = false
+is_alone (Some rest) = is_blank_line rest
+
+abbrev pub after_colon : Begun → List ℕ → Option After
+after_colon begun rest =
+    if is_alone (behind (codes ":describe") rest) then after_describe begun else
+    if is_alone (behind (codes ":execute") rest) then after_execute begun else
+    in_session begun (named_session rest)
+
+-- ---- lines of a batch
 
 -- a name declared twice and the 129th DECLARE of a batch are refused
-abbrev pub with_param : Begun → Param → Option Begun
-with_param begun p =
-    if list_any (λ q. bytes_eq q.declaration.name p.declaration.name) begun.params || nat_le 128 (length begun.params)
-    then None
-    else Some (record { params = begun.params ++ p ∷ []; lines = [] })
+abbrev pub with_param : Begun → Option Param → Option After
+with_param begun None = None
+with_param begun (Some p) =
+    if admits (map (λ q. q.declaration.name) begun.params) p.declaration.name
+    then goes_on (record { session = begun.session; params = begun.params ++ p ∷ []; statement = begun.statement })
+    else None
 
-abbrev pub with_declaration : Begun → Option Param → Option Begun
-with_declaration begun None = None
-with_declaration begun (Some p) = with_param begun p
+-- the lines of a statement are joined by LF
+abbrev pub longer : Option (List ℕ) → List ℕ → List ℕ
+longer None line = line
+longer (Some text) line = text ++ 10 ∷ line
 
--- a line of the head or of the statement: what is begun then, or None where the line is refused
-abbrev pub with_line : Begun → List ℕ → Option Begun
-with_line begun line =
-    if length begun.lines == 0
-    then (
-    if (length (behind_blanks line) == 0) || bytes_eq (take 2 (behind_blanks line)) (codes "--") then Some begun else
-    if is_word (codes "DECLARE") line then with_declaration begun (declaration_of line) else
-    Some (record { params = begun.params; lines = line ∷ [] })
-    )
-    else Some (record { params = begun.params; lines = begun.lines ++ line ∷ [] })
+abbrev pub with_statement_line : Begun → List ℕ → Option After
+with_statement_line begun line = goes_on (record { session = begun.session; params = begun.params; statement = Some (longer begun.statement line) })
+
+abbrev pub after_head_line : Begun → List ℕ → Option After
+after_head_line begun line =
+    if is_blank_line line || bytes_eq (take 2 (behind_blanks line)) (codes "--") then goes_on begun else
+    if is_word (codes "DECLARE") line then with_param begun (declaration_of line) else
+    with_statement_line begun line
+
+-- GO stands alone and ends the batch
+abbrev pub after_go : Begun → List ℕ → Option After
+after_go begun line = if is_blank_line (behind_word line) then Some (ended begun) else None
+
+abbrev pub after_batch_line : Begun → List ℕ → Option After
+after_batch_line begun line = if is_some begun.statement then with_statement_line begun line else after_head_line begun line
+
+-- a line, by the first rule that it falls under; None where it is refused
+abbrev pub after_line : Begun → List ℕ → Option After
+after_line begun line =
+    if not (is_utf8 line) then None else
+    if slice_index (behind_blanks line) 0 == 58 then after_colon begun (behind_blanks line) else
+    if is_word (codes "GO") line then after_go begun line else after_batch_line begun line
+
+-- ---- all lines
 
 -- the steps of a script, or the number of its first bad line
 abbrev pub Read : Type 0
@@ -163,17 +254,14 @@ abbrev pub then_steps : List Step → Read → Read
 then_steps steps (Ok more) = Ok (steps ++ more)
 then_steps steps (Err line) = Err line
 
-abbrev pub unless_bad : ℕ → (Begun → Read) → Option Begun → Read
+abbrev pub unless_bad : ℕ → (After → Read) → Option After → Read
 unless_bad number more None = Err number
-unless_bad number more (Some next) = more next
+unless_bad number more (Some after) = more after
 
 abbrev pub steps_from : ℕ → Begun → List (List ℕ) → Read
-steps_from number begun [] = Ok (ended begun)
+steps_from number begun [] = Ok (ended begun).steps
 steps_from number begun (line ∷ lines) =
-    if not (is_utf8 line) || is_refused_so_far line then Err number else
-    if is_word (codes "GO") line
-    then (if length (behind_blanks (behind_word line)) == 0 then then_steps (ended begun) (steps_from (number + 1) nothing_begun lines) else Err number)
-    else unless_bad number (λ next. steps_from (number + 1) next lines) (with_line begun line)
+    unless_bad number (λ after. then_steps after.steps (steps_from (number + 1) after.begun lines)) (after_line begun line)
 
-abbrev pub steps_of : List ℕ → Read
-steps_of bytes = steps_from 1 nothing_begun (lines_of bytes)
+unfoldable pub steps_of : List ℕ → Read
+steps_of bytes = steps_from 1 (nothing_begun 1) (lines_of bytes)

@@ -1,36 +1,35 @@
-ghost use Rattle.std.specs.Prelude.{◌≡◌, ◌<◌, ◌^◌, Some, None, IfOk, MatchOption, length};
+ghost use Rattle.std.specs.Prelude.{◌≡◌, ◌<◌, ◌^◌, ◌∷◌, [], Some, None, IfOk, MatchOption, length, pos, neg_ℤ};
 ghost use Rattle.script_lang.specs.Script as spec;
 ghost use Rattle.script_lang.specs.Reading as reading;
-ghost use Rattle.script_lang.specs.Reading.{lexemes, name_front, type_front};
+ghost use Rattle.script_lang.specs.Reading.{lexemes};
 
 use ae_base::batches::{Param, ParamDecl};
 use ae_base::lists::Duplicate;
-use ae_base::names::Name;
+use ae_base::names::{Name, ParamName};
 use ae_base::types::Ty;
 use ae_base::values::{Datum, Value};
+use sql_grammar::types::type_of;
 use sql_tree::lexemes::{Keyword, Lexeme, Symbol, Token};
 use sql_tree::tokens::{TokensFault, tokens};
-use sql_tree::words::reads_as;
 use std::alloc::{AllocError, Global};
 
 /// The most that a number on a declaration line may be, without its sign.
 const MOST_NUMBER: u64 = 9_223_372_036_854_775_808;
 
-/// The parameter that a line declares: `DECLARE @name [AS] type = literal [;]`, where the type is
-/// INT and the literal fits it.
+/// The parameter that a line declares: `DECLARE @name [AS] type = literal [;]`.
 pub(crate) fn declaration_of(alloc: Global, line: &str) -> Result<Option<Param>, AllocError>
     requires { length line.now < 2 ^ 32 }
     ensures { IfOk result (λ param. param ≡ spec.declaration_of line.now) }
 {
     match tokens(alloc, line, MOST_NUMBER) {
-        Ok(tokens) => declared(alloc, tokens.as_slice()),
+        Ok(tokens) => declared(tokens.as_slice()),
         Err(TokensFault::NotTokens | TokensFault::NumberTooWide { .. }) => Ok(None),
         Err(TokensFault::OutOfMemory) => Err(AllocError),
     }
 }
 
 /// The parameter that tokens declare.
-fn declared(alloc: Global, tokens: &[Token]) -> Result<Option<Param>, AllocError>
+fn declared(tokens: &[Token]) -> Result<Option<Param>, AllocError>
     ensures { IfOk result (λ param. param ≡ spec.declared (lexemes tokens.now)) }
 {
     let Some((name, rest)) = declared_name(tokens) else {
@@ -39,25 +38,22 @@ fn declared(alloc: Global, tokens: &[Token]) -> Result<Option<Param>, AllocError
     let Some((ty, rest)) = declared_type(behind_as(rest)) else {
         return Ok(None);
     };
-    if !reads_as(ty.as_str(), "INT") {
-        return Ok(None);
-    }
-    let Some(value) = literal(without_semicolon(rest)) else {
+    let Some(value) = literal(without_semicolon(rest))? else {
         return Ok(None);
     };
     Ok(Some(Param {
         declaration: ParamDecl {
             name: name.copy()?,
-            ty: Ty::Int,
+            ty,
         },
         value,
     }))
 }
 
 /// The name that tokens begin to declare, as in `DECLARE @name`, and the tokens behind it.
-fn declared_name(tokens: &[Token]) -> Option<(&Name, &[Token])>
-    ensures { MatchOption result (name_front (lexemes tokens.now) ≡ None)
-        (λ x. name_front (lexemes tokens.now) ≡ Some (x.0.now, lexemes x.1.now)) }
+fn declared_name(tokens: &[Token]) -> Option<(&ParamName, &[Token])>
+    ensures { MatchOption result (spec.name_front (lexemes tokens.now) ≡ None)
+        (λ x. spec.name_front (lexemes tokens.now) ≡ Some (x.0.now, lexemes x.1.now)) }
 {
     match tokens {
         [
@@ -77,7 +73,7 @@ fn declared_name(tokens: &[Token]) -> Option<(&Name, &[Token])>
 
 /// The tokens behind the word AS, where it is the first.
 fn behind_as(tokens: &[Token]) -> &[Token]
-    ensures { lexemes result.now ≡ reading.behind_as (lexemes tokens.now) }
+    ensures { lexemes result.now ≡ spec.behind_as (lexemes tokens.now) }
 {
     match tokens {
         [
@@ -91,25 +87,81 @@ fn behind_as(tokens: &[Token]) -> &[Token]
     }
 }
 
-/// The name of the type, with `=` behind it, and the tokens behind that.
-fn declared_type(tokens: &[Token]) -> Option<(&Name, &[Token])>
-    ensures { MatchOption result (type_front (lexemes tokens.now) ≡ None)
-        (λ x. type_front (lexemes tokens.now) ≡ Some (x.0.now, lexemes x.1.now)) }
+/// The number in parentheses at the front, where it is there, and the tokens behind it.
+fn declared_size(tokens: &[Token]) -> (Option<u64>, &[Token])
+    ensures size { result.0 ≡ (spec.size_front (lexemes tokens.now)).0 }
+    ensures behind { lexemes result.1.now ≡ (spec.size_front (lexemes tokens.now)).1 }
 {
     match tokens {
         [
             Token {
-                lexeme: Lexeme::Ident(ty),
+                lexeme: Lexeme::Symbol(Symbol::Open),
                 ..
             },
+            Token {
+                lexeme: Lexeme::Number(size),
+                ..
+            },
+            Token {
+                lexeme: Lexeme::Symbol(Symbol::Close),
+                ..
+            },
+            rest @ ..,
+        ] => (Some(*size), rest),
+        _ => (None, tokens),
+    }
+}
+
+/// The tokens behind `=`, where it is the first.
+fn behind_equal(tokens: &[Token]) -> Option<&[Token]>
+    ensures { MatchOption result (spec.behind_equal (lexemes tokens.now) ≡ None)
+        (λ x. spec.behind_equal (lexemes tokens.now) ≡ Some (lexemes x.now)) }
+{
+    match tokens {
+        [
             Token {
                 lexeme: Lexeme::Symbol(Symbol::Equal),
                 ..
             },
             rest @ ..,
-        ] => Some((ty, rest)),
+        ] => Some(rest),
         _ => None,
     }
+}
+
+/// The word at the front, and the tokens behind it.
+fn first_ident(tokens: &[Token]) -> Option<(&Name, &[Token])>
+    ensures { MatchOption result (spec.word_front (lexemes tokens.now) ≡ None)
+        (λ x. spec.word_front (lexemes tokens.now) ≡ Some (x.0.now, lexemes x.1.now)) }
+{
+    match tokens {
+        [
+            Token {
+                lexeme: Lexeme::Ident(word),
+                ..
+            },
+            rest @ ..,
+        ] => Some((word, rest)),
+        _ => None,
+    }
+}
+
+/// The type at the front, with `=` behind it, and the tokens behind that.
+fn declared_type(tokens: &[Token]) -> Option<(Ty, &[Token])>
+    ensures { MatchOption result (spec.type_front (lexemes tokens.now) ≡ None)
+        (λ x. spec.type_front (lexemes tokens.now) ≡ Some (x.0, lexemes x.1.now)) }
+{
+    let Some((word, rest)) = first_ident(tokens) else {
+        return None;
+    };
+    let (size, rest) = declared_size(rest);
+    let Some(rest) = behind_equal(rest) else {
+        return None;
+    };
+    let Some(ty) = type_of(word.as_str(), size) else {
+        return None;
+    };
+    Some((ty, rest))
 }
 
 /// The tokens without a semicolon at their end.
@@ -128,23 +180,12 @@ fn is_semicolon(token: &Token) -> bool
     matches!(token.lexeme, Lexeme::Symbol(Symbol::Semicolon))
 }
 
-/// The value that tokens are: NULL, or a number that fits INT, with or without a minus.
-fn literal(tokens: &[Token]) -> Option<Value>
-    ensures { result ≡ spec.literal (lexemes tokens.now) }
+/// The value that tokens are: NULL, a number with or without a minus, a text, or bytes.
+fn literal(tokens: &[Token]) -> Result<Option<Value>, AllocError>
+    ensures { IfOk result (λ value. value ≡ spec.literal (lexemes tokens.now)) }
 {
     match tokens {
-        [
-            Token {
-                lexeme: Lexeme::Keyword(Keyword::Null),
-                ..
-            },
-        ] => Some(Value::Null),
-        [
-            Token {
-                lexeme: Lexeme::Number(n),
-                ..
-            },
-        ] => integer(i64::try_from(*n).ok()?),
+        [one] => literal_of(&one.lexeme),
         [
             Token {
                 lexeme: Lexeme::Symbol(Symbol::Minus),
@@ -154,15 +195,34 @@ fn literal(tokens: &[Token]) -> Option<Value>
                 lexeme: Lexeme::Number(n),
                 ..
             },
-        ] => integer(-i64::try_from(*n).ok()?),
-        _ => None,
+        ] => Ok(negative(*n)),
+        _ => Ok(None),
     }
 }
 
-/// A number that fits INT.
-fn integer(n: i64) -> Option<Value>
-    ensures { result ≡ spec.integer n }
+/// The value that one token is.
+fn literal_of(lexeme: &Lexeme) -> Result<Option<Value>, AllocError>
+    ensures { IfOk result (λ value. value ≡ spec.literal (lexeme.now ∷ [])) }
 {
-    i32::try_from(n).ok()?;
-    Some(Value::Is(Datum::Num(n)))
+    Ok(match lexeme {
+        Lexeme::Keyword(Keyword::Null) => Some(Value::Null),
+        Lexeme::Number(n) => positive(*n),
+        Lexeme::Text(text) => Some(Value::Is(Datum::Text(text.copy()?))),
+        Lexeme::Binary(bytes) => Some(Value::Is(Datum::Bin(bytes.copy()?))),
+        Lexeme::Keyword(_) | Lexeme::Ident(_) | Lexeme::Param(_) | Lexeme::Symbol(_) => None,
+    })
+}
+
+/// A number, where 64 bits hold it.
+fn positive(n: u64) -> Option<Value>
+    ensures { result ≡ spec.integer (pos n) }
+{
+    Some(Value::Is(Datum::Num(i64::try_from(n).ok()?)))
+}
+
+/// A number below zero, where 64 bits hold it.
+fn negative(n: u64) -> Option<Value>
+    ensures { result ≡ spec.integer (neg_ℤ (pos n)) }
+{
+    Some(Value::Is(Datum::Num(i64::try_from(-i128::from(n)).ok()?)))
 }

@@ -1,5 +1,6 @@
-ghost use Rattle.std.specs.Prelude.{◌≡◌, ◌<◌, ◌^◌, length};
+ghost use Rattle.std.specs.Prelude.{◌≡◌, ◌<◌, ◌^◌, All, IfOk, length};
 ghost use Rattle.script_lang.specs.declared.scripts.ScriptFault.TheVariants.{OutOfMemory};
+ghost use Rattle.script_lang.specs.Limits.{IsWithinLimits};
 ghost use Rattle.script_lang.specs.Reading.{Reads};
 
 use crate::lines::{first_line, without_mark};
@@ -28,10 +29,12 @@ impl From<AllocError> for ScriptFault {
 }
 
 /// The steps of a script. BadLine comes exactly where a line is refused, with the number of the
-/// first such line.
+/// first such line. Every step is one of a session from 1 to 64, and has at most 128 parameters,
+/// whose names differ.
 pub fn read_script(alloc: Global, bytes: &[u8]) -> Result<Seq<Step>, ScriptFault>
     requires { length bytes.now < 2 ^ 32 }
-    ensures { Reads bytes.now result }
+    ensures exact { Reads bytes.now result }
+    ensures limits { IfOk result (λ steps. All IsWithinLimits steps) }
 {
     let mut reader = Reader::new(alloc);
     let mut number = 0;

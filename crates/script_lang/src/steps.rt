@@ -1,12 +1,13 @@
 use ae_base::batches::Batch;
+use ae_base::sessions::SessionId;
 
-/// A step of a script, with the number of its session, from 1 to 64.
+/// A step of a script, a turn of a session.
 #[derive(Drop)]
 pub enum Step {
     /// A batch is described and executed.
-    Whole { session: u16, batch: Batch },
+    Whole { session: SessionId, batch: Batch },
     /// Half a batch is described.
-    Half { session: u16, batch: Batch },
+    Half { session: SessionId, batch: Batch },
     /// What is pending is executed.
-    Execute { session: u16 },
+    Execute { session: SessionId },
 }

@@ -1,49 +1,55 @@
-ghost use Rattle.std.specs.Prelude.{◌≡◌, ◌<◌, ◌==◌, ◌||◌, ◌^◌, ◌∷◌, ◌++◌, IfOk, OnOk, length, take, codes, string_bytes};
-ghost use Rattle.std.specs.List.{list_any};
+ghost use Rattle.std.specs.Prelude.{◌≡◌, ◌<◌, ◌||◌, ◌^◌, ◌∷◌, ◌++◌, [], true, Some, IfOk, OnOk, length, take, codes, string_bytes};
 ghost use Rattle.std.specs.Str.{bytes_eq};
 ghost use Rattle.script_lang.specs.Script as spec;
-ghost use Rattle.script_lang.specs.Reading.{Takes, nothing_read, end_batch, after_go, with_param, with_statement_line, after_head_line, after_batch_line, after_line};
+ghost use Rattle.script_lang.specs.Reading.{Takes, behind_line};
 
 use crate::declarations::declaration_of;
 use crate::steps::Step;
-use crate::words::{begins_with, behind_blanks, first_word, is_refused};
-use ae_base::batches::{Batch, Param};
+use crate::words::{
+    begins_with, begins_with_colon, behind_blanks, first_word, is_alone, is_blank_line,
+    named_session,
+};
+use ae_base::batches::{Batch, Param, Params};
 use ae_base::lists::Seq;
-use ae_base::names::Name;
+use ae_base::params::ParamList;
+use ae_base::sessions::SessionId;
 use ae_base::texts::Txt;
 use std::alloc::{AllocError, Global};
 use std::marker::Model;
 use std::mem;
 
-/// A script read so far: the steps of the batches that have ended, and the batch that is begun. Its
-/// statement is there once a line of it has come.
+/// A script read so far: the steps that its lines have made, the session, and the batch that is
+/// begun. Its statement is there once a line of it has come.
 #[derive(Drop)]
 pub(crate) struct Reader {
     steps: Seq<Step>,
-    params: Seq<Param>,
+    session: SessionId,
+    params: Params,
     statement: Option<String>,
 }
 
 impl Model for Reader {
     ghost use Rattle.std.specs.Prelude.{option_map, string_bytes};
-    ghost use Rattle.script_lang.specs.Reading.{SoFar};
+    ghost use Rattle.script_lang.specs.Script.{After};
 
-    ghost Value = { SoFar };
+    ghost Value = { After };
 
-    ghost view = { λ r. record { steps = r.steps; params = r.params; statement = option_map string_bytes r.statement } };
+    ghost view = { λ r. record {
+      steps = r.steps;
+      begun = record { session = r.session; params = r.params; statement = option_map string_bytes r.statement };
+    } };
 }
 
 impl Reader {
-    /// The most parameters that a batch declares.
-    const MOST_PARAMS: usize = 128;
-
-    /// Nothing is read yet. It takes no memory.
+    /// Nothing is read yet, and the session is the first. It takes no memory.
     pub(crate) fn new(alloc: Global) -> Reader
-        ensures { result ≡ nothing_read }
+        ensures steps { result.steps ≡ [] }
+        ensures begun { result.begun ≡ spec.nothing_begun 1 }
     {
         Reader {
             steps: Seq::new(alloc),
-            params: Seq::new(alloc),
+            session: SessionId::from_number(1).unwrap(),
+            params: ParamList::new(alloc),
             statement: None,
         }
     }
@@ -59,13 +65,13 @@ impl Reader {
     /// what is read is left open.
     pub(crate) fn read_line(&mut self, alloc: Global, line: &[u8]) -> Result<bool, AllocError>
         requires { length line.now < 2 ^ 32 }
-        ensures { IfOk result (λ good. Takes (after_line self.old line.now) good self.new) }
+        ensures { IfOk result (λ good. Takes self.old (spec.after_line self.old.begun line.now) good self.new) }
     {
         let Ok(text) = str::from_utf8(line) else {
             return Ok(false);
         };
-        if is_refused(line) {
-            return Ok(false);
+        if begins_with_colon(line) {
+            return self.read_command(alloc, behind_blanks(line));
         }
         if begins_with(line, b"GO") {
             return self.read_go(alloc, line);
@@ -73,39 +79,109 @@ impl Reader {
         self.read_batch_line(alloc, text)
     }
 
+    /// Whether neither a declaration nor a line of a statement has come.
+    fn is_between(&self) -> bool
+        ensures { result ≡ spec.is_between self.now.begun }
+    {
+        self.params.as_slice().is_empty() && self.statement.is_none()
+    }
+
+    /// Takes the batch that is begun, and begins the next of the same session.
+    fn take_batch(&mut self, alloc: Global) -> Batch
+        ensures batch { result ≡ spec.batch_of self.old.begun }
+        ensures steps { self.new.steps ≡ self.old.steps }
+        ensures begun { self.new.begun ≡ spec.nothing_begun self.old.begun.session }
+    {
+        Batch {
+            text: Txt::from_string(self.statement.take().unwrap_or(String::new(alloc))),
+            params: mem::replace(&mut self.params, ParamList::new(alloc)),
+        }
+    }
+
+    /// Ends the batch. One without a parameter and without a statement is no step.
+    pub(crate) fn end_batch(&mut self, alloc: Global) -> Result<(), AllocError>
+        ensures { OnOk result (self.new ≡ behind_line self.old.steps (spec.ended self.old.begun)) }
+    {
+        if self.is_between() {
+            return Ok(());
+        }
+        let batch = self.take_batch(alloc);
+        self.steps.push(Step::Whole {
+            session: self.session,
+            batch,
+        })
+    }
+
     /// Reads a line whose first word is GO.
     fn read_go(&mut self, alloc: Global, line: &[u8]) -> Result<bool, AllocError>
-        ensures { IfOk result (λ good. Takes (after_go self.old line.now) good self.new) }
+        ensures { IfOk result (λ good. Takes self.old (spec.after_go self.old.begun line.now) good self.new) }
     {
-        if !behind_blanks(first_word(line).1).is_empty() {
+        if !is_blank_line(first_word(line).1) {
             return Ok(false);
         }
         self.end_batch(alloc)?;
         Ok(true)
     }
 
-    /// Ends the batch. One without a parameter and without a statement is no step.
-    pub(crate) fn end_batch(&mut self, alloc: Global) -> Result<(), AllocError>
-        ensures { OnOk result (self.new ≡ end_batch self.old) }
+    /// Reads a line that begins with a colon.
+    fn read_command(&mut self, alloc: Global, line: &[u8]) -> Result<bool, AllocError>
+        ensures { IfOk result (λ good. Takes self.old (spec.after_colon self.old.begun line.now) good self.new) }
     {
-        if self.params.is_empty() && self.statement.is_none() {
-            return Ok(());
+        if is_alone(line, b":describe") {
+            return self.describe(alloc);
         }
-        let text = self.statement.take().unwrap_or(String::new(alloc));
-        let params = mem::replace(&mut self.params, Seq::new(alloc));
-        self.steps.push(Step::Whole {
-            session: 1,
-            batch: Batch {
-                text: Txt::from_string(text),
-                params,
-            },
-        })
+        if is_alone(line, b":execute") {
+            return self.execute();
+        }
+        match named_session(line) {
+            Some(session) => Ok(self.enter(session)),
+            None => Ok(false),
+        }
+    }
+
+    /// Ends the batch as half a one. It must be begun.
+    fn describe(&mut self, alloc: Global) -> Result<bool, AllocError>
+        ensures { IfOk result (λ good. Takes self.old (spec.after_describe self.old.begun) good self.new) }
+    {
+        if self.is_between() {
+            return Ok(false);
+        }
+        let batch = self.take_batch(alloc);
+        self.steps.push(Step::Half {
+            session: self.session,
+            batch,
+        })?;
+        Ok(true)
+    }
+
+    /// Executes what is pending, between batches.
+    fn execute(&mut self) -> Result<bool, AllocError>
+        ensures { IfOk result (λ good. Takes self.old (spec.after_execute self.old.begun) good self.new) }
+    {
+        if !self.is_between() {
+            return Ok(false);
+        }
+        self.steps.push(Step::Execute {
+            session: self.session,
+        })?;
+        Ok(true)
+    }
+
+    /// Goes on in a session, between batches.
+    fn enter(&mut self, session: SessionId) -> bool
+        ensures { Takes self.old (spec.in_session self.old.begun (Some session)) result self.new }
+    {
+        if !self.is_between() {
+            return false;
+        }
+        self.session = session;
+        true
     }
 
     /// Reads a line of a batch.
     fn read_batch_line(&mut self, alloc: Global, line: &str) -> Result<bool, AllocError>
         requires { length line.now < 2 ^ 32 }
-        ensures { IfOk result (λ good. Takes (after_batch_line self.old line.now) good self.new) }
+        ensures { IfOk result (λ good. Takes self.old (spec.after_batch_line self.old.begun line.now) good self.new) }
     {
         if self.statement.is_none() {
             return self.read_head_line(alloc, line);
@@ -118,7 +194,7 @@ impl Reader {
     /// passed over.
     fn read_head_line(&mut self, alloc: Global, line: &str) -> Result<bool, AllocError>
         requires { length line.now < 2 ^ 32 }
-        ensures { IfOk result (λ good. Takes (after_head_line self.old line.now) good self.new) }
+        ensures { IfOk result (λ good. Takes self.old (spec.after_head_line self.old.begun line.now) good self.new) }
     {
         if is_passed_over(line.as_bytes()) {
             return Ok(true);
@@ -135,20 +211,14 @@ impl Reader {
 
     /// Declares a parameter, unless its name is declared already or the batch has no room for it.
     fn declare(&mut self, param: Param) -> Result<bool, AllocError>
-        ensures { IfOk result (λ good. Takes (with_param self.old param) good self.new) }
+        ensures { IfOk result (λ good. Takes self.old (spec.with_param self.old.begun (Some param)) good self.new) }
     {
-        if is_declared(self.params.as_slice(), &param.declaration.name)
-            || self.params.len() >= Reader::MOST_PARAMS
-        {
-            return Ok(false);
-        }
-        self.params.push(param)?;
-        Ok(true)
+        self.params.push(param)
     }
 
     /// Puts a line at the end of the statement.
     fn read_statement_line(&mut self, alloc: Global, line: &str) -> Result<(), AllocError>
-        ensures { OnOk result (self.new ≡ with_statement_line self.old line.now) }
+        ensures { OnOk result (Takes self.old (spec.with_statement_line self.old.begun line.now) true self.new) }
     {
         self.statement = Some(match self.statement.take() {
             Some(text) => longer(text, line)?,
@@ -169,15 +239,7 @@ fn longer(mut text: String, line: &str) -> Result<String, AllocError>
 
 /// Whether a line has blanks alone, or begins with `--` behind blanks.
 fn is_passed_over(line: &[u8]) -> bool
-    ensures { result ≡ ((length (spec.behind_blanks line.now) == 0)
-        || bytes_eq (take 2 (spec.behind_blanks line.now)) (codes "--")) }
+    ensures { result ≡ (spec.is_blank_line line.now || bytes_eq (take 2 (spec.behind_blanks line.now)) (codes "--")) }
 {
-    let rest = behind_blanks(line);
-    rest.is_empty() || rest.starts_with(b"--")
-}
-
-fn is_declared(params: &[Param], name: &Name) -> bool
-    ensures { result ≡ list_any (λ q. bytes_eq q.declaration.name name.now) params.now }
-{
-    params.iter().any(|param| param.declaration.name == *name)
+    is_blank_line(line) || behind_blanks(line).starts_with(b"--")
 }

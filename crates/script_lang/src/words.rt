@@ -1,9 +1,11 @@
-ghost use Rattle.std.specs.Prelude.{◌≡◌, ◌==◌, IsTrue, length, nat_lt, slice_index, take_while};
-ghost use Rattle.std.specs.List.{list_all, list_any};
+ghost use Rattle.std.specs.Prelude.{◌≡◌, ◌==◌, IsTrue, length, slice_index, take_while, MatchOption, Some, None};
+ghost use Rattle.std.specs.List.{list_all};
 ghost use Rattle.std.specs.Str.{bytes_eq};
 ghost use Rattle.sql_tree.specs.Reading.{is_capital};
 ghost use Rattle.sql_tree.specs.Tokens as tokens;
 ghost use Rattle.script_lang.specs.Script as spec;
+
+use ae_base::sessions::SessionId;
 
 /// A space or a tab.
 fn is_blank(b: u8) -> bool
@@ -36,6 +38,13 @@ pub(crate) fn behind_blanks(line: &[u8]) -> &[u8]
     ensures { result.now ≡ spec.behind_blanks line.now }
 {
     &line[blank_count(line)..]
+}
+
+/// Whether a line has blanks alone.
+pub(crate) fn is_blank_line(line: &[u8]) -> bool
+    ensures { result ≡ spec.is_blank_line line.now }
+{
+    behind_blanks(line).is_empty()
 }
 
 /// How many bytes at the front a word may have.
@@ -74,15 +83,8 @@ pub(crate) fn begins_with(line: &[u8], capitals: &[u8]) -> bool
     reads_as(first_word(line).0, capitals)
 }
 
-/// Whether a line has a byte past ASCII.
-fn has_wide_byte(line: &[u8]) -> bool
-    ensures { result ≡ list_any (λ b. nat_lt 127 b) line.now }
-{
-    line.iter().any(|b| *b > 127)
-}
-
-/// Whether the first byte of a line that is no blank is a colon.
-fn begins_with_colon(line: &[u8]) -> bool
+/// Whether a line begins with a colon, behind blanks.
+pub(crate) fn begins_with_colon(line: &[u8]) -> bool
     ensures { result ≡ (slice_index (spec.behind_blanks line.now) 0 == 58) }
 {
     match behind_blanks(line) {
@@ -91,9 +93,49 @@ fn begins_with_colon(line: &[u8]) -> bool
     }
 }
 
-/// Whether a line has a byte past ASCII, or begins with a colon.
-pub(crate) fn is_refused(line: &[u8]) -> bool
-    ensures { result ≡ spec.is_refused_so_far line.now }
+/// What follows a word at the front of a line, where it stands there.
+fn behind<'a>(line: &'a [u8], word: &[u8]) -> Option<&'a [u8]>
+    ensures { MatchOption result (spec.behind word.now line.now ≡ None)
+        (λ x. spec.behind word.now line.now ≡ Some x.now) }
 {
-    has_wide_byte(line) || begins_with_colon(line)
+    line.strip_prefix(word)
+}
+
+/// Whether a line is a word, with nothing but blanks behind it.
+pub(crate) fn is_alone(line: &[u8], word: &[u8]) -> bool
+    ensures { result ≡ spec.is_alone (spec.behind word.now line.now) }
+{
+    match behind(line, word) {
+        Some(rest) => is_blank_line(rest),
+        None => false,
+    }
+}
+
+/// The session that bytes name: a number from 1 to 64 without a leading zero, and blanks.
+fn session_of(bytes: &[u8]) -> Option<SessionId>
+    ensures { result ≡ spec.session_of bytes.now }
+{
+    let [first @ b'1'..=b'9', rest @ ..] = bytes else {
+        return None;
+    };
+    let number = u16::from(*first - b'0');
+    if is_blank_line(rest) {
+        return SessionId::from_number(number);
+    }
+    match rest {
+        [second, rest @ ..] if second.is_ascii_digit() && is_blank_line(rest) => {
+            SessionId::from_number(10 * number + u16::from(*second - b'0'))
+        }
+        _ => None,
+    }
+}
+
+/// The session that `:session N` names.
+pub(crate) fn named_session(line: &[u8]) -> Option<SessionId>
+    ensures { result ≡ spec.named_session line.now }
+{
+    match behind(line, b":session ") {
+        Some(rest) => session_of(rest),
+        None => None,
+    }
 }

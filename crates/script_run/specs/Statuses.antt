@@ -2,7 +2,10 @@
 use Rattle.std.specs.Prelude.{ℕ, List, [], ◌∷◌, ◌++◌, codes, decimal, encode_utf8_all}
 use Rattle.script_run.specs.declared.status.Status.{Status}
 use Rattle.script_run.specs.declared.status.Status.TheVariants as status
-use Rattle.script_run.specs.declared.runs.Ended as ended
+use Rattle.run_words.specs.declared.stops.Stop.TheVariants as stop
+use Rattle.script_run.specs.declared.runs.Ran.{Ran}
+use Rattle.script_run.specs.declared.runs.Ran.TheVariants as ran
+use Rattle.script_run.specs.declared.runs.Unread.TheVariants as unread
 
 abbrev pub number_of : Status → ℕ
 number_of status.Done = 0
@@ -38,9 +41,15 @@ said_of (status.BadReply place) = line (codes "bad reply at " ++ decimal place)
 said_of (status.NoMasterKey path) = line (codes "no master key " ++ encode_utf8_all path)
 
 -- the status of a run that ended so
-abbrev pub status_of : ended.Ended → Status
-status_of ended.TheVariants.Done = status.Done
-status_of ended.TheVariants.Refusals = status.Refusals
-status_of (ended.TheVariants.BadReply place) = status.BadReply place
-status_of ended.TheVariants.WriteFault = status.WriteFault
-status_of ended.TheVariants.OutOfMemory = status.OutOfMemory
+abbrev pub status_of : Ran → Status
+status_of ran.Done = status.Done
+status_of ran.Refusals = status.Refusals
+status_of (ran.Stopped (stop.BadReply place)) = status.BadReply place
+status_of (ran.Stopped stop.EntropyFault) = status.EntropyFault
+status_of (ran.Stopped stop.VaultFault) = status.VaultFault
+status_of (ran.Stopped stop.WriteFault) = status.WriteFault
+status_of (ran.Stopped stop.OutOfMemory) = status.OutOfMemory
+status_of (ran.Unread unread.ReadFault) = status.ReadFault
+status_of (ran.Unread unread.TooLong) = status.TooLong
+status_of (ran.Unread (unread.BadLine n)) = status.BadScript n
+status_of (ran.Unread unread.OutOfMemory) = status.OutOfMemory

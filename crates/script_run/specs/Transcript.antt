@@ -1,65 +1,45 @@
--- The frames that pass between driver and server for the steps of a script.
-use Rattle.std.specs.Prelude.{ℕ, List, [], ◌∷◌, ◌++◌, map, flat_map, Option, Some, None, Result, Ok, Err}
-use Rattle.engine.specs.Worlds.{World, empty_world}
-use Rattle.wire_frames.specs.Messages.{Request, Reply}
-use Rattle.wire_frames.specs.Spelling.{request_frame, reply_frame}
-use Rattle.server_core.specs.Exchanges.{Exchange}
-use Rattle.server_core.specs.Serve.{serve}
-use Rattle.driver.specs.declared.faults.DriverFault.{DriverFault}
-use Rattle.driver.specs.Sessions.{Session, Idle, begin, described, execute, DescribeAnswer, Ready, DescribeRefused}
+-- What passes between driver and server over a script, as frames.
+use Rattle.std.specs.Prelude.{◌≡◌, ℕ, List, [], ◌++◌, flat_map, Option}
+use Rattle.ae_edge.specs.Devices.{WhereTold, Adds, AddsFront}
+use Rattle.ae_edge.specs.Vaults.{KeyMap}
+use Rattle.wire_messages.specs.Exchanges.{Exchange}
+use Rattle.wire_spelling.specs.Spelling.{request_frame, reply_frame}
+use Rattle.server_core.specs.Serve.{empty_state, serve}
+use Rattle.conversation.specs.Drive.{over}
+use Rattle.conversation.specs.Sessions.{nobody}
 use Rattle.script_lang.specs.declared.steps.Step.{Step}
-use Rattle.script_lang.specs.declared.steps.Step.TheVariants.{Whole, Half, Execute}
+use Rattle.plain_meaning.specs.Steps.{talk}
+use Rattle.run_words.specs.declared.stops.Stop.TheVariants as stop
+use Rattle.script_run.specs.declared.runs.Ran.{Ran}
+use Rattle.script_run.specs.declared.runs.Ran.TheVariants as ran
 
--- what passed, and the world after it
-pub record Passed : Type 0 where
-  pub exchanges : List Exchange
-  pub world : World
-
-abbrev pub nothing_passed : World → Passed
-nothing_passed world = record { exchanges = []; world = world }
-
--- a request is served, and what follows may look at its replies
-abbrev pub asked : World → Request → (World → List Reply → Passed) → Passed
-asked world request onward =
-    let served = serve world request in
-    let rest = onward served.world served.replies in
-    record { exchanges = record { request = request; replies = served.replies } ∷ rest.exchanges; world = rest.world }
-
-abbrev pub execution : World → Result (Request × Session) DriverFault → Passed
-execution world (Err f) = nothing_passed world
-execution world (Ok ready) = asked world ready.0 (λ after replies. nothing_passed after)
-
-abbrev pub after_description : World → ℕ → Option (DescribeAnswer × Session) → Passed
-after_description world number None = nothing_passed world
-after_description world number (Some (DescribeRefused f, session)) = nothing_passed world
-after_description world number (Some (Ready used, session)) = execution world (execute session number)
-
-abbrev pub after_replies : World → ℕ → Session → List Reply → Passed
-after_replies world number session [] = nothing_passed world
-after_replies world number session (reply ∷ replies) = after_description world number (described session reply)
-
--- a batch is described, and where that isn't refused it is executed
-abbrev pub batch_passes : World → ℕ → Result (Request × Session) DriverFault → Passed
-batch_passes world number (Err f) = nothing_passed world
-batch_passes world number (Ok begun) = asked world begun.0 (λ after replies. after_replies after number begun.1 replies)
-
-abbrev pub exchanges_from : World → List Step → List Exchange
-exchanges_from world [] = []
-exchanges_from world (Whole number batch ∷ steps) =
-    let passed = batch_passes world number (begin Idle number batch) in
-    passed.exchanges ++ exchanges_from passed.world steps
-exchanges_from world (Half number batch ∷ steps) = exchanges_from world steps
-exchanges_from world (Execute number ∷ steps) = exchanges_from world steps
-
--- each request's frame, followed by the frames of its replies
+-- a request's frame, and the frames of its replies
 abbrev pub exchange_frames : Exchange → List ℕ
 exchange_frames e = request_frame e.request ++ flat_map reply_frame e.replies
 
-abbrev pub transcript : List Step → List ℕ
-transcript steps = flat_map exchange_frames (exchanges_from empty_world steps)
+-- what passes over a server that serves from the empty state, where these random bytes come
+abbrev pub transcript : KeyMap → List Step → List ℕ → List ℕ
+transcript keys steps entropy = flat_map exchange_frames (over serve keys (talk steps nobody) 0 entropy empty_state []).exchanges
 
-abbrev pub replies_in : List Exchange → List Reply
-replies_in exchanges = flat_map (λ e. e.replies) exchanges
+-- these random bytes were drawn, where they are told
+abbrev pub Drew : List ℕ → Option (List ℕ) → Option (List ℕ) → Type 0
+Drew bytes = WhereTold (λ before after. before ≡ bytes ++ after)
 
-abbrev pub requests_in : List Exchange → List Request
-requests_in exchanges = map (λ e. e.request) exchanges
+-- random bytes were drawn, and the tap has the transcript
+pub record TapsWhole (keys : KeyMap) (steps : List Step) (before after old new : Option (List ℕ)) : Type 0 where
+  pub drawn : List ℕ
+  pub share : Drew drawn before after
+  pub tap : Adds (transcript keys steps drawn) old new
+
+-- random bytes were drawn, and whatever more come, the tap has a front of the transcript
+pub record TapsFront (keys : KeyMap) (steps : List Step) (before after old new : Option (List ℕ)) : Type 0 where
+  pub drawn : List ℕ
+  pub share : Drew drawn before after
+  pub tap : (more : List ℕ) → AddsFront (transcript keys steps (drawn ++ more)) old new
+
+-- the tap has the transcript, or a front of it where the run stopped
+abbrev pub TapsTranscript : Ran → KeyMap → List Step → (before after old new : Option (List ℕ)) → Type 0
+TapsTranscript ran.Done keys steps before after old new = TapsWhole keys steps before after old new
+TapsTranscript ran.Refusals keys steps before after old new = TapsWhole keys steps before after old new
+TapsTranscript (ran.Stopped why) keys steps before after old new = TapsFront keys steps before after old new
+TapsTranscript (ran.Unread why) keys steps before after old new = new ≡ old

@@ -1,11 +1,15 @@
-//! Scripts run through driver and server, and what that means in plain SQL.
+//! Scripts run through a driver: what passes goes to a peer and a tap, and what it comes to is
+//! printed.
 #![tactic(auto)]
 
-mod asking;
-mod batches;
-pub mod laws;
-mod outcomes;
+pub mod around;
+mod calls;
+pub mod env;
+mod hearing;
+pub mod lines;
+pub mod peer_lines;
 pub mod programs;
-mod reading;
 pub mod runs;
 pub mod status;
+pub mod steps;
+mod turns;

@@ -1,18 +1,25 @@
 //! The command `run`: a script is read whole, and its steps are run.
 
-ghost use Rattle.std.specs.Prelude.{◌≡◌, ◌≢◌, ◌≤◌, ◌⊎◌, ℕ, List, Some, length};
+ghost use Rattle.std.specs.Prelude.{◌≡◌, ◌≤◌, ◌⊎◌, ℕ, List, Some, IfSome, length};
 ghost use Rattle.ae_edge.specs.Devices.{Rose, WhereTold};
-ghost use Rattle.engine.specs.Worlds.{empty_world};
+ghost use Rattle.ae_edge.specs.Vaults.{KeyMap};
+ghost use Rattle.server_core.specs.Serve.{empty_state};
 ghost use Rattle.script_lang.specs.declared.steps.Step.{Step};
-ghost use Rattle.script_run.specs.Programs.{IsDoneOrFault, IsOfRun, IsScript, Outside, RunsPlain, RunsScript, TakesScript, most_script_bytes};
-ghost use Rattle.script_run.specs.Runs.{Wire};
+ghost use Rattle.run_words.specs.declared.stops.Stop.TheVariants as stop;
+ghost use Rattle.script_run.specs.declared.runs.Ran.TheVariants as ran;
+ghost use Rattle.script_run.specs.declared.runs.Unread.TheVariants as unread;
+ghost use Rattle.script_run.specs.Ends.{IsRead, IsScript, RunsScript, TakesScript, most_script_bytes};
+ghost use Rattle.script_run.specs.Plain.{PrintsPlain, IsDoneOrFault};
+ghost use Rattle.script_run.specs.Transcript.{TapsTranscript};
 
-use crate::runs::{Ended, run_steps};
-use crate::status::Status;
+use crate::runs::{Ran, Unread, run_over};
 use ae_base::blobs::Blob;
+use ae_edge::entropies::Entropy;
 use ae_edge::sinks::Sink;
 use ae_edge::sources::Source;
 use ae_edge::streams::{ReadAll, read_all};
+use ae_edge::vaults::Vault;
+use plain_meaning::laws::served_is_plain;
 use script_lang::scripts::{ScriptFault, read_script};
 use server_core::peers::Peer;
 use std::alloc::Global;
@@ -20,101 +27,90 @@ use std::alloc::Global;
 /// The most bytes that a script has.
 pub const MOST_SCRIPT_BYTES: usize = 16_777_216;
 
-impl From<Ended> for Status {
-    ghost use Rattle.script_run.specs.Statuses.{status_of};
-
-    ghost from_gives = { λ ended status. status ≡ status_of ended };
-
-    fn from(ended: Ended) -> Status {
-        match ended {
-            Ended::Done => Status::Done,
-            Ended::Refusals => Status::Refusals,
-            Ended::BadReply(place) => Status::BadReply(place),
-            Ended::WriteFault => Status::WriteFault,
-            Ended::OutOfMemory => Status::OutOfMemory,
-        }
+fn run_bytes<V: Vault, E: Entropy, W: Sink, T: Sink, P: Peer>(
+    alloc: Global,
+    script: &Blob,
+    vault: &mut V,
+    entropy: &mut E,
+    out: &mut W,
+    tap: &mut T,
+    peer: &mut P,
+) -> Ran
+    requires within { length script.now ≤ most_script_bytes }
+    ensures content { RunsScript result script.now
+        (record { out = W.held out.old; tap = T.held tap.old; entropy = E.to_come entropy.old; keys = V.keys vault.old; log = P.log peer.old; state = P.state peer.old; out_faults = W.faults out.old; tap_faults = T.faults tap.old; entropy_faults = E.faults entropy.old; vault_faults = V.faults vault.old })
+        (record { out = W.held out.new; tap = T.held tap.new; entropy = E.to_come entropy.new; keys = V.keys vault.new; log = P.log peer.new; state = P.state peer.new; out_faults = W.faults out.new; tap_faults = T.faults tap.new; entropy_faults = E.faults entropy.new; vault_faults = V.faults vault.new }) }
+    ensures read { IsRead result }
+{
+    match read_script(alloc, script.as_slice()) {
+        Ok(steps) => run_over(alloc, steps.as_slice(), vault, entropy, out, tap, peer),
+        Err(ScriptFault::BadLine(line)) => Ran::Unread(Unread::BadLine(line)),
+        Err(ScriptFault::OutOfMemory) => Ran::Unread(Unread::OutOfMemory),
     }
 }
 
-fn run_bytes<W: Sink, T: Sink, P: Peer>(
-    alloc: Global,
-    script: &Blob,
-    out: &mut W,
-    tap: &mut T,
-    peer: &mut P,
-) -> Status
-    requires { length script.now ≤ most_script_bytes }
-    ensures content { RunsScript result
-        (record { out = W.held out.old; wire = record { tap = T.held tap.old; log = P.log peer.old; world = P.world peer.old } })
-        (record { out = W.held out.new; wire = record { tap = T.held tap.new; log = P.log peer.new; world = P.world peer.new } }) script.now }
-    ensures named { IsOfRun result }
-    ensures read { result ≢ Status.ReadFault }
-    ensures write { result ≡ Status.WriteFault → Rose (W.faults out.old) (W.faults out.new) ⊎ Rose (T.faults tap.old) (T.faults tap.new) }
-{
-    let steps = match read_script(alloc, script.as_slice()) {
-        Ok(steps) => steps,
-        Err(ScriptFault::BadLine(line)) => return Status::BadScript(line),
-        Err(ScriptFault::OutOfMemory) => return Status::OutOfMemory,
-    };
-    Status::from(run_steps(alloc, steps.as_slice(), out, tap, peer))
-}
-
-// Reads a script and runs it, over any peer.
-fn run_source<S: Source, W: Sink, T: Sink, P: Peer>(
+/// Reads a script and runs it, over any peer.
+fn run_source<S: Source, V: Vault, E: Entropy, W: Sink, T: Sink, P: Peer>(
     alloc: Global,
     script: &mut S,
+    vault: &mut V,
+    entropy: &mut E,
     out: &mut W,
     tap: &mut T,
     peer: &mut P,
-) -> Status
-    ensures content { WhereTold (λ bytes left. RunsScript result
-        (record { out = W.held out.old; wire = record { tap = T.held tap.old; log = P.log peer.old; world = P.world peer.old } })
-        (record { out = W.held out.new; wire = record { tap = T.held tap.new; log = P.log peer.new; world = P.world peer.new } }) bytes)
-        (S.left script.old) (S.left script.new) }
+) -> Ran
+    ensures content { (bytes : List ℕ) × IfSome (S.left script.old) (λ left. bytes ≡ left) × RunsScript result bytes
+        (record { out = W.held out.old; tap = T.held tap.old; entropy = E.to_come entropy.old; keys = V.keys vault.old; log = P.log peer.old; state = P.state peer.old; out_faults = W.faults out.old; tap_faults = T.faults tap.old; entropy_faults = E.faults entropy.old; vault_faults = V.faults vault.old })
+        (record { out = W.held out.new; tap = T.held tap.new; entropy = E.to_come entropy.new; keys = V.keys vault.new; log = P.log peer.new; state = P.state peer.new; out_faults = W.faults out.new; tap_faults = T.faults tap.new; entropy_faults = E.faults entropy.new; vault_faults = V.faults vault.new }) }
     ensures taken { WhereTold (TakesScript result) (S.left script.old) (S.left script.new) }
-    ensures named { IsOfRun result }
-    ensures read { result ≡ Status.ReadFault → Rose (S.faults script.old) (S.faults script.new) }
-    ensures write { result ≡ Status.WriteFault → Rose (W.faults out.old) (W.faults out.new) ⊎ Rose (T.faults tap.old) (T.faults tap.new) }
+    ensures read { result ≡ ran.Unread unread.ReadFault → Rose (S.faults script.old) (S.faults script.new) }
+    ensures write { result ≡ ran.Stopped stop.WriteFault → Rose (W.faults out.old) (W.faults out.new) ⊎ Rose (T.faults tap.old) (T.faults tap.new) }
+    ensures entropy { result ≡ ran.Stopped stop.EntropyFault → Rose (E.faults entropy.old) (E.faults entropy.new) }
+    ensures vault { result ≡ ran.Stopped stop.VaultFault → Rose (V.faults vault.old) (V.faults vault.new) }
 {
-    let bytes = match read_all(script, alloc, MOST_SCRIPT_BYTES) {
-        ReadAll::Whole(bytes) => bytes,
-        ReadAll::TooLong => return Status::TooLong,
-        ReadAll::ReadFault => return Status::ReadFault,
-        ReadAll::OutOfMemory => return Status::OutOfMemory,
-    };
-    run_bytes(alloc, &bytes, out, tap, peer)
+    match read_all(script, alloc, MOST_SCRIPT_BYTES) {
+        ReadAll::Whole(bytes) => run_bytes(alloc, &bytes, vault, entropy, out, tap, peer),
+        ReadAll::TooLong => Ran::Unread(Unread::TooLong),
+        ReadAll::ReadFault => Ran::Unread(Unread::ReadFault),
+        ReadAll::OutOfMemory => Ran::Unread(Unread::OutOfMemory),
+    }
 }
 
 /// Reads a script to its end and runs its steps through a driver and the peer: the text goes to
 /// `out`, and every frame to `tap` in the order in which they passed, a step's frames before its
-/// text. A script that can't be read, has a bad line or is too long leaves both as they were; where
-/// a device fails or memory ends, both hold fronts of the whole.
-pub fn run<S: Source, W: Sink, T: Sink, P: Peer>(
+/// text. A script that can't be read, has a bad line or is too long leaves everything as it was;
+/// where a device fails or memory ends, text and tap hold fronts of the whole.
+pub fn run<S: Source, V: Vault, E: Entropy, W: Sink, T: Sink, P: Peer>(
     alloc: Global,
     script: &mut S,
+    vault: &mut V,
+    entropy: &mut E,
     out: &mut W,
     tap: &mut T,
     peer: &mut P,
-) -> Status
-    // For every peer: what stands at the text, at the tap and at the peer, by the status.
-    ensures content { WhereTold (λ bytes left. RunsScript result
-        (record { out = W.held out.old; wire = record { tap = T.held tap.old; log = P.log peer.old; world = P.world peer.old } })
-        (record { out = W.held out.new; wire = record { tap = T.held tap.new; log = P.log peer.new; world = P.world peer.new } }) bytes)
-        (S.left script.old) (S.left script.new) }
-    // Over a peer that serves from the empty world: the text is plain SQL's over the same values.
-    ensures plain { P.world peer.old ≡ Some empty_world → WhereTold (λ bytes left. RunsPlain result
-        (record { out = W.held out.old; wire = record { tap = T.held tap.old; log = P.log peer.old; world = P.world peer.old } })
-        (record { out = W.held out.new; wire = record { tap = T.held tap.new; log = P.log peer.new; world = P.world peer.new } }) bytes)
-        (S.left script.old) (S.left script.new) }
-    // There a good script is run to its end, unless memory or a device fails.
-    ensures complete { P.world peer.old ≡ Some empty_world → (bytes : List ℕ) (steps : List Step) →
-        S.left script.old ≡ Some bytes → IsScript bytes steps → IsDoneOrFault result }
-    // What was taken of the script, by the status.
+) -> Ran
+    // For every peer there are bytes, the source's where it tells them, of which this is a run: how far its conversation was followed,
+    // what stands at the text, at the tap, at the peer and at the other devices of it, and why it was followed no further.
+    ensures content { (bytes : List ℕ) × IfSome (S.left script.old) (λ left. bytes ≡ left) × RunsScript result bytes
+        (record { out = W.held out.old; tap = T.held tap.old; entropy = E.to_come entropy.old; keys = V.keys vault.old; log = P.log peer.old; state = P.state peer.old; out_faults = W.faults out.old; tap_faults = T.faults tap.old; entropy_faults = E.faults entropy.old; vault_faults = V.faults vault.old })
+        (record { out = W.held out.new; tap = T.held tap.new; entropy = E.to_come entropy.new; keys = V.keys vault.new; log = P.log peer.new; state = P.state peer.new; out_faults = W.faults out.new; tap_faults = T.faults tap.new; entropy_faults = E.faults entropy.new; vault_faults = V.faults vault.new }) }
+    // Over a peer that serves from the empty state, with keys that are told, the text is plain SQL's over the same values.
+    ensures plain { (keys : KeyMap) (bytes : List ℕ) (steps : List Step) → P.state peer.old ≡ Some empty_state → V.keys vault.old ≡ Some keys → S.left script.old ≡ Some bytes → IsScript bytes steps
+        → PrintsPlain result keys steps (W.held out.old) (W.held out.new) }
+    // And the tap has the frames of the conversation over that server, whatever random bytes were drawn.
+    ensures transcript { (keys : KeyMap) (bytes : List ℕ) (steps : List Step) → P.state peer.old ≡ Some empty_state → V.keys vault.old ≡ Some keys → S.left script.old ≡ Some bytes → IsScript bytes steps
+        → TapsTranscript result keys steps (E.to_come entropy.old) (E.to_come entropy.new) (T.held tap.old) (T.held tap.new) }
+    // There a good script is run to its end, unless memory or a device fails: each reply is awaited.
+    ensures complete { (keys : KeyMap) (bytes : List ℕ) (steps : List Step) → P.state peer.old ≡ Some empty_state → V.keys vault.old ≡ Some keys → S.left script.old ≡ Some bytes → IsScript bytes steps
+        → IsDoneOrFault result }
+    // What was taken of the script, by how it ended.
     ensures taken { WhereTold (TakesScript result) (S.left script.old) (S.left script.new) }
-    // It has no other status than these, and the faults of the outside only where a count rose.
-    ensures named { IsOfRun result }
-    ensures read { result ≡ Status.ReadFault → Rose (S.faults script.old) (S.faults script.new) }
-    ensures write { result ≡ Status.WriteFault → Rose (W.faults out.old) (W.faults out.new) ⊎ Rose (T.faults tap.old) (T.faults tap.new) }
+    // The faults of the outside come only where a count rose.
+    ensures read { result ≡ ran.Unread unread.ReadFault → Rose (S.faults script.old) (S.faults script.new) }
+    ensures write { result ≡ ran.Stopped stop.WriteFault → Rose (W.faults out.old) (W.faults out.new) ⊎ Rose (T.faults tap.old) (T.faults tap.new) }
+    ensures entropy { result ≡ ran.Stopped stop.EntropyFault → Rose (E.faults entropy.old) (E.faults entropy.new) }
+    ensures vault { result ≡ ran.Stopped stop.VaultFault → Rose (V.faults vault.old) (V.faults vault.new) }
 {
-    run_source(alloc, script, out, tap, peer)
+    served_is_plain();
+    run_source(alloc, script, vault, entropy, out, tap, peer)
 }

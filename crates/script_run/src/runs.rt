@@ -1,125 +1,124 @@
-//! The steps of a script, run one after another.
+//! A script's steps, run over devices that are lent.
 
-ghost use Rattle.std.specs.Prelude.{◌≡◌, ◌≤◌, ◌⊎◌};
-ghost use Rattle.std.specs.List.{All};
-ghost use Rattle.ae_edge.specs.Devices.{Rose};
-ghost use Rattle.driver.specs.Sessions.{Idle};
-ghost use Rattle.script_run.specs.Batches.{IsStep};
-ghost use Rattle.script_run.specs.Runs.{AreIdleAfter, Prints, RunGoes, StepGoes, Wire};
-ghost use Rattle.script_run.specs.Views.{outcome_of};
+ghost use Rattle.std.specs.Prelude.{◌≡◌, ◌∷◌, [], IfOk, length};
+ghost use Rattle.key_store.specs.Stores.{IsOf};
+ghost use Rattle.conversation.specs.Talk.{Ends};
+ghost use Rattle.run_words.specs.Ways.{Leads};
+ghost use Rattle.script_run.specs.Ends.{RunsTo, outside};
+ghost use Rattle.plain_meaning.specs.Steps.{talk};
 
-use crate::batches::{Batched, run_batch};
-use crate::outcomes::Outcome;
+use crate::env::Env;
+use crate::peer_lines::{PeerLine, Waiting};
+use crate::steps::{nobody, run_all};
+use ae_edge::entropies::Entropy;
 use ae_edge::sinks::Sink;
-use ae_edge::streams::{PutAll, put_all};
-use driver::Driver;
+use ae_edge::vaults::Vault;
+use conversation::sessions::Session;
+use key_store::KeyStore;
+use run_words::stops::Stop;
 use script_lang::steps::Step;
 use server_core::peers::Peer;
 use std::alloc::Global;
+use std::collections::VecDeque;
+
+/// Why a script wasn't run.
+#[derive(Clone, Copy, PartialEq, Eq, Debug)]
+pub enum Unread {
+    /// A call of its source failed.
+    ReadFault,
+    /// It has more than 16,777,216 bytes.
+    TooLong,
+    /// The first line that no script has, from 1.
+    BadLine(u64),
+    OutOfMemory,
+}
 
 /// How a run ended.
 #[derive(Clone, Copy, PartialEq, Eq, Debug)]
-pub enum Ended {
-    /// No outcome was a refusal.
+pub enum Ran {
+    /// The script ran to its end, and no outcome was a refusal.
     Done,
-    /// An outcome was a refusal.
+    /// The script ran to its end, and an outcome was a refusal.
     Refusals,
-    /// A reply isn't awaited: its place among the bytes of the reply frames.
-    BadReply(u64),
-    WriteFault,
-    OutOfMemory,
+    /// Its conversation was followed no further.
+    Stopped(Stop),
+    /// It wasn't run.
+    Unread(Unread),
 }
 
-/// Runs the steps of a script through a driver and the peer. Each step's frames are put to the
-/// tap, and then its text to `out`, before the next step begins.
-pub fn run_steps<W: Sink, T: Sink, P: Peer>(
+/// The same devices are lent after it.
+fn run_lent<W: Sink, T: Sink, E: Entropy, V: Vault, P: Peer>(
+    alloc: Global,
+    env: &mut Env<'_, &mut W, &mut E, &mut V, PeerLine<'_, &mut T, &mut P>>,
+    sessions: &mut Vec<Session>,
+    steps: &[Step],
+) -> Result<(), Stop>
+    requires count { length sessions.old.items ≡ 64 }
+    requires of_vault { IsOf (V.keys env.old.vault.now) (env.old.store.now) }
+    ensures same_out { env.new.out.ghost_name ≡ env.old.out.ghost_name }
+    ensures same_entropy { env.new.entropy.ghost_name ≡ env.old.entropy.ghost_name }
+    ensures same_vault { env.new.vault.ghost_name ≡ env.old.vault.ghost_name }
+    ensures same_tap { env.new.line.tap.ghost_name ≡ env.old.line.tap.ghost_name }
+    ensures same_peer { env.new.line.peer.ghost_name ≡ env.old.line.peer.ghost_name }
+    ensures read { IfOk result (λ _. env.new.line.waiting.now.replies.items ≡ []) }
+    ensures leads { Leads result (talk steps.now sessions.old.items) (λ _. Ends sessions.new.items)
+        (outside (env.old.out.ghost_name ∷ []) (env.old.entropy.ghost_name ∷ []) (env.old.vault.ghost_name ∷ []) ((env.old.line.tap.ghost_name ∷ []) ∷ (env.old.line.peer.ghost_name ∷ []) ∷ [])
+        env.old.refused env.old.line.waiting.now.replies.items env.old.line.taken
+        (record { out = W.held env.old.out.now; tap = T.held env.old.line.tap.now; entropy = E.to_come env.old.entropy.now; keys = V.keys env.old.vault.now; log = P.log env.old.line.peer.now; state = P.state env.old.line.peer.now; out_faults = W.faults env.old.out.now; tap_faults = T.faults env.old.line.tap.now; entropy_faults = E.faults env.old.entropy.now; vault_faults = V.faults env.old.vault.now }))
+        (outside (env.new.out.ghost_name ∷ []) (env.new.entropy.ghost_name ∷ []) (env.new.vault.ghost_name ∷ []) ((env.new.line.tap.ghost_name ∷ []) ∷ (env.new.line.peer.ghost_name ∷ []) ∷ [])
+        env.new.refused env.new.line.waiting.now.replies.items env.new.line.taken
+        (record { out = W.held env.new.out.now; tap = T.held env.new.line.tap.now; entropy = E.to_come env.new.entropy.now; keys = V.keys env.new.vault.now; log = P.log env.new.line.peer.now; state = P.state env.new.line.peer.now; out_faults = W.faults env.new.out.now; tap_faults = T.faults env.new.line.tap.now; entropy_faults = E.faults env.new.entropy.now; vault_faults = V.faults env.new.vault.now })) }
+{
+    run_all(alloc, env, sessions, steps)
+}
+
+/// Runs the steps of a script over a peer: the text goes to `out`, and every frame to `tap` in the
+/// order in which they passed, a step's frames before its text.
+pub fn run_over<W: Sink, T: Sink, E: Entropy, V: Vault, P: Peer>(
     alloc: Global,
     steps: &[Step],
+    vault: &mut V,
+    entropy: &mut E,
     out: &mut W,
     tap: &mut T,
     peer: &mut P,
-) -> Ended
-    requires { All IsStep steps.now }
-    ensures content { RunGoes steps.now result (W.held out.old) (W.held out.new)
-        (record { tap = T.held tap.old; log = P.log peer.old; world = P.world peer.old })
-        (record { tap = T.held tap.new; log = P.log peer.new; world = P.world peer.new }) }
-    ensures out_count { W.faults out.old ≤ W.faults out.new }
-    ensures tap_count { T.faults tap.old ≤ T.faults tap.new }
-    ensures fault { result ≡ Ended.WriteFault → Rose (W.faults out.old) (W.faults out.new) ⊎ Rose (T.faults tap.old) (T.faults tap.new) }
+) -> Ran
+    ensures { RunsTo result steps.now
+        (record { out = W.held out.old; tap = T.held tap.old; entropy = E.to_come entropy.old; keys = V.keys vault.old; log = P.log peer.old; state = P.state peer.old; out_faults = W.faults out.old; tap_faults = T.faults tap.old; entropy_faults = E.faults entropy.old; vault_faults = V.faults vault.old })
+        (record { out = W.held out.new; tap = T.held tap.new; entropy = E.to_come entropy.new; keys = V.keys vault.new; log = P.log peer.new; state = P.state peer.new; out_faults = W.faults out.new; tap_faults = T.faults tap.new; entropy_faults = E.faults entropy.new; vault_faults = V.faults vault.new }) }
 {
-    let Ok(mut driver) = Driver::new(alloc) else {
-        return Ended::OutOfMemory;
+    let mut sessions = match nobody(alloc) {
+        Ok(sessions) => sessions,
+        Err(_) => return Ran::Stopped(Stop::OutOfMemory),
     };
-    let mut place = 0;
-    let mut refusals = false;
-    for step in steps {
-        match run_step(alloc, &mut driver, step, &mut place, out, tap, peer) {
-            Stepped::Done(is_refusal) => refusals = refusals || is_refusal,
-            Stepped::BadReply(place) => return Ended::BadReply(place),
-            Stepped::WriteFault => return Ended::WriteFault,
-            Stepped::OutOfMemory => return Ended::OutOfMemory,
+    let mut store = match KeyStore::new(alloc) {
+        Ok(store) => store,
+        Err(_) => return Ran::Stopped(Stop::OutOfMemory),
+    };
+    let mut waiting = Waiting {
+        replies: VecDeque::new(alloc),
+    };
+    let mut env = Env {
+        out,
+        entropy,
+        vault,
+        refused: false,
+        line: PeerLine {
+            tap,
+            peer,
+            waiting: &mut waiting,
+            taken: 0,
+        },
+        store: &mut store,
+    };
+    match run_lent(alloc, &mut env, &mut sessions, steps) {
+        Ok(()) => {
+            if env.refused {
+                Ran::Refusals
+            } else {
+                Ran::Done
+            }
         }
-    }
-    if refusals {
-        Ended::Refusals
-    } else {
-        Ended::Done
-    }
-}
-
-// How a step ended.
-#[derive(Clone, Copy)]
-enum Stepped {
-    /// Whether its outcome was a refusal.
-    Done(bool),
-    BadReply(u64),
-    WriteFault,
-    OutOfMemory,
-}
-
-// Runs a step; half batches are no steps yet.
-fn run_step<W: Sink, T: Sink, P: Peer>(
-    alloc: Global,
-    driver: &mut Driver,
-    step: &Step,
-    place: &mut u64,
-    out: &mut W,
-    tap: &mut T,
-    peer: &mut P,
-) -> Stepped
-    requires step { IsStep step.now }
-    requires idle { All (λ s. s ≡ Idle) driver.old }
-    ensures content { StepGoes step.now result place.old place.new (W.held out.old) (W.held out.new)
-        (record { tap = T.held tap.old; log = P.log peer.old; world = P.world peer.old })
-        (record { tap = T.held tap.new; log = P.log peer.new; world = P.world peer.new }) }
-    ensures idle { AreIdleAfter result driver.new }
-    ensures out_count { W.faults out.old ≤ W.faults out.new }
-    ensures tap_count { T.faults tap.old ≤ T.faults tap.new }
-    ensures fault { result ≡ Stepped.WriteFault → Rose (W.faults out.old) (W.faults out.new) ⊎ Rose (T.faults tap.old) (T.faults tap.new) }
-{
-    let Step::Whole { session, batch } = step else {
-        return Stepped::Done(false);
-    };
-    match run_batch(alloc, driver, *session, batch, place, tap, peer) {
-        Batched::Came(outcome) => print(alloc, &outcome, out),
-        Batched::BadReply(place) => Stepped::BadReply(place),
-        Batched::WriteFault => Stepped::WriteFault,
-        Batched::OutOfMemory => Stepped::OutOfMemory,
-    }
-}
-
-// Puts the text of an outcome.
-fn print<W: Sink>(alloc: Global, outcome: &Outcome, out: &mut W) -> Stepped
-    ensures content { Prints (outcome_of outcome.now) result (W.held out.old) (W.held out.new) }
-    ensures count { W.faults out.old ≤ W.faults out.new }
-    ensures fault { result ≡ Stepped.WriteFault → Rose (W.faults out.old) (W.faults out.new) }
-{
-    let Ok(text) = outcome.text(alloc) else {
-        return Stepped::OutOfMemory;
-    };
-    match put_all(out, text.as_bytes()) {
-        PutAll::Whole => Stepped::Done(outcome.is_refusal()),
-        PutAll::WriteFault => Stepped::WriteFault,
-        PutAll::OutOfMemory => Stepped::OutOfMemory,
+        Err(stop) => Ran::Stopped(stop),
     }
 }

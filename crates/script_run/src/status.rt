@@ -1,7 +1,9 @@
 ghost use Rattle.std.specs.Prelude.{◌≡◌};
 ghost use Rattle.script_run.specs.Statuses.{number_of};
 
+use crate::runs::{Ran, Unread};
 use ae_base::texts::Txt;
+use run_words::stops::Stop;
 use std::fmt;
 
 /// How a command ended.
@@ -53,6 +55,28 @@ impl Status {
             Status::BadFrame(_) => 10,
             Status::BadReply(_) => 11,
             Status::NoMasterKey(_) => 12,
+        }
+    }
+}
+
+impl From<Ran> for Status {
+    ghost use Rattle.script_run.specs.Statuses.{status_of};
+
+    ghost from_gives = { λ ran status. status ≡ status_of ran };
+
+    fn from(ran: Ran) -> Status {
+        match ran {
+            Ran::Done => Status::Done,
+            Ran::Refusals => Status::Refusals,
+            Ran::Stopped(Stop::BadReply(place)) => Status::BadReply(place),
+            Ran::Stopped(Stop::EntropyFault) => Status::EntropyFault,
+            Ran::Stopped(Stop::VaultFault) => Status::VaultFault,
+            Ran::Stopped(Stop::WriteFault) => Status::WriteFault,
+            Ran::Stopped(Stop::OutOfMemory) => Status::OutOfMemory,
+            Ran::Unread(Unread::ReadFault) => Status::ReadFault,
+            Ran::Unread(Unread::TooLong) => Status::TooLong,
+            Ran::Unread(Unread::BadLine(line)) => Status::BadScript(line),
+            Ran::Unread(Unread::OutOfMemory) => Status::OutOfMemory,
         }
     }
 }

@@ -1,15 +1,14 @@
-mod MemAnswers
+mod Beginning
+mod Headers
+mod Listing
+mod Moving
+mod Passing
+mod Readiness
 mod ReplyKinds
-pub mod Answers
-pub mod BindWords
-pub mod BoundOn
-pub mod BoundWords
-pub mod Collected
-pub mod Describing
-pub mod Descriptions
-pub mod Served
-pub mod ServedRows
-pub mod ServedSteps
-pub mod StatementWords
-pub mod TreeWords
-pub mod Words
+mod Sendable
+mod Steps
+mod Suiting
+mod Told
+mod Typings
+mod Used
+mod Versions

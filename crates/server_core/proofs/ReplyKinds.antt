@@ -1,133 +1,44 @@
--- The kinds of replies, and their test.
-use Rattle.std.proofs.Common.{◌≡◌, ◌↔◌, ℕ, List, [], ◌∷◌, ◌++◌, length, map, Bool, true, false, ◌&&◌, IsTrue, refl, ap, sym, ◌∙◌, subst}
-use Rattle.std.specs.List.{All, list_all}
-use Rattle.std.proofs.lemmas.Bool.{eqb-true, eq-eqb, and_parts, and_from}
-use Rattle.std.proofs.lemmas.List.{map-append}
-use Rattle.std.proofs.lemmas.List.Folds.{list_all-map}
-use Rattle.std.proofs.lemmas.List.Elements.{All-nil, All-cons, All-head, All-tail}
-use Rattle.ae_base.specs.declared.atoms.AtomOf.{AtomOf}
-use Rattle.ae_base.specs.declared.batches.ParamDecl.{ParamDecl}
-use Rattle.wire_frames.specs.Messages.{Request, Describe, Execute, Reply, Described, Columns, Row, Ended, Refused, Defined, Changed, Answered, SentParam}
-use Rattle.server_core.specs.Exchanges.{HasKinds, Refusal, Description, Definition, Change, Rows}
-use Rattle.server_core.specs.MemPeers.{describes, is_row, is_end, are_rows, executes, suits}
+-- The kinds of replies.
+use Rattle.std.proofs.Common.{◌≡◌, ℕ, List, [], ◌∷◌, length, map, sym, ap, ◌∙◌, subst}
+use Rattle.std.specs.List.{All, AllZip}
+use Rattle.std.proofs.lemmas.List.{length-map}
+use Rattle.std.proofs.lemmas.List.Elements.{All-weaker}
+use Rattle.std.proofs.lemmas.Slice.Zip.{AllZip-long}
+use Rattle.ae_base.specs.Atoms.{Atom}
+use Rattle.ae_base.specs.declared.faults.SqlFault.{SqlFault}
+use Rattle.catalog.specs.Catalogs.{Catalog}
+use Rattle.engine.specs.Step as engine
+use Rattle.engine.specs.WellTyped.{AreResults, IsAtomOf}
+use Rattle.engine.specs.declared.answers.ResultColumn.{ResultColumn}
+use Rattle.wire_messages.specs.declared.replies.Reply.{Reply}
+use Rattle.wire_messages.specs.declared.replies.Reply.TheVariants.{Described, Refused, Ended}
+use Rattle.wire_messages.specs.declared.replies.Done.TheVariants.{Defined, Changed}
+use Rattle.wire_messages.specs.declared.requests.Request.{Request}
+use Rattle.wire_messages.specs.Exchanges.{HasKinds, Refusal, Description, Definition, Change, Rows}
+use Rattle.wire_messages.specs.Messages as told
+use Rattle.server_core.specs.Calls.{AreDescribeKinds, AreExecuteKinds}
+use Rattle.server_core.specs.Serve.{header, replies_of, sent_column}
+use Rattle.server_core.specs.States.{is_short}
 
-abbrev Atoms : Type 0
-Atoms = List (AtomOf (List ℕ))
+pub refusal_kinds : (request : Request) (f : SqlFault) (replies : List Reply) → replies ≡ Refused f ∷ [] → HasKinds request replies
+refusal_kinds request f replies e = subst (HasKinds request) (sym e) (Refusal request f)
 
-abbrev HasWidth : ℕ → Atoms → Type 0
-HasWidth width row = length row ≡ width
+pub described_kinds : (description : told.Description) (replies : List Reply) → replies ≡ Described description ∷ [] → AreDescribeKinds replies
+described_kinds description replies e = λ session text declarations. subst (HasKinds _) (sym e) (Description session text declarations description)
 
--- ---- rows, tested from their end
+pub defined_kinds : (replies : List Reply) → replies ≡ Ended Defined ∷ [] → AreExecuteKinds replies
+defined_kinds replies e = λ session version text params. subst (HasKinds _) (sym e) (Definition session version text params)
 
-and-true : (b : Bool) → b ≡ (b && true)
-and-true true = refl
-and-true false = refl
+pub changed_kinds : (count : ℕ) (replies : List Reply) → replies ≡ Ended (Changed count) ∷ [] → AreExecuteKinds replies
+changed_kinds count replies e = λ session version text params. subst (HasKinds _) (sym e) (Change session version text params count)
 
-and-swap : (a b c : Bool) → (a && (b && c)) ≡ (b && (a && c))
-and-swap true b c = refl
-and-swap false true c = refl
-and-swap false false c = refl
+-- as many atoms in each row as there are columns
+rows_wide : (columns : List ResultColumn) (rows : List (List Atom)) → AreResults is_short columns rows → All (λ row. length row ≡ length (map sent_column columns)) rows
+rows_wide columns rows r =
+    All-weaker (AllZip (λ (column : ResultColumn) atom. IsAtomOf is_short column.ty column.enc atom) columns) (λ row. length row ≡ length (map sent_column columns))
+    (λ row z. AllZip-long (λ (column : ResultColumn) (atom : Atom). IsAtomOf is_short column.ty column.enc atom) columns row z ∙ sym (length-map columns sent_column)) rows r
 
-end-first : (width : ℕ) (front : List Reply) (end : Reply) → are_rows width (front ++ end ∷ []) ≡ (is_end end && list_all (is_row width) front)
-end-first width [] end = and-true (is_end end)
-end-first width (row ∷ []) end = ap (λ b. is_row width row && b) (and-true (is_end end)) ∙ and-swap (is_row width row) (is_end end) true
-end-first width (row ∷ next ∷ front) end =
-    ap (λ b. is_row width row && b) (end-first width (next ∷ front) end) ∙ and-swap (is_row width row) (is_end end) (list_all (is_row width) (next ∷ front))
-
-module _ {V : Type 0} (view : V → Reply) (width : ℕ) (all front : List V) (end : V) (e : all ≡ front ++ end ∷ []) where
-  tested : are_rows width (map view all) ≡ (is_end (view end) && list_all (λ v. is_row width (view v)) front)
-  tested =
-      ap (λ vs. are_rows width (map view vs)) e ∙ ap (are_rows width) (map-append view front (end ∷ []))
-      ∙ end-first width (map view front) (view end) ∙ ap (λ b. is_end (view end) && b) (list_all-map (is_row width) view front)
-
-  pub rows-then : (end_is each : Bool) → end_is ≡ is_end (view end) → end_is ≡ true → each ≡ list_all (λ v. is_row width (view v)) front → each ≡ are_rows width (map view all)
-  rows-then end_is each f t k = k ∙ ap (λ b. b && list_all (λ v. is_row width (view v)) front) (sym t ∙ f) ∙ sym tested
-
-  pub rows-else : (end_is : Bool) → end_is ≡ is_end (view end) → end_is ≡ false → end_is ≡ are_rows width (map view all)
-  rows-else end_is f t = t ∙ ap (λ b. b && list_all (λ v. is_row width (view v)) front) (sym t ∙ f) ∙ sym tested
-
--- ---- what is of the kinds passes
-
-rows-pass : (width count : ℕ) (rows : List Atoms) → All (HasWidth width) rows → are_rows width (map Row rows ++ Ended (Answered count) ∷ []) ≡ true
-rows-pass width count [] all = refl
-rows-pass width count (row ∷ []) all = and_from _ _ (eq-eqb (length row) width (All-head (HasWidth width) row [] all)) refl
-rows-pass width count (row ∷ next ∷ rows) all =
-    and_from _ _ (eq-eqb (length row) width (All-head (HasWidth width) row (next ∷ rows) all)) (rows-pass width count (next ∷ rows) (All-tail (HasWidth width) row (next ∷ rows) all))
-
-passes : (request : Request) (replies : List Reply) → HasKinds request replies → suits request replies ≡ true
-passes _ _ (Refusal (Describe session text declarations) f) = refl
-passes _ _ (Refusal (Execute session version text params) f) = refl
-passes _ _ (Description session text declarations version keys params) = refl
-passes _ _ (Definition session version text params) = refl
-passes _ _ (Change session version text params count) = refl
-passes _ _ (Rows session version text params keys columns rows count all) = rows-pass (length columns) count rows all
-
--- ---- what passes is of the kinds
-
-record AreRows (width : ℕ) (replies : List Reply) : Type 0 where
-  rows : List Atoms
-  count : ℕ
-  is : replies ≡ map Row rows ++ Ended (Answered count) ∷ []
-  each : All (HasWidth width) rows
-
-ended : (width : ℕ) (end : Reply) → is_end end ≡ true → AreRows width (end ∷ [])
-ended width (Described version keys params) t = absurd cc
-ended width (Columns keys columns) t = absurd cc
-ended width (Row atoms) t = absurd cc
-ended width (Ended Defined) t = absurd cc
-ended width (Ended (Changed count)) t = absurd cc
-ended width (Ended (Answered count)) t = record { rows = []; count = count; is = refl; each = All-nil (HasWidth width) }
-ended width (Refused f) t = absurd cc
-
-one-more : (width : ℕ) (row : Reply) (rest : List Reply) → is_row width row ≡ true → AreRows width rest → AreRows width (row ∷ rest)
-one-more width (Described version keys params) rest t a = absurd cc
-one-more width (Columns keys columns) rest t a = absurd cc
-one-more width (Row atoms) rest t a = record {
-  rows = atoms ∷ a.rows;
-  count = a.count;
-  is = ap (λ replies. Row atoms ∷ replies) a.is;
-  each = All-cons (HasWidth width) atoms a.rows (eqb-true (length atoms) width t) a.each;
-}
-one-more width (Ended what) rest t a = absurd cc
-one-more width (Refused f) rest t a = absurd cc
-
-rows-are : (width : ℕ) (replies : List Reply) → are_rows width replies ≡ true → AreRows width replies
-rows-are width [] t = absurd cc
-rows-are width (end ∷ []) t = ended width end t
-rows-are width (row ∷ next ∷ rest) t =
-    let p = and_parts (is_row width row) (are_rows width (next ∷ rest)) t in
-    one-more width row (next ∷ rest) p.0 (rows-are width (next ∷ rest) p.1)
-
-describe-kinds : (session : ℕ) (text : List ℕ) (declarations : List ParamDecl) (replies : List Reply) → describes replies ≡ true
-    → HasKinds (Describe session text declarations) replies
-describe-kinds session text declarations [] t = absurd cc
-describe-kinds session text declarations (Described version keys params ∷ []) t = Description session text declarations version keys params
-describe-kinds session text declarations (Described version keys params ∷ next ∷ rest) t = absurd cc
-describe-kinds session text declarations (Columns keys columns ∷ rest) t = absurd cc
-describe-kinds session text declarations (Row atoms ∷ rest) t = absurd cc
-describe-kinds session text declarations (Ended what ∷ rest) t = absurd cc
-describe-kinds session text declarations (Refused f ∷ []) t = Refusal (Describe session text declarations) f
-describe-kinds session text declarations (Refused f ∷ next ∷ rest) t = absurd cc
-
-execute-kinds : (session version : ℕ) (text : List ℕ) (params : List SentParam) (replies : List Reply) → executes replies ≡ true
-    → HasKinds (Execute session version text params) replies
-execute-kinds session version text params [] t = absurd cc
-execute-kinds session version text params (Described v keys used ∷ rest) t = absurd cc
-execute-kinds session version text params (Columns keys columns ∷ rest) t =
-    let a = rows-are (length columns) rest t in
-    subst (λ rs. HasKinds (Execute session version text params) (Columns keys columns ∷ rs)) (sym a.is) (Rows session version text params keys columns a.rows a.count a.each)
-execute-kinds session version text params (Row atoms ∷ rest) t = absurd cc
-execute-kinds session version text params (Ended Defined ∷ []) t = Definition session version text params
-execute-kinds session version text params (Ended Defined ∷ next ∷ rest) t = absurd cc
-execute-kinds session version text params (Ended (Changed count) ∷ []) t = Change session version text params count
-execute-kinds session version text params (Ended (Changed count) ∷ next ∷ rest) t = absurd cc
-execute-kinds session version text params (Ended (Answered count) ∷ rest) t = absurd cc
-execute-kinds session version text params (Refused f ∷ []) t = Refusal (Execute session version text params) f
-execute-kinds session version text params (Refused f ∷ next ∷ rest) t = absurd cc
-
-kinds : (request : Request) (replies : List Reply) → suits request replies ≡ true → HasKinds request replies
-kinds (Describe session text declarations) replies t = describe-kinds session text declarations replies t
-kinds (Execute session version text params) replies t = execute-kinds session version text params replies t
-
-pub suits_exactly : (result : Bool) (request : Request) (replies : List Reply) → result ≡ suits request replies → IsTrue result ↔ HasKinds request replies
-suits_exactly result request replies e = ((λ t. kinds request replies (sym e ∙ t)), (λ k. e ∙ passes request replies k))
+pub rows_kinds : (catalog : Catalog) (columns : List ResultColumn) (rows : List (List Atom)) (replies : List Reply) → AreResults is_short columns rows
+    → replies ≡ replies_of catalog (engine.Rows columns rows) → AreExecuteKinds replies
+rows_kinds catalog columns rows replies r e = λ session version text params.
+    subst (HasKinds _) (sym e) (Rows session version text params (header catalog columns) rows (length rows) (rows_wide columns rows r))

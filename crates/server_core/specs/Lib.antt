@@ -1,7 +1,8 @@
 pub mod Calls
-pub mod Exchanges
-pub mod Faults
-pub mod MemPeers
+pub mod Describing
+pub mod Explaining
+pub mod Laws
+pub mod Params
 pub mod Serve
-pub mod ServeWorked
-pub mod ServedWorlds
+pub mod States
+pub mod Understood

@@ -1,144 +1,86 @@
--- What the server answers to a request, and the world after it.
-use Rattle.std.specs.Prelude.{ℕ, ◌+◌, List, [], ◌∷◌, ◌++◌, length, map, encode_utf8_all, Result, Ok, Err, Bool, true, false, ◌==◌, if◌then◌else◌}
-use Rattle.ae_base.specs.declared.types.Enc.TheVariants as enc
-use Rattle.ae_base.specs.declared.batches.ParamDecl.{ParamDecl}
-use Rattle.ae_base.specs.Values.{is_within}
-use Rattle.ae_base.specs.declared.atoms.AtomOf.{AtomOf}
-use Rattle.ae_base.specs.declared.atoms.AtomOf.TheVariants.{Null, Plain, Sealed}
-use Rattle.ae_base.specs.declared.types.Enc.{Enc}
-use Rattle.ae_base.specs.declared.types.Ty.{Ty}
+-- What the server answers to a request, and the state after it.
+use Rattle.std.specs.Prelude.{ℕ, List, [], ◌∷◌, ◌++◌, length, map, Result, Ok, Err, ◌==◌, if◌then◌else◌}
+use Rattle.ae_base.specs.Atoms.{Atom}
+use Rattle.ae_base.specs.Results.{◌>>=◌}
 use Rattle.ae_base.specs.declared.faults.SqlFault.{SqlFault}
 use Rattle.ae_base.specs.declared.faults.SqlFault.TheVariants as fault
-use Rattle.sql_tree.specs.declared.bound.ResultColumn.{ResultColumn}
-use Rattle.sql_tree.specs.Bound.{Bound}
-use Rattle.sql_parse.specs.Parse.{parsed}
-use Rattle.resolve.specs.Bind.{bind, uses}
-use Rattle.engine.specs.Worlds.{World}
+use Rattle.catalog.specs.Catalogs.{Catalog}
+use Rattle.engine.specs.declared.answers.ResultColumn.{ResultColumn}
+use Rattle.engine.specs.Worlds.{World, empty_world}
 use Rattle.engine.specs.Step.{Answer, Outcome, step}
 use Rattle.engine.specs.Step as engine
-use Rattle.wire_frames.specs.Messages.{Request, Describe, Execute, Reply, Described, Columns, Row, Ended, Refused, Defined, Changed, Answered, SentParam, UsedParam, SentColumn}
+use Rattle.wire_messages.specs.declared.columns.SentColumn.{SentColumn}
+use Rattle.wire_messages.specs.declared.params.SentParam.{SentParam}
+use Rattle.wire_messages.specs.declared.replies.Done.TheVariants.{Defined, Changed, Answered}
+use Rattle.wire_messages.specs.declared.replies.Reply.{Reply}
+use Rattle.wire_messages.specs.declared.replies.Reply.TheVariants.{Described, Columns, Row, Ended, Refused}
+use Rattle.wire_messages.specs.declared.requests.Request.{Request}
+use Rattle.wire_messages.specs.declared.requests.Request.TheVariants.{Describe, Execute}
+use Rattle.wire_messages.specs.Exchanges.{Served}
+use Rattle.wire_messages.specs.Messages.{Description, Header}
+use Rattle.server_core.specs.Describing.{Meant, understood, describe, keys_of}
+use Rattle.server_core.specs.Params.{declaration_of, suited}
 
-infixl 10 ◌>>=◌
-abbrev pub ◌>>=◌ : {A B : Type 0} → Result A SqlFault → (A → Result B SqlFault) → Result B SqlFault
-(Ok x) >>= f = f x
-(Err e) >>= f = Err e
+-- what a server serves by: so far a world
+abbrev pub State : Type 0
+State = World
 
--- so far the server answers Syntax in the place of each fault but Syntax, NoTable and NoColumn
-abbrev pub so_far : SqlFault → SqlFault
-so_far fault.Syntax = fault.Syntax
-so_far (fault.NoTable name) = fault.NoTable name
-so_far (fault.NoColumn name) = fault.NoColumn name
-so_far (fault.NumberTooWide at) = fault.Syntax
-so_far fault.TooDeep = fault.Syntax
-so_far fault.TooLong = fault.Syntax
-so_far (fault.Ambiguous name) = fault.Syntax
-so_far (fault.NoParam name) = fault.Syntax
-so_far (fault.NoKey name) = fault.Syntax
-so_far (fault.NotGrouped at) = fault.Syntax
-so_far (fault.TypeClash at) = fault.Syntax
-so_far (fault.EncryptionClash at) = fault.Syntax
-so_far (fault.Moved seen now) = fault.Syntax
-so_far (fault.ParamClash name) = fault.Syntax
-so_far (fault.BadCell name) = fault.Syntax
-so_far fault.Overflow = fault.Syntax
-so_far (fault.NullNotAllowed name) = fault.Syntax
-so_far (fault.Truncated name) = fault.Syntax
-so_far fault.TooManyRows = fault.Syntax
-so_far fault.TableFull = fault.Syntax
-so_far (fault.DuplicateKey number) = fault.Syntax
-so_far (fault.Exists name) = fault.Syntax
-so_far (fault.NoSuch name) = fault.Syntax
-so_far (fault.KeyInUse name) = fault.Syntax
-so_far fault.Full = fault.Syntax
+abbrev pub empty_state : State
+empty_state = empty_world
 
--- ---- what a text means to this server
-
-abbrev pub understood : World → List ℕ → List ParamDecl → Result Bound SqlFault
-understood world text declarations = parsed (encode_utf8_all text) >>= λ statement. bind world.catalog statement declarations
-
--- the used parameters in declaration order; so far each is plain
-abbrev pub used_from : ℕ → Bound → List ParamDecl → List UsedParam
-used_from place bound [] = []
-used_from place bound (d ∷ ds) =
-    if uses place bound then record { name = d.name; enc = enc.Plain } ∷ used_from (place + 1) bound ds else used_from (place + 1) bound ds
-
-abbrev pub described : World → List ParamDecl → Bound → Reply
-described world declarations bound = Described world.catalog.version [] (used_from 0 bound declarations)
-
--- ---- parameters as they come
-
-abbrev pub declaration_of : SentParam → ParamDecl
-declaration_of p = record { name = p.name; ty = p.ty }
-
-abbrev pub is_plain : Enc → Bool
-is_plain enc.Plain = true
-is_plain (enc.Det key) = false
-is_plain (enc.Rnd key) = false
-
--- a plain parameter is neither sealed nor unfit for its type; so far each is plain
-abbrev pub is_plain_within : AtomOf (List ℕ) → Ty → Bool
-is_plain_within Null type = true
-is_plain_within (Plain datum) type = is_within datum type
-is_plain_within (Sealed cell) type = false
-
-abbrev pub suits : SentParam → Bool
-suits p = if is_plain p.enc then is_plain_within p.atom p.ty else false
-
-abbrev pub suited_atom : SentParam → Result (AtomOf (List ℕ)) SqlFault
-suited_atom p = if suits p then Ok p.atom else Err (fault.ParamClash p.name)
-
-abbrev pub suited : List SentParam → Result (List (AtomOf (List ℕ))) SqlFault
-suited [] = Ok []
-suited (p ∷ ps) = suited_atom p >>= λ atom. suited ps >>= λ atoms. Ok (atom ∷ atoms)
+abbrev pub refused : State → SqlFault → Served State
+refused state f = record { replies = Refused f ∷ []; after = state }
 
 -- ---- answers
 
-abbrev pub column_of : ResultColumn → SentColumn
-column_of c = record { name = c.name; ty = c.ty; enc = c.enc }
+abbrev pub sent_column : ResultColumn → SentColumn
+sent_column c = record { title = c.title; ty = c.ty; enc = c.enc }
 
-abbrev pub replies_of : Answer → List Reply
-replies_of (engine.Rows columns rows) = Columns [] (map column_of columns) ∷ map Row rows ++ Ended (Answered (length rows)) ∷ []
-replies_of (engine.Changed count) = Ended (Changed count) ∷ []
-replies_of engine.Defined = Ended Defined ∷ []
+-- the columns of an answer, with what is told of their keys
+abbrev pub header : Catalog → List ResultColumn → Header
+header catalog columns = record { keys = keys_of catalog (map (λ c. c.enc) columns); columns = map sent_column columns }
 
--- the replies to a request, and the world after it
-pub record Served : Type 0 where
-  pub replies : List Reply
-  pub world : World
+abbrev pub replies_of : Catalog → Answer → List Reply
+replies_of catalog (engine.Rows columns rows) = Columns (header catalog columns) ∷ map Row rows ++ Ended (Answered (length rows)) ∷ []
+replies_of catalog (engine.Changed count) = Ended (Changed count) ∷ []
+replies_of catalog engine.Defined = Ended Defined ∷ []
 
-abbrev pub refused : World → SqlFault → Served
-refused world f = record { replies = Refused (so_far f) ∷ []; world = world }
+abbrev pub answered : State → State → Result Answer SqlFault → Served State
+answered old new (Ok answer) = record { replies = replies_of old.catalog answer; after = new }
+answered old new (Err f) = refused old f
 
-abbrev pub describe : World → List ParamDecl → Result Bound SqlFault → Served
-describe world declarations (Ok bound) = record { replies = described world declarations bound ∷ []; world = world }
-describe world declarations (Err f) = refused world f
+-- ---- requests
 
-abbrev pub executed : World → Outcome → Served
-executed old o = answered o.answer
-  where
-    answered : Result Answer SqlFault → Served
-    answered (Ok answer) = record { replies = replies_of answer; world = o.world }
-    answered (Err f) = refused old f
+abbrev pub described : State → Result Description SqlFault → Served State
+described state (Ok description) = record { replies = Described description ∷ []; after = state }
+described state (Err f) = refused state f
 
--- Moved where the versions differ, then the faults of the text, then those of the parameters, then the statement's
-abbrev pub prepared : World → ℕ → List ℕ → List SentParam → Result (Bound × List (AtomOf (List ℕ))) SqlFault
-prepared world version text params =
-    (if version == world.catalog.version then understood world text (map declaration_of params) else Err (fault.Moved version world.catalog.version)) >>= λ bound.
-    suited params >>= λ atoms.
-    Ok (bound, atoms)
+-- Moved where the versions differ, then the faults of the text
+abbrev pub understood_at : Catalog → ℕ → List ℕ → List SentParam → Result Meant SqlFault
+understood_at catalog version text params =
+    if version == catalog.version then understood catalog text (map declaration_of params) else Err (fault.Moved (record { seen = version; now = catalog.version }))
 
-abbrev pub execute : World → Result (Bound × List (AtomOf (List ℕ))) SqlFault → Served
-execute world (Ok ready) = executed world (step world ready.0 ready.1)
-execute world (Err f) = refused world f
+-- then those of the parameters
+abbrev pub prepared : Catalog → ℕ → List ℕ → List SentParam → Result (Meant × List Atom) SqlFault
+prepared catalog version text params =
+    understood_at catalog version text params >>= λ meant. suited meant.encs params >>= λ atoms. Ok (meant, atoms)
 
-abbrev pub serve : World → Request → Served
-serve world (Describe session text declarations) = describe world declarations (understood world text declarations)
-serve world (Execute session version text params) = execute world (prepared world version text params)
+-- then those of the statement
+abbrev pub stepped : State → Meant × List Atom → Served State
+stepped state ready = let done = step state ready.0.bound ready.0.encs ready.1 in answered state done.world done.answer
+
+abbrev pub executed : State → Result (Meant × List Atom) SqlFault → Served State
+executed state (Ok ready) = stepped state ready
+executed state (Err f) = refused state f
+
+abbrev pub serve : State → Request → Served State
+serve state (Describe session text declarations) = described state (describe state.catalog text declarations)
+serve state (Execute session version text params) = executed state (prepared state.catalog version text params)
 
 -- the requests one after another
-abbrev pub serve_all : World → List Request → List Reply × World
-serve_all world [] = ([], world)
-serve_all world (request ∷ requests) =
-    let first = serve world request in
-    let rest = serve_all first.world requests in
+abbrev pub serve_all : State → List Request → List Reply × State
+serve_all state [] = ([], state)
+serve_all state (request ∷ requests) =
+    let first = serve state request in
+    let rest = serve_all first.after requests in
     (first.replies ++ rest.0, rest.1)

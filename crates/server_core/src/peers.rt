@@ -1,46 +1,68 @@
-ghost use Rattle.std.specs.Prelude.{◌≡◌, ◌∷◌, [], List, Option, IfOk, MatchResult, map};
+//! Whoever answers requests.
+
+ghost use Rattle.std.specs.Prelude.{◌≡◌, ◌∷◌, [], List, Option, None, Some, IfOk, MatchResult};
+ghost use Rattle.std.specs.Borrow.{GName};
 ghost use Rattle.ae_edge.specs.Devices.{Adds, WhereTold};
-ghost use Rattle.engine.specs.Worlds as worlds;
-ghost use Rattle.wire_frames.specs.Conditions.{IsRequest};
-ghost use Rattle.wire_frames.specs.Views.{reply_of, request_of};
-ghost use Rattle.server_core.specs.Exchanges.{Exchange, IsAnswer};
-ghost use Rattle.server_core.specs.Serve.{serve};
+ghost use Rattle.wire_messages.specs.Exchanges.{Exchange, HasKinds};
+ghost use Rattle.server_core.specs.Serve.{State, serve};
 
 use crate::server::Server;
 use ae_base::lists::Seq;
 use std::alloc::{AllocError, Global};
-use wire_frames::messages::{Reply, Request};
+use wire_messages::replies::Reply;
+use wire_messages::requests::Request;
 
 /// Who answers requests.
 pub trait Peer {
     /// All that was asked and answered, where that is told.
     ghost log: { Self → Option (List Exchange) };
 
-    /// The world by which it serves, where that is told.
-    ghost world: { Self → Option worlds.World };
+    /// The state by which it serves, where that is told.
+    ghost state: { Self → Option State };
 
-    /// Asks a request: the replies to it. To a request that has a frame come replies of its kinds,
-    /// each of which has a frame. For want of memory nothing has happened.
+    /// What it is lent.
+    ghost names: { Self → List GName };
+
+    /// Asks a request: the replies to it, which are of its kinds. For want of memory nothing has
+    /// happened.
     fn ask(
         &mut self,
         alloc: Global,
         request: &Request<'_>,
     ) -> Result<Seq<Reply<'static>>, AllocError>
-        ensures answer { IsRequest (request_of request.now) → IfOk result (λ replies. IsAnswer (request_of request.now) (map reply_of replies)) }
+        ensures same { names self.new ≡ names self.old }
+        ensures answer { IfOk result (λ replies. HasKinds request.now replies) }
         ensures log { MatchResult result
-            (λ replies. Adds (record { request = request_of request.now; replies = map reply_of replies } ∷ []) (log self.old) (log self.new))
+            (λ replies. Adds (record { request = request.now; replies = replies } ∷ []) (log self.old) (log self.new))
             (λ _. log self.new ≡ log self.old) }
-        ensures world { MatchResult result
-            (λ replies. WhereTold (λ old new. serve old (request_of request.now) ≡ record { replies = map reply_of replies; world = new }) (world self.old) (world self.new))
-            (λ _. world self.new ≡ world self.old) };
+        ensures state { MatchResult result
+            (λ replies. WhereTold (λ old new. serve old request.now ≡ record { replies = replies; after = new }) (state self.old) (state self.new))
+            (λ _. state self.new ≡ state self.old) };
+}
+
+/// One that is lent.
+impl<P: Peer> Peer for &mut P {
+    ghost log = { λ p. P.log p.now };
+
+    ghost state = { λ p. P.state p.now };
+
+    ghost names = { λ p. p.ghost_name ∷ [] };
+
+    fn ask(
+        &mut self,
+        alloc: Global,
+        request: &Request<'_>,
+    ) -> Result<Seq<Reply<'static>>, AllocError> {
+        (**self).ask(alloc, request)
+    }
 }
 
 impl Peer for Server {
-    ghost use Rattle.std.specs.Prelude.{None, Some};
-
     ghost log = { λ _. None };
 
-    ghost world = { λ s. Some s };
+    ghost state = { λ s. Some s };
+
+    ghost names = { λ _. [] };
 
     fn ask(
         &mut self,

@@ -1,72 +1,76 @@
-//! The server: one world, and requests that are served whole.
+//! The server: one state, and requests that are served whole.
 
-ghost use Rattle.std.specs.Prelude.{◌≡◌, [], IfOk, map};
-ghost use Rattle.engine.specs.Worlds.{empty_world};
-ghost use Rattle.wire_frames.specs.Conditions.{IsRequest};
-ghost use Rattle.wire_frames.specs.Views.{reply_of, request_of};
+ghost use Rattle.std.specs.Prelude.{◌≡◌, IfOk};
+ghost use Rattle.wire_messages.specs.Exchanges.{HasKinds};
 ghost use Rattle.server_core.specs.Calls.{Serves};
-ghost use Rattle.server_core.specs.Exchanges.{IsAnswer};
+ghost use Rattle.server_core.specs.Describing.{named};
+ghost use Rattle.server_core.specs.Explaining.{Explains};
+ghost use Rattle.server_core.specs.Serve.{empty_state};
 
+use crate::explaining::explain;
 use crate::requests::serve;
-use ae_base::batches::ParamDecl;
+use ae_base::batches::Declarations;
 use ae_base::cells::Cell;
 use ae_base::lists::Seq;
-use ae_base::texts::Txt;
+use catalog::laws::definitions_keep_catalogs;
 use engine::worlds::World;
 use std::alloc::{AllocError, Global};
 use std::marker::Model;
-use wire_frames::messages::{Reply, Request};
+use wire_messages::replies::Reply;
+use wire_messages::requests::Request;
+use wire_messages::texts::StatementPart;
 
-/// The server's end, which contracts see as its world: the catalog, and the rows of each table.
+/// The server's end, which contracts see as its state: the catalog, and the rows of each table.
 #[derive(Drop)]
 pub struct Server {
     world: World<Cell>,
 }
 
 impl Model for Server {
-    ghost use Rattle.engine.specs.Worlds as worlds;
-    ghost use Rattle.server_core.specs.ServedWorlds.{HasPlainTables};
+    ghost use Rattle.server_core.specs.Serve.{State};
+    ghost use Rattle.server_core.specs.States.{IsState};
 
-    ghost Value = { worlds.World };
+    ghost Value = { State };
 
     ghost view = { λ s. s.world };
 
-    ghost invariant = { λ s. HasPlainTables s.world };
+    ghost invariant = { λ s. IsState s.world };
 }
 
 impl Server {
-    /// A server in whose world nothing is defined. It takes no memory.
+    /// A server in whose state nothing is defined. It takes no memory.
     pub fn new(alloc: Global) -> Server
-        ensures { result ≡ empty_world }
+        ensures { result ≡ empty_state }
     {
+        definitions_keep_catalogs();
         Server {
             world: World::new(alloc),
         }
     }
 
-    /// Serves a request whole: the replies to it, and the world after it. A refusal leaves the
-    /// world as before, and so does want of memory.
+    /// Serves a request whole: the replies to it, which are of its kinds, and the state after it. A
+    /// refusal leaves the state as before, and so does want of memory.
     pub fn serve(
         &mut self,
         alloc: Global,
         request: &Request<'_>,
     ) -> Result<Seq<Reply<'static>>, AllocError>
-        ensures served { Serves result (request_of request.now) self.old self.new }
-        ensures answer { IsRequest (request_of request.now) → IfOk result (λ replies. IsAnswer (request_of request.now) (map reply_of replies)) }
+        ensures served { Serves result request.now self.old self.new }
+        ensures kinds { IfOk result (λ replies. HasKinds request.now replies) }
     {
         serve(alloc, &mut self.world, request)
     }
 
-    /// The places of the rules that show why a text has no encryption typing; so far no text needs
-    /// one, and there are none.
+    /// The places of a chain of rules that clash, where the statement of a text has no encryption
+    /// typing; none for any other text.
     pub fn explain(
         &self,
         alloc: Global,
-        _text: &Txt,
-        _declarations: &[ParamDecl],
+        text: &StatementPart<'_>,
+        declarations: &Declarations,
     ) -> Result<Seq<u32>, AllocError>
-        ensures { IfOk result (λ places. places ≡ []) }
+        ensures { IfOk result (Explains (named self.now.catalog text.now declarations.now)) }
     {
-        Ok(Seq::new(alloc))
+        explain(alloc, self.world.catalog(), text, declarations.as_slice())
     }
 }

@@ -1,6 +1,9 @@
-mod Again
-mod Fronts
-mod Going
-mod Listing
-mod Spelled
-mod Whole
+pub mod Chosen
+pub mod Counts
+pub mod Joined
+pub mod Listing
+pub mod Once
+pub mod Parsed
+pub mod Sorting
+pub mod Tested
+pub mod There

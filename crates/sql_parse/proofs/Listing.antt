@@ -1,68 +1,82 @@
--- Lists with commas between.
-use Rattle.std.proofs.Common.{◌≡◌, ℕ, zero, suc, ◌≤◌, List, [], ◌∷◌, ◌++◌, length, Option, Some, None, refl, ap, subst, arith, length-append}
-use Rattle.std.specs.Option.{option_map}
+-- Loops that read things one after another, or with commas between.
+use Rattle.std.proofs.Common.{◌≡◌, ◌<◌, true, false, List, [], ◌∷◌, ◌++◌, length, map, Some, None, refl, sym, ◌∙◌, ap, subst}
+use Rattle.std.proofs.lemmas.List.{map-append}
+use Rattle.ae_base.specs.declared.faults.SqlFault.{SqlFault}
+use Rattle.ae_base.specs.declared.refusals.Refusal.{Refusal}
+use Rattle.ae_base.specs.declared.refusals.Refusal.TheVariants.{Fault, OutOfMemory}
 use Rattle.sql_tree.specs.declared.lexemes.Symbol.TheVariants as symbol
-use Rattle.sql_tree.specs.declared.lexemes.Lexeme.TheVariants as lexeme
 use Rattle.sql_tree.specs.declared.lexemes.Token.{Token}
-use Rattle.sql_parse.specs.Grammar.{Is, Listed, ◌then◌}
-use Rattle.sql_parse.specs.Parse.{Reading, is_symbol, token, listed, more_items, behind}
-use Rattle.sql_parse.proofs.Fronts.{Front, front_then, front_is, bind_some, symbol_front, parts_of, token_read, length-Is}
+use Rattle.sql_grammar.specs.Readers.{Terminal, Reading, next_among, many}
+use Rattle.sql_grammar.specs.Readers as terminal
+use Rattle.sql_grammar.specs.Shortening.{Shortens}
+use Rattle.sql_grammar.specs.Parse.{behind_comma, listed}
+use Rattle.sql_grammar.proofs.Going.{Goes, goes_start, goes_more, goes_end, goes_nowhere, behind_comma_shortens}
+use Rattle.sql_parse.specs.Reads.{Fails}
 
--- what is read as an item, a front of the tokens spells
-pub record IsSound {A : Type 0} (item : Reading A) (S : A → List Token → Type 0) : Type 0 where
-  pub spelled : (tokens : List Token) (x : A) (rest : List Token) → item tokens ≡ Some (x, rest) → Front (S x) tokens rest
+abbrev comma : List Terminal
+comma = terminal.Sign symbol.Comma ∷ []
 
--- what is spelled as an item is read, whatever follows, and is more than nothing
-pub record IsComplete {A : Type 0} (item : Reading A) (S : A → List Token → Type 0) : Type 0 where
-  pub read : (x : A) (front tokens rest : List Token) → S x front → tokens ≡ front ++ rest → item tokens ≡ Some (x, rest)
-  pub some : (x : A) (front : List Token) → S x front → 1 ≤ length front
+pub goes_fails : {A : Type 0} (set : List Terminal) (item : Reading A) (tokens : List Token) (front : List A) (rest : List Token) (e : Refusal SqlFault) → Goes set item tokens front rest
+    → next_among set rest ≡ true → Fails e (item rest) → Fails e (many set item tokens)
+goes_fails set item tokens front rest (Fault f) g here h = (h.0, goes_nowhere set item tokens front rest g here h.1)
+goes_fails set item tokens front rest OutOfMemory g here h = tt
 
-listed_more : {A : Type 0} (item : Reading A) (S : A → List Token → Type 0) (first : A) (tokens mid rest last : List Token) (more : List A)
-    → Front (S first) tokens mid → Front (Is (lexeme.Symbol symbol.Comma)) mid rest → Front (Listed S more) rest last → Front (Listed S (first ∷ more)) tokens last
-listed_more item S first tokens mid rest last [] a b c = absurd c.holds
-listed_more item S first tokens mid rest last (y ∷ more) a b c = front_then a (front_then b c)
+-- the first of some things with commas between is read, and others behind it
+pub record Lists {A : Type 0} (item : Reading A) (tokens : List Token) (xs : List A) (rest : List Token) : Type 0 where
+  pub first : A
+  pub mid : List Token
+  pub more : List A
+  pub read : item tokens ≡ Some (first, mid)
+  pub goes : Goes comma (behind_comma item) mid more rest
+  pub all : xs ≡ first ∷ more
 
-listed_after : {A : Type 0} (item : Reading A) (S : A → List Token → Type 0) (n : ℕ)
-    → ((tokens : List Token) (xs : List A) (rest : List Token) → listed item n tokens ≡ Some (xs, rest) → Front (Listed S xs) tokens rest)
-    → (first : A) (tokens mid : List Token) (xs : List A) (rest : List Token) (c : Option (ℕ × List Token)) → token (is_symbol symbol.Comma) mid ≡ c
-    → Front (S first) tokens mid → more_items (listed item n) first (behind c mid) (option_map (λ read. read.0) c) ≡ Some (xs, rest) → Front (Listed S xs) tokens rest
-listed_after {A = A} item S n more first tokens mid xs rest None ec a e =
-    let pair : (first ∷ [], mid) ≡ (xs, rest) = cc in
-    subst (λ (r : List A × List Token). Front (Listed S r.0) tokens r.1) pair a
-listed_after {A = A} item S n more first tokens mid xs rest (Some c) ec a e =
-    let b = bind_some (listed item n c.1) (λ items. Some (first ∷ items.0, items.1)) (xs, rest) e in
-    let later = more c.1 b.value.0 b.value.1 b.read in
-    let comma = front_is (symbol_front symbol.Comma mid c.0 c.1 ec) in
-    let pair : (first ∷ b.value.0, b.value.1) ≡ (xs, rest) = cc in
-    let whole = listed_more item S first tokens mid c.1 b.value.1 b.value.0 a comma later in
-    subst (λ (r : List A × List Token). Front (Listed S r.0) tokens r.1) pair whole
+pub lists_start : {A : Type 0} (item : Reading A) (tokens : List Token) (x : A) (mid : List Token) → item tokens ≡ Some (x, mid) → Lists item tokens (x ∷ []) mid
+lists_start item tokens x mid e = record { first = x; mid = mid; more = []; read = e; goes = goes_start comma (behind_comma item) mid; all = refl }
 
-pub listed_front : {A : Type 0} (item : Reading A) (S : A → List Token → Type 0) → IsSound item S → (n : ℕ) (tokens : List Token) (xs : List A) (rest : List Token)
-    → listed item n tokens ≡ Some (xs, rest) → Front (Listed S xs) tokens rest
-listed_front item S sound zero tokens xs rest e = absurd (cc)
-listed_front item S sound (suc n) tokens xs rest e =
-    let b = bind_some (item tokens) _ (xs, rest) e in
-    listed_after item S n (listed_front item S sound n) b.value.0 tokens b.value.1 xs rest (token (is_symbol symbol.Comma) b.value.1) refl
-    (sound.spelled tokens b.value.0 b.value.1 b.read) b.after
+pub lists_more : {A : Type 0} (item : Reading A) (tokens : List Token) (xs : List A) (rest after : List Token) (x : A) → Lists item tokens xs rest
+    → next_among comma rest ≡ true → behind_comma item rest ≡ Some (x, after) → length after < length rest → Lists item tokens (xs ++ x ∷ []) after
+lists_more item tokens xs rest after x l here e less = record {
+  first = l.first;
+  mid = l.mid;
+  more = l.more ++ x ∷ [];
+  read = l.read;
+  goes = goes_more comma (behind_comma item) l.mid l.more rest after x l.goes here e less;
+  all = ap (λ ys. ys ++ x ∷ []) l.all;
+}
 
-listed_some : {A : Type 0} (item : Reading A) (S : A → List Token → Type 0) → IsComplete item S → (x : A) (xs : List A) (front : List Token) → Listed S (x ∷ xs) front → 1 ≤ length front
-listed_some item S complete x [] front h = complete.some x front h
-listed_some item S complete x (y ∷ more) front h =
-    omega (arith, ap length h.2, length-append h.0 h.1, complete.some x h.0 h.3)
+pub lists_end : {A : Type 0} (item : Reading A) (tokens : List Token) (xs : List A) (rest : List Token) → Lists item tokens xs rest → next_among comma rest ≡ false
+    → listed item tokens ≡ Some (xs, rest)
+lists_end {A = A} item tokens xs rest l e =
+    let more = goes_end comma (behind_comma item) l.mid l.more rest l.goes e in
+    let read : listed item tokens ≡ Some (l.first ∷ l.more, rest) = rw (l.read, more) refl in
+    read ∙ ap (λ (ys : List A). Some (ys, rest)) (sym l.all)
 
-pub listed_read : {A : Type 0} (item : Reading A) (S : A → List Token → Type 0) → IsComplete item S → (xs : List A) (n : ℕ) (front tokens rest : List Token) → Listed S xs front → tokens ≡ front ++ rest
-    → length tokens ≤ n → token (is_symbol symbol.Comma) rest ≡ None → listed item n tokens ≡ Some (xs, rest)
-listed_read item S complete [] n front tokens rest h e enough last = absurd h
-listed_read item S complete (x ∷ xs) zero front tokens rest h e enough last =
-    absurd (omega (arith, ap length e, length-append front rest, listed_some item S complete x xs front h))
-listed_read item S complete (x ∷ []) (suc n) front tokens rest h e enough last =
-    let one = complete.read x front tokens rest h e in
-    rw (one, last) refl
-listed_read item S complete (x ∷ y ∷ more) (suc n) front tokens rest h e enough last =
-    let p = parts_of (S x) (Is (lexeme.Symbol symbol.Comma) then Listed S (y ∷ more)) front tokens rest h e in
-    let q = parts_of (Is (lexeme.Symbol symbol.Comma)) (Listed S (y ∷ more)) p.second p.mid rest p.later p.after in
-    let one = complete.read x p.first tokens p.mid p.holds p.same in
-    let c = token_read (is_symbol symbol.Comma) (lexeme.Symbol symbol.Comma) q.first p.mid q.mid refl q.holds q.same in
-    let shorter : length q.mid ≤ n = omega (arith, ap length p.same, ap length q.same, length-append p.first p.mid, length-append q.first q.mid, complete.some x p.first p.holds, length-Is (lexeme.Symbol symbol.Comma) q.first q.holds) in
-    let later = listed_read item S complete (y ∷ more) n q.second q.mid rest q.later q.after shorter last in
-    rw (one, c.read, later) refl
+nothing_more : {A : Type 0} (item : Reading A) (tokens : List Token) (x : A) (mid : List Token) → item tokens ≡ Some (x, mid) → many comma (behind_comma item) mid ≡ None → listed item tokens ≡ None
+nothing_more item tokens x mid e f = rw (e, f) refl
+
+pub lists_fails : {A : Type 0} (item : Reading A) (tokens : List Token) (xs : List A) (rest : List Token) (e : Refusal SqlFault) → Lists item tokens xs rest
+    → next_among comma rest ≡ true → Fails e (behind_comma item rest) → Fails e (listed item tokens)
+lists_fails item tokens xs rest (Fault f) l here h = (h.0, nothing_more item tokens l.first l.mid l.read (goes_nowhere comma (behind_comma item) l.mid l.more rest l.goes here h.1))
+lists_fails item tokens xs rest OutOfMemory l here h = tt
+
+pub first_fails : {A : Type 0} (item : Reading A) (tokens : List Token) (e : Refusal SqlFault) → Fails e (item tokens) → Fails e (listed item tokens)
+first_fails item tokens (Fault f) h = (h.0, rw h.1 refl)
+first_fails item tokens OutOfMemory h = tt
+
+pushed : {X A : Type 0} (view : X → A) (xs ys : List X) (x : X) → ys ≡ xs ++ x ∷ [] → map view xs ++ view x ∷ [] ≡ map view ys
+pushed view xs ys x e = sym (map-append view xs (x ∷ [])) ∙ ap (map view) (sym e)
+
+-- one more thing is read and put behind those so far
+pub goes_push : {X A : Type 0} (view : X → A) (set : List Terminal) (item : Reading A) → Shortens item → (tokens : List Token) (xs ys : List X) (x : X) (rest after : List Token)
+    → Goes set item tokens (map view xs) rest → next_among set rest ≡ true → item rest ≡ Some (view x, after) → ys ≡ xs ++ x ∷ [] → Goes set item tokens (map view ys) after
+goes_push {A = A} view set item p tokens xs ys x rest after g here e f =
+    subst (λ (items : List A). Goes set item tokens items after) (pushed view xs ys x f) (goes_more set item tokens (map view xs) rest after (view x) g here e (p.shorter rest (view x) after e))
+
+pub lists_begin : {X A : Type 0} (view : X → A) (item : Reading A) (tokens mid : List Token) (x : X) (xs : List X) → item tokens ≡ Some (view x, mid) → xs ≡ x ∷ [] → Lists item tokens (map view xs) mid
+lists_begin {A = A} view item tokens mid x xs e f = subst (λ (items : List A). Lists item tokens items mid) (ap (map view) (sym f)) (lists_start item tokens (view x) mid e)
+
+pub lists_push : {X A : Type 0} (view : X → A) (item : Reading A) → Shortens item → (tokens : List Token) (xs ys : List X) (x : X) (rest after : List Token)
+    → Lists item tokens (map view xs) rest → next_among comma rest ≡ true → behind_comma item rest ≡ Some (view x, after) → ys ≡ xs ++ x ∷ [] → Lists item tokens (map view ys) after
+lists_push {A = A} view item p tokens xs ys x rest after l here e f =
+    subst (λ (items : List A). Lists item tokens items after) (pushed view xs ys x f)
+    (lists_more item tokens (map view xs) rest after (view x) l here e ((behind_comma_shortens p).shorter rest (view x) after e))

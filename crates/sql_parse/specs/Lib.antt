@@ -1,5 +1,2 @@
-pub mod Grammar
-pub mod Laws
-pub mod Parse
-pub mod ParseWorked
 pub mod Reads
+pub mod Views

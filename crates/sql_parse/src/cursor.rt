@@ -1,16 +1,25 @@
-ghost use Rattle.std.specs.Prelude.{◌≡◌, ◌==◌, ◌++◌, ◌∷◌, [], IfSome, MatchOption, None, false, is_some, length};
+ghost use Rattle.std.specs.Prelude.{◌≡◌, ◌∷◌, ◌++◌, ◌||◌, [], IfSome, IsTrue, MatchOption, None, Some, false, length, map};
+ghost use Rattle.std.specs.List.{list_all, list_any};
+ghost use Rattle.std.specs.Str.{IsAscii};
 ghost use Rattle.ae_base.specs.declared.faults.SqlFault.TheVariants as fault;
-ghost use Rattle.sql_tree.specs.declared.lexemes.Symbol.TheVariants as symbol;
+ghost use Rattle.ae_base.specs.declared.refusals.Refusal.TheVariants.{Fault};
+ghost use Rattle.sql_tree.specs.Reading.{is_capital};
 ghost use Rattle.sql_tree.specs.Tokens.{first_wide, wide};
-ghost use Rattle.sql_parse.specs.declared.faults.ParseFault.TheVariants.{Refused};
-ghost use Rattle.sql_parse.specs.Parse.{is_keyword, is_symbol, name, token};
-ghost use Rattle.sql_parse.specs.Reads.{Gives, Passes};
+ghost use Rattle.sql_grammar.specs.Readers as terminal;
+ghost use Rattle.sql_grammar.specs.Readers.{is_keyword, is_symbol, member, next_among, optional};
+ghost use Rattle.sql_grammar.specs.Making as make;
+ghost use Rattle.sql_grammar.specs.Parse as parse;
+ghost use Rattle.sql_parse.specs.Reads.{Gives};
 
-use crate::faults::ParseFault;
+use ae_base::blobs::Blob;
 use ae_base::faults::SqlFault;
 use ae_base::lists::Seq;
 use ae_base::names::Name;
+use ae_base::refusals::Refusal;
+use ae_base::texts::Txt;
 use sql_tree::lexemes::{Keyword, Lexeme, Symbol, Token};
+use sql_tree::statements::NameAt;
+use sql_tree::words::reads_as;
 use std::collections::VecDeque;
 use std::marker::Model;
 
@@ -35,10 +44,10 @@ impl Model for Cursor {
     ghost invariant = { λ c. first_wide 9223372036854775807 c.rest.items ≡ None };
 }
 
-pub(crate) fn syntax() -> ParseFault
-    ensures { result ≡ Refused fault.Syntax }
+pub(crate) fn syntax() -> Refusal
+    ensures { result ≡ Fault fault.Syntax }
 {
-    ParseFault::Refused(SqlFault::Syntax)
+    Refusal::Fault(SqlFault::Syntax)
 }
 
 fn is_keyword(keyword: Keyword, lexeme: &Lexeme) -> bool
@@ -59,6 +68,44 @@ fn is_symbol(symbol: Symbol, lexeme: &Lexeme) -> bool
     }
 }
 
+fn is_one_word(words: &[Keyword], lexeme: &Lexeme) -> bool
+    ensures { result ≡ list_any (λ word. is_keyword word lexeme.now) words.now }
+{
+    words.iter().any(|word| is_keyword(*word, lexeme))
+}
+
+fn is_one_sign(signs: &[Symbol], lexeme: &Lexeme) -> bool
+    ensures { result ≡ list_any (λ sign. is_symbol sign lexeme.now) signs.now }
+{
+    signs.iter().any(|sign| is_symbol(*sign, lexeme))
+}
+
+#[tactic(auto, using(sql_grammar::proofs::Chosen::any_kind))]
+fn is_any(words: &[Keyword], signs: &[Symbol], lexeme: &Lexeme) -> bool
+    ensures { result ≡ member (map terminal.Word words.now ++ map terminal.Sign signs.now) lexeme.now }
+{
+    is_one_word(words, lexeme) || is_one_sign(signs, lexeme)
+}
+
+fn reads_word(lexeme: &Lexeme, capitals: &str) -> bool
+    requires { IsTrue (list_all is_capital capitals.now) }
+    ensures { result ≡ make.lexeme_reads capitals.now lexeme.now }
+{
+    match lexeme {
+        Lexeme::Ident(name) => reads_as(name.as_str(), capitals),
+        _ => false,
+    }
+}
+
+fn is_the_text(lexeme: &Lexeme, text: &str) -> bool
+    ensures { result ≡ make.lexeme_is_text text.now lexeme.now }
+{
+    match lexeme {
+        Lexeme::Text(found) => found.as_str() == text,
+        _ => false,
+    }
+}
+
 impl Cursor {
     pub(crate) fn new(tokens: Seq<Token>) -> Cursor
         requires { first_wide MOST_NUMBER tokens ≡ None }
@@ -67,12 +114,6 @@ impl Cursor {
         Cursor {
             rest: VecDeque::from_vec(tokens.into_vec()),
         }
-    }
-
-    pub(crate) fn is_empty(&self) -> bool
-        ensures { result ≡ (length self.now == 0) }
-    {
-        self.rest.is_empty()
     }
 
     /// The next token, which is passed.
@@ -86,7 +127,7 @@ impl Cursor {
 
     /// Whether a keyword is next.
     pub(crate) fn next_is(&self, keyword: Keyword) -> bool
-        ensures { result ≡ is_some (token (is_keyword keyword) self.now) }
+        ensures { result ≡ next_among (terminal.Word keyword ∷ []) self.now }
     {
         match self.rest.front() {
             Some(token) => is_keyword(keyword, &token.lexeme),
@@ -94,9 +135,61 @@ impl Cursor {
         }
     }
 
+    /// Whether one of some keywords or symbols is next.
+    pub(crate) fn next_is_any(&self, words: &[Keyword], signs: &[Symbol]) -> bool
+        ensures { result ≡ next_among (map terminal.Word words.now ++ map terminal.Sign signs.now) self.now }
+    {
+        match self.rest.front() {
+            Some(token) => is_any(words, signs, &token.lexeme),
+            None => false,
+        }
+    }
+
+    /// Whether a symbol is next.
+    pub(crate) fn next_is_sign(&self, symbol: Symbol) -> bool
+        ensures { result ≡ next_among (terminal.Sign symbol ∷ []) self.now }
+    {
+        match self.rest.front() {
+            Some(token) => is_symbol(symbol, &token.lexeme),
+            None => false,
+        }
+    }
+
+    /// Whether an identifier is next.
+    pub(crate) fn next_is_name(&self) -> bool
+        ensures { result ≡ next_among (terminal.Ident ∷ []) self.now }
+    {
+        match self.rest.front() {
+            Some(token) => matches!(token.lexeme, Lexeme::Ident(_)),
+            None => false,
+        }
+    }
+
+    /// Whether an identifier is next that reads as a word in capitals.
+    pub(crate) fn next_reads(&self, capitals: &str) -> bool
+        requires { IsTrue (list_all is_capital capitals.now) }
+        ensures { result ≡ parse.next_reads capitals.now self.now }
+    {
+        match self.rest.front() {
+            Some(token) => reads_word(&token.lexeme, capitals),
+            None => false,
+        }
+    }
+
+    /// Whether COUNT and an opening parenthesis are next.
+    pub(crate) fn next_counts(&self) -> bool
+        ensures { result ≡ parse.counts self.now }
+    {
+        self.next_reads("COUNT")
+            && match self.rest.get(1) {
+                Some(token) => is_symbol(Symbol::Open, &token.lexeme),
+                None => false,
+            }
+    }
+
     /// A keyword, and its place.
-    pub(crate) fn keyword(&mut self, keyword: Keyword) -> Result<u32, ParseFault>
-        ensures { Gives (λ at. at) result self.new (token (is_keyword keyword) self.old) }
+    pub(crate) fn word(&mut self, keyword: Keyword) -> Result<u32, Refusal>
+        ensures { Gives (λ at. at) result self.new (parse.word keyword self.old) }
     {
         match self.next() {
             Some(token) if is_keyword(keyword, &token.lexeme) => Ok(token.at),
@@ -105,8 +198,8 @@ impl Cursor {
     }
 
     /// A symbol, and its place.
-    pub(crate) fn symbol(&mut self, symbol: Symbol) -> Result<u32, ParseFault>
-        ensures { Gives (λ at. at) result self.new (token (is_symbol symbol) self.old) }
+    pub(crate) fn sign(&mut self, symbol: Symbol) -> Result<u32, Refusal>
+        ensures { Gives (λ at. at) result self.new (parse.sign symbol self.old) }
     {
         match self.next() {
             Some(token) if is_symbol(symbol, &token.lexeme) => Ok(token.at),
@@ -114,40 +207,122 @@ impl Cursor {
         }
     }
 
-    /// Passes a keyword, where it is next.
-    pub(crate) fn passes_keyword(&mut self, keyword: Keyword) -> bool
-        ensures { Passes self.old self.new (token (is_keyword keyword) self.old) result }
+    /// The place of a keyword, where it is next.
+    #[tactic(auto, using(crate::proofs::There::word_there, crate::proofs::There::word_away))]
+    pub(crate) fn optional_word(&mut self, keyword: Keyword) -> Option<u32>
+        ensures { optional (terminal.Word keyword ∷ []) (parse.word keyword) self.old ≡ Some (result, self.new) }
     {
         if !self.next_is(keyword) {
-            return false;
+            return None;
         }
-        let _token = self.next();
-        true
+        let token = self.next()?;
+        Some(token.at)
     }
 
-    /// Passes a comma, where it is next.
-    pub(crate) fn passes_comma(&mut self) -> bool
-        ensures { Passes self.old self.new (token (is_symbol symbol.Comma) self.old) result }
+    /// The place of a symbol, where it is next.
+    #[tactic(auto, using(crate::proofs::There::sign_there, crate::proofs::There::sign_away))]
+    pub(crate) fn optional_sign(&mut self, symbol: Symbol) -> Option<u32>
+        ensures { optional (terminal.Sign symbol ∷ []) (parse.sign symbol) self.old ≡ Some (result, self.new) }
     {
-        match self.rest.front() {
-            Some(token) if is_symbol(Symbol::Comma, &token.lexeme) => {}
-            _ => return false,
+        if !self.next_is_sign(symbol) {
+            return None;
         }
-        let _token = self.next();
-        true
+        let token = self.next()?;
+        Some(token.at)
+    }
+
+    /// An identifier that reads as a word in capitals, and its place.
+    pub(crate) fn reads(&mut self, capitals: &str) -> Result<u32, Refusal>
+        requires { IsTrue (list_all is_capital capitals.now) }
+        ensures { Gives (λ at. at) result self.new (parse.reads capitals.now self.old) }
+    {
+        match self.next() {
+            Some(token) if reads_word(&token.lexeme, capitals) => Ok(token.at),
+            _ => Err(syntax()),
+        }
     }
 
     /// An identifier.
-    pub(crate) fn name(&mut self) -> Result<Name, ParseFault>
-        ensures { Gives (λ word. word) result self.new (name self.old) }
+    pub(crate) fn name(&mut self) -> Result<Name, Refusal>
+        ensures { Gives (λ name. name) result self.new (parse.name self.old) }
     {
         match self.next() {
             Some(
                 Token {
-                    lexeme: Lexeme::Ident(word),
+                    lexeme: Lexeme::Ident(name),
                     ..
                 },
-            ) => Ok(word),
+            ) => Ok(name),
+            _ => Err(syntax()),
+        }
+    }
+
+    /// An identifier at its place.
+    pub(crate) fn placed_name(&mut self) -> Result<NameAt, Refusal>
+        ensures { Gives (λ name. name) result self.new (parse.placed_name self.old) }
+    {
+        match self.next() {
+            Some(
+                Token {
+                    at,
+                    lexeme: Lexeme::Ident(name),
+                },
+            ) => Ok(NameAt { at, name }),
+            _ => Err(syntax()),
+        }
+    }
+
+    /// A number.
+    pub(crate) fn number(&mut self) -> Result<u64, Refusal>
+        ensures { Gives (λ n. n) result self.new (parse.number self.old) }
+    {
+        match self.next() {
+            Some(
+                Token {
+                    lexeme: Lexeme::Number(n),
+                    ..
+                },
+            ) => Ok(n),
+            _ => Err(syntax()),
+        }
+    }
+
+    /// A text.
+    pub(crate) fn text(&mut self) -> Result<Txt, Refusal>
+        ensures { Gives (λ text. text) result self.new (parse.text self.old) }
+    {
+        match self.next() {
+            Some(
+                Token {
+                    lexeme: Lexeme::Text(text),
+                    ..
+                },
+            ) => Ok(text),
+            _ => Err(syntax()),
+        }
+    }
+
+    /// A text that is the one, and its place.
+    pub(crate) fn is_text(&mut self, text: &str) -> Result<u32, Refusal>
+        ensures { Gives (λ at. at) result self.new (parse.is_text text.now self.old) }
+    {
+        match self.next() {
+            Some(token) if is_the_text(&token.lexeme, text) => Ok(token.at),
+            _ => Err(syntax()),
+        }
+    }
+
+    /// A binary.
+    pub(crate) fn binary(&mut self) -> Result<Blob, Refusal>
+        ensures { Gives (λ bytes. bytes) result self.new (parse.binary self.old) }
+    {
+        match self.next() {
+            Some(
+                Token {
+                    lexeme: Lexeme::Binary(bytes),
+                    ..
+                },
+            ) => Ok(bytes),
             _ => Err(syntax()),
         }
     }

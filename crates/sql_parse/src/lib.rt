@@ -1,13 +1,15 @@
 //! The statement that a text spells, or the first fault of the text.
 #![tactic(auto)]
 
+mod conditions;
 mod cursor;
-pub mod faults;
-pub mod laws;
+mod definitions;
 mod limits;
+mod operands;
 pub mod parsing;
-mod parts;
+mod queries;
+mod reading;
+mod settings;
 mod statements;
 
-pub use faults::ParseFault;
 pub use parsing::parse;

@@ -1,7 +1,10 @@
-ghost use Rattle.std.specs.Prelude.{◌≡◌, ◌==◌, length, nat_lt};
+ghost use Rattle.std.specs.Prelude.{◌≡◌, ◌==◌, ◌≤◌, ◌↔◌, IsTrue, length, nat_lt};
+ghost use Rattle.std.specs.Str.{chars};
+ghost use Rattle.ae_base.specs.Values.{units};
 ghost use Rattle.std.specs.List.{list_any};
 ghost use Rattle.sql_tree.specs.Statements.{items_of, statement_of};
-ghost use Rattle.sql_parse.specs.Parse as spec;
+ghost use Rattle.ae_base.specs.declared.values.Datum.TheVariants as datum;
+ghost use Rattle.sql_grammar.specs.Texts as spec;
 
 use sql_tree::lexemes::{Lexeme, Symbol, Token};
 use sql_tree::statements::{Items, Statement, UniqueSpec};
@@ -27,6 +30,15 @@ const MOST_ITEMS: usize = 512;
 /// The most tables of a FROM.
 const MOST_TABLES: usize = 8;
 
+/// The most UTF-16 units of a text.
+const MOST_UNITS: u16 = 4000;
+
+/// The most bytes of a binary.
+const MOST_BINARY: usize = 8000;
+
+/// The most bytes of a key's path, and of a wrapped key.
+const MOST_KEY_BYTES: usize = 1024;
+
 /// Whether more than 64 parentheses are open at once. One that closes nothing counts for nothing.
 pub(crate) fn opens_too_deep(tokens: &[Token]) -> bool
     ensures { result ≡ spec.opens_too_deep 0 tokens.now }
@@ -47,6 +59,45 @@ pub(crate) fn opens_too_deep(tokens: &[Token]) -> bool
     false
 }
 
+/// Whether a text has more than 4,000 UTF-16 units, or a binary more than 8,000 bytes.
+pub(crate) fn has_long(tokens: &[Token]) -> bool
+    ensures { result ≡ spec.has_long tokens.now }
+{
+    tokens.iter().any(|token| is_long(&token.lexeme))
+}
+
+fn is_long(lexeme: &Lexeme) -> bool
+    ensures { result ≡ spec.is_long lexeme.now }
+{
+    match lexeme {
+        Lexeme::Text(text) => !has_units_within(text.as_str(), MOST_UNITS),
+        Lexeme::Binary(bytes) => bytes.len() > MOST_BINARY,
+        _ => false,
+    }
+}
+
+/// Whether a text has at most so many UTF-16 units.
+fn has_units_within(text: &str, most: u16) -> bool
+    ensures { IsTrue result ↔ (units (chars text.now) ≤ most) }
+{
+    let mut left = most as usize;
+    for c in text.chars() {
+        let count = c.len_utf16();
+        if count > left {
+            return false;
+        }
+        left -= count;
+    }
+    true
+}
+
+/// Whether a path or a wrapped key may have so many bytes.
+fn is_key_length(bytes: usize) -> bool
+    ensures { result ≡ spec.is_key_length bytes }
+{
+    bytes > 0 && bytes <= MOST_KEY_BYTES
+}
+
 /// Whether a count of the statement passes its limit.
 pub(crate) fn passes_a_limit(statement: &Statement) -> bool
     ensures { result ≡ spec.passes_a_limit (statement_of statement.now) }
@@ -65,9 +116,9 @@ pub(crate) fn passes_a_limit(statement: &Statement) -> bool
         Statement::Select(query) => {
             item_count(&query.items) > MOST_ITEMS || query.joins.len() >= MOST_TABLES
         }
-        Statement::CreateMaster { .. }
-        | Statement::CreateKey { .. }
-        | Statement::DropTable(_)
+        Statement::CreateMaster { path, .. } => !is_key_length(path.as_str().len()),
+        Statement::CreateKey { wrapped, .. } => !is_key_length(wrapped.len()),
+        Statement::DropTable(_)
         | Statement::DropMaster(_)
         | Statement::DropKey(_)
         | Statement::Update { .. }

@@ -1,106 +1,262 @@
-ghost use Rattle.std.specs.Prelude.{◌≡◌, ◌==◌, length, map};
-ghost use Rattle.std.specs.List.{list_all};
-ghost use Rattle.sql_tree.specs.Statements.{row_of, statement_of};
-ghost use Rattle.sql_parse.specs.Parse as spec;
+ghost use Rattle.std.specs.Prelude.{◌≡◌, ◌∷◌, [], List, Option, Some, None, map};
+ghost use Rattle.std.specs.Option.{option_map};
+ghost use Rattle.sql_tree.specs.Conditions.{condition_of};
+ghost use Rattle.sql_tree.specs.Operands.{operand_of};
+ghost use Rattle.sql_tree.specs.Statements.{row_of, assignment_of, statement_of};
+ghost use Rattle.sql_tree.specs.declared.lexemes.Keyword.TheVariants as keyword;
+ghost use Rattle.sql_tree.specs.declared.lexemes.Symbol.TheVariants as symbol;
+ghost use Rattle.sql_grammar.specs.Readers as terminal;
+ghost use Rattle.sql_grammar.specs.Readers.{optional};
+ghost use Rattle.sql_grammar.specs.Parse as parse;
 ghost use Rattle.sql_parse.specs.Reads.{Gives, Reads};
+ghost use Rattle.sql_grammar.specs.Texts.{tree_of};
 
+use crate::conditions::{ConditionTree, condition};
 use crate::cursor::{Cursor, syntax};
-use crate::faults::ParseFault;
-use crate::parts::{columns, filter, items, names, rows};
+use crate::definitions::parts_in_parens;
+use crate::operands::{MOST_OPEN, OperandTree, operand_in};
+use crate::queries::select;
+use crate::reading::{Read, in_parens, listed};
+use crate::settings::{key_of, path_of};
+use ae_base::blobs::Blob;
 use ae_base::lists::Seq;
 use ae_base::names::Name;
+use ae_base::refusals::Refusal;
+use sql_grammar::settings::{KeySetting, MasterSetting};
 use sql_tree::lexemes::{Keyword, Symbol};
-use sql_tree::statements::{Items, Query, SourceTable, Statement, ValueRow};
+use sql_tree::statements::{Assignment, Statement, ValueRow};
 use std::alloc::Global;
 
-/// The statement that the tokens spell, all of them.
-pub(crate) fn statement(alloc: Global, mut tokens: Cursor) -> Result<Statement, ParseFault>
-    ensures { Reads statement_of result (spec.tree_of tokens) }
+fn create_table(alloc: Global, tokens: &mut Cursor) -> Result<Statement, Refusal>
+    ensures { Gives statement_of result tokens.new (parse.create_table tokens.old) }
 {
-    let statement = body(alloc, &mut tokens)?;
-    tokens.is_empty().then_some(statement).ok_or(syntax())
-}
-
-/// The statement that some of the tokens spell. Its first word tells which one it is.
-fn body(alloc: Global, tokens: &mut Cursor) -> Result<Statement, ParseFault>
-    ensures { Gives statement_of result tokens.new (spec.or_else (spec.create_table tokens.old)
-        (spec.or_else (spec.insert tokens.old) (spec.select tokens.old))) }
-{
-    if tokens.next_is(Keyword::Create) {
-        return create_table(alloc, tokens);
-    }
-    if tokens.next_is(Keyword::Insert) {
-        return insert(alloc, tokens);
-    }
-    select(alloc, tokens)
-}
-
-fn create_table(alloc: Global, tokens: &mut Cursor) -> Result<Statement, ParseFault>
-    ensures { Gives statement_of result tokens.new (spec.create_table tokens.old) }
-{
-    tokens.keyword(Keyword::Create)?;
-    tokens.keyword(Keyword::Table)?;
+    tokens.word(Keyword::Table)?;
     let table = tokens.name()?;
-    tokens.symbol(Symbol::Open)?;
-    let columns = columns(alloc, tokens)?;
-    tokens.symbol(Symbol::Close)?;
+    let parts = parts_in_parens(alloc, tokens)?;
     Ok(Statement::CreateTable {
         table,
-        columns,
-        uniques: Seq::new(alloc),
+        columns: parts.columns,
+        uniques: parts.uniques,
     })
 }
 
-fn insert(alloc: Global, tokens: &mut Cursor) -> Result<Statement, ParseFault>
-    ensures { Gives statement_of result tokens.new (spec.insert tokens.old) }
+fn create_master(alloc: Global, tokens: &mut Cursor) -> Result<Statement, Refusal>
+    ensures { Gives statement_of result tokens.new (parse.create_master tokens.old) }
 {
-    tokens.keyword(Keyword::Insert)?;
-    tokens.keyword(Keyword::Into)?;
-    let table = tokens.name()?;
-    tokens.symbol(Symbol::Open)?;
-    let columns = names(alloc, tokens)?;
-    tokens.symbol(Symbol::Close)?;
-    tokens.keyword(Keyword::Values)?;
-    let rows = rows(alloc, tokens)?;
-    if !are_as_long(&columns, &rows) {
-        return Err(syntax());
+    tokens.reads("MASTER")?;
+    tokens.word(Keyword::Key)?;
+    let name = tokens.name()?;
+    tokens.word(Keyword::With)?;
+    let settings: Seq<MasterSetting> = in_parens(alloc, tokens)?;
+    match path_of(settings) {
+        Some(path) => Ok(Statement::CreateMaster { name, path }),
+        None => Err(syntax()),
     }
+}
+
+fn create_key(alloc: Global, tokens: &mut Cursor) -> Result<Statement, Refusal>
+    ensures { Gives statement_of result tokens.new (parse.create_key tokens.old) }
+{
+    tokens.reads("ENCRYPTION")?;
+    tokens.word(Keyword::Key)?;
+    let name = tokens.name()?;
+    tokens.word(Keyword::With)?;
+    tokens.word(Keyword::Values)?;
+    let settings: Seq<KeySetting<Blob>> = in_parens(alloc, tokens)?;
+    match key_of(settings) {
+        Some((master, wrapped)) => Ok(Statement::CreateKey {
+            name,
+            master,
+            wrapped,
+        }),
+        None => Err(syntax()),
+    }
+}
+
+fn create(alloc: Global, tokens: &mut Cursor) -> Result<Statement, Refusal>
+    ensures { Gives statement_of result tokens.new (parse.create tokens.old) }
+{
+    tokens.word(Keyword::Create)?;
+    if tokens.next_is(Keyword::Table) {
+        return create_table(alloc, tokens);
+    }
+    tokens.word(Keyword::Column)?;
+    if tokens.next_reads("MASTER") {
+        return create_master(alloc, tokens);
+    }
+    create_key(alloc, tokens)
+}
+
+fn drop_key(tokens: &mut Cursor) -> Result<Statement, Refusal>
+    ensures { Gives statement_of result tokens.new (parse.drop_column tokens.old) }
+{
+    tokens.word(Keyword::Column)?;
+    if tokens.next_reads("MASTER") {
+        tokens.reads("MASTER")?;
+        tokens.word(Keyword::Key)?;
+        return Ok(Statement::DropMaster(tokens.name()?));
+    }
+    tokens.reads("ENCRYPTION")?;
+    tokens.word(Keyword::Key)?;
+    Ok(Statement::DropKey(tokens.name()?))
+}
+
+fn drop_named(tokens: &mut Cursor) -> Result<Statement, Refusal>
+    ensures { Gives statement_of result tokens.new (parse.drop tokens.old) }
+{
+    tokens.word(Keyword::Drop)?;
+    if tokens.next_is(Keyword::Table) {
+        tokens.word(Keyword::Table)?;
+        return Ok(Statement::DropTable(tokens.name()?));
+    }
+    drop_key(tokens)
+}
+
+impl Read for ValueRow {
+    ghost use Rattle.sql_tree.specs.Statements as tree;
+    ghost use Rattle.sql_grammar.specs.Parse as parse;
+    ghost use Rattle.sql_grammar.proofs.Going.{shortens};
+    ghost use Rattle.sql_grammar.proofs.Statements.{row_agrees};
+
+    ghost Tree = { tree.ValueRow };
+
+    ghost view = { tree.row_of };
+
+    ghost reading = { parse.row };
+
+    fn read(alloc: Global, tokens: &mut Cursor) -> Result<ValueRow, Refusal> {
+        let at = tokens.sign(Symbol::Open)?;
+        let values: Seq<OperandTree> = listed(alloc, tokens)?;
+        tokens.sign(Symbol::Close)?;
+        Ok(ValueRow { at, values })
+    }
+
+    ghost shortens = { shortens row_agrees };
+}
+
+/// The columns of INSERT, where they are named.
+fn optional_columns(alloc: Global, tokens: &mut Cursor) -> Result<Option<Seq<Name>>, Refusal>
+    ensures { Gives (λ columns. columns) result tokens.new
+        (optional (terminal.Sign symbol.Open ∷ []) (parse.in_parens (parse.listed parse.name)) tokens.old) }
+{
+    if !tokens.next_is_sign(Symbol::Open) {
+        return Ok(None);
+    }
+    Ok(Some(in_parens(alloc, tokens)?))
+}
+
+fn insert(alloc: Global, tokens: &mut Cursor) -> Result<Statement, Refusal>
+    ensures { Gives statement_of result tokens.new (parse.insert tokens.old) }
+{
+    tokens.word(Keyword::Insert)?;
+    tokens.optional_word(Keyword::Into);
+    let table = tokens.name()?;
+    let columns = optional_columns(alloc, tokens)?;
+    tokens.word(Keyword::Values)?;
+    let rows = listed(alloc, tokens)?;
     Ok(Statement::Insert {
         table,
-        columns: Some(columns),
+        columns,
         rows,
     })
 }
 
-/// Whether each row is as long as the column list.
-fn are_as_long(columns: &Seq<Name>, rows: &Seq<ValueRow>) -> bool
-    ensures { result ≡ list_all (spec.are_as_long columns.now) (map row_of rows.now) }
+/// The condition of WHERE, where that word is there.
+pub(crate) fn filter(alloc: Global, tokens: &mut Cursor) -> Result<Option<ConditionTree>, Refusal>
+    ensures { Gives (option_map condition_of) result tokens.new (parse.filter tokens.old) }
 {
-    have_length(rows.as_slice(), columns.len())
+    if !tokens.next_is(Keyword::Where) {
+        return Ok(None);
+    }
+    tokens.word(Keyword::Where)?;
+    Ok(Some(condition(alloc, tokens)?))
 }
 
-fn have_length(rows: &[ValueRow], count: usize) -> bool
-    ensures { result ≡ list_all (λ row. length row.values == count) rows.now }
-{
-    rows.iter().all(|row| row.values.len() == count)
+impl Read for Assignment {
+    ghost use Rattle.sql_tree.specs.Statements as tree;
+    ghost use Rattle.sql_grammar.specs.Parse as parse;
+    ghost use Rattle.sql_grammar.proofs.Going.{shortens};
+    ghost use Rattle.sql_grammar.proofs.Statements.{assignment_agrees};
+
+    ghost Tree = { tree.Assignment };
+
+    ghost view = { tree.assignment_of };
+
+    ghost reading = { parse.assignment };
+
+    fn read(alloc: Global, tokens: &mut Cursor) -> Result<Assignment, Refusal> {
+        let column = tokens.name()?;
+        let at = tokens.sign(Symbol::Equal)?;
+        let value = operand_in(alloc, tokens, MOST_OPEN)?;
+        Ok(Assignment { at, column, value })
+    }
+
+    ghost shortens = { shortens assignment_agrees };
 }
 
-fn select(alloc: Global, tokens: &mut Cursor) -> Result<Statement, ParseFault>
-    ensures { Gives statement_of result tokens.new (spec.select tokens.old) }
+fn update(alloc: Global, tokens: &mut Cursor) -> Result<Statement, Refusal>
+    ensures { Gives statement_of result tokens.new (parse.update tokens.old) }
 {
-    tokens.keyword(Keyword::Select)?;
-    let items = items(alloc, tokens)?;
-    tokens.keyword(Keyword::From)?;
+    tokens.word(Keyword::Update)?;
     let table = tokens.name()?;
-    let filter = filter(tokens)?;
-    Ok(Statement::Select(Query {
-        distinct: None,
-        top: None,
-        items: Items::List(items),
-        from: SourceTable { table, alias: None },
-        joins: Seq::new(alloc),
+    tokens.word(Keyword::Set)?;
+    let assignments = listed(alloc, tokens)?;
+    let filter = filter(alloc, tokens)?;
+    Ok(Statement::Update {
+        table,
+        assignments,
         filter,
-        group_by: Seq::new(alloc),
-        order_by: Seq::new(alloc),
-    }))
+    })
+}
+
+fn delete(alloc: Global, tokens: &mut Cursor) -> Result<Statement, Refusal>
+    ensures { Gives statement_of result tokens.new (parse.delete tokens.old) }
+{
+    tokens.word(Keyword::Delete)?;
+    tokens.optional_word(Keyword::From);
+    let table = tokens.name()?;
+    let filter = filter(alloc, tokens)?;
+    Ok(Statement::Delete { table, filter })
+}
+
+/// A statement without the semicolon at its end. Its first word tells which one it is.
+fn body(alloc: Global, tokens: &mut Cursor) -> Result<Statement, Refusal>
+    ensures { Gives statement_of result tokens.new (parse.body tokens.old) }
+{
+    if tokens.next_is(Keyword::Create) {
+        return create(alloc, tokens);
+    }
+    if tokens.next_is(Keyword::Drop) {
+        return drop_named(tokens);
+    }
+    if tokens.next_is(Keyword::Insert) {
+        return insert(alloc, tokens);
+    }
+    if tokens.next_is(Keyword::Update) {
+        return update(alloc, tokens);
+    }
+    if tokens.next_is(Keyword::Delete) {
+        return delete(alloc, tokens);
+    }
+    select(alloc, tokens)
+}
+
+fn ended(alloc: Global, tokens: &mut Cursor) -> Result<Statement, Refusal>
+    ensures { Gives statement_of result tokens.new (parse.statement tokens.old) }
+{
+    let statement = body(alloc, tokens)?;
+    tokens.optional_sign(Symbol::Semicolon);
+    Ok(statement)
+}
+
+/// The statement that the tokens spell, all of them.
+#[tactic(auto, using(crate::proofs::Parsed::tree_whole, crate::proofs::Parsed::tree_more, crate::proofs::Parsed::tree_fails))]
+pub(crate) fn statement(alloc: Global, mut tokens: Cursor) -> Result<Statement, Refusal>
+    ensures { Reads statement_of result (tree_of tokens) }
+{
+    let statement = ended(alloc, &mut tokens)?;
+    match tokens.next() {
+        None => Ok(statement),
+        Some(_) => Err(syntax()),
+    }
 }

@@ -1,6 +1,7 @@
 -- The front of a text that passes a test, and the number that digits spell.
 use Rattle.std.proofs.Common.{◌≡◌, ℕ, ◌+◌, ◌-◌, ◌*◌, ◌<◌, ◌≤◌, Bool, true, false, List, [], ◌∷◌, length, get_or, take, drop, take_while, fold, slice_index, Some, refl, sym, ◌∙◌, ap, subst, arith}
-use Rattle.std.specs.List.{AllPass, prefix_len}
+use Rattle.std.specs.List.{AllPass, prefix_len, list_all}
+use Rattle.ae_base.specs.Names.{is_param_char}
 use Rattle.std.specs.Str.{IsAscii}
 use Rattle.std.proofs.lemmas.List.{take-append-drop, get_or-take, length-take}
 use Rattle.std.proofs.lemmas.List.Elements.{All-from_get_or}
@@ -25,6 +26,17 @@ word_byte_ascii b h = grind (arith, nat_tests)
 word_more : (x : ℕ) (xs : List ℕ) (b : Bool) → is_word_byte x ≡ b → IsAscii (take_while is_word_byte xs) → IsAscii (take_while is_word_byte (x ∷ xs))
 word_more x xs true e h = rw (take_while-cons is_word_byte x xs, e) (IsAscii-cons x (take_while is_word_byte xs) (word_byte_ascii x e) h)
 word_more x xs false e h = rw (take_while-cons is_word_byte x xs, e) IsAscii-nil
+
+word_byte_param : (b : ℕ) → is_word_byte b ≡ true → is_param_char b ≡ true
+word_byte_param b h = grind (arith, nat_tests)
+
+param_more : (x : ℕ) (xs : List ℕ) (b : Bool) → is_word_byte x ≡ b → list_all is_param_char (take_while is_word_byte xs) ≡ true → list_all is_param_char (take_while is_word_byte (x ∷ xs)) ≡ true
+param_more x xs true e h = rw (take_while-cons is_word_byte x xs, e, word_byte_param x e) h
+param_more x xs false e h = rw (take_while-cons is_word_byte x xs, e) refl
+
+pub word_param : (xs : List ℕ) → list_all is_param_char (take_while is_word_byte xs) ≡ true
+word_param [] = refl
+word_param (x ∷ xs) = param_more x xs (is_word_byte x) refl (word_param xs)
 
 pub word_ascii : (xs : List ℕ) → IsAscii (take_while is_word_byte xs)
 word_ascii [] = IsAscii-nil

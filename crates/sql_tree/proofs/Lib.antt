@@ -1,3 +1,5 @@
 mod Capitals
 mod Digits
 mod Progress
+mod Quotes
+pub mod Trees

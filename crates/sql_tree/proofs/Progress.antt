@@ -1,5 +1,5 @@
 -- How far the tokens of a text are read.
-use Rattle.std.proofs.Common.{◌≡◌, ℕ, zero, suc, ◌+◌, ◌-◌, ◌<◌, ◌≤◌, Bool, true, false, List, [], ◌∷◌, ◌++◌, length, get_or, drop, Option, Some, None, MatchOption, Ok, Err, if◌then◌else◌, refl, sym, ◌∙◌, ap, arith, add-zero, sub-one, append_assoc}
+use Rattle.std.proofs.Common.{◌≡◌, ℕ, zero, suc, ◌+◌, ◌-◌, ◌<◌, ◌≤◌, nat_lt, Bool, true, false, List, [], ◌∷◌, ◌++◌, length, get_or, drop, Option, Some, None, MatchOption, Ok, Err, if◌then◌else◌, refl, sym, ◌∙◌, ap, arith, add-zero, sub-one, append_assoc}
 use Rattle.std.specs.Option.{option_map, option_or}
 use Rattle.std.proofs.lemmas.List.{drop_more, drop_all, drop-drop, append-nil}
 use Rattle.std.proofs.lemmas.Bool.{lt-ltb}
@@ -8,7 +8,7 @@ use Rattle.sql_tree.specs.declared.lexemes.Lexeme.TheVariants as lexeme
 use Rattle.sql_tree.specs.declared.lexemes.Token.{Token}
 use Rattle.sql_tree.specs.declared.tokens.TokensFault.TheVariants.{NumberTooWide}
 use Rattle.sql_tree.specs.Reading.{IsToken, IsWide, Tokenizes}
-use Rattle.sql_tree.specs.Tokens.{front, is_blank, tokens_from, tokens_of, wide, first_wide}
+use Rattle.sql_tree.specs.Tokens.{front, passed_over, tokens_from, tokens_of, wide, first_wide}
 
 abbrev pub with_front : List Token → Option (List Token) → Option (List Token)
 with_front front more = option_map (λ tokens. front ++ tokens) more
@@ -38,20 +38,22 @@ tokens_from-skip at (suc skip) [] = refl
 tokens_from-skip at (suc skip) (b ∷ bytes) =
     tokens_from-skip (at + 1) skip bytes ∙ ap (λ n. tokens_from n 0 (drop skip bytes)) (omega arith)
 
-read_blank : (at b : ℕ) (bytes : List ℕ) → is_blank b ≡ true → tokens_from at 0 (b ∷ bytes) ≡ tokens_from (at + 1) 0 bytes
-read_blank at b bytes h = rw h refl
-
-token_then : (at len : ℕ) (b : ℕ) (bytes : List ℕ) (l : Lexeme) → 1 ≤ len → tokens_from (at + 1) (len - 1) bytes ≡ tokens_from (at + len) 0 (drop len (b ∷ bytes))
-token_then at zero b bytes l some = absurd (omega arith)
-token_then at (suc n) b bytes l some =
+token_then : (at len : ℕ) (b : ℕ) (bytes : List ℕ) → 1 ≤ len → tokens_from (at + 1) (len - 1) bytes ≡ tokens_from (at + len) 0 (drop len (b ∷ bytes))
+token_then at zero b bytes some = absurd (omega arith)
+token_then at (suc n) b bytes some =
     rw (sub-one) (tokens_from-skip (at + 1) n bytes ∙ ap (λ k. tokens_from k 0 (drop n bytes)) (omega arith))
 
-read_token : (at b len : ℕ) (bytes : List ℕ) (l : Lexeme) → is_blank b ≡ false → 1 ≤ len → front (b ∷ bytes) ≡ Some (l, len)
+read_gap : (at b len : ℕ) (bytes : List ℕ) → passed_over (b ∷ bytes) ≡ len → 0 < len → tokens_from at 0 (b ∷ bytes) ≡ tokens_from (at + len) 0 (drop len (b ∷ bytes))
+read_gap at b len bytes h some =
+    let test : nat_lt 0 (passed_over (b ∷ bytes)) ≡ true = lt-ltb 0 (passed_over (b ∷ bytes)) (omega (arith, h)) in
+    rw test (ap (λ k. tokens_from (at + 1) (k - 1) bytes) h ∙ token_then at len b bytes (omega arith))
+
+read_token : (at b len : ℕ) (bytes : List ℕ) (l : Lexeme) → passed_over (b ∷ bytes) ≡ 0 → 1 ≤ len → front (b ∷ bytes) ≡ Some (l, len)
     → tokens_from at 0 (b ∷ bytes) ≡ option_map (λ tokens. record { at = at; lexeme = l } ∷ tokens) (tokens_from (at + len) 0 (drop len (b ∷ bytes)))
 read_token at b len bytes l blank some e =
-    rw (blank, e) (ap (option_map (λ tokens. record { at = at; lexeme = l } ∷ tokens)) (token_then at len b bytes l some))
+    rw (blank, e) (ap (option_map (λ tokens. record { at = at; lexeme = l } ∷ tokens)) (token_then at len b bytes some))
 
-read_nothing : (at b : ℕ) (bytes : List ℕ) → is_blank b ≡ false → front (b ∷ bytes) ≡ None → tokens_from at 0 (b ∷ bytes) ≡ None
+read_nothing : (at b : ℕ) (bytes : List ℕ) → passed_over (b ∷ bytes) ≡ 0 → front (b ∷ bytes) ≡ None → tokens_from at 0 (b ∷ bytes) ≡ None
 read_nothing at b bytes blank e = rw (blank, e) refl
 
 -- ---- one place on
@@ -68,18 +70,20 @@ first_wide-push : (most : ℕ) (tokens : List Token) (t : Token) → first_wide 
 first_wide-push most [] t = refl
 first_wide-push most (u ∷ tokens) t = first_more most tokens u t (wide most u.lexeme) refl (first_wide-push most tokens t)
 
-pub so_far_blank : (most : ℕ) (bytes : List ℕ) (at : ℕ) (list : List Token) (first : Option ℕ) → SoFar most bytes at list first
-    → at < length bytes → is_blank (get_or bytes at 0) ≡ true → SoFar most bytes (at + 1) list first
-so_far_blank most bytes at list first s within blank =
-    let next : tokens_from at 0 (drop at bytes) ≡ tokens_from (at + 1) 0 (drop (at + 1) bytes) =
-    ap (tokens_from at 0) (drop_more bytes at 0 within) ∙ read_blank at (get_or bytes at 0) (drop (at + 1) bytes) blank in
+pub so_far_gap : (most : ℕ) (bytes : List ℕ) (at len : ℕ) (list : List Token) (first : Option ℕ) → SoFar most bytes at list first
+    → at < length bytes → passed_over (drop at bytes) ≡ len → 0 < len → SoFar most bytes (at + len) list first
+so_far_gap most bytes at len list first s within gap some =
+    let more = drop_more bytes at 0 within in
+    let next : tokens_from at 0 (drop at bytes) ≡ tokens_from (at + len) 0 (drop (at + len) bytes) =
+    ap (tokens_from at 0) more ∙ read_gap at (get_or bytes at 0) len (drop (at + 1) bytes) (sym (ap passed_over more) ∙ gap) some
+    ∙ ap (λ rest. tokens_from (at + len) 0 (drop len rest)) (sym more) ∙ ap (tokens_from (at + len) 0) (drop-drop len at bytes) in
     record { tokens = s.tokens; ahead = s.ahead ∙ ap (with_front s.tokens) next; first_wide = s.first_wide; kept = s.kept }
 
 pub so_far_nothing : (most : ℕ) (bytes : List ℕ) (at : ℕ) (list : List Token) (first : Option ℕ) → SoFar most bytes at list first
-    → at < length bytes → is_blank (get_or bytes at 0) ≡ false → front (drop at bytes) ≡ None → tokens_of bytes ≡ None
+    → at < length bytes → passed_over (drop at bytes) ≡ 0 → front (drop at bytes) ≡ None → tokens_of bytes ≡ None
 so_far_nothing most bytes at list first s within blank e =
     let next : tokens_from at 0 (drop at bytes) ≡ None =
-    ap (tokens_from at 0) (drop_more bytes at 0 within) ∙ read_nothing at (get_or bytes at 0) (drop (at + 1) bytes) blank (sym (ap front (drop_more bytes at 0 within)) ∙ e) in
+    ap (tokens_from at 0) (drop_more bytes at 0 within) ∙ read_nothing at (get_or bytes at 0) (drop (at + 1) bytes) (sym (ap passed_over (drop_more bytes at 0 within)) ∙ blank) (sym (ap front (drop_more bytes at 0 within)) ∙ e) in
     s.ahead ∙ ap (with_front s.tokens) next
 
 -- a token of so many bytes: the tokens, and what is left
@@ -87,11 +91,11 @@ record Grown (bytes : List ℕ) (at len : ℕ) (tokens : List Token) (l : Lexeme
   ahead : tokens_of bytes ≡ with_front (tokens ++ record { at = at; lexeme = l } ∷ []) (tokens_from (at + len) 0 (drop (at + len) bytes))
 
 grown : (bytes : List ℕ) (at len : ℕ) (tokens : List Token) (l : Lexeme) → tokens_of bytes ≡ with_front tokens (tokens_from at 0 (drop at bytes))
-    → at < length bytes → is_blank (get_or bytes at 0) ≡ false → 1 ≤ len → front (drop at bytes) ≡ Some (l, len) → Grown bytes at len tokens l
+    → at < length bytes → passed_over (drop at bytes) ≡ 0 → 1 ≤ len → front (drop at bytes) ≡ Some (l, len) → Grown bytes at len tokens l
 grown bytes at len tokens l ahead within blank some e =
     let more = drop_more bytes at 0 within in
     let next : tokens_from at 0 (drop at bytes) ≡ option_map (λ ts. record { at = at; lexeme = l } ∷ ts) (tokens_from (at + len) 0 (drop len (drop at bytes))) =
-    ap (tokens_from at 0) more ∙ read_token at (get_or bytes at 0) len (drop (at + 1) bytes) l blank some (sym (ap front more) ∙ e)
+    ap (tokens_from at 0) more ∙ read_token at (get_or bytes at 0) len (drop (at + 1) bytes) l (sym (ap passed_over more) ∙ blank) some (sym (ap front more) ∙ e)
     ∙ ap (λ rest. option_map (λ ts. record { at = at; lexeme = l } ∷ ts) (tokens_from (at + len) 0 (drop len rest))) (sym more) in
     let there : drop len (drop at bytes) ≡ drop (at + len) bytes = drop-drop len at bytes in
     record {
@@ -108,7 +112,7 @@ or_none None = refl
 or_none (Some at) = refl
 
 pub so_far_token : (most : ℕ) (bytes : List ℕ) (at : ℕ) (list : List Token) (first : Option ℕ) (l : Lexeme) (len : ℕ) → SoFar most bytes at list first
-    → at < length bytes → is_blank (get_or bytes at 0) ≡ false → IsToken most (drop at bytes) (front (drop at bytes)) l len
+    → at < length bytes → passed_over (drop at bytes) ≡ 0 → IsToken most (drop at bytes) (front (drop at bytes)) l len
     → SoFar most bytes (at + len) (list ++ record { at = at; lexeme = l } ∷ []) first
 so_far_token most bytes at list first l len s within blank f =
     let t : Token = record { at = at; lexeme = l } in
@@ -125,7 +129,7 @@ kept_none None at tokens list = tt
 kept_none (Some before) at tokens list = tt
 
 pub so_far_wide : (most : ℕ) (bytes : List ℕ) (at : ℕ) (list : List Token) (first : Option ℕ) (len : ℕ) → SoFar most bytes at list first
-    → at < length bytes → is_blank (get_or bytes at 0) ≡ false → IsWide most (drop at bytes) (front (drop at bytes)) len
+    → at < length bytes → passed_over (drop at bytes) ≡ 0 → IsWide most (drop at bytes) (front (drop at bytes)) len
     → SoFar most bytes (at + len) list (option_or first (Some at))
 so_far_wide most bytes at list first len s within blank f =
     let t : Token = record { at = at; lexeme = lexeme.Number f.number } in

@@ -1,7 +1,12 @@
 pub mod Bound
 pub mod Conditions
+pub mod Listed
+pub mod Literals
+pub mod OnTables
 pub mod Operands
+pub mod Placed
 pub mod Reading
 pub mod Statements
 pub mod Tokens
 pub mod TokensWorked
+pub mod Uses

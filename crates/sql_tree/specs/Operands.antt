@@ -34,3 +34,11 @@ abbrev mutual
   pub term_before : {C P : Type 0} → code_term.Term C P → Terms C P → Terms C P
   term_before (code_term.Plus at operand) more = PlusThen at (operand_of operand) more
   term_before (code_term.Minus at operand) more = MinusThen at (operand_of operand) more
+
+-- the place of an operand's first token that is no parenthesis
+abbrev pub place_of : {C P : Type 0} → Operand C P → ℕ
+place_of (Literal at v) = at
+place_of (Param at param) = at
+place_of (Column at column) = at
+place_of (Minus at operand) = at
+place_of (Sum first terms) = place_of first

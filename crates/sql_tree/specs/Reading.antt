@@ -1,5 +1,5 @@
 -- What the reader of tokens answers, case by case.
-use Rattle.std.specs.Prelude.{◌≡◌, ◌<◌, ◌≤◌, ℕ, List, length, Bool, false, ◌&&◌, nat_le, Some, None, Result, Ok, Err}
+use Rattle.std.specs.Prelude.{◌≡◌, ◌<◌, ◌≤◌, ◌==◌, ℕ, List, [], ◌∷◌, length, Bool, false, ◌&&◌, ◌||◌, nat_le, if◌then◌else◌, Option, Some, None, Result, Ok, Err}
 use Rattle.sql_tree.specs.declared.lexemes.Lexeme.{Lexeme}
 use Rattle.sql_tree.specs.declared.lexemes.Lexeme.TheVariants as lexeme
 use Rattle.sql_tree.specs.declared.lexemes.Token.{Token}
@@ -8,8 +8,9 @@ use Rattle.sql_tree.specs.declared.tokens.TokensFault.{TokensFault}
 use Rattle.sql_tree.specs.declared.tokens.TokensFault.TheVariants.{NotTokens, NumberTooWide, OutOfMemory}
 use Rattle.sql_tree.specs.Tokens.{Front, wide, first_wide, tokens_of}
 
+-- a letter in capitals, a digit or _
 abbrev pub is_capital : ℕ → Bool
-is_capital b = nat_le 65 b && nat_le b 90
+is_capital b = (nat_le 65 b && nat_le b 90) || (nat_le 48 b && nat_le b 57) || (b == 95)
 
 -- the front of the bytes is a token with no number above the most
 pub record IsToken (most : ℕ) (bytes : List ℕ) (front : Front) (read : Lexeme) (len : ℕ) : Type 0 where
@@ -25,6 +26,12 @@ pub record IsWide (most : ℕ) (bytes : List ℕ) (front : Front) (len : ℕ) : 
   pub wide : most < number
   pub some : 1 ≤ len
   pub within : len ≤ length bytes
+
+-- the byte that begins what stands in quotes, and how many bytes spell it; none where the closing quote stands, or nothing
+abbrev pub quoted_byte : ℕ → List ℕ → Option (ℕ × ℕ)
+quoted_byte quote [] = None
+quoted_byte quote (b ∷ []) = if b == quote then None else Some (b, 1)
+quoted_byte quote (b ∷ c ∷ bytes) = if b == quote then (if c == quote then Some (quote, 2) else None) else Some (b, 1)
 
 -- what stands at the front of the bytes
 abbrev pub IsFront : ℕ → List ℕ → Front → code.Front → Type 0

@@ -1,8 +1,10 @@
--- The tokens of a text: at each place the longest one, with blanks between.
-use Rattle.std.specs.Prelude.{ℕ, zero, suc, ◌+◌, ◌-◌, ◌*◌, List, [], ◌∷◌, length, take_while, fold, Bool, false, ◌&&◌, ◌||◌, nat_lt, nat_le, ◌==◌, if◌then◌else◌, codes, map, Option, Some, None, slice_index}
+-- The tokens of a text: at each place the longest one, with blanks and comments between.
+use Rattle.std.specs.Prelude.{ℕ, zero, suc, ◌+◌, ◌-◌, ◌*◌, List, [], ◌∷◌, length, drop, take_while, fold, Bool, false, ◌&&◌, ◌||◌, not, nat_lt, nat_le, ◌==◌, if◌then◌else◌, codes, map, Option, Some, None, Result, Ok, Err, slice_index}
 use Rattle.std.specs.Option.{option_map, option_and_then}
 use Rattle.std.specs.Char.{to_ascii_uppercase}
-use Rattle.std.specs.Str.{bytes_eq}
+use Rattle.std.specs.Str.{bytes_eq, chars, is_utf8}
+use Rattle.hex.specs.declared.error.FromHexError.{FromHexError}
+use Rattle.hex.specs.Hex.{decode_of}
 use Rattle.sql_tree.specs.declared.lexemes.Keyword.{Keyword}
 use Rattle.sql_tree.specs.declared.lexemes.Keyword.TheVariants as keyword
 use Rattle.sql_tree.specs.declared.lexemes.Symbol.{Symbol}
@@ -59,9 +61,16 @@ word_lexeme word = keyword_or word (named_in keywords (in_capitals word))
 abbrev pub Front : Type 0
 Front = Option (Lexeme × ℕ)
 
+-- a byte that so many bytes spell, before others
+abbrev pub with_byte : ℕ → ℕ → Option (List ℕ × ℕ) → Option (List ℕ × ℕ)
+with_byte b len read = option_map (λ r. (b ∷ r.0, len + r.1)) read
+
+abbrev pub is_name : List ℕ → Bool
+is_name characters = nat_lt 0 (length characters) && nat_le (length characters) 128
+
 -- a word or a parameter's name has at most 128 bytes, and at least one
 abbrev pub named : (List ℕ → Lexeme) → ℕ → List ℕ → Front
-named make sign name = if nat_lt 0 (length name) && nat_le (length name) 128 then Some (make name, sign + length name) else None
+named make sign name = if is_name name then Some (make name, sign + length name) else None
 
 abbrev pub value_of_digits : List ℕ → ℕ
 value_of_digits digits = fold (λ n digit. 10 * n + (digit - 48)) 0 digits
@@ -94,15 +103,56 @@ symbol_front b next =
     if b == 45 then one symbol.Minus else
     if b == 42 then one symbol.Star else None
 
--- the kinds of tokens that are read so far: words, parameters, numbers and symbols. Texts, binaries,
--- identifiers in brackets and comments are no tokens yet
+-- what stands behind an opening quote up to the one that closes it, and how many bytes that is with the closing one;
+-- two quotes stand for one
+abbrev pub quoted : ℕ → List ℕ → Option (List ℕ × ℕ)
+quoted quote [] = None
+quoted quote (b ∷ []) = if b == quote then Some ([], 1) else None
+quoted quote (b ∷ c ∷ bytes) =
+    if b == quote
+    then (if c == quote then with_byte quote 2 (quoted quote bytes) else Some ([], 1))
+    else with_byte b 1 (quoted quote (c ∷ bytes))
+
+-- a text, whose bytes are UTF-8
+abbrev pub text_lexeme : List ℕ → Option Lexeme
+text_lexeme bytes = if is_utf8 bytes then Some (lexeme.Text (chars bytes)) else None
+
+-- an identifier in brackets has 1 to 128 characters
+abbrev pub bracketed_lexeme : List ℕ → Option Lexeme
+bracketed_lexeme bytes = if is_utf8 bytes && is_name (chars bytes) then Some (lexeme.Ident (chars bytes)) else None
+
+-- a token in quotes, of which so many bytes are its opening
+abbrev pub quoted_front : (List ℕ → Option Lexeme) → ℕ → ℕ → List ℕ → Front
+quoted_front make quote opening bytes =
+    option_and_then (λ r. option_map (λ l. (l, opening + r.1)) (make r.0)) (quoted quote (drop opening bytes))
+
+-- behind 0x stand the digits of whole bytes, and no other letter, digit or _
+abbrev pub binary_of : ℕ → Result (List ℕ) FromHexError → Front
+binary_of len (Ok bytes) = Some (lexeme.Binary bytes, len)
+binary_of len (Err fault) = None
+
+abbrev pub binary_front : List ℕ → Front
+binary_front bytes = let digits = take_while is_word_byte (drop 2 bytes) in binary_of (2 + length digits) (decode_of digits)
+
+-- the token at the front of a text
 abbrev pub front : List ℕ → Front
-front [] = None
-front (b ∷ bytes) =
-    if begins_word b then named word_lexeme 0 (take_while is_word_byte (b ∷ bytes)) else
-    if b == 64 then named lexeme.Param 1 (take_while is_word_byte bytes) else
-    if is_digit b then number_front (b ∷ bytes) else
-    symbol_front b (slice_index bytes 0)
+front bytes =
+    let b = slice_index bytes 0 in
+    let next = slice_index bytes 1 in
+    if b == 39 then quoted_front text_lexeme 39 1 bytes else
+    if ((b == 78) || (b == 110)) && (next == 39) then quoted_front text_lexeme 39 2 bytes else
+    if b == 91 then quoted_front bracketed_lexeme 93 1 bytes else
+    if (b == 48) && (next == 120) then binary_front bytes else
+    if b == 64 then named lexeme.Param 1 (take_while is_word_byte (drop 1 bytes)) else
+    if begins_word b then named word_lexeme 0 (take_while is_word_byte bytes) else
+    if is_digit b then number_front bytes else
+    symbol_front b next
+
+-- how many bytes at the front of a text stand between tokens: a blank, or a comment up to the end of its line
+abbrev pub passed_over : List ℕ → ℕ
+passed_over bytes =
+    if is_blank (slice_index bytes 0) then 1 else
+    if (slice_index bytes 0 == 45) && (slice_index bytes 1 == 45) then length (take_while (λ b. not (b == 10)) bytes) else 0
 
 abbrev pub then_tokens : ℕ → (ℕ → Option (List Token)) → (Lexeme × ℕ) → Option (List Token)
 then_tokens at more found = option_map (λ tokens. record { at = at; lexeme = found.0 } ∷ tokens) (more (found.1 - 1))
@@ -112,7 +162,7 @@ abbrev pub tokens_from : ℕ → ℕ → List ℕ → Option (List Token)
 tokens_from at skip [] = Some []
 tokens_from at (suc skip) (b ∷ bytes) = tokens_from (at + 1) skip bytes
 tokens_from at zero (b ∷ bytes) =
-    if is_blank b then tokens_from (at + 1) zero bytes
+    if nat_lt 0 (passed_over (b ∷ bytes)) then tokens_from (at + 1) (passed_over (b ∷ bytes) - 1) bytes
     else option_and_then (then_tokens at (λ skip. tokens_from (at + 1) skip bytes)) (front (b ∷ bytes))
 
 -- the tokens of a text in UTF-8, or None where it is no token list

@@ -1,7 +1,7 @@
-ghost use Rattle.std.specs.Prelude.{◌≡◌, ◌≤◌, ◌<◌, ◌+◌, ◌-◌, ◌*◌, ℕ, true, false, IfOk, MatchOption, length, drop, slice_index, take_while};
-ghost use Rattle.std.specs.List.{AllPass};
+ghost use Rattle.std.specs.Prelude.{◌≡◌, ◌≤◌, ◌<◌, ◌+◌, ◌-◌, ◌*◌, ℕ, true, false, IfOk, IsTrue, MatchOption, length, drop, slice_index, take_while};
+ghost use Rattle.std.specs.List.{AllPass, list_all};
 ghost use Rattle.std.specs.Str.{IsAscii};
-ghost use Rattle.ae_base.specs.Names.{IsName};
+ghost use Rattle.ae_base.specs.Names.{IsName, IsParamName, is_param_char};
 ghost use Rattle.sql_tree.specs.declared.fronts.Front.TheVariants as front;
 ghost use Rattle.sql_tree.specs.declared.lexemes.Lexeme.TheVariants as lexeme;
 ghost use Rattle.sql_tree.specs.declared.lexemes.Lexeme.TheVariants.{Param};
@@ -9,9 +9,12 @@ ghost use Rattle.sql_tree.specs.Tokens as spec;
 ghost use Rattle.sql_tree.specs.Reading.{IsFront};
 
 use crate::lexemes::{Lexeme, Symbol};
+use crate::quoted::{bracketed, text};
 use crate::words::keyword_of;
-use ae_base::names::Name;
+use ae_base::blobs::Blob;
+use ae_base::names::{Name, ParamName};
 use ae_base::texts::Txt;
+use hex::FromHexError;
 use std::alloc::{AllocError, Global};
 
 /// What stands at the front of a text.
@@ -51,7 +54,7 @@ fn is_word_byte(b: u8) -> bool
 }
 
 /// The byte at a place, or 0 behind the end.
-fn byte_at(bytes: &[u8], i: usize) -> u8
+pub(crate) fn byte_at(bytes: &[u8], i: usize) -> u8
     ensures { result ≡ slice_index bytes.now i }
 {
     if i < bytes.len() { bytes[i] } else { 0 }
@@ -62,6 +65,7 @@ fn word_bytes(bytes: &[u8]) -> &[u8]
     ensures word { result.now ≡ take_while spec.is_word_byte bytes.now }
     ensures within { length result.now ≤ length bytes.now }
     ensures ascii { IsAscii result.now }
+    ensures param { IsTrue (list_all is_param_char result.now) }
 {
     let mut len = 0;
     while len < bytes.len() && is_word_byte(bytes[len]) {
@@ -85,21 +89,49 @@ fn digits(bytes: &[u8]) -> &[u8]
 
 /// The token at the front of a text, where a number is at most `most`.
 pub(crate) fn front_of(alloc: Global, bytes: &[u8], most: u64) -> Result<Front, AllocError>
+    requires { 1 ≤ length bytes.now }
     ensures { IfOk result (IsFront most bytes.now (spec.front bytes.now)) }
 {
-    let [first, ..] = bytes else {
-        return Ok(Front::Nothing);
-    };
-    if begins_word(*first) {
-        return word(alloc, bytes, most);
+    let first = byte_at(bytes, 0);
+    let next = byte_at(bytes, 1);
+    if first == b'\'' {
+        return text(alloc, bytes, 1, most);
     }
-    if *first == b'@' {
+    if (first == b'N' || first == b'n') && next == b'\'' {
+        return text(alloc, bytes, 2, most);
+    }
+    if first == b'[' {
+        return bracketed(alloc, bytes, most);
+    }
+    if first == b'0' && next == b'x' {
+        return binary(alloc, bytes, most);
+    }
+    if first == b'@' {
         return parameter(alloc, bytes, most);
     }
-    if is_digit(*first) {
+    if begins_word(first) {
+        return word(alloc, bytes, most);
+    }
+    if is_digit(first) {
         return Ok(number(bytes, most));
     }
     Ok(symbol(bytes, most))
+}
+
+/// The bytes behind `0x`, whose digits nothing else of a word follows.
+fn binary(alloc: Global, bytes: &[u8], most: u64) -> Result<Front, AllocError>
+    requires { 2 ≤ length bytes.now }
+    ensures { IfOk result (IsFront most bytes.now (spec.binary_front bytes.now)) }
+{
+    let digits = word_bytes(&bytes[2..]);
+    match hex::decode(alloc, digits) {
+        Ok(read) => Ok(Front::Token {
+            lexeme: Lexeme::Binary(Blob::from_vec(read)),
+            len: 2 + digits.len(),
+        }),
+        Err(FromHexError::OutOfMemory) => Err(AllocError),
+        Err(_) => Ok(Front::Nothing),
+    }
 }
 
 /// A word of at most 128 bytes: a reserved one is a keyword, another is an identifier.
@@ -140,7 +172,7 @@ fn parameter(alloc: Global, bytes: &[u8], most: u64) -> Result<Front, AllocError
         return Ok(Front::Nothing);
     }
     Ok(Front::Token {
-        lexeme: Lexeme::Param(name_of(alloc, ascii_text(name))?),
+        lexeme: Lexeme::Param(param_of(alloc, ascii_text(name))?),
         len: 1 + name.len(),
     })
 }
@@ -158,6 +190,14 @@ fn name_of(alloc: Global, text: &str) -> Result<Name, AllocError>
     ensures { IfOk result (λ name. name ≡ text.now) }
 {
     Ok(Name::from_txt(Txt::copied(alloc, text)?).unwrap())
+}
+
+fn param_of(alloc: Global, text: &str) -> Result<ParamName, AllocError>
+    requires ascii { IsAscii text.now }
+    requires name { IsParamName text.now }
+    ensures { IfOk result (λ name. name ≡ text.now) }
+{
+    Ok(ParamName::from_name(name_of(alloc, text)?).unwrap())
 }
 
 /// Digits that neither a letter nor `_` follows.

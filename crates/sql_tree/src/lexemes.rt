@@ -1,5 +1,5 @@
 use ae_base::blobs::Blob;
-use ae_base::names::Name;
+use ae_base::names::{Name, ParamName};
 use ae_base::texts::Txt;
 
 /// A reserved word, which is no identifier unless it stands in brackets.
@@ -73,7 +73,7 @@ pub enum Lexeme {
     /// An identifier, in brackets or not.
     Ident(Name),
     /// A parameter, without its `@`.
-    Param(Name),
+    Param(ParamName),
     /// A number without a sign.
     Number(u64),
     Binary(Blob),

@@ -5,8 +5,10 @@
 pub mod bound;
 pub mod conditions;
 mod fronts;
+mod gaps;
 pub mod lexemes;
 pub mod operands;
+mod quoted;
 pub mod statements;
 pub mod tokens;
 pub mod words;

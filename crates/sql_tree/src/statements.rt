@@ -2,7 +2,7 @@ use crate::conditions::Condition;
 use crate::operands::{ColumnRef, Operand};
 use ae_base::blobs::Blob;
 use ae_base::lists::Seq;
-use ae_base::names::Name;
+use ae_base::names::{Name, ParamName};
 use ae_base::texts::Txt;
 use ae_base::types::Ty;
 
@@ -47,7 +47,7 @@ pub struct UniqueSpec {
 #[derive(Drop)]
 pub struct ValueRow {
     pub at: u32,
-    pub values: Seq<Operand<ColumnRef, Name>>,
+    pub values: Seq<Operand<ColumnRef, ParamName>>,
 }
 
 /// One assignment of SET, at its `=`.
@@ -55,13 +55,13 @@ pub struct ValueRow {
 pub struct Assignment {
     pub at: u32,
     pub column: Name,
-    pub value: Operand<ColumnRef, Name>,
+    pub value: Operand<ColumnRef, ParamName>,
 }
 
 /// What an item of SELECT computes.
 #[derive(Drop)]
 pub enum ItemValue {
-    Value(Operand<ColumnRef, Name>),
+    Value(Operand<ColumnRef, ParamName>),
     /// COUNT(*), at its first token.
     Count { at: u32 },
 }
@@ -92,7 +92,7 @@ pub struct SourceTable {
 #[derive(Drop)]
 pub struct Join {
     pub source: SourceTable,
-    pub on: Condition<ColumnRef, Name>,
+    pub on: Condition<ColumnRef, ParamName>,
 }
 
 /// A column at its place.
@@ -117,7 +117,7 @@ pub struct Query {
     pub items: Items,
     pub from: SourceTable,
     pub joins: Seq<Join>,
-    pub filter: Option<Condition<ColumnRef, Name>>,
+    pub filter: Option<Condition<ColumnRef, ParamName>>,
     pub group_by: Seq<ColumnAt>,
     pub order_by: Seq<OrderKey>,
 }
@@ -150,11 +150,11 @@ pub enum Statement {
     Update {
         table: Name,
         assignments: Seq<Assignment>,
-        filter: Option<Condition<ColumnRef, Name>>,
+        filter: Option<Condition<ColumnRef, ParamName>>,
     },
     Delete {
         table: Name,
-        filter: Option<Condition<ColumnRef, Name>>,
+        filter: Option<Condition<ColumnRef, ParamName>>,
     },
     Select(Query),
 }

@@ -2,7 +2,8 @@ ghost use Rattle.std.specs.Prelude.{◌≡◌, ◌<◌, ◌^◌, length};
 ghost use Rattle.sql_tree.specs.declared.tokens.TokensFault.TheVariants.{OutOfMemory};
 ghost use Rattle.sql_tree.specs.Reading.{Tokenizes};
 
-use crate::fronts::{Front, front_of, is_blank};
+use crate::fronts::{Front, front_of};
+use crate::gaps::passed_over;
 use crate::lexemes::Token;
 use ae_base::lists::Seq;
 use std::alloc::{AllocError, Global};
@@ -40,8 +41,9 @@ pub fn tokens(alloc: Global, text: &str, most: u64) -> Result<Seq<Token>, Tokens
     let mut wide = None;
     let mut at = 0;
     while at < bytes.len() {
-        if is_blank(bytes[at]) {
-            at += 1;
+        let gap = passed_over(&bytes[at..]);
+        if gap > 0 {
+            at += gap;
             continue;
         }
         match front_of(alloc, &bytes[at..], most)? {

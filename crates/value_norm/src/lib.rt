@@ -53,7 +53,7 @@ pub fn from_cell_bytes(alloc: Global, bytes: &[u8], ty: Ty) -> Result<Datum, Rea
     ensures computed { MatchResult result (λ datum. value_of bytes.now ty ≡ Some datum)
         (λ error. error ≡ ReadError.NotNormal → value_of bytes.now ty ≡ None) }
 {
-    let datum = datum_of(alloc, bytes, ty)?;
+    let datum = datum_of(alloc, bytes, &ty)?;
     if datum.fits(ty) {
         Ok(datum)
     } else {
@@ -62,10 +62,10 @@ pub fn from_cell_bytes(alloc: Global, bytes: &[u8], ty: Ty) -> Result<Datum, Rea
 }
 
 /// The value of the type's kind that has these cell bytes, also past the type's bound.
-fn datum_of(alloc: Global, bytes: &[u8], ty: Ty) -> Result<Datum, ReadError>
-    ensures value { IfOk result (λ datum. HasKindBytes datum ty bytes.now) }
+fn datum_of(alloc: Global, bytes: &[u8], ty: &Ty) -> Result<Datum, ReadError>
+    ensures value { IfOk result (λ datum. HasKindBytes datum ty.now bytes.now) }
     ensures not_normal { result ≡ Err ReadError.NotNormal
-        → (datum : Datum) → ¬ (HasCellBytes datum ty bytes.now) }
+        → (datum : Datum) → ¬ (HasCellBytes datum ty.now bytes.now) }
 {
     match ty {
         Ty::Int | Ty::BigInt => match number_of(bytes) {
@@ -95,8 +95,8 @@ pub fn most_bytes(ty: Ty) -> usize
 {
     match ty {
         Ty::Int | Ty::BigInt => 8,
-        Ty::NVarChar(most) => 2 * most as usize,
-        Ty::VarBinary(most) => most as usize,
+        Ty::NVarChar(most) => 2 * most.number() as usize,
+        Ty::VarBinary(most) => most.number() as usize,
     }
 }
 

@@ -1,11 +1,11 @@
 -- Frames at the front of some bytes, in either direction.
-use Rattle.std.proofs.Common.{◌≡◌, ◌⊎◌, ℕ, suc, ◌+◌, ◌-◌, ◌^◌, ◌<◌, ◌≤◌, Bool, true, false, ltb, eqb, ◌||◌, not, List, [], ◌∷◌, ◌++◌, length, get_or, take, drop, Option, Some, None, refl, sym, ap, subst, ◌∙◌, append_assoc, arith, inl, inr}
+use Rattle.std.proofs.Common.{◌≡◌, ℕ, suc, ◌+◌, ◌^◌, ◌<◌, ◌≤◌, Bool, true, false, ltb, eqb, ◌||◌, not, List, [], ◌∷◌, ◌++◌, length, get_or, take, drop, Option, Some, None, refl, sym, ap, subst, ◌∙◌, arith, inr}
 use Rattle.std.specs.Int.{w32, from_be_bytes}
 use Rattle.std.proofs.lemmas.Bool.{ltb-false, le-ltb, eqb-true, eq-eqb, or_parts, or_from, not-false, not_from_true}
 use Rattle.std.proofs.lemmas.List.{take_at, take-append-drop, append-nil, nil_from_length, length-append, length-drop, length-take-le}
 use Rattle.std.proofs.lemmas.Nat.{be_bytes_4, from_be_bytes-to_be_bytes_4}
-use Rattle.wire_frames.specs.Spelling as spell
-use Rattle.wire_frames.specs.Frames.{stated, is_no_header, IsNotYet, IsRefused}
+use Rattle.wire_spelling.specs.Spelling as spell
+use Rattle.wire_frames.specs.Frames.{stated, is_no_header, IsRefused}
 use Rattle.wire_frames.proofs.Takes.{AreBytes, AreBytes-drop, AreBytes-take, some_is}
 
 -- ---- headers
@@ -99,13 +99,13 @@ whole_one is_kind kind_of body_of Good Spells read way bytes m fits long header 
     (whole_is bytes fits long h.version ∙ ap (λ k. spell.frame k (take (stated bytes) (drop 6 bytes))) t.0 ∙ ap (λ b. spell.frame (kind_of m) b) t.1)
 
 -- what stands at a front that spells a message
-record AtFront {N : Type 0} (is_kind : ℕ → Bool) (read : ℕ → List ℕ → Option N) (bytes front : List ℕ) (m : N) : Type 0 where
+pub record AtFront {N : Type 0} (is_kind : ℕ → Bool) (read : ℕ → List ℕ → Option N) (bytes front : List ℕ) (m : N) : Type 0 where
   pub long : 6 + stated bytes ≤ length bytes
   pub header : is_no_header is_kind bytes ≡ false
   pub read_is : read (get_or bytes 1 0) (take (stated bytes) (drop 6 bytes)) ≡ Some m
   pub used : 6 + stated bytes ≡ length front
 
-at_front : {N : Type 0} (is_kind : ℕ → Bool) (kind_of : N → ℕ) (body_of : N → List ℕ) (Good : N → Type 0) (Spells : N → List ℕ → Type 0) (read : ℕ → List ℕ → Option N)
+pub at_front : {N : Type 0} (is_kind : ℕ → Bool) (kind_of : N → ℕ) (body_of : N → List ℕ) (Good : N → Type 0) (Spells : N → List ℕ → Type 0) (read : ℕ → List ℕ → Option N)
     → IsDirection is_kind kind_of body_of Good Spells read → (bytes front rest : List ℕ) (m : N) → Spells m front → bytes ≡ front ++ rest → AtFront is_kind read bytes front m
 at_front is_kind kind_of body_of Good Spells read way bytes front rest m s e =
     let p = way.spelled m front s in
@@ -170,7 +170,7 @@ none_is_refused is_kind kind_of body_of Good Spells read way bytes kind body h n
   ),
 )
 
-both_ways : (b : Bool) → b ≡ true → b ≡ false → ⊥
+pub both_ways : (b : Bool) → b ≡ true → b ≡ false → ⊥
 both_ways b t f = cc
 
 pub no_header_spells : {N : Type 0} (is_kind : ℕ → Bool) (kind_of : N → ℕ) (body_of : N → List ℕ) (Good : N → Type 0) (Spells : N → List ℕ → Type 0) (read : ℕ → List ℕ → Option N)

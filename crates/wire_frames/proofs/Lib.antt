@@ -1,11 +1,10 @@
-pub mod BodyLaws
-pub mod Directions
-pub mod FieldLaws
-pub mod FrameLaws
-pub mod Lengths
-pub mod ListingLemmas
-pub mod Lists
-pub mod NameLists
-pub mod PartLaws
-pub mod Takes
-pub mod Utf8Tests
+mod Directions
+mod FieldLaws
+mod FrameLaws
+mod MessageLaws
+mod PartLaws
+mod PartsRead
+mod Takes
+mod StreamLaws
+mod Tested
+mod Utf8Tests

@@ -11,10 +11,10 @@ use Rattle.wire_frames.specs.declared.decoding.Decoded.{Decoded}
 use Rattle.wire_frames.specs.declared.decoding.Decoded.TheVariants as decoded
 
 -- What was read of a body is what reading gives, unless memory ran out.
-abbrev pub GivesBody : {M N : Type 0} → (M → N) → Body M → Option N → Type 0
-GivesBody view (body.One message) read = read ≡ Some (view message)
-GivesBody view body.Bad read = read ≡ None
-GivesBody view body.OutOfMemory read = Unit {0}
+abbrev pub GivesBody : {M : Type 0} → Body M → Option M → Type 0
+GivesBody (body.One message) read = read ≡ Some message
+GivesBody body.Bad read = read ≡ None
+GivesBody body.OutOfMemory read = Unit {0}
 
 -- the kinds of a direction
 abbrev pub has_kind : Way → ℕ → Bool
@@ -30,19 +30,19 @@ IsFramed is_kind bytes framed.Bad = (6 ≤ length bytes) × (is_no_header is_kin
 
 -- What is read stands at the front, spelled so. Else less than a frame stands there, or what is refused, unless memory
 -- ran out.
-abbrev pub Decodes : {M N : Type 0} → (M → N) → (ℕ → Bool) → (N → List ℕ → Type 0) → Decoded M → List ℕ → Type 0
-Decodes view is_kind Spells (decoded.One message used) bytes = (used ≤ length bytes) × Spells (view message) (take used bytes)
-Decodes view is_kind Spells decoded.NotYet bytes = IsNotYet is_kind bytes
-Decodes view is_kind Spells decoded.Bad bytes = IsRefused is_kind Spells bytes
-Decodes view is_kind Spells decoded.OutOfMemory bytes = Unit {0}
+abbrev pub Decodes : {M : Type 0} → (ℕ → Bool) → (M → List ℕ → Type 0) → Decoded M → List ℕ → Type 0
+Decodes is_kind Spells (decoded.One message used) bytes = (used ≤ length bytes) × Spells message (take used bytes)
+Decodes is_kind Spells decoded.NotYet bytes = IsNotYet is_kind bytes
+Decodes is_kind Spells decoded.Bad bytes = IsRefused is_kind Spells bytes
+Decodes is_kind Spells decoded.OutOfMemory bytes = Unit {0}
 
 -- this message was read, and so many bytes used, unless memory ran out
-abbrev pub IsRead : {M N : Type 0} → (M → N) → Decoded M → N → ℕ → Type 0
-IsRead view (decoded.One read used) message count = (view read ≡ message) × (used ≡ count)
-IsRead view decoded.NotYet message count = ⊥
-IsRead view decoded.Bad message count = ⊥
-IsRead view decoded.OutOfMemory message count = Unit {0}
+abbrev pub IsRead : {M : Type 0} → Decoded M → M → ℕ → Type 0
+IsRead (decoded.One read used) message count = (read ≡ message) × (used ≡ count)
+IsRead decoded.NotYet message count = ⊥
+IsRead decoded.Bad message count = ⊥
+IsRead decoded.OutOfMemory message count = Unit {0}
 
 -- Whatever message a front spells, it is read.
-abbrev pub ReadsEach : {M N : Type 0} → (M → N) → (N → List ℕ → Type 0) → Decoded M → List ℕ → Type 0
-ReadsEach {M} {N} view Spells result bytes = (message : N) (front rest : List ℕ) → Spells message front → bytes ≡ front ++ rest → IsRead view result message (length front)
+abbrev pub ReadsEach : {M : Type 0} → (M → List ℕ → Type 0) → Decoded M → List ℕ → Type 0
+ReadsEach {M} Spells result bytes = (message : M) (front rest : List ℕ) → Spells message front → bytes ≡ front ++ rest → IsRead result message (length front)

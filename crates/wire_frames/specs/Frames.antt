@@ -1,16 +1,9 @@
 -- A stream of bytes as frames: the messages with their places, and where it ends.
 use Rattle.std.specs.Prelude.{◌≡◌, ◌⊎◌, ◌<◌, ◌≤◌, ◌+◌, ℕ, List, [], ◌∷◌, ◌++◌, length, take, drop, Bool, true, false, ◌&&◌, ◌||◌, not, nat_le, nat_lt, ◌==◌, slice_index}
 use Rattle.std.specs.Int.{w32, from_be_bytes}
-use Rattle.wire_frames.specs.Messages.{Request, Reply}
-use Rattle.wire_frames.specs.Spelling.{request_frame, reply_frame}
-use Rattle.wire_frames.specs.Conditions.{IsRequest, IsReply, IsReadRequest, IsReadReply}
-
--- the frame of a message that is read so far
-abbrev pub SpellsRequest : Request → List ℕ → Type 0
-SpellsRequest request bytes = IsRequest request × IsReadRequest request × (bytes ≡ request_frame request)
-
-abbrev pub SpellsReply : Reply → List ℕ → Type 0
-SpellsReply reply bytes = IsReply reply × IsReadReply reply × (bytes ≡ reply_frame reply)
+use Rattle.wire_messages.specs.declared.replies.Reply.{Reply}
+use Rattle.wire_messages.specs.declared.requests.Request.{Request}
+use Rattle.wire_spelling.specs.Spelling.{SpellsRequest, SpellsReply}
 
 -- the kinds of each direction
 abbrev pub is_request_kind : ℕ → Bool

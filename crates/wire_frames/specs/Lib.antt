@@ -1,11 +1,5 @@
-pub mod Conditions
 pub mod Decoding
+pub mod Found
 pub mod Frames
 pub mod Laws
-pub mod Listing
-pub mod Messages
 pub mod Reading
-pub mod Sources
-pub mod Spelling
-pub mod SpellingWorked
-pub mod Views

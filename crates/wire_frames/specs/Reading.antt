@@ -1,268 +1,388 @@
--- Reading a body from left to right: a function for each part gives what stands at the front, and the bytes after it.
-use Rattle.std.specs.Prelude.{◌≡◌, ℕ, zero, suc, List, [], ◌∷◌, length, map, take, drop, Bool, Option, Some, None, nat_lt, nat_le, ◌==◌, ◌&&◌, if◌then◌else◌}
+-- Reading from left to right: a reader gives what stands at the front of some bytes, and the bytes after it.
+use Rattle.std.specs.Prelude.{◌≡◌, ℕ, zero, suc, List, [], ◌∷◌, length, map, take, drop, encode_utf8_all, Bool, Option, Some, None, nat_lt, nat_le, ◌==◌, ◌&&◌, not, if◌then◌else◌}
 use Rattle.std.specs.Int.{Width, w16, w32, w64, byte_len, from_be_bytes, cast_signed}
 use Rattle.std.specs.List.{list_all}
-use Rattle.std.specs.Str.{chars, is_utf8}
-use Rattle.ae_base.specs.Names.{is_param_char}
+use Rattle.std.specs.Str.{chars, is_utf8, bytes_eq}
+use Rattle.ae_base.specs.Names.{is_param_char, all_differ}
+use Rattle.ae_base.specs.Versions.{Versions}
 use Rattle.ae_base.specs.declared.types.Ty.{Ty}
 use Rattle.ae_base.specs.declared.types.Ty.TheVariants as ty
 use Rattle.ae_base.specs.declared.types.Enc.{Enc}
 use Rattle.ae_base.specs.declared.types.Enc.TheVariants as enc
-use Rattle.ae_base.specs.declared.values.Datum.TheVariants.{Num}
+use Rattle.ae_base.specs.declared.values.Datum.TheVariants.{Num, Text, Bin}
 use Rattle.ae_base.specs.declared.atoms.AtomOf.{AtomOf}
-use Rattle.ae_base.specs.declared.atoms.AtomOf.TheVariants.{Null, Plain}
+use Rattle.ae_base.specs.declared.atoms.AtomOf.TheVariants.{Null, Plain, Sealed}
 use Rattle.ae_base.specs.declared.batches.ParamDecl.{ParamDecl}
 use Rattle.ae_base.specs.declared.batches.KeyMeta.{KeyMeta}
 use Rattle.ae_base.specs.declared.faults.SqlFault.{SqlFault}
 use Rattle.ae_base.specs.declared.faults.SqlFault.TheVariants as fault
-use Rattle.wire_frames.specs.Messages.{Request, Describe, Execute, Reply, Described, Columns, Row, Ended, Refused, Done, Defined, Changed, Answered, SentParam, UsedParam, SentColumn}
-use Rattle.wire_frames.specs.Conditions.{all_differ}
+use Rattle.wire_messages.specs.KeyLists.{keys_used, ids_of}
+use Rattle.wire_messages.specs.Messages.{Description, Header}
+use Rattle.wire_messages.specs.declared.columns.SentColumn.{SentColumn}
+use Rattle.wire_messages.specs.declared.params.SentParam.{SentParam}
+use Rattle.wire_messages.specs.declared.params.UsedParam.{UsedParam}
+use Rattle.wire_messages.specs.declared.replies.Done.{Done}
+use Rattle.wire_messages.specs.declared.replies.Done.TheVariants.{Defined, Changed, Answered}
+use Rattle.wire_messages.specs.declared.replies.Reply.{Reply}
+use Rattle.wire_messages.specs.declared.replies.Reply.TheVariants.{Described, Columns, Row, Ended, Refused}
+use Rattle.wire_messages.specs.declared.requests.Request.{Request}
+use Rattle.wire_messages.specs.declared.requests.Request.TheVariants.{Describe, Execute}
+
+-- ---- readers
+
+abbrev pub Reader : Type 0 → Type 0
+Reader A = List ℕ → Option (A × List ℕ)
 
 infixl 10 ◌>>=◌
 abbrev pub ◌>>=◌ : {A B : Type 0} → Option A → (A → Option B) → Option B
 None >>= f = None
 (Some x) >>= f = f x
 
--- what was read, where it passes a test
-abbrev pub kept : {A : Type 0} → (A → Bool) → A × List ℕ → Option (A × List ℕ)
-kept test x = if test x.0 then Some x else None
+-- a value that has no bytes
+abbrev pub only : {A : Type 0} → A → Reader A
+only x bytes = Some (x, bytes)
+
+-- one after another
+infixl 20 ◌and◌
+abbrev pub ◌and◌ : {A B : Type 0} → Reader A → Reader B → Reader (A × B)
+(a and b) bytes = a bytes >>= λ x. b x.1 >>= λ y. Some ((x.0, y.0), y.1)
+
+abbrev pub mapped : {A B : Type 0} → (A → B) → Reader A → Reader B
+mapped f r bytes = r bytes >>= λ x. Some (f x.0, x.1)
+
+-- what is made of what was read, where something is
+abbrev pub tried : {A B : Type 0} → (A → Option B) → Reader A → Reader B
+tried f r bytes = r bytes >>= λ x. f x.0 >>= λ y. Some (y, x.1)
+
+-- what passes a test
+abbrev pub when : {A : Type 0} → (A → Bool) → A → Option A
+when test x = if test x then Some x else None
+
+-- what is made of what passes a test
+abbrev pub made_when : {A B : Type 0} → (A → Bool) → (A → B) → A → Option B
+made_when test f x = when test x >>= λ y. Some (f y)
+
+abbrev pub kept : {A : Type 0} → (A → Bool) → Reader A → Reader A
+kept test r = tried (when test) r
+
+-- what a table has for a byte
+abbrev pub pick : {R : Type 0} → List (ℕ × (List ℕ → Option R)) → ℕ → List ℕ → Option R
+pick [] tag bytes = None
+pick (entry ∷ entries) tag bytes = if tag == entry.0 then entry.1 bytes else pick entries tag bytes
+
+-- by the first byte
+abbrev pub choice : {R : Type 0} → List (ℕ × (List ℕ → Option R)) → List ℕ → Option R
+choice entries [] = None
+choice entries (tag ∷ bytes) = pick entries tag bytes
+
+-- so many parts
+unfoldable pub parts_at : {A : Type 0} → Reader A → ℕ → Reader (List A)
+parts_at part zero bytes = Some ([], bytes)
+parts_at part (suc n) bytes = part bytes >>= λ first. parts_at part n first.1 >>= λ others. Some (first.0 ∷ others.0, others.1)
+
+-- as many parts as are counted before them
+abbrev pub listed : {A : Type 0} → Reader ℕ → Reader A → Reader (List A)
+listed count part bytes = count bytes >>= λ n. parts_at part n.0 n.1
 
 -- what was read, where nothing follows it
-abbrev pub ended : {A : Type 0} → A × List ℕ → Option A
-ended x = if length x.1 == 0 then Some x.0 else None
+abbrev pub whole : {A : Type 0} → Reader A → List ℕ → Option A
+whole r bytes = r bytes >>= λ x. if length x.1 == 0 then Some x.0 else None
+
+-- what is made of it
+abbrev pub ends : {A B : Type 0} → (A → B) → Reader A → List ℕ → Option B
+ends f r bytes = whole r bytes >>= λ x. Some (f x)
 
 -- ---- fields
 
-abbrev pub byte_at : List ℕ → Option (ℕ × List ℕ)
+abbrev pub byte_at : Reader ℕ
 byte_at [] = None
 byte_at (b ∷ rest) = Some (b, rest)
 
-abbrev pub number_at : Width → List ℕ → Option (ℕ × List ℕ)
+abbrev pub number_at : Width → Reader ℕ
 number_at w bytes = if nat_lt (length bytes) (byte_len w) then None else Some (from_be_bytes w (take (byte_len w) bytes), drop (byte_len w) bytes)
 
-abbrev pub bytes_at : ℕ → List ℕ → Option (List ℕ × List ℕ)
+abbrev pub bytes_at : ℕ → Reader (List ℕ)
 bytes_at n bytes = if nat_lt (length bytes) n then None else Some (take n bytes, drop n bytes)
 
+-- bytes behind their number
+unfoldable pub blob_at : Width → Reader (List ℕ)
+blob_at w bytes = number_at w bytes >>= λ n. bytes_at n.0 n.1
+
 -- the characters of bytes that are UTF-8
-abbrev pub characters_of : List ℕ × List ℕ → Option (List ℕ × List ℕ)
-characters_of b = if is_utf8 b.0 then Some (chars b.0, b.1) else None
+abbrev pub characters_of : List ℕ → Option (List ℕ)
+characters_of bytes = if is_utf8 bytes then Some (chars bytes) else None
 
-unfoldable pub str_at : List ℕ → Option (List ℕ × List ℕ)
-str_at bytes = do
-  n ← number_at w16 bytes
-  b ← bytes_at n.0 n.1
-  characters_of b
+unfoldable pub str_at : Width → Reader (List ℕ)
+str_at w = tried characters_of (blob_at w)
 
-abbrev pub is_short : ℕ → Bool
-is_short n = nat_le n 65536
+-- ---- tests
 
-unfoldable pub text_at : List ℕ → Option (List ℕ × List ℕ)
-text_at bytes = do
-  n ← number_at w32 bytes
-  m ← kept is_short n
-  b ← bytes_at m.0 m.1
-  characters_of b
+abbrev pub is_within : ℕ → ℕ → ℕ → Bool
+is_within least most n = nat_le least n && nat_le n most
 
-abbrev pub is_session : ℕ → Bool
-is_session n = nat_le 1 n && nat_le n 64
-
-unfoldable pub session_at : List ℕ → Option (ℕ × List ℕ)
-session_at bytes = do
-  n ← number_at w16 bytes
-  kept is_session n
-
--- the names of parameters, of columns and in faults
 abbrev pub is_word : List ℕ → Bool
-is_word text = nat_le 1 (length text) && nat_le (length text) 128
+is_word text = is_within 1 128 (length text)
 
 abbrev pub is_param_name : List ℕ → Bool
 is_param_name text = is_word text && list_all is_param_char text
 
-abbrev pub is_column_name : List ℕ → Bool
-is_column_name text = nat_le (length text) 128
+abbrev pub is_title : List ℕ → Bool
+is_title text = nat_le (length text) 128
 
-unfoldable pub param_name_at : List ℕ → Option (List ℕ × List ℕ)
-param_name_at bytes = do
-  s ← str_at bytes
-  kept is_param_name s
+abbrev pub is_wrapped : List ℕ → Bool
+is_wrapped bytes = is_within 1 1024 (length bytes)
 
-unfoldable pub column_name_at : List ℕ → Option (List ℕ × List ℕ)
-column_name_at bytes = do
-  s ← str_at bytes
-  kept is_column_name s
+abbrev pub is_path : List ℕ → Bool
+is_path text = is_within 1 1024 (length (encode_utf8_all text))
 
-unfoldable pub word_at : List ℕ → Option (List ℕ × List ℕ)
-word_at bytes = do
-  s ← str_at bytes
-  kept is_word s
+abbrev pub is_text_within : ℕ → List ℕ → Bool
+is_text_within most text = nat_le (length (encode_utf8_all text)) most
 
--- ---- parts that are read so far: plain integers
+abbrev pub is_blob_within : ℕ → List ℕ → Bool
+is_blob_within most bytes = nat_le (length bytes) most
 
-unfoldable pub type_at : List ℕ → Option (Ty × List ℕ)
-type_at [] = None
-type_at (b ∷ rest) = if b == 1 then Some (ty.Int, rest) else None
+abbrev pub is_nonzero : ℕ → Bool
+is_nonzero n = nat_le 1 n
 
-unfoldable pub encryption_at : List ℕ → Option (Enc × List ℕ)
-encryption_at [] = None
-encryption_at (b ∷ rest) = if b == 0 then Some (enc.Plain, rest) else None
+abbrev pub differ : Versions → Bool
+differ v = not (v.seen == v.now)
 
-abbrev pub integer_of : ℕ × List ℕ → AtomOf (List ℕ) × List ℕ
-integer_of n = (Plain (Num (cast_signed w64 n.0)), n.1)
+abbrev pub are_params : {P : Type 0} → (P → List ℕ) → List P → Bool
+are_params called ps = nat_le (length ps) 128 && all_differ (map called ps)
 
-unfoldable pub integer_at : List ℕ → Option (AtomOf (List ℕ) × List ℕ)
-integer_at bytes = do
-  n ← number_at w64 bytes
-  Some (integer_of n)
+abbrev pub are_keys : List Enc → List KeyMeta → Bool
+are_keys encs keys = bytes_eq (ids_of keys) (keys_used [] encs) && nat_le (length keys) 64
 
-unfoldable pub atom_at : List ℕ → Option (AtomOf (List ℕ) × List ℕ)
-atom_at [] = None
-atom_at (b ∷ rest) = if b == 0 then Some (Null, rest) else (if b == 1 then integer_at rest else None)
+abbrev pub is_description : Description → Bool
+is_description d = are_keys (map (λ p. p.enc) d.params) d.keys
 
-unfoldable pub declaration_at : List ℕ → Option (ParamDecl × List ℕ)
-declaration_at bytes = do
-  name ← param_name_at bytes
-  t ← type_at name.1
-  Some (record { name = name.0; ty = t.0 }, t.1)
+abbrev pub is_few : {A : Type 0} → List A → Bool
+is_few xs = is_within 1 512 (length xs)
 
-unfoldable pub sent_at : List ℕ → Option (SentParam × List ℕ)
-sent_at bytes = do
-  name ← param_name_at bytes
-  t ← type_at name.1
-  e ← encryption_at t.1
-  a ← atom_at e.1
-  Some (record { name = name.0; ty = t.0; enc = e.0; atom = a.0 }, a.1)
+abbrev pub is_header : Header → Bool
+is_header h = are_keys (map (λ c. c.enc) h.columns) h.keys && is_few h.columns
 
-unfoldable pub used_at : List ℕ → Option (UsedParam × List ℕ)
-used_at bytes = do
-  name ← param_name_at bytes
-  e ← encryption_at name.1
-  Some (record { name = name.0; enc = e.0 }, e.1)
+-- ---- words
 
-unfoldable pub column_at : List ℕ → Option (SentColumn × List ℕ)
-column_at bytes = do
-  name ← column_name_at bytes
-  t ← type_at name.1
-  e ← encryption_at t.1
-  Some (record { name = name.0; ty = t.0; enc = e.0 }, e.1)
+unfoldable pub name_at : Reader (List ℕ)
+name_at = kept is_word (str_at w16)
 
--- ---- lists
+unfoldable pub param_name_at : Reader (List ℕ)
+param_name_at = kept is_param_name (str_at w16)
 
--- so many parts
-unfoldable pub parts_at : {A : Type 0} → (List ℕ → Option (A × List ℕ)) → ℕ → List ℕ → Option (List A × List ℕ)
-parts_at part zero bytes = Some ([], bytes)
-parts_at part (suc n) bytes = do
-  first ← part bytes
-  others ← parts_at part n first.1
-  Some (first.0 ∷ others.0, others.1)
+unfoldable pub title_at : Reader (List ℕ)
+title_at = kept is_title (str_at w16)
 
--- a count in one byte, at most 128
-abbrev pub is_few : ℕ → Bool
-is_few n = nat_le n 128
+unfoldable pub path_at : Reader (List ℕ)
+path_at = kept is_path (str_at w16)
 
-abbrev pub few_count : List ℕ → Option (ℕ × List ℕ)
-few_count bytes = byte_at bytes >>= kept is_few
+unfoldable pub wrapped_at : Reader (List ℕ)
+wrapped_at = kept is_wrapped (blob_at w16)
 
--- a count in two bytes, 1 to 512
-abbrev pub is_count : ℕ → Bool
-is_count n = nat_le 1 n && nat_le n 512
+unfoldable pub text_at : Reader (List ℕ)
+text_at = kept (is_text_within 65536) (str_at w32)
 
-abbrev pub many_count : List ℕ → Option (ℕ × List ℕ)
-many_count bytes = number_at w16 bytes >>= kept is_count
+unfoldable pub session_at : Reader ℕ
+session_at = kept (is_within 1 64) (number_at w16)
 
--- so many parts as are counted before them
-abbrev pub counted : {A : Type 0} → (List ℕ → Option (A × List ℕ)) → Option (ℕ × List ℕ) → Option (List A × List ℕ)
-counted part count = count >>= λ n. parts_at part n.0 n.1
+unfoldable pub key_id_at : Reader ℕ
+key_id_at = kept is_nonzero (number_at w32)
 
-unfoldable pub few_at : {A : Type 0} → (List ℕ → Option (A × List ℕ)) → List ℕ → Option (List A × List ℕ)
-few_at part bytes = counted part (few_count bytes)
+unfoldable pub text_size_at : Reader ℕ
+text_size_at = kept (is_within 1 4000) (number_at w16)
 
-unfoldable pub many_at : {A : Type 0} → (List ℕ → Option (A × List ℕ)) → List ℕ → Option (List A × List ℕ)
-many_at part bytes = counted part (many_count bytes)
+unfoldable pub binary_size_at : Reader ℕ
+binary_size_at = kept (is_within 1 8000) (number_at w16)
 
--- a list of no keys
-unfoldable pub no_keys_at : List ℕ → Option (List ℕ)
-no_keys_at [] = None
-no_keys_at (n ∷ rest) = if n == 0 then Some rest else None
+-- ---- parts
 
--- ---- bodies
+abbrev pub types : List (ℕ × Reader Ty)
+types = (1, only ty.Int) ∷ (2, only ty.BigInt) ∷ (3, mapped ty.NVarChar text_size_at) ∷ (4, mapped ty.VarBinary binary_size_at) ∷ []
+
+unfoldable pub type_at : Reader Ty
+type_at = choice types
+
+abbrev pub encryptions : List (ℕ × Reader Enc)
+encryptions = (0, only enc.Plain) ∷ (1, mapped enc.Det key_id_at) ∷ (2, mapped enc.Rnd key_id_at) ∷ []
+
+unfoldable pub encryption_at : Reader Enc
+encryption_at = choice encryptions
+
+unfoldable pub short_text_at : Reader (List ℕ)
+short_text_at = kept (is_text_within 12000) (str_at w16)
+
+unfoldable pub short_blob_at : ℕ → Reader (List ℕ)
+short_blob_at most = kept (is_blob_within most) (blob_at w16)
+
+abbrev pub null : AtomOf (List ℕ)
+null = Null
+
+abbrev pub integer : ℕ → AtomOf (List ℕ)
+integer n = Plain (Num (cast_signed w64 n))
+
+abbrev pub text : List ℕ → AtomOf (List ℕ)
+text characters = Plain (Text characters)
+
+abbrev pub binary : List ℕ → AtomOf (List ℕ)
+binary bytes = Plain (Bin bytes)
+
+abbrev pub sealed : List ℕ → AtomOf (List ℕ)
+sealed cell = Sealed cell
+
+abbrev pub atoms : List (ℕ × Reader (AtomOf (List ℕ)))
+atoms = (0, only null) ∷ (1, mapped integer (number_at w64)) ∷ (2, mapped text short_text_at) ∷ (3, mapped binary (short_blob_at 8000)) ∷ (4, mapped sealed (short_blob_at 16384)) ∷ []
+
+unfoldable pub atom_at : Reader (AtomOf (List ℕ))
+atom_at = choice atoms
+
+abbrev pub key_of : ((ℕ × List ℕ) × List ℕ) × List ℕ → KeyMeta
+key_of k = record { id = k.0.0.0; name = k.0.0.1; path = k.0.1; wrapped = k.1 }
+
+unfoldable pub key_at : Reader KeyMeta
+key_at = mapped key_of (key_id_at and name_at and path_at and wrapped_at)
+
+abbrev pub declaration_of : List ℕ × Ty → ParamDecl
+declaration_of d = record { name = d.0; ty = d.1 }
+
+unfoldable pub declaration_at : Reader ParamDecl
+declaration_at = mapped declaration_of (param_name_at and type_at)
+
+abbrev pub sent_of : ((List ℕ × Ty) × Enc) × AtomOf (List ℕ) → SentParam
+sent_of p = record { name = p.0.0.0; ty = p.0.0.1; enc = p.0.1; atom = p.1 }
+
+unfoldable pub sent_at : Reader SentParam
+sent_at = mapped sent_of (param_name_at and type_at and encryption_at and atom_at)
+
+abbrev pub used_of : List ℕ × Enc → UsedParam
+used_of p = record { name = p.0; enc = p.1 }
+
+unfoldable pub used_at : Reader UsedParam
+used_at = mapped used_of (param_name_at and encryption_at)
+
+abbrev pub column_of : (List ℕ × Ty) × Enc → SentColumn
+column_of c = record { title = c.0.0; ty = c.0.1; enc = c.1 }
+
+unfoldable pub column_at : Reader SentColumn
+column_at = mapped column_of (title_at and type_at and encryption_at)
+
+-- a count in one byte, or in two, and so many parts
+unfoldable pub few_at : {A : Type 0} → Reader A → Reader (List A)
+few_at part = listed byte_at part
+
+unfoldable pub many_at : {A : Type 0} → Reader A → Reader (List A)
+many_at part = listed (number_at w16) part
+
+unfoldable pub declarations_at : Reader (List ParamDecl)
+declarations_at = kept (are_params (λ d. d.name)) (few_at declaration_at)
+
+unfoldable pub sent_params_at : Reader (List SentParam)
+sent_params_at = kept (are_params (λ p. p.name)) (few_at sent_at)
+
+unfoldable pub used_params_at : Reader (List UsedParam)
+used_params_at = kept (are_params (λ p. p.name)) (few_at used_at)
+
+abbrev pub versions_of : ℕ × ℕ → Versions
+versions_of v = record { seen = v.0; now = v.1 }
+
+unfoldable pub versions_at : Reader Versions
+versions_at = kept differ (mapped versions_of (number_at w64 and number_at w64))
+
+unfoldable pub unique_number_at : Reader ℕ
+unique_number_at = kept (is_within 1 8) byte_at
+
+-- nothing follows
+abbrev pub bare : SqlFault → List ℕ → Option SqlFault
+bare f bytes = if length bytes == 0 then Some f else None
+
+-- the fields of each fault, by its code
+abbrev pub faults : List (ℕ × (List ℕ → Option SqlFault))
+faults = (10, bare fault.Syntax)
+    ∷ (11, ends fault.NumberTooWide (number_at w32))
+    ∷ (12, bare fault.TooDeep)
+    ∷ (13, bare fault.TooLong)
+    ∷ (20, ends fault.NoTable name_at)
+    ∷ (21, ends fault.NoColumn name_at)
+    ∷ (22, ends fault.Ambiguous name_at)
+    ∷ (23, ends fault.NoParam param_name_at)
+    ∷ (24, ends fault.NoKey name_at)
+    ∷ (25, ends fault.NotGrouped (number_at w32))
+    ∷ (26, ends fault.TypeClash (number_at w32))
+    ∷ (30, ends fault.EncryptionClash (number_at w32))
+    ∷ (40, ends fault.Moved versions_at)
+    ∷ (41, ends fault.ParamClash param_name_at)
+    ∷ (42, ends fault.BadCell param_name_at)
+    ∷ (50, bare fault.Overflow)
+    ∷ (51, ends fault.NullNotAllowed name_at)
+    ∷ (52, ends fault.Truncated name_at)
+    ∷ (53, bare fault.TooManyRows)
+    ∷ (54, bare fault.TableFull)
+    ∷ (55, ends fault.DuplicateKey unique_number_at)
+    ∷ (60, ends fault.Exists name_at)
+    ∷ (61, ends fault.NoSuch name_at)
+    ∷ (62, ends fault.KeyInUse name_at)
+    ∷ (63, bare fault.Full)
+    ∷ []
+
+-- ---- messages
+
+abbrev pub describe_of : (ℕ × List ℕ) × List ParamDecl → Request
+describe_of d = Describe d.0.0 d.0.1 d.1
 
 unfoldable pub describe_at : List ℕ → Option Request
-describe_at body = do
-  session ← session_at body
-  text ← text_at session.1
-  declarations ← few_at declaration_at text.1
-  ds ← ended declarations
-  if all_differ (map (λ d. d.name) ds) then Some (Describe session.0 text.0 ds) else None
+describe_at = ends describe_of (session_at and text_at and declarations_at)
+
+abbrev pub execute_of : ((ℕ × ℕ) × List ℕ) × List SentParam → Request
+execute_of e = Execute e.0.0.0 e.0.0.1 e.0.1 e.1
 
 unfoldable pub execute_at : List ℕ → Option Request
-execute_at body = do
-  session ← session_at body
-  version ← number_at w64 session.1
-  text ← text_at version.1
-  params ← few_at sent_at text.1
-  ps ← ended params
-  if all_differ (map (λ p. p.name) ps) then Some (Execute session.0 version.0 text.0 ps) else None
+execute_at = ends execute_of (session_at and number_at w64 and text_at and sent_params_at)
 
-unfoldable pub request_at : ℕ → List ℕ → Option Request
-request_at kind body = if kind == 0x01 then describe_at body else (if kind == 0x02 then execute_at body else None)
+abbrev pub description_of : (ℕ × List KeyMeta) × List UsedParam → Description
+description_of d = record { version = d.0.0; keys = d.0.1; params = d.1 }
 
 unfoldable pub described_at : List ℕ → Option Reply
-described_at body = do
-  version ← number_at w64 body
-  rest ← no_keys_at version.1
-  params ← few_at used_at rest
-  ps ← ended params
-  if all_differ (map (λ p. p.name) ps) then Some (Described version.0 [] ps) else None
+described_at = ends Described (kept is_description (mapped description_of (number_at w64 and few_at key_at and used_params_at)))
+
+abbrev pub header_of : List KeyMeta × List SentColumn → Header
+header_of h = record { keys = h.0; columns = h.1 }
 
 unfoldable pub columns_at : List ℕ → Option Reply
-columns_at body = do
-  rest ← no_keys_at body
-  columns ← many_at column_at rest
-  cs ← ended columns
-  Some (Columns [] cs)
+columns_at = ends Columns (kept is_header (mapped header_of (few_at key_at and many_at column_at)))
 
 unfoldable pub row_at : List ℕ → Option Reply
-row_at body = do
-  atoms ← many_at atom_at body
-  xs ← ended atoms
-  Some (Row xs)
+row_at = ends Row (kept is_few (many_at atom_at))
 
--- 0 and no number, 1 and a number of changed rows, 2 and a number of rows
-abbrev pub done_of_number : ℕ → ℕ × List ℕ → Option (Done × List ℕ)
-done_of_number kind n = if kind == 0 then (if n.0 == 0 then Some (Defined, n.1) else None)
-    else (if kind == 1 then Some (Changed n.0, n.1) else (if kind == 2 then Some (Answered n.0, n.1) else None))
+-- a definition has no number
+abbrev pub defined : ℕ → Option Done
+defined n = if n == 0 then Some Defined else None
+
+abbrev pub dones : List (ℕ × Reader Done)
+dones = (0, tried defined (number_at w64)) ∷ (1, mapped Changed (number_at w64)) ∷ (2, mapped Answered (number_at w64)) ∷ []
+
+unfoldable pub done_at : Reader Done
+done_at = choice dones
 
 unfoldable pub ended_at : List ℕ → Option Reply
-ended_at body = do
-  kind ← byte_at body
-  number ← number_at w64 kind.1
-  done ← done_of_number kind.0 number
-  d ← ended done
-  Some (Ended d)
+ended_at = ends Ended done_at
 
--- the only field of a fault
-unfoldable pub last_word_at : List ℕ → Option (List ℕ)
-last_word_at bytes = do
-  word ← word_at bytes
-  ended word
-
--- Syntax, NoTable and NoColumn
 unfoldable pub fault_at : List ℕ → Option SqlFault
-fault_at [] = None
-fault_at (code ∷ rest) = if code == 10 then (if length rest == 0 then Some fault.Syntax else None)
-    else (if code == 20 then (last_word_at rest >>= λ name. Some (fault.NoTable name))
-    else (if code == 21 then (last_word_at rest >>= λ name. Some (fault.NoColumn name)) else None))
+fault_at = choice faults
 
 unfoldable pub refused_at : List ℕ → Option Reply
-refused_at body = do
-  f ← fault_at body
-  Some (Refused f)
+refused_at body = fault_at body >>= λ f. Some (Refused f)
+
+-- the messages of each direction, by their kind
+abbrev pub requests : List (ℕ × (List ℕ → Option Request))
+requests = (0x01, describe_at) ∷ (0x02, execute_at) ∷ []
+
+abbrev pub replies : List (ℕ × (List ℕ → Option Reply))
+replies = (0x81, described_at) ∷ (0x82, columns_at) ∷ (0x83, row_at) ∷ (0x84, ended_at) ∷ (0x85, refused_at) ∷ []
+
+unfoldable pub request_at : ℕ → List ℕ → Option Request
+request_at = pick requests
 
 unfoldable pub reply_at : ℕ → List ℕ → Option Reply
-reply_at kind body = if kind == 0x81 then described_at body
-    else (if kind == 0x82 then columns_at body
-    else (if kind == 0x83 then row_at body
-    else (if kind == 0x84 then ended_at body else (if kind == 0x85 then refused_at body else None))))
+reply_at = pick replies
 
 -- What a reader found is what reading gives.
 abbrev pub Gives : {X Y : Type 0} → (X → Y) → Option X → Option Y → Type 0

@@ -2,12 +2,13 @@
 
 ghost use Rattle.std.specs.Prelude.{◌≡◌};
 ghost use Rattle.wire_frames.specs.Decoding.{has_kind, IsFramed, Decodes, ReadsEach};
-ghost use Rattle.wire_frames.specs.Frames.{SpellsRequest, SpellsReply, is_request_kind, is_reply_kind, IsNotYet};
-ghost use Rattle.wire_frames.specs.Views.{request_of, reply_of};
+ghost use Rattle.wire_frames.specs.Frames.{is_request_kind, is_reply_kind, IsNotYet};
+ghost use Rattle.wire_spelling.specs.Spelling.{SpellsRequest, SpellsReply};
 
 use crate::bodies::{Body, reply_body_of, request_body_of};
-use crate::messages::{Reply, Request};
 use std::alloc::Global;
+use wire_messages::replies::Reply;
+use wire_messages::requests::Request;
 
 /// Which way frames go.
 #[derive(Clone, Copy, PartialEq, Eq, Debug)]
@@ -29,7 +30,7 @@ pub enum Decoded<M> {
     OutOfMemory,
 }
 
-// The kind and the body of a whole frame.
+/// The kind and the body of a whole frame.
 #[derive(Drop)]
 enum Framed<'a> {
     Whole(u8, &'a [u8]),
@@ -37,7 +38,7 @@ enum Framed<'a> {
     Bad,
 }
 
-// Whether a kind is one of the direction.
+/// Whether a kind is one of the direction.
 fn has_kind(way: Way, kind: u8) -> bool
     ensures { result ≡ has_kind way kind }
 {
@@ -47,7 +48,7 @@ fn has_kind(way: Way, kind: u8) -> bool
     }
 }
 
-// The frame at the front.
+/// The frame at the front.
 fn frame_of(way: Way, bytes: &[u8]) -> Framed<'_>
     ensures { IsFramed (has_kind way) bytes.now result }
 {
@@ -69,9 +70,9 @@ fn frame_of(way: Way, bytes: &[u8]) -> Framed<'_>
 /// What is read is spelled so, and a front that spells a request is read as that request, unless
 /// memory runs out. Where less than a frame stands there, that is the answer.
 pub fn decode_request(alloc: Global, bytes: &[u8]) -> Decoded<Request<'_>>
-    ensures cases { Decodes request_of is_request_kind SpellsRequest result bytes.now }
+    ensures cases { Decodes is_request_kind SpellsRequest result bytes.now }
     ensures not_yet { IsNotYet is_request_kind bytes.now → result ≡ Decoded.NotYet }
-    ensures only { ReadsEach request_of SpellsRequest result bytes.now }
+    ensures only { ReadsEach SpellsRequest result bytes.now }
 {
     match frame_of(Way::ToServer, bytes) {
         Framed::Whole(kind, body) => match request_body_of(alloc, kind, body) {
@@ -89,9 +90,9 @@ pub fn decode_request(alloc: Global, bytes: &[u8]) -> Decoded<Request<'_>>
 /// What is read is spelled so, and a front that spells a reply is read as that reply, unless memory
 /// runs out. Where less than a frame stands there, that is the answer.
 pub fn decode_reply(alloc: Global, bytes: &[u8]) -> Decoded<Reply<'_>>
-    ensures cases { Decodes reply_of is_reply_kind SpellsReply result bytes.now }
+    ensures cases { Decodes is_reply_kind SpellsReply result bytes.now }
     ensures not_yet { IsNotYet is_reply_kind bytes.now → result ≡ Decoded.NotYet }
-    ensures only { ReadsEach reply_of SpellsReply result bytes.now }
+    ensures only { ReadsEach SpellsReply result bytes.now }
 {
     match frame_of(Way::ToDriver, bytes) {
         Framed::Whole(kind, body) => match reply_body_of(alloc, kind, body) {

@@ -1,15 +1,27 @@
 //! Laws of the spellings.
 
-ghost use Rattle.wire_frames.specs.Conditions.{IsRequest, IsReply};
-ghost use Rattle.wire_frames.specs.Frames.{SpellsRequest, SpellsReply};
-ghost use Rattle.wire_frames.specs.Laws.{BeginsNoOther, HasOneReading};
-ghost use Rattle.wire_frames.specs.Spelling.{request_frame, reply_frame};
+ghost use Rattle.wire_messages.specs.Conditions.{IsRequest, IsReply};
+ghost use Rattle.wire_frames.specs.Frames.{is_request_kind, is_reply_kind};
+ghost use Rattle.wire_frames.specs.Laws.{BeginsNoOther, HasOneReading, IsReadOnce, IsReadBack};
+ghost use Rattle.wire_spelling.specs.Spelling.{SpellsRequest, SpellsReply, request_frame, reply_frame};
 
 /// No spelling of a message is the beginning of another's, and whatever follows, a front spells
-/// one message at most of those that are read. So what is written is read again.
+/// one message at most. So what is written is read again.
 pub fn one_reading()
     ensures requests_end { BeginsNoOther IsRequest request_frame }
     ensures replies_end { BeginsNoOther IsReply reply_frame }
     ensures requests { HasOneReading SpellsRequest }
     ensures replies { HasOneReading SpellsReply }
+{}
+
+/// A stream is read in one way: as one list of messages with their places, and with one end.
+pub fn streams_are_read_once()
+    ensures requests { IsReadOnce is_request_kind SpellsRequest }
+    ensures replies { IsReadOnce is_reply_kind SpellsReply }
+{}
+
+/// The frames of messages, one after another, are read as these messages, to the end.
+pub fn frames_are_read_back()
+    ensures requests { IsReadBack is_request_kind SpellsRequest IsRequest request_frame }
+    ensures replies { IsReadBack is_reply_kind SpellsReply IsReply reply_frame }
 {}

@@ -2,16 +2,12 @@
 #![tactic(auto)]
 
 mod bodies;
+mod checks;
 mod decoding;
-mod fields;
+mod faults;
 mod laws;
 mod listing;
-pub mod messages;
-mod naming;
-pub mod parts;
 mod reading;
-mod writing;
 
 pub use decoding::{Decoded, Way, decode_reply, decode_request};
-pub use laws::one_reading;
-pub use writing::{encode_reply, encode_request};
+pub use laws::{frames_are_read_back, one_reading, streams_are_read_once};

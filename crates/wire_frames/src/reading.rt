@@ -1,18 +1,20 @@
 //! The fields of messages from bytes. Each reader gives what stands at the front, and the bytes
 //! after it.
 
-ghost use Rattle.std.specs.Prelude.{◌≡◌, length};
+ghost use Rattle.std.specs.Prelude.{◌≡◌, Some};
 ghost use Rattle.std.specs.Int.{w16, w32, w64};
-ghost use Rattle.std.specs.List.{list_all};
 ghost use Rattle.std.specs.Str.{chars};
-ghost use Rattle.ae_base.specs.Names as names;
 ghost use Rattle.wire_frames.specs.Reading as read;
 ghost use Rattle.wire_frames.specs.Reading.{Gives};
-ghost use Rattle.wire_frames.specs.Views.{atom_of};
 
-use crate::messages::{AtomPart, DatumPart};
-use crate::parts::{NamePart, TxtPart};
-use ae_base::types::{Enc, Ty};
+use crate::checks;
+use ae_base::faults::Versions;
+use ae_base::sessions::SessionId;
+use ae_base::types::{Enc, KeyId, Ty};
+use wire_messages::atoms::AtomPart;
+use wire_messages::keys::KeyPart;
+use wire_messages::replies::Done;
+use wire_messages::texts::{NamePart, ParamNamePart, PathPart, StatementPart, TitlePart};
 
 /// A number in two bytes.
 pub fn u16_of(bytes: &[u8]) -> Option<(u16, &[u8])>
@@ -61,146 +63,275 @@ fn bytes_of(count: usize, bytes: &[u8]) -> Option<(&[u8], &[u8])>
     Some(bytes.split_at(count))
 }
 
-/// The text that some bytes are, with the bytes after them.
-fn characters_of<'a>(text: &'a [u8], rest: &'a [u8]) -> Option<(&'a str, &'a [u8])>
-    ensures { Gives (λ x. (chars x.0.now, x.1.now)) result (read.characters_of (text.now, rest.now)) }
+/// Bytes behind their number in two bytes.
+#[tactic(auto, unfolding(crate::specs::Reading::blob_at))]
+fn blob_of(bytes: &[u8]) -> Option<(&[u8], &[u8])>
+    ensures { Gives (λ x. (x.0.now, x.1.now)) result (read.blob_at w16 bytes.now) }
 {
-    match str::from_utf8(text) {
-        Ok(text) => Some((text, rest)),
+    let (count, rest) = u16_of(bytes)?;
+    bytes_of(count as usize, rest)
+}
+
+/// Bytes behind their number in four bytes.
+#[tactic(auto, unfolding(crate::specs::Reading::blob_at))]
+fn long_blob_of(bytes: &[u8]) -> Option<(&[u8], &[u8])>
+    ensures { Gives (λ x. (x.0.now, x.1.now)) result (read.blob_at w32 bytes.now) }
+{
+    let (count, rest) = u32_of(bytes)?;
+    bytes_of(count as usize, rest)
+}
+
+/// The text that some bytes are.
+fn text_of(bytes: &[u8]) -> Option<&str>
+    ensures { Gives (λ text. chars text.now) result (read.characters_of bytes.now) }
+{
+    match str::from_utf8(bytes) {
+        Ok(text) => Some(text),
         Err(_) => None,
     }
 }
 
-/// A text behind a length in two bytes.
+/// A text behind the number of its bytes in two bytes.
 #[tactic(auto, unfolding(crate::specs::Reading::str_at))]
 fn str_of(bytes: &[u8]) -> Option<(&str, &[u8])>
-    ensures { Gives (λ x. (chars x.0.now, x.1.now)) result (read.str_at bytes.now) }
+    ensures { Gives (λ x. (chars x.0.now, x.1.now)) result (read.str_at w16 bytes.now) }
 {
-    let (count, rest) = u16_of(bytes)?;
-    let (text, rest) = bytes_of(count as usize, rest)?;
-    characters_of(text, rest)
-}
-
-/// A statement's text of at most 65,536 bytes, behind a length in four bytes.
-#[tactic(auto, unfolding(crate::specs::Reading::text_at))]
-pub fn text_of(bytes: &[u8]) -> Option<(&str, &[u8])>
-    ensures { Gives (λ x. (chars x.0.now, x.1.now)) result (read.text_at bytes.now) }
-{
-    let (count, rest) = u32_of(bytes)?;
-    if count > 65_536 {
-        return None;
+    let (text, rest) = blob_of(bytes)?;
+    match text_of(text) {
+        Some(text) => Some((text, rest)),
+        None => None,
     }
-    let (text, rest) = bytes_of(count as usize, rest)?;
-    characters_of(text, rest)
 }
 
-/// A session, from 1 to 64.
+/// A statement's text, behind the number of its bytes in four bytes.
+#[tactic(auto, unfolding(crate::specs::Reading::text_at, crate::specs::Reading::str_at))]
+pub fn statement_of(bytes: &[u8]) -> Option<(StatementPart<'_>, &[u8])>
+    ensures { Gives (λ x. (x.0, x.1.now)) result (read.text_at bytes.now) }
+{
+    let (text, rest) = long_blob_of(bytes)?;
+    let text = text_of(text)?;
+    Some((checks::statement(text)?, rest))
+}
+
+/// A session.
 #[tactic(auto, unfolding(crate::specs::Reading::session_at))]
-pub fn session_of(bytes: &[u8]) -> Option<(u16, &[u8])>
+pub fn session_of(bytes: &[u8]) -> Option<(SessionId, &[u8])>
     ensures { Gives (λ x. (x.0, x.1.now)) result (read.session_at bytes.now) }
 {
-    let (session, rest) = u16_of(bytes)?;
-    if session < 1 || session > 64 {
-        return None;
-    }
-    Some((session, rest))
+    let (number, rest) = u16_of(bytes)?;
+    Some((checks::session(number)?, rest))
 }
 
-fn is_param_char(c: char) -> bool
-    ensures { result ≡ names.is_param_char c }
+/// A key's number.
+#[tactic(auto, unfolding(crate::specs::Reading::key_id_at))]
+fn key_id_of(bytes: &[u8]) -> Option<(KeyId, &[u8])>
+    ensures { Gives (λ x. (x.0, x.1.now)) result (read.key_id_at bytes.now) }
 {
-    matches!(c, 'A'..='Z' | 'a'..='z' | '0'..='9' | '_')
+    let (number, rest) = u32_of(bytes)?;
+    Some((checks::key_id(number)?, rest))
 }
 
-fn char_count(text: &str) -> usize
-    ensures { result ≡ length (chars text.now) }
+/// A name.
+#[tactic(auto, unfolding(crate::specs::Reading::name_at))]
+pub fn name_of(bytes: &[u8]) -> Option<(NamePart<'_>, &[u8])>
+    ensures { Gives (λ x. (x.0, x.1.now)) result (read.name_at bytes.now) }
 {
-    text.chars().count()
-}
-
-fn has_param_chars(text: &str) -> bool
-    ensures { result ≡ list_all names.is_param_char (chars text.now) }
-{
-    text.chars().all(is_param_char)
+    let (text, rest) = str_of(bytes)?;
+    Some((checks::name(text)?, rest))
 }
 
 /// A parameter's name.
 #[tactic(auto, unfolding(crate::specs::Reading::param_name_at))]
-pub fn param_name_of(bytes: &[u8]) -> Option<(NamePart<'_>, &[u8])>
+pub fn param_name_of(bytes: &[u8]) -> Option<(ParamNamePart<'_>, &[u8])>
     ensures { Gives (λ x. (x.0, x.1.now)) result (read.param_name_at bytes.now) }
 {
     let (text, rest) = str_of(bytes)?;
-    let count = char_count(text);
-    if count < 1 || count > 128 || !has_param_chars(text) {
-        return None;
-    }
-    Some((NamePart::lent(text), rest))
+    Some((checks::param_name(text)?, rest))
 }
 
-/// A column's name.
-#[tactic(auto, unfolding(crate::specs::Reading::column_name_at))]
-pub fn column_name_of(bytes: &[u8]) -> Option<(TxtPart<'_>, &[u8])>
-    ensures { Gives (λ x. (x.0, x.1.now)) result (read.column_name_at bytes.now) }
+/// The title of a column.
+#[tactic(auto, unfolding(crate::specs::Reading::title_at))]
+pub fn title_of(bytes: &[u8]) -> Option<(TitlePart<'_>, &[u8])>
+    ensures { Gives (λ x. (x.0, x.1.now)) result (read.title_at bytes.now) }
 {
     let (text, rest) = str_of(bytes)?;
-    if char_count(text) > 128 {
-        return None;
-    }
-    Some((TxtPart::lent(text), rest))
+    Some((checks::title(text)?, rest))
 }
 
-/// A name in a fault.
-#[tactic(auto, unfolding(crate::specs::Reading::word_at))]
-pub fn word_of(bytes: &[u8]) -> Option<(NamePart<'_>, &[u8])>
-    ensures { Gives (λ x. (x.0, x.1.now)) result (read.word_at bytes.now) }
+/// The path of a master key.
+#[tactic(auto, unfolding(crate::specs::Reading::path_at))]
+fn path_of(bytes: &[u8]) -> Option<(PathPart<'_>, &[u8])>
+    ensures { Gives (λ x. (x.0, x.1.now)) result (read.path_at bytes.now) }
 {
     let (text, rest) = str_of(bytes)?;
-    let count = char_count(text);
-    if count < 1 || count > 128 {
-        return None;
-    }
-    Some((NamePart::lent(text), rest))
+    Some((checks::path(text)?, rest))
 }
 
-/// A type. So far INT alone is read.
+/// The type of texts of a size.
+#[tactic(auto, unfolding(crate::specs::Reading::text_size_at))]
+fn text_type_of(bytes: &[u8]) -> Option<(Ty, &[u8])>
+    ensures { Gives (λ x. (x.0, x.1.now)) result (read.mapped Ty.NVarChar read.text_size_at bytes.now) }
+{
+    let (units, rest) = u16_of(bytes)?;
+    Some((Ty::NVarChar(checks::text_size(units)?), rest))
+}
+
+/// The type of binaries of a size.
+#[tactic(auto, unfolding(crate::specs::Reading::binary_size_at))]
+fn binary_type_of(bytes: &[u8]) -> Option<(Ty, &[u8])>
+    ensures { Gives (λ x. (x.0, x.1.now)) result (read.mapped Ty.VarBinary read.binary_size_at bytes.now) }
+{
+    let (count, rest) = u16_of(bytes)?;
+    Some((Ty::VarBinary(checks::binary_size(count)?), rest))
+}
+
+/// A type.
 #[tactic(auto, unfolding(crate::specs::Reading::type_at))]
 pub fn ty_of(bytes: &[u8]) -> Option<(Ty, &[u8])>
     ensures { Gives (λ x. (x.0, x.1.now)) result (read.type_at bytes.now) }
 {
     match bytes {
         [1, rest @ ..] => Some((Ty::Int, rest)),
+        [2, rest @ ..] => Some((Ty::BigInt, rest)),
+        [3, rest @ ..] => text_type_of(rest),
+        [4, rest @ ..] => binary_type_of(rest),
         _ => None,
     }
 }
 
-/// How something is encrypted. So far only what isn't is read.
+#[tactic(auto, unfolding(crate::specs::Reading::key_id_at))]
+fn deterministic_of(bytes: &[u8]) -> Option<(Enc, &[u8])>
+    ensures { Gives (λ x. (x.0, x.1.now)) result (read.mapped Enc.Det read.key_id_at bytes.now) }
+{
+    let (number, rest) = u32_of(bytes)?;
+    Some((Enc::Det(checks::key_id(number)?), rest))
+}
+
+#[tactic(auto, unfolding(crate::specs::Reading::key_id_at))]
+fn randomized_of(bytes: &[u8]) -> Option<(Enc, &[u8])>
+    ensures { Gives (λ x. (x.0, x.1.now)) result (read.mapped Enc.Rnd read.key_id_at bytes.now) }
+{
+    let (number, rest) = u32_of(bytes)?;
+    Some((Enc::Rnd(checks::key_id(number)?), rest))
+}
+
+/// How something is encrypted.
 #[tactic(auto, unfolding(crate::specs::Reading::encryption_at))]
 pub fn enc_of(bytes: &[u8]) -> Option<(Enc, &[u8])>
     ensures { Gives (λ x. (x.0, x.1.now)) result (read.encryption_at bytes.now) }
 {
     match bytes {
         [0, rest @ ..] => Some((Enc::Plain, rest)),
+        [1, rest @ ..] => deterministic_of(rest),
+        [2, rest @ ..] => randomized_of(rest),
         _ => None,
     }
 }
 
-#[tactic(auto, unfolding(crate::specs::Reading::integer_at))]
-fn integer_of<'a>(bytes: &'a [u8]) -> Option<(AtomPart<'a>, &'a [u8])>
-    ensures { Gives (λ x. (atom_of x.0, x.1.now)) result (read.integer_at bytes.now) }
+fn number_atom_of(bytes: &[u8]) -> Option<(AtomPart<'_>, &[u8])>
+    ensures { Gives (λ x. (x.0, x.1.now)) result (read.mapped read.integer (read.number_at w64) bytes.now) }
 {
     let (number, rest) = u64_of(bytes)?;
-    let datum = DatumPart::Num(number.cast_signed());
-    Some((AtomPart::Plain(datum), rest))
+    Some((AtomPart::number(number.cast_signed()), rest))
 }
 
-/// An atom. So far NULL and numbers are read.
+#[tactic(auto, unfolding(crate::specs::Reading::short_text_at))]
+fn text_atom_of(bytes: &[u8]) -> Option<(AtomPart<'_>, &[u8])>
+    ensures { Gives (λ x. (x.0, x.1.now)) result (read.mapped read.text read.short_text_at bytes.now) }
+{
+    let (text, rest) = str_of(bytes)?;
+    Some((checks::text_atom(text)?, rest))
+}
+
+#[tactic(auto, unfolding(crate::specs::Reading::short_blob_at))]
+fn binary_atom_of(bytes: &[u8]) -> Option<(AtomPart<'_>, &[u8])>
+    ensures { Gives (λ x. (x.0, x.1.now)) result (read.mapped read.binary (read.short_blob_at 8000) bytes.now) }
+{
+    let (binary, rest) = blob_of(bytes)?;
+    Some((checks::binary_atom(binary)?, rest))
+}
+
+#[tactic(auto, unfolding(crate::specs::Reading::short_blob_at))]
+fn sealed_atom_of(bytes: &[u8]) -> Option<(AtomPart<'_>, &[u8])>
+    ensures { Gives (λ x. (x.0, x.1.now)) result (read.mapped read.sealed (read.short_blob_at 16384) bytes.now) }
+{
+    let (cell, rest) = blob_of(bytes)?;
+    Some((checks::sealed_atom(cell)?, rest))
+}
+
+/// An atom.
 #[tactic(auto, unfolding(crate::specs::Reading::atom_at))]
-pub fn atom_part_of<'a>(bytes: &'a [u8]) -> Option<(AtomPart<'a>, &'a [u8])>
-    ensures { Gives (λ x. (atom_of x.0, x.1.now)) result (read.atom_at bytes.now) }
+pub fn atom_of(bytes: &[u8]) -> Option<(AtomPart<'_>, &[u8])>
+    ensures { Gives (λ x. (x.0, x.1.now)) result (read.atom_at bytes.now) }
 {
     match bytes {
-        [0, rest @ ..] => Some((AtomPart::Null, rest)),
-        [1, rest @ ..] => integer_of(rest),
+        [0, rest @ ..] => Some((AtomPart::null(), rest)),
+        [1, rest @ ..] => number_atom_of(rest),
+        [2, rest @ ..] => text_atom_of(rest),
+        [3, rest @ ..] => binary_atom_of(rest),
+        [4, rest @ ..] => sealed_atom_of(rest),
+        _ => None,
+    }
+}
+
+/// What is told of a key.
+#[tactic(auto, unfolding(crate::specs::Reading::key_at, crate::specs::Reading::wrapped_at))]
+pub fn key_of(bytes: &[u8]) -> Option<(KeyPart<'_>, &[u8])>
+    ensures { Gives (λ x. (x.0, x.1.now)) result (read.key_at bytes.now) }
+{
+    let Some((id, rest)) = key_id_of(bytes) else {
+        return None;
+    };
+    let (name, rest) = name_of(rest)?;
+    let (path, rest) = path_of(rest)?;
+    let (wrapped, rest) = blob_of(rest)?;
+    Some((checks::key(id, name, path, wrapped)?, rest))
+}
+
+/// Two versions that differ.
+#[tactic(auto, unfolding(crate::specs::Reading::versions_at))]
+pub fn versions_of(bytes: &[u8]) -> Option<(Versions, &[u8])>
+    ensures { Gives (λ x. (x.0, x.1.now)) result (read.versions_at bytes.now) }
+{
+    let (seen, rest) = u64_of(bytes)?;
+    let (now, rest) = u64_of(rest)?;
+    Some((checks::versions(seen, now)?, rest))
+}
+
+fn defined_of(bytes: &[u8]) -> Option<(Done, &[u8])>
+    ensures { Gives (λ x. (x.0, x.1.now)) result (read.tried read.defined (read.number_at w64) bytes.now) }
+{
+    let (number, rest) = u64_of(bytes)?;
+    if number == 0 {
+        Some((Done::Defined, rest))
+    } else {
+        None
+    }
+}
+
+fn changed_of(bytes: &[u8]) -> Option<(Done, &[u8])>
+    ensures { Gives (λ x. (x.0, x.1.now)) result (read.mapped Done.Changed (read.number_at w64) bytes.now) }
+{
+    let (number, rest) = u64_of(bytes)?;
+    Some((Done::Changed(number), rest))
+}
+
+fn answered_of(bytes: &[u8]) -> Option<(Done, &[u8])>
+    ensures { Gives (λ x. (x.0, x.1.now)) result (read.mapped Done.Answered (read.number_at w64) bytes.now) }
+{
+    let (number, rest) = u64_of(bytes)?;
+    Some((Done::Answered(number), rest))
+}
+
+/// What was done, and a number.
+#[tactic(auto, unfolding(crate::specs::Reading::done_at))]
+pub fn done_of(bytes: &[u8]) -> Option<(Done, &[u8])>
+    ensures { Gives (λ x. (x.0, x.1.now)) result (read.done_at bytes.now) }
+{
+    match bytes {
+        [0, rest @ ..] => defined_of(rest),
+        [1, rest @ ..] => changed_of(rest),
+        [2, rest @ ..] => answered_of(rest),
         _ => None,
     }
 }

@@ -1,4 +1,4 @@
-ghost use Rattle.std.specs.Prelude.{◌≡◌, ◌≤◌, None, List, ℕ};
+ghost use Rattle.std.specs.Prelude.{◌≡◌, ◌≤◌, None, List, ℕ, []};
 ghost use Rattle.ae_edge.specs.Devices.{Rose};
 
 use crate::entropies::{Draw, Entropy};
@@ -24,6 +24,8 @@ impl<T: TryRng> Entropy for RngEntropy<T> {
     ghost to_come = { λ e. None };
 
     ghost faults = { λ e. e.faults };
+
+    ghost names = { λ e. [] };
 
     fn draw(&mut self) -> Draw
         ensures count { self.old.faults ≤ self.new.faults }

@@ -1,4 +1,4 @@
-ghost use Rattle.std.specs.Prelude.{◌≡◌, ◌≤◌, ◌+◌, ◌++◌, IfOk, IfSome, None, codes, length, string_bytes, string_len};
+ghost use Rattle.std.specs.Prelude.{◌≡◌, ◌≤◌, ◌+◌, ◌++◌, IfOk, IfSome, None, codes, length, string_bytes, string_len, []};
 ghost use Rattle.std.specs.String.{string_capacity};
 ghost use Rattle.ae_edge.specs.Devices.{Rose};
 ghost use Rattle.ae_edge.specs.KeyFiles.{HasFilled, IsKeyOf, IsKeyPath};
@@ -104,6 +104,8 @@ impl<R: Files + Drop> Vault for FolderVault<R> {
     ghost keys = { λ v. None };
 
     ghost faults = { λ v. v.faults };
+
+    ghost names = { λ v. [] };
 
     fn master(&mut self, path: &Txt) -> MasterKey
         ensures count { self.old.faults ≤ self.new.faults }

@@ -1,6 +1,6 @@
-ghost use Rattle.std.specs.Prelude.{◌≡◌, ◌≤◌, None};
+ghost use Rattle.std.specs.Prelude.{◌≡◌, ◌≤◌, None, []};
 ghost use Rattle.ae_edge.specs.Devices.{Rose};
-ghost use Rattle.ae_edge.specs.Sinks.{IsPut, PutsKnown};
+ghost use Rattle.ae_edge.specs.Sinks.{CountsPut, IsPut, PutsKnown};
 
 use crate::adapters::interrupts::write_once;
 use crate::sinks::{Put, Sink};
@@ -27,10 +27,13 @@ impl<W: Write> Sink for StdSink<W> {
 
     ghost faults = { λ s. s.faults };
 
+    ghost names = { λ s. [] };
+
     fn put(&mut self, bytes: &[u8]) -> Put
         ensures piece { IsPut bytes.now result }
         ensures count { self.old.faults ≤ self.new.faults }
         ensures failed { result ≡ Put.Failed → Rose self.old.faults self.new.faults }
+        ensures counts { CountsPut result self.old.faults self.new.faults }
         ensures known { PutsKnown bytes.now result
             (W.contents self.old.writer) (W.contents self.new.writer) }
     {

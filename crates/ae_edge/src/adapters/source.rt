@@ -1,6 +1,6 @@
-ghost use Rattle.std.specs.Prelude.{◌≡◌, ◌≤◌, None};
+ghost use Rattle.std.specs.Prelude.{◌≡◌, ◌≤◌, None, []};
 ghost use Rattle.ae_edge.specs.Devices.{Rose};
-ghost use Rattle.ae_edge.specs.Sources.{IsPiece, TakesKnown};
+ghost use Rattle.ae_edge.specs.Sources.{CountsTake, IsPiece, TakesKnown};
 
 use crate::adapters::interrupts::read_once;
 use crate::sources::{Source, Taken};
@@ -32,11 +32,14 @@ impl<R: Read> Source for StdSource<R> {
 
     ghost faults = { λ s. s.faults };
 
+    ghost names = { λ s. [] };
+
     fn take(&mut self, alloc: Global, max: usize) -> Taken
         requires { 1 ≤ max }
         ensures piece { IsPiece max result }
         ensures count { self.old.faults ≤ self.new.faults }
         ensures failed { result ≡ Taken.Failed → Rose self.old.faults self.new.faults }
+        ensures counts { CountsTake result self.old.faults self.new.faults }
         ensures known { TakesKnown result
             (R.remaining self.old.reader) (R.remaining self.new.reader) }
     {

@@ -1,4 +1,4 @@
-ghost use Rattle.std.specs.Prelude.{◌≡◌, ◌≤◌, ◌↔◌, ◌⊎◌, Some};
+ghost use Rattle.std.specs.Prelude.{◌≡◌, ◌≤◌, ◌↔◌, ◌⊎◌, Some, []};
 ghost use Rattle.ae_edge.specs.Devices.{Rose};
 ghost use Rattle.ae_edge.specs.Draws.{Draws};
 ghost use Rattle.ae_edge.specs.Memory.{IsDry, IsListed, MemDraws, fresh};
@@ -43,6 +43,8 @@ impl Entropy for MemEntropy {
     ghost to_come = { λ e. Some e.to_come };
 
     ghost faults = { λ e. e.calls.faults };
+
+    ghost names = { λ e. [] };
 
     fn draw(&mut self) -> Draw
         ensures content { Draws result self.old.to_come self.new.to_come }

@@ -1,4 +1,4 @@
-ghost use Rattle.std.specs.Prelude.{◌≡◌, ◌≤◌, ◌↔◌, Some};
+ghost use Rattle.std.specs.Prelude.{◌≡◌, ◌≤◌, ◌↔◌, Some, []};
 ghost use Rattle.ae_edge.specs.Devices.{Rose};
 ghost use Rattle.ae_edge.specs.Memory.{IsListed, MemFinds, fresh};
 ghost use Rattle.ae_edge.specs.Vaults.{Finds, key_at};
@@ -50,6 +50,8 @@ impl Vault for MemVault {
     ghost keys = { λ v. Some v.keys };
 
     ghost faults = { λ v. v.calls.faults };
+
+    ghost names = { λ v. [] };
 
     fn master(&mut self, path: &Txt) -> MasterKey
         ensures found { Finds path.now result self.old.keys }

@@ -1,9 +1,10 @@
--- An item lies within the places where all do.
-use Rattle.std.proofs.Common.{length, arith}
-use Rattle.sql_tree.specs.Operands.{operand_of}
-use Rattle.scalar.specs.Places.{IsOperandWithin}
-use Rattle.engine.proofs.Rows.{All_there}
+-- An item lies where all do.
+use Rattle.std.proofs.Common.{length}
+use Rattle.sql_tree.specs.Bound.{BoundItem, item_of}
+use Rattle.sql_tree.specs.Placed.{IsPlacedValue}
+use Rattle.engine.proofs.Values.{All_there}
 use Rattle.engine.proofs.queries.items_of.Goals as goal
 
-pub eval-requires : goal.eval-requires
-eval-requires g c = All_there (IsOperandWithin (length c.args.row.now) (length c.args.params.now)) operand_of c.args.items.now c.loop-item.item-index c.item-item.result (omega arith) c.item-item.is c.requires
+pub item_of-requires : goal.item_of-requires
+item_of-requires g c =
+    All_there (λ (item : BoundItem). IsPlacedValue (length c.args.row.now) (length c.args.params.now) item.value) item_of c.args.items.now c.loop-item.item-index c.item-item.result c.loop-item-test.true c.item-item.is c.requires

@@ -1,7 +1,7 @@
 -- The sum so far, with the terms that are left, is the whole.
 use Rattle.std.proofs.Common.{◌≡◌, drop}
 use Rattle.scalar.specs.Eval.{eval_terms}
-use Rattle.scalar.specs.Listed.{terms_listed}
+use Rattle.sql_tree.specs.Listed.{terms_listed}
 use Rattle.scalar.proofs.operands.+lend.Given as goal
 
 abbrev pub invariant-add_terms-loop-term : goal.invariant-add_terms-loop-term

@@ -1,9 +1,9 @@
--- The steps of a script may be run.
-use Rattle.std.proofs.Common.{Ok, sym, ◌∙◌, ap}
-use Rattle.script_lang.specs.Script.{steps_of}
-use Rattle.script_run.proofs.ScriptBatches.{script-steps}
+-- As its steps run, or a line is bad.
+use Rattle.script_run.proofs.Lent.{runs_script, was_read}
 use Rattle.script_run.proofs.programs.run_bytes.Goals as goal
 
-pub run_steps-requires : goal.run_steps-requires
-run_steps-requires g c =
-    script-steps c.args.script.now _ (ap steps_of (sym c.as_slice.ensures) ∙ c.in-Ok.ensures ∙ ap Ok (sym c.as_slice-2.ensures))
+pub returns-in-Ok-clause-content : goal.returns-in-Ok-clause-content
+returns-in-Ok-clause-content g c = let e = c.in-Ok.ensures.exact in let s = c.as_slice.ensures in let l = c.in-Ok.ensures.limits in let t = c.as_slice-in-Ok.ensures in let h = c.run_over.ensures in runs_script _ _ _ _ _ (record { within = c.requires.within; read = rw s at e }) l (rw t at h)
+
+pub returns-in-Ok-clause-read : goal.returns-in-Ok-clause-read
+returns-in-Ok-clause-read g c = was_read _ _ _ _ c.run_over.ensures

@@ -1,5 +1,5 @@
 use Rattle.std.proofs.Common.{◌≡◌, drop}
-use Rattle.sql_parse.specs.Parse.{opens_too_deep}
+use Rattle.sql_grammar.specs.Texts.{opens_too_deep}
 use Rattle.sql_parse.proofs.limits.opens_too_deep.Given as goal
 
 abbrev pub invariant-loop-token : goal.invariant-loop-token

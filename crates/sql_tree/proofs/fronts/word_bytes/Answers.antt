@@ -1,7 +1,7 @@
 use Rattle.std.proofs.Common.{◌≡◌, subst, sym, ◌∙◌, take, take_while, arith}
 use Rattle.std.specs.Str.{IsAscii}
 use Rattle.sql_tree.specs.Tokens.{is_word_byte}
-use Rattle.sql_tree.proofs.Digits.{take_while_is, word_ascii}
+use Rattle.sql_tree.proofs.Digits.{take_while_is, word_ascii, word_param}
 use Rattle.sql_tree.proofs.fronts.word_bytes.Goals as goal
 use Rattle.sql_tree.proofs.fronts.word_bytes.Goals.{then-loop-len-test+else-is_word_byte, else-loop-len-test}
 
@@ -18,3 +18,6 @@ returns-clause-word c = front_is c
 
 pub returns-clause-ascii : goal.returns-clause-ascii
 returns-clause-ascii c = subst IsAscii (sym (front_is c)) (word_ascii c.args.bytes.now)
+
+pub returns-clause-param : goal.returns-clause-param
+returns-clause-param c = rw (front_is c) (word_param c.args.bytes.now)

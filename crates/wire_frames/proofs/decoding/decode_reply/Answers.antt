@@ -1,27 +1,27 @@
 -- A whole frame is read exactly where it spells a message.
-use Rattle.wire_frames.specs.Frames.{SpellsReply, is_reply_kind}
+use Rattle.wire_frames.specs.Frames.{is_reply_kind}
 use Rattle.wire_frames.specs.Reading.{reply_at}
-use Rattle.wire_frames.specs.Spelling.{reply_kind, reply_body}
-use Rattle.wire_frames.specs.Views.{reply_of}
-use Rattle.wire_frames.proofs.Directions.{IsReadableReply, to_driver}
+use Rattle.wire_messages.specs.Conditions.{IsReply}
+use Rattle.wire_spelling.specs.Spelling.{reply_kind, reply_body, SpellsReply}
+use Rattle.wire_frames.proofs.Directions.{to_driver}
 use Rattle.wire_frames.proofs.FrameLaws.{one_is_spelled, one_is_read, none_is_spelled, none_is_refused, no_header_spells}
 use Rattle.wire_frames.proofs.decoding.decode_reply.Goals as goal
 
 pub returns-in-One-clause-cases : goal.returns-in-One-clause-cases
 returns-in-One-clause-cases c =
-    one_is_spelled is_reply_kind reply_kind reply_body IsReadableReply SpellsReply reply_at to_driver c.args.bytes.now c.in-Whole.kind c.in-Whole.body.now (reply_of c.in-One.reply) (λ i. (c.type_inv.bytes i).fits) c.in-Whole.ensures c.in-One.ensures
+    one_is_spelled is_reply_kind reply_kind reply_body IsReply SpellsReply reply_at to_driver c.args.bytes.now c.in-Whole.kind c.in-Whole.body.now c.in-One.reply (λ i. (c.type_inv.bytes i).fits) c.in-Whole.ensures c.in-One.ensures
 
 pub returns-in-One-clause-only : goal.returns-in-One-clause-only
 returns-in-One-clause-only c =
-    one_is_read is_reply_kind reply_kind reply_body IsReadableReply SpellsReply reply_at to_driver c.args.bytes.now c.in-Whole.kind c.in-Whole.body.now (reply_of c.in-One.reply) c.in-Whole.ensures c.in-One.ensures
+    one_is_read is_reply_kind reply_kind reply_body IsReply SpellsReply reply_at to_driver c.args.bytes.now c.in-Whole.kind c.in-Whole.body.now c.in-One.reply c.in-Whole.ensures c.in-One.ensures
 
 pub returns-in-Bad-reply_body_of-clause-cases : goal.returns-in-Bad-reply_body_of-clause-cases
 returns-in-Bad-reply_body_of-clause-cases c =
-    none_is_refused is_reply_kind reply_kind reply_body IsReadableReply SpellsReply reply_at to_driver c.args.bytes.now c.in-Whole.kind c.in-Whole.body.now c.in-Whole.ensures c.in-Bad-reply_body_of.ensures
+    none_is_refused is_reply_kind reply_kind reply_body IsReply SpellsReply reply_at to_driver c.args.bytes.now c.in-Whole.kind c.in-Whole.body.now c.in-Whole.ensures c.in-Bad-reply_body_of.ensures
 
 pub returns-in-Bad-reply_body_of-clause-only : goal.returns-in-Bad-reply_body_of-clause-only
 returns-in-Bad-reply_body_of-clause-only c =
-    none_is_spelled is_reply_kind reply_kind reply_body IsReadableReply SpellsReply reply_at to_driver c.args.bytes.now c.in-Whole.kind c.in-Whole.body.now c.in-Whole.ensures c.in-Bad-reply_body_of.ensures
+    none_is_spelled is_reply_kind reply_kind reply_body IsReply SpellsReply reply_at to_driver c.args.bytes.now c.in-Whole.kind c.in-Whole.body.now c.in-Whole.ensures c.in-Bad-reply_body_of.ensures
 
 pub returns-in-Bad-clause-only : goal.returns-in-Bad-clause-only
-returns-in-Bad-clause-only c = no_header_spells is_reply_kind reply_kind reply_body IsReadableReply SpellsReply reply_at to_driver c.args.bytes.now c.in-Bad.ensures.1
+returns-in-Bad-clause-only c = no_header_spells is_reply_kind reply_kind reply_body IsReply SpellsReply reply_at to_driver c.args.bytes.now c.in-Bad.ensures.1

@@ -1,0 +1,65 @@
+-- Names that differ, when one more is put behind them.
+use Rattle.std.proofs.Common.{◌≡◌, ℕ, ◌<◌, ◌≤◌, List, [], ◌∷◌, ◌++◌, length, map, Bool, true, false, ◌&&◌, ◌||◌, not, IsTrue, nat_lt, refl, sym, ap, ◌∙◌, arith, length-append}
+use Rattle.std.specs.List.{list_any}
+use Rattle.std.specs.Str.{bytes_eq}
+use Rattle.std.specs.Bool.{one_answer}
+use Rattle.std.proofs.lemmas.Slice.Eq.{bytes_eq-Decides}
+use Rattle.std.proofs.lemmas.List.Folds.{list_any-append}
+use Rattle.std.proofs.lemmas.List.{map-append, length-map}
+use Rattle.std.proofs.lemmas.Bool.{ltb-true, lt-ltb, le-ltb}
+use Rattle.ae_base.specs.Names.{admits, all_differ}
+
+-- whether a name is among those that some things are called
+pub among_called : {P : Type 0} (called : P → List ℕ) (name : List ℕ) (xs : List P)
+    → list_any (λ x. bytes_eq name (called x)) xs ≡ list_any (bytes_eq name) (map called xs)
+among_called called name [] = refl
+among_called called name (x ∷ xs) = ap (λ b. bytes_eq name (called x) || b) (among_called called name xs)
+
+pub bytes_eq-sym : (a b : List ℕ) → bytes_eq a b ≡ bytes_eq b a
+bytes_eq-sym a b = one_answer (bytes_eq a b) (bytes_eq b a) (bytes_eq-Decides a b) (
+  (λ e. sym ((bytes_eq-Decides b a).0 e)),
+  (λ e. (bytes_eq-Decides b a).1 (sym e)),
+)
+
+neither : (a b : Bool) → not (a || b) ≡ true → (a ≡ false) × (b ≡ false)
+neither true b h = absurd cc
+neither false true h = absurd cc
+neither false false h = (refl, refl)
+
+both : (a b : Bool) → (a && b) ≡ true → (a ≡ true) × (b ≡ true)
+both true b h = (refl, h)
+both false b h = absurd cc
+
+not-true : (a : Bool) → not a ≡ true → a ≡ false
+not-true true h = absurd cc
+not-true false h = refl
+
+-- names differ with one more behind them that is among none of them
+pub differ-push : (names : List (List ℕ)) (name : List ℕ) → all_differ names ≡ true → list_any (bytes_eq name) names ≡ false → all_differ (names ++ name ∷ []) ≡ true
+differ-push [] name d h = refl
+differ-push (n ∷ names) name d h =
+    let p = both (not (list_any (bytes_eq n) names)) (all_differ names) d in
+    let q = neither (bytes_eq name n) (list_any (bytes_eq name) names) (ap not h) in
+    let e : bytes_eq n name ≡ false = bytes_eq-sym n name ∙ q.0 in
+    let l = list_any-append (bytes_eq n) names (name ∷ []) in
+    let r = differ-push names name p.1 q.1 in
+    let m = not-true (list_any (bytes_eq n) names) p.0 in
+    rw (l, m, e, r) refl
+
+-- a list that admits one more meets the conditions with it
+pub admitted : {P : Type 0} (called : P → List ℕ) (items : List P) (item : P) → IsTrue (all_differ (map called items))
+    → admits (map called items) (called item) ≡ true
+    → (length (items ++ item ∷ []) ≤ 128) × IsTrue (all_differ (map called (items ++ item ∷ [])))
+admitted called items item d h =
+    let p = both (nat_lt (length (map called items)) 128) (not (list_any (bytes_eq (called item)) (map called items))) h in
+    let n : length (map called items) < 128 = ltb-true _ _ p.0 in
+    let l : length (map called items) ≡ length items = length-map items called in
+    let m = map-append called items (item ∷ []) in
+    (omega (arith, length-append items (item ∷ [])), rw m (differ-push (map called items) (called item) d (not-true _ p.1)))
+
+pub with_room : (names : List (List ℕ)) (name : List ℕ) (n : ℕ) → length names ≡ n → n < 128
+    → not (list_any (bytes_eq name) names) ≡ admits names name
+with_room names name n e h = let t : nat_lt (length names) 128 ≡ true = lt-ltb _ _ (omega arith) in rw t refl
+
+pub without_room : (names : List (List ℕ)) (name : List ℕ) (n : ℕ) → length names ≡ n → 128 ≤ n → false ≡ admits names name
+without_room names name n e h = let t : nat_lt (length names) 128 ≡ false = le-ltb _ _ (omega arith) in rw t refl

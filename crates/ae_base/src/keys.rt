@@ -1,0 +1,164 @@
+ghost use Rattle.std.specs.Prelude.{◌≡◌, IfSome, IsSome, ◌↔◌, IsTrue, encode_utf8_all};
+ghost use Rattle.std.specs.Cmp.Lexicographic.{nat_list_eq_equiv};
+ghost use Rattle.std.specs.Cmp.{partial_equiv_from_equiv};
+ghost use Rattle.std.specs.Str.{bytes_eq, chars, all_scalars};
+ghost use Rattle.ae_base.specs.Keys.{IsKeyPath, IsWrappedKey};
+
+use crate::blobs::Blob;
+use crate::lists::Duplicate;
+use crate::texts::Txt;
+use std::alloc::AllocError;
+use std::marker::Model;
+
+/// The path of a master key: 1 to 1,024 bytes of UTF-8.
+#[derive(Drop)]
+pub struct KeyPath {
+    text: Txt,
+}
+
+impl Model for KeyPath {
+    ghost use Rattle.std.specs.Prelude.{List, ℕ};
+    ghost use Rattle.ae_base.specs.Keys.{IsKeyPath};
+
+    ghost Value = { List ℕ };
+
+    ghost view = { λ p. p.text };
+
+    ghost invariant = { λ p. IsKeyPath p.text };
+}
+
+impl KeyPath {
+    /// The most bytes of a path.
+    pub const MOST_BYTES: usize = 1024;
+
+    /// The path that a text is, where it is one. It takes no memory.
+    pub fn from_txt(text: Txt) -> Option<KeyPath>
+        ensures path { IfSome result (λ path. path ≡ text) }
+        ensures exactly { IsSome result ↔ IsKeyPath text }
+    {
+        let count = text.as_str().len();
+        if count == 0 || count > KeyPath::MOST_BYTES {
+            return None;
+        }
+        Some(KeyPath { text })
+    }
+
+    /// The path as a text, by value. It takes no memory.
+    pub fn into_txt(self) -> Txt
+        ensures text { result ≡ self }
+        ensures path { IsKeyPath self }
+    {
+        self.text
+    }
+
+    /// The path as a text.
+    pub fn as_txt(&self) -> &Txt
+        ensures text { result.now ≡ self.now }
+        ensures path { IsKeyPath self.now }
+    {
+        &self.text
+    }
+
+    /// The path as a borrowed text, in UTF-8.
+    pub fn as_str(&self) -> &str
+        ensures bytes { result.now ≡ encode_utf8_all self.now }
+        ensures characters { chars result.now ≡ self.now }
+        ensures scalars { IsTrue (all_scalars self.now) }
+        ensures path { IsKeyPath self.now }
+    {
+        self.text.as_str()
+    }
+}
+
+impl PartialEq for KeyPath {
+    ghost eq = { bytes_eq };
+
+    ghost laws = { partial_equiv_from_equiv nat_list_eq_equiv };
+
+    fn eq(&self, other: &KeyPath) -> bool {
+        self.text == other.text
+    }
+}
+
+impl Eq for KeyPath {
+    ghost laws = { nat_list_eq_equiv };
+}
+
+impl Duplicate for KeyPath {
+    fn copy(&self) -> Result<KeyPath, AllocError> {
+        Ok(KeyPath {
+            text: self.text.copy()?,
+        })
+    }
+}
+
+/// A column encryption key as its master key wraps it: 1 to 1,024 bytes.
+#[derive(Drop)]
+pub struct WrappedKey {
+    bytes: Blob,
+}
+
+impl Model for WrappedKey {
+    ghost use Rattle.std.specs.Prelude.{List, ℕ};
+    ghost use Rattle.ae_base.specs.Keys.{IsWrappedKey};
+
+    ghost Value = { List ℕ };
+
+    ghost view = { λ k. k.bytes };
+
+    ghost invariant = { λ k. IsWrappedKey k.bytes };
+}
+
+impl WrappedKey {
+    /// The most bytes of a wrapped key.
+    pub const MOST_BYTES: usize = 1024;
+
+    /// The wrapped key that some bytes are, where they are one. It takes no memory.
+    pub fn from_blob(bytes: Blob) -> Option<WrappedKey>
+        ensures key { IfSome result (λ key. key ≡ bytes) }
+        ensures exactly { IsSome result ↔ IsWrappedKey bytes }
+    {
+        if bytes.len() == 0 || bytes.len() > WrappedKey::MOST_BYTES {
+            return None;
+        }
+        Some(WrappedKey { bytes })
+    }
+
+    /// The bytes, by value. It takes no memory.
+    pub fn into_blob(self) -> Blob
+        ensures bytes { result ≡ self }
+        ensures key { IsWrappedKey self }
+    {
+        self.bytes
+    }
+
+    /// The bytes.
+    pub fn as_slice(&self) -> &[u8]
+        ensures bytes { result.now ≡ self.now }
+        ensures key { IsWrappedKey self.now }
+    {
+        self.bytes.as_slice()
+    }
+}
+
+impl PartialEq for WrappedKey {
+    ghost eq = { bytes_eq };
+
+    ghost laws = { partial_equiv_from_equiv nat_list_eq_equiv };
+
+    fn eq(&self, other: &WrappedKey) -> bool {
+        self.bytes == other.bytes
+    }
+}
+
+impl Eq for WrappedKey {
+    ghost laws = { nat_list_eq_equiv };
+}
+
+impl Duplicate for WrappedKey {
+    fn copy(&self) -> Result<WrappedKey, AllocError> {
+        Ok(WrappedKey {
+            bytes: self.bytes.copy()?,
+        })
+    }
+}

@@ -1,0 +1,92 @@
+use crate::commands::ae_main;
+use ae_base::texts::Txt;
+use ae_edge::memory::entropy::MemEntropy;
+use ae_edge::memory::sink::MemSink;
+use ae_edge::memory::source::MemSource;
+use ae_edge::memory::vault::MemVault;
+use script_run::status::Status;
+use server_core::server::Server;
+use std::alloc::{AllocError, Global};
+use std::test::Fail;
+
+const PLAIN_TABLE: &str = "CREATE TABLE t (a INT)
+GO
+DECLARE @p INT = 5
+INSERT INTO t (a) VALUES (@p), (7), (NULL)
+GO
+DECLARE @p INT = 6
+SELECT a FROM t WHERE a < @p
+";
+
+/// What a command over devices in memory and an empty world leaves.
+#[derive(Drop)]
+struct Left {
+    status: Status,
+    out: MemSink,
+    tap: MemSink,
+}
+
+fn left_by(alloc: Global, words: &[Txt], script: Vec<u8>) -> Left {
+    let mut script = MemSource::new(script, 10, Vec::new(alloc));
+    let mut vault = MemVault::new(Vec::new(alloc), Vec::new(alloc));
+    let mut entropy = MemEntropy::new(Vec::new(alloc), Vec::new(alloc));
+    let mut replies = MemSource::new(Vec::new(alloc), 10, Vec::new(alloc));
+    let mut out = MemSink::new(alloc, Vec::new(alloc));
+    let mut tap = MemSink::new(alloc, Vec::new(alloc));
+    let mut peer = Server::new(alloc);
+    let status = ae_main(
+        alloc,
+        words,
+        &mut script,
+        &mut vault,
+        &mut entropy,
+        &mut replies,
+        &mut out,
+        &mut tap,
+        &mut peer,
+    );
+    Left { status, out, tap }
+}
+
+fn words_of(alloc: Global, words: &[&str]) -> Result<Vec<Txt>, AllocError> {
+    let mut texts = Vec::new(alloc);
+    for word in words {
+        texts.push(Txt::copied(alloc, word)?)?;
+    }
+    Ok(texts)
+}
+
+// The plain table under some words.
+fn left_under(alloc: Global, words: &[&str]) -> Result<Left, AllocError> {
+    let words = words_of(alloc, words)?;
+    let script = PLAIN_TABLE.as_bytes().to_vec(alloc)?;
+    Ok(left_by(alloc, words.as_slice(), script))
+}
+
+#[test]
+fn run_prints_the_plain_table(rt: HostRuntime) -> Result<(), Fail> {
+    let left = left_under(rt.alloc(), &["ae", "run"])?;
+    assert_eq!(rt; left.status.number(), 0);
+    assert_eq!(rt;
+        left.out.bytes(),
+        b"ok\n(3 affected)\na\n5\n(1 rows)\n".as_slice()
+    );
+    Ok(())
+}
+
+#[test]
+fn other_words_put_nothing(rt: HostRuntime) -> Result<(), Fail> {
+    let cases: [&[&str]; 5] = [
+        &[],
+        &["ae"],
+        &["ae", "walk"],
+        &["ae", "RUN"],
+        &["ae", "run", "run"],
+    ];
+    for words in cases {
+        let left = left_under(rt.alloc(), words)?;
+        assert_eq!(rt; left.status.number(), 2);
+        assert!(rt; left.out.bytes().is_empty() && left.tap.bytes().is_empty());
+    }
+    Ok(())
+}

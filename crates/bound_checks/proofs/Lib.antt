@@ -1,0 +1,4 @@
+pub mod ClashTrees
+pub mod RenamedChecks
+pub mod Smallest
+pub mod UsedTrees

@@ -1,0 +1,5 @@
+pub mod Checks
+pub mod Clashes
+pub mod Grouping
+pub mod Laws
+pub mod Types

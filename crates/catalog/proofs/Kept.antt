@@ -1,0 +1,230 @@
+-- Each definition keeps what a catalog is.
+use Rattle.std.proofs.Common.{◌≡◌, ◌≢◌, ◌<◌, ◌≤◌, ℕ, ◌+◌, List, [], ◌∷◌, ◌++◌, length, get_or, Bool, true, false, ◌||◌, ◌&&◌, ◌==◌, nat_le, nat_lt, IsSome, Ok, refl, sym, ◌∙◌, subst, arith, length-append}
+use Rattle.std.specs.List.{All, find, list_any, remove}
+use Rattle.std.specs.Option.{is_some}
+use Rattle.std.specs.Str.{bytes_eq}
+use Rattle.std.proofs.lemmas.Bool.Decides.{nat_tests}
+use Rattle.std.proofs.lemmas.List.Edits.{length-remove}
+use Rattle.std.proofs.lemmas.List.Elements.{All-push}
+use Rattle.std.proofs.lemmas.List.Quantifiers.{all_pairs_push, all_pairs_remove, position-Some}
+use Rattle.std.proofs.lemmas.Slice.Eq.{bytes_eq-Decides}
+use Rattle.ae_base.specs.declared.faults.SqlFault.TheVariants as fault
+use Rattle.ae_base.specs.declared.tables.TableDef.{TableDef}
+use Rattle.ae_base.specs.declared.types.Enc.{Enc}
+use Rattle.ae_base.specs.declared.types.Enc.TheVariants.{Plain, Det, Rnd}
+use Rattle.catalog.specs.Catalogs.{Catalog, nothing_defined, table_named, key_named, master_named, master_place, key_place, table_place, is_under, is_table_under, is_master_used, is_key_used, is_at_last_version, is_full_of_masters, is_full_of_keys, is_full_of_tables, with_master, with_key, with_table, without_master, without_key, without_table}
+use Rattle.catalog.specs.WellFormed.{IsCatalog, IsKeyThere, AreKeysThere}
+use Rattle.catalog.specs.declared.keys.ColumnKey.{ColumnKey}
+use Rattle.catalog.specs.declared.keys.MasterKey.{MasterKey}
+use Rattle.catalog.proofs.Found.{differ, unlike, none-found, none-passes, grown, shrunk, All-remove, accepted, dropped}
+
+-- ---- room under a limit
+
+room : (most n v : ℕ) → (nat_le most n || (v == 18446744073709551615)) ≡ false → v ≤ 18446744073709551615 → (n < most) × (v < 18446744073709551615)
+room most n v e h = grind (arith, nat_tests)
+
+key-room : (n id v : ℕ) → (nat_le 64 n || nat_lt 4294967295 id || (v == 18446744073709551615)) ≡ false → v ≤ 18446744073709551615
+    → (n < 64) × (id ≤ 4294967295) × (v < 18446744073709551615)
+key-room n id v e h = grind (arith, nat_tests)
+
+below-last : (v : ℕ) → (v == 18446744073709551615) ≡ false → v ≤ 18446744073709551615 → v < 18446744073709551615
+below-last v e h = grind (arith, nat_tests)
+
+-- ---- nothing is defined
+
+pub nothing-kept : IsCatalog nothing_defined
+nothing-kept = record {
+  masters_differ = λ i j d lt within. absurd (omega arith);
+  keys_differ = λ i j d lt within. absurd (omega arith);
+  tables_differ = λ i j d lt within. absurd (omega arith);
+  ids_ascend = λ i j d lt within. absurd (omega arith);
+  ids_lie_below = λ k d lt. absurd (omega arith);
+  masters_there = λ k d lt. absurd (omega arith);
+  keys_there = λ k d lt. absurd (omega arith);
+  few_masters = omega arith;
+  few_keys = omega arith;
+  few_tables = omega arith;
+  next_id = (omega arith, omega arith);
+  version = omega arith;
+}
+
+-- ---- CREATE
+
+pub with_master-kept : (old new : Catalog) (name path : List ℕ) → with_master old name path ≡ Ok new → IsCatalog old → IsCatalog new
+with_master-kept old new name path e w =
+    let master : MasterKey = record { name = name; path = path } in
+    let a = accepted (is_some (master_named old name)) (is_full_of_masters old) (fault.Exists name) fault.Full _ new e in
+    let r = room 64 (length old.masters) old.version a.1 w.version in
+    let none = none-found (λ m. bytes_eq m.name name) old.masters a.0 in
+    subst IsCatalog a.2 (record {
+      masters_differ = all_pairs_push (λ a b. a.name ≢ b.name) old.masters master w.masters_differ (λ k d lt. differ (get_or old.masters k d).name name (none k d lt));
+      keys_differ = w.keys_differ;
+      tables_differ = w.tables_differ;
+      ids_ascend = w.ids_ascend;
+      ids_lie_below = w.ids_lie_below;
+      masters_there = λ k d lt. grown (λ m. bytes_eq m.name (get_or old.keys k d).master) old.masters (master ∷ []) (w.masters_there k d lt);
+      keys_there = w.keys_there;
+      few_masters = omega (arith, length-append old.masters (master ∷ []));
+      few_keys = w.few_keys;
+      few_tables = w.few_tables;
+      next_id = w.next_id;
+      version = omega arith;
+    })
+
+key-there-grown : (old : Catalog) (keys : List ColumnKey) (enc : Enc) → IsKeyThere old enc → IsKeyThere (record old { keys = old.keys ++ keys }) enc
+key-there-grown old keys Plain h = tt
+key-there-grown old keys (Det id) h = grown (λ key. key.id == id) old.keys keys h
+key-there-grown old keys (Rnd id) h = grown (λ key. key.id == id) old.keys keys h
+
+same-key-there : (old new : Catalog) (enc : Enc) → old.keys ≡ new.keys → IsKeyThere old enc → IsKeyThere new enc
+same-key-there old new Plain e h = tt
+same-key-there old new (Det id) e h = subst (λ keys. IsSome (find (λ key. key.id == id) keys)) e h
+same-key-there old new (Rnd id) e h = subst (λ keys. IsSome (find (λ key. key.id == id) keys)) e h
+
+same-keys-there : (old new : Catalog) (tables : List TableDef) → old.keys ≡ new.keys → All (AreKeysThere old) tables → All (AreKeysThere new) tables
+same-keys-there old new tables e h = λ k d lt j c within. same-key-there old new _ e (h k d lt j c within)
+
+pub with_key-kept : (old new : Catalog) (name master wrapped : List ℕ) → IsSome (master_named old master) → with_key old name master wrapped ≡ Ok new → IsCatalog old → IsCatalog new
+with_key-kept old new name master wrapped there e w =
+    let key : ColumnKey = record { id = old.next_id; name = name; master = master; wrapped = wrapped } in
+    let a = accepted (is_some (key_named old name)) (is_full_of_keys old) (fault.Exists name) fault.Full _ new e in
+    let r = key-room (length old.keys) old.next_id old.version a.1 w.version in
+    let none = none-found (λ k. bytes_eq k.name name) old.keys a.0 in
+    let from_one = w.next_id.0 in
+    subst IsCatalog a.2 (record {
+      masters_differ = w.masters_differ;
+      keys_differ = all_pairs_push (λ a b. a.name ≢ b.name) old.keys key w.keys_differ (λ k d lt. differ (get_or old.keys k d).name name (none k d lt));
+      tables_differ = w.tables_differ;
+      ids_ascend = all_pairs_push (λ a b. a.id < b.id) old.keys key w.ids_ascend (λ k d lt. (w.ids_lie_below k d lt).1);
+      ids_lie_below = All-push (λ k. (1 ≤ k.id) × (k.id < old.next_id + 1)) old.keys key (λ k d lt. let b = w.ids_lie_below k d lt in (b.0, omega arith)) (from_one, omega arith);
+      masters_there = All-push (λ k. IsSome (master_named old k.master)) old.keys key w.masters_there there;
+      keys_there = λ k d lt j c within. key-there-grown old (key ∷ []) _ (w.keys_there k d lt j c within);
+      few_masters = w.few_masters;
+      few_keys = omega (arith, length-append old.keys (key ∷ []));
+      few_tables = w.few_tables;
+      next_id = (omega arith, omega arith);
+      version = omega arith;
+    })
+
+pub with_table-kept : (old new : Catalog) (table : TableDef) → AreKeysThere old table → with_table old table ≡ Ok new → IsCatalog old → IsCatalog new
+with_table-kept old new table there e w =
+    let a = accepted (is_some (table_named old table.name)) (is_full_of_tables old) (fault.Exists table.name) fault.Full _ new e in
+    let r = room 256 (length old.tables) old.version a.1 w.version in
+    let none = none-found (λ t. bytes_eq t.name table.name) old.tables a.0 in
+    let grown_old : Catalog = record old { tables = old.tables ++ table ∷ []; version = old.version + 1 } in
+    subst IsCatalog a.2 (record {
+      masters_differ = w.masters_differ;
+      keys_differ = w.keys_differ;
+      tables_differ = all_pairs_push (λ a b. a.name ≢ b.name) old.tables table w.tables_differ (λ k d lt. differ (get_or old.tables k d).name table.name (none k d lt));
+      ids_ascend = w.ids_ascend;
+      ids_lie_below = w.ids_lie_below;
+      masters_there = w.masters_there;
+      keys_there = same-keys-there old grown_old (old.tables ++ table ∷ []) refl (All-push (AreKeysThere old) old.tables table w.keys_there there);
+      few_masters = w.few_masters;
+      few_keys = w.few_keys;
+      few_tables = omega (arith, length-append old.tables (table ∷ []));
+      next_id = w.next_id;
+      version = omega arith;
+    })
+
+-- ---- DROP
+
+pub without_master-kept : (old new : Catalog) (name : List ℕ) → without_master old name ≡ Ok new → IsCatalog old → IsCatalog new
+without_master-kept old new name e w =
+    let d = dropped (master_place old name) (is_master_used old name) (is_at_last_version old) (fault.NoSuch name) (fault.KeyInUse name) fault.Full
+    (λ place. record old { masters = remove old.masters place; version = old.version + 1 }) new e in
+    let default : MasterKey = record { name = []; path = [] } in
+    let found = position-Some (λ m. bytes_eq m.name name) old.masters d.place default d.found in
+    let named : (get_or old.masters d.place default).name ≡ name = (bytes_eq-Decides (get_or old.masters d.place default).name name).0 found.1 in
+    let unused = none-passes (λ key. bytes_eq key.master name) old.keys d.unused in
+    let v = below-last old.version d.not_last w.version in
+    let short = length-remove old.masters d.place found.0 in
+    let few = w.few_masters in
+    subst IsCatalog d.is (record {
+      masters_differ = all_pairs_remove (λ a b. a.name ≢ b.name) old.masters d.place found.0 w.masters_differ;
+      keys_differ = w.keys_differ;
+      tables_differ = w.tables_differ;
+      ids_ascend = w.ids_ascend;
+      ids_lie_below = w.ids_lie_below;
+      masters_there = λ k key lt.
+          let other = differ (get_or old.keys k key).master name (unused k key lt) in
+          let off = unlike (get_or old.masters d.place default).name (get_or old.keys k key).master (λ same. other (sym same ∙ named)) in
+          subst IsSome (sym (shrunk (λ m. bytes_eq m.name (get_or old.keys k key).master) old.masters d.place default found.0 off)) (w.masters_there k key lt);
+      keys_there = w.keys_there;
+      few_masters = omega arith;
+      few_keys = w.few_keys;
+      few_tables = w.few_tables;
+      next_id = w.next_id;
+      version = omega arith;
+    })
+
+-- a key that no column is under may go
+key-there-shrunk : (old : Catalog) (place : ℕ) (default : ColumnKey) (enc : Enc) → place < length old.keys → is_under (get_or old.keys place default).id enc ≡ false
+    → IsKeyThere old enc → IsKeyThere (record old { keys = remove old.keys place }) enc
+key-there-shrunk old place default Plain lt off h = tt
+key-there-shrunk old place default (Det id) lt off h = subst IsSome (sym (shrunk (λ key. key.id == id) old.keys place default lt (turned id (get_or old.keys place default).id off))) h
+  where
+    turned : (a b : ℕ) → (a == b) ≡ false → (b == a) ≡ false
+    turned a b e = grind (arith, nat_tests)
+key-there-shrunk old place default (Rnd id) lt off h = subst IsSome (sym (shrunk (λ key. key.id == id) old.keys place default lt (turned id (get_or old.keys place default).id off))) h
+  where
+    turned : (a b : ℕ) → (a == b) ≡ false → (b == a) ≡ false
+    turned a b e = grind (arith, nat_tests)
+
+both-fail : (a b : Bool) → a ≡ true → (a && b) ≡ false → b ≡ false
+both-fail true b t e = e
+both-fail false b t e = cc
+
+pub without_key-kept : (old new : Catalog) (name : List ℕ) → without_key old name ≡ Ok new → IsCatalog old → IsCatalog new
+without_key-kept old new name e w =
+    let d = dropped (key_place old name) (is_key_used old name) (is_at_last_version old) (fault.NoSuch name) (fault.KeyInUse name) fault.Full
+    (λ place. record old { keys = remove old.keys place; version = old.version + 1 }) new e in
+    let default : ColumnKey = record { id = 0; name = []; master = []; wrapped = [] } in
+    let found = position-Some (λ k. bytes_eq k.name name) old.keys d.place default d.found in
+    let key = get_or old.keys d.place default in
+    let unused = none-passes (λ k. bytes_eq k.name name && list_any (is_table_under k.id) old.tables) old.keys d.unused d.place default found.0 in
+    let free = none-passes (is_table_under key.id) old.tables (both-fail (bytes_eq key.name name) (list_any (is_table_under key.id) old.tables) found.1 unused) in
+    let v = below-last old.version d.not_last w.version in
+    let short = length-remove old.keys d.place found.0 in
+    let few = w.few_keys in
+    subst IsCatalog d.is (record {
+      masters_differ = w.masters_differ;
+      keys_differ = all_pairs_remove (λ a b. a.name ≢ b.name) old.keys d.place found.0 w.keys_differ;
+      tables_differ = w.tables_differ;
+      ids_ascend = all_pairs_remove (λ a b. a.id < b.id) old.keys d.place found.0 w.ids_ascend;
+      ids_lie_below = All-remove (λ k. (1 ≤ k.id) × (k.id < old.next_id)) old.keys d.place w.ids_lie_below;
+      masters_there = All-remove (λ k. IsSome (master_named old k.master)) old.keys d.place w.masters_there;
+      keys_there = λ k table lt j column within.
+          key-there-shrunk old d.place default _ found.0 (none-passes (λ c. is_under key.id c.enc) (get_or old.tables k table).columns (free k table lt) j column within)
+          (w.keys_there k table lt j column within);
+      few_masters = w.few_masters;
+      few_keys = omega arith;
+      few_tables = w.few_tables;
+      next_id = w.next_id;
+      version = omega arith;
+    })
+
+pub without_table-kept : (old new : Catalog) (name : List ℕ) → without_table old name ≡ Ok new → IsCatalog old → IsCatalog new
+without_table-kept old new name e w =
+    let d = dropped (table_place old name) false (is_at_last_version old) (fault.NoSuch name) fault.Full fault.Full
+    (λ place. record old { tables = remove old.tables place; version = old.version + 1 }) new e in
+    let default : TableDef = record { name = []; columns = []; uniques = [] } in
+    let found = position-Some (λ t. bytes_eq t.name name) old.tables d.place default d.found in
+    let v = below-last old.version d.not_last w.version in
+    let short = length-remove old.tables d.place found.0 in
+    let few = w.few_tables in
+    let shrunk_old : Catalog = record old { tables = remove old.tables d.place; version = old.version + 1 } in
+    subst IsCatalog d.is (record {
+      masters_differ = w.masters_differ;
+      keys_differ = w.keys_differ;
+      tables_differ = all_pairs_remove (λ a b. a.name ≢ b.name) old.tables d.place found.0 w.tables_differ;
+      ids_ascend = w.ids_ascend;
+      ids_lie_below = w.ids_lie_below;
+      masters_there = w.masters_there;
+      keys_there = same-keys-there old shrunk_old (remove old.tables d.place) refl (All-remove (AreKeysThere old) old.tables d.place w.keys_there);
+      few_masters = w.few_masters;
+      few_keys = w.few_keys;
+      few_tables = omega arith;
+      next_id = w.next_id;
+      version = omega arith;
+    })

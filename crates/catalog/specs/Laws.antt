@@ -1,0 +1,45 @@
+-- Laws of definitions.
+use Rattle.std.specs.Prelude.{◌≡◌, ◌<◌, ◌+◌, ℕ, List, Some, Ok, IsSome}
+use Rattle.ae_base.specs.declared.tables.TableDef.{TableDef}
+use Rattle.catalog.specs.Catalogs.{Catalog, nothing_defined, master_named, key_named, key_of, key_meta, with_master, with_key, with_table, without_master, without_key, without_table}
+use Rattle.catalog.specs.WellFormed.{IsCatalog, AreKeysThere, Follows}
+use Rattle.catalog.specs.declared.keys.ColumnKey.{ColumnKey}
+
+-- P holds of old and new where a definition leads from one to the other: a column key whose master key is there, a table
+-- whose columns' keys are there, any other
+pub record OfEachDefinition (P : Catalog → Catalog → Type 0) : Type 0 where
+  pub with_master : (old new : Catalog) (name path : List ℕ) → with_master old name path ≡ Ok new → P old new
+  pub with_key : (old new : Catalog) (name master wrapped : List ℕ) → IsSome (master_named old master)
+      → with_key old name master wrapped ≡ Ok new → P old new
+  pub with_table : (old new : Catalog) (table : TableDef) → AreKeysThere old table → with_table old table ≡ Ok new → P old new
+  pub without_master : (old new : Catalog) (name : List ℕ) → without_master old name ≡ Ok new → P old new
+  pub without_key : (old new : Catalog) (name : List ℕ) → without_key old name ≡ Ok new → P old new
+  pub without_table : (old new : Catalog) (name : List ℕ) → without_table old name ≡ Ok new → P old new
+
+-- each definition keeps what a catalog is
+abbrev pub DefinitionsKeepCatalogs : Type 0
+DefinitionsKeepCatalogs = IsCatalog nothing_defined × OfEachDefinition (λ old new. IsCatalog old → IsCatalog new)
+
+-- each definition leads to a catalog that follows, of the next version
+abbrev pub DefinitionsAreFollowed : Type 0
+DefinitionsAreFollowed = OfEachDefinition (λ old new. Follows old new × (new.version ≡ old.version + 1))
+
+abbrev pub FollowingIsTransitive : Type 0
+FollowingIsTransitive = (a b c : Catalog) → Follows a b → Follows b c → Follows a c
+
+abbrev pub EachFollowsItself : Type 0
+EachFollowsItself = (catalog : Catalog) → Follows catalog catalog
+
+-- a number that was used before is never used again: what is found under it later is the key that was found before
+abbrev pub IdsAreNotReused : Type 0
+IdsAreNotReused = (old new : Catalog) (id : ℕ) (key : ColumnKey) → IsCatalog old → Follows old new → id < old.next_id
+    → key_of new id ≡ Some key → key_of old id ≡ Some key
+
+-- a key that is there can be told
+abbrev pub KeysAreTold : Type 0
+KeysAreTold = (catalog : Catalog) (id : ℕ) → IsCatalog catalog → IsSome (key_of catalog id) → IsSome (key_meta catalog id)
+
+-- a key that is found by its name is found by its number
+abbrev pub NamedAreNumbered : Type 0
+NamedAreNumbered = (catalog : Catalog) (name : List ℕ) (key : ColumnKey) → IsCatalog catalog → key_named catalog name ≡ Some key
+    → key_of catalog key.id ≡ Some key

@@ -1,0 +1,4 @@
+pub mod Driven
+pub mod Fitting
+pub mod Going
+pub mod Listening

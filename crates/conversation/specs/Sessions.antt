@@ -1,0 +1,158 @@
+-- One session of the driver: what it answers to each call, and what it holds after it.
+use Rattle.std.specs.Prelude.{ℕ, ◌+◌, ◌-◌, List, [], ◌∷◌, map, slice_index_or, slice_set, replicate, Option, Some, None, Result, Ok, Err, ◌==◌, if◌then◌else◌}
+use Rattle.std.specs.Str.{bytes_eq}
+use Rattle.ae_base.specs.declared.batches.Batch.{Batch}
+use Rattle.ae_base.specs.declared.batches.Param.{Param}
+use Rattle.ae_base.specs.declared.batches.KeyMeta.{KeyMeta}
+use Rattle.ae_base.specs.declared.types.Enc.{Enc}
+use Rattle.ae_base.specs.declared.types.Enc.TheVariants as enc
+use Rattle.ae_base.specs.declared.values.Value.{Value}
+use Rattle.hmac_kdf.specs.Keys.{Keys}
+use Rattle.wire_messages.specs.Messages.{Description, Header}
+use Rattle.wire_messages.specs.declared.params.UsedParam.{UsedParam}
+use Rattle.wire_messages.specs.declared.requests.Request.{Request}
+use Rattle.wire_messages.specs.declared.requests.Request.TheVariants.{Describe}
+use Rattle.wire_messages.specs.declared.replies.Reply.{Reply}
+use Rattle.wire_messages.specs.declared.replies.Reply.TheVariants as reply
+use Rattle.wire_messages.specs.declared.replies.Done.{Done}
+use Rattle.wire_messages.specs.declared.replies.Done.TheVariants as done
+use Rattle.conversation.specs.declared.faults.DriverFault.{DriverFault}
+use Rattle.conversation.specs.declared.faults.DriverFault.TheVariants as fault
+use Rattle.conversation.specs.declared.outcomes.DescribedParam.{DescribedParam}
+use Rattle.conversation.specs.declared.outcomes.NamedEnc.{NamedEnc}
+use Rattle.conversation.specs.declared.outcomes.NamedEnc.TheVariants as named
+use Rattle.conversation.specs.declared.answers.DescribeAnswer.{DescribeAnswer}
+use Rattle.conversation.specs.declared.answers.DescribeAnswer.TheVariants.{Ready, Refused}
+use Rattle.conversation.specs.declared.answers.ReplyAnswer.{ReplyAnswer}
+use Rattle.conversation.specs.declared.answers.ReplyAnswer.TheVariants as answer
+use Rattle.conversation.specs.declared.sessions.Turn.{Turn}
+use Rattle.conversation.specs.declared.sessions.ColumnType.{ColumnType}
+use Rattle.conversation.specs.declared.sessions.Session.{Session}
+use Rattle.conversation.specs.declared.sessions.Session.TheVariants.{Idle, Begun, Pending, Sent, Reading, Skipping}
+use Rattle.conversation.specs.Batches.{fitted}
+use Rattle.conversation.specs.Keys.{meta_of}
+use Rattle.conversation.specs.Pending.{Use, uses_in}
+use Rattle.conversation.specs.Cells.{is_row_of, read_atoms}
+
+-- ---- the sessions of a client, numbered from 1 to 64
+
+abbrev pub nobody : List Session
+nobody = replicate 64 Idle
+
+abbrev pub session_at : List Session → ℕ → Session
+session_at sessions number = slice_index_or sessions (number - 1) Idle
+
+abbrev pub with_session : List Session → ℕ → Session → List Session
+with_session sessions number session = slice_set sessions (number - 1) session
+
+-- ---- a batch is begun
+
+abbrev pub begun : ℕ → Result Batch DriverFault → Turn (Result Request DriverFault)
+begun number (Ok batch) = record { answer = Ok (Describe number batch.text (map (λ p. p.declaration) batch.params)); after = Begun batch }
+begun number (Err f) = record { answer = Err f; after = Idle }
+
+-- a session has one batch; its values fit their types; its text has at most 65,536 bytes
+abbrev pub begin : Session → ℕ → Batch → Turn (Result Request DriverFault)
+begin Idle number batch = begun number (fitted batch)
+begin (Begun other) number batch = record { answer = Err fault.StillPending; after = Begun other }
+begin (Pending pending) number batch = record { answer = Err fault.StillPending; after = Pending pending }
+begin Sent number batch = record { answer = Err fault.StillPending; after = Sent }
+begin (Reading columns keys count) number batch = record { answer = Err fault.StillPending; after = Reading columns keys count }
+begin (Skipping columns count) number batch = record { answer = Err fault.StillPending; after = Skipping columns count }
+
+-- ---- the answer to its description
+
+abbrev pub with_enc : Option Enc → Option (List (Option Enc)) → Option (List (Option Enc))
+with_enc enc (Some encs) = Some (enc ∷ encs)
+with_enc enc None = None
+
+-- how each declared parameter is to be encrypted, where it is used; none where the used ones aren't declared ones in the order of declaration
+abbrev pub encs_of : List Param → List UsedParam → Option (List (Option Enc))
+encs_of [] [] = Some []
+encs_of [] (used ∷ more) = None
+encs_of (param ∷ params) [] = with_enc None (encs_of params [])
+encs_of (param ∷ params) (used ∷ more) =
+    if bytes_eq used.name param.declaration.name
+    then with_enc (Some used.enc) (encs_of params more)
+    else with_enc None (encs_of params (used ∷ more))
+
+-- the encryption with the name of its key
+abbrev pub named_enc : List KeyMeta → Enc → NamedEnc
+named_enc keys enc.Plain = named.Plain
+named_enc keys (enc.Det key) = named.Det (meta_of keys key).name
+named_enc keys (enc.Rnd key) = named.Rnd (meta_of keys key).name
+
+abbrev pub described_params : List KeyMeta → List Use → List DescribedParam
+described_params keys uses = map (λ u. record { name = u.param.declaration.name; enc = named_enc keys u.enc }) uses
+
+abbrev pub described_as : Batch → Description → Option (List (Option Enc)) → Option (Turn DescribeAnswer)
+described_as batch description (Some encs) = Some (record {
+  answer = Ready (described_params description.keys (uses_in batch.params encs));
+  after = Pending (record { batch = batch; version = description.version; keys = description.keys; encs = encs });
+})
+described_as batch description None = None
+
+-- after Describe a Refused is awaited, or a Described of declared parameters; None stands for a reply that isn't, which leaves the session
+abbrev pub described : Session → Reply → Option (Turn DescribeAnswer)
+described (Begun batch) (reply.Described description) = described_as batch description (encs_of batch.params description.params)
+described (Begun batch) (reply.Refused f) = Some (record { answer = Refused f; after = Idle })
+described (Begun batch) (reply.Columns header) = None
+described (Begun batch) (reply.Row atoms) = None
+described (Begun batch) (reply.Ended d) = None
+described Idle r = None
+described (Pending pending) r = None
+described Sent r = None
+described (Reading columns keys count) r = None
+described (Skipping columns count) r = None
+
+-- ---- the answer to its execution
+
+-- a reply tells an answer and the session after it; or it shows columns, whose keys are opened first; or it isn't awaited, and leaves the session
+pub data Told : Type 0 where
+  Tells : (says : ReplyAnswer) (after : Session) → Told
+  Shows : (header : Header) → Told
+  Stray : Told
+
+abbrev pub sent_ended : Done → Told
+sent_ended done.Defined = Tells answer.Defined Idle
+sent_ended (done.Changed count) = Tells (answer.Changed count) Idle
+sent_ended (done.Answered count) = Stray
+
+-- the end of an answer has the number of rows that came
+abbrev pub rows_ended : ℕ → ReplyAnswer → Done → Told
+rows_ended count says done.Defined = Stray
+rows_ended count says (done.Changed n) = Stray
+rows_ended count says (done.Answered n) = if n == count then Tells says Idle else Stray
+
+abbrev pub row_read : List ColumnType → List (Option Keys) → ℕ → Result (List Value) DriverFault → Told
+row_read columns keys count (Ok values) = Tells (answer.Row values) (Reading columns keys count)
+row_read columns keys count (Err f) = Tells (answer.Failed f) (Skipping columns count)
+
+-- after Execute a Refused, the end of a definition or a change, or Columns is awaited; after Columns a Row with one atom for each column, or
+-- the end with the number of rows that came
+abbrev pub replied : Session → Reply → Told
+replied Sent (reply.Columns header) = Shows header
+replied Sent (reply.Ended d) = sent_ended d
+replied Sent (reply.Refused f) = Tells (answer.Refused f) Idle
+replied Sent (reply.Row atoms) = Stray
+replied Sent (reply.Described description) = Stray
+replied (Reading columns keys count) (reply.Row atoms) =
+    if is_row_of columns atoms then row_read columns keys (count + 1) (read_atoms (count + 1) 1 columns keys atoms) else Stray
+replied (Reading columns keys count) (reply.Ended d) = rows_ended count (answer.Rows count) d
+replied (Reading columns keys count) (reply.Refused f) = Stray
+replied (Reading columns keys count) (reply.Columns header) = Stray
+replied (Reading columns keys count) (reply.Described description) = Stray
+replied (Skipping columns count) (reply.Row atoms) = if is_row_of columns atoms then Tells answer.Skipped (Skipping columns (count + 1)) else Stray
+replied (Skipping columns count) (reply.Ended d) = rows_ended count answer.Over d
+replied (Skipping columns count) (reply.Refused f) = Stray
+replied (Skipping columns count) (reply.Columns header) = Stray
+replied (Skipping columns count) (reply.Described description) = Stray
+replied Idle r = Stray
+replied (Begun batch) r = Stray
+replied (Pending pending) r = Stray
+
+abbrev pub titles_of : Header → List (List ℕ)
+titles_of header = map (λ c. c.title) header.columns
+
+abbrev pub types_of : Header → List ColumnType
+types_of header = map (λ c. record { ty = c.ty; enc = c.enc }) header.columns

@@ -1,0 +1,270 @@
+//! A session executes its described batch: its parameters are sealed, and it is sent.
+
+ghost use Rattle.std.specs.Prelude.{◌≡◌, ◌≤◌, List, IfOk, IsTrue, Ok, Err, None, map, true, length};
+ghost use Rattle.ae_base.specs.Batches.{first_unfit};
+ghost use Rattle.ae_base.specs.Values.{value_is_within};
+ghost use Rattle.key_store.specs.Stores.{IsOf};
+ghost use Rattle.wire_messages.specs.declared.params.SentParam.{SentParam};
+ghost use Rattle.conversation.specs.declared.faults.DriverFault.{DriverFault};
+ghost use Rattle.conversation.specs.Devices.{Leads, devices};
+ghost use Rattle.conversation.specs.Pending.{uses_in, uses_of};
+ghost use Rattle.conversation.specs.Talk.{Talk};
+ghost use Rattle.conversation.specs.Turns.{on, sealing, sealing_one};
+ghost use Rattle.ae_base.specs.Names.{all_differ};
+ghost use Rattle.conversation.specs.declared.sessions.Session.{Session};
+ghost use Rattle.driver.specs.Calls.{Executes, IsSent};
+ghost use Rattle.driver.specs.Listed.{IsListed, AreListed};
+ghost use Rattle.driver.specs.Sealed.{with_atom, sent, sent_names, use_names};
+
+use crate::asking::statement;
+use crate::sealing::seal_value;
+use ae_base::batches::{KeyMeta, Param};
+use ae_base::lists::{Duplicate, Seq};
+use ae_base::names::ParamName;
+use ae_base::params::ParamList;
+use ae_base::sessions::SessionId;
+use ae_base::types::Enc;
+use ae_edge::entropies::Entropy;
+use ae_edge::vaults::Vault;
+use conversation::faults::{DriverFault, Halt};
+use conversation::sessions::{Pending, Session, Turn};
+use key_store::KeyStore;
+use std::alloc::Global;
+use wire_messages::atoms::AtomPart;
+use wire_messages::params::{SentParam, SentParams};
+use wire_messages::requests::Request;
+use wire_messages::texts::ParamNamePart;
+
+fn with_atom<'r>(
+    name: ParamName,
+    param: &Param,
+    enc: &Enc,
+    sealed: Result<AtomPart<'r>, DriverFault>,
+) -> Result<SentParam<'r>, DriverFault>
+    requires { name ≡ param.now.declaration.name }
+    ensures { result ≡ with_atom param.now enc.now sealed.entry }
+{
+    match sealed {
+        Ok(atom) => Ok(SentParam {
+            name: ParamNamePart::own(name),
+            ty: param.declaration.ty,
+            enc: *enc,
+            atom,
+        }),
+        Err(fault) => Err(fault),
+    }
+}
+
+fn seal_param<'r, V: Vault, E: Entropy>(
+    alloc: Global,
+    store: &mut KeyStore,
+    vault: &mut V,
+    entropy: &mut E,
+    metas: &[KeyMeta],
+    param: &Param,
+    enc: &Enc,
+) -> Result<Result<SentParam<'r>, DriverFault>, Halt>
+    requires listed { IsListed metas.now enc.now }
+    requires of_vault { IsOf (V.keys vault.old) store.old }
+    requires fits { value_is_within param.now.value param.now.declaration.ty ≡ true }
+    ensures leads { (k : SentParam → Talk) (fails : DriverFault → Talk) → Leads result (sealing_one metas.now (record { param = param.now; enc = enc.now }) k fails) (on k fails) (devices (E.to_come entropy.old) (E.faults entropy.old) (E.names entropy.old) (V.keys vault.old) (V.faults vault.old) (V.names vault.old)) (devices (E.to_come entropy.new) (E.faults entropy.new) (E.names entropy.new) (V.keys vault.new) (V.faults vault.new) (V.names vault.new)) }
+    ensures named { IfOk result (λ sealed. IfOk sealed (λ sent. sent.name ≡ param.now.declaration.name)) }
+    ensures of_vault { IsOf (V.keys vault.new) store.new }
+{
+    let name = match param.declaration.name.copy() {
+        Ok(name) => name,
+        Err(_) => return Err(Halt::OutOfMemory),
+    };
+    match seal_value(
+        alloc,
+        store,
+        vault,
+        entropy,
+        metas,
+        *enc,
+        &param.declaration.ty,
+        &param.value,
+    ) {
+        Ok(sealed) => Ok(with_atom(name, param, enc, sealed)),
+        Err(halt) => Err(halt),
+    }
+}
+
+fn seal_params<'r, V: Vault, E: Entropy>(
+    alloc: Global,
+    store: &mut KeyStore,
+    vault: &mut V,
+    entropy: &mut E,
+    metas: &[KeyMeta],
+    params: &[Param],
+    encs: &[Option<Enc>],
+) -> Result<Result<Seq<SentParam<'r>>, DriverFault>, Halt>
+    requires each { length encs.now ≡ length params.now }
+    requires listed { AreListed metas.now (map (λ u. u.enc) (uses_in params.now encs.now)) }
+    requires of_vault { IsOf (V.keys vault.old) store.old }
+    requires fits { first_unfit params.now ≡ None }
+    ensures leads { (k : List SentParam → Talk) (fails : DriverFault → Talk) → Leads result (sealing metas.now (uses_in params.now encs.now) k fails) (on k fails) (devices (E.to_come entropy.old) (E.faults entropy.old) (E.names entropy.old) (V.keys vault.old) (V.faults vault.old) (V.names vault.old)) (devices (E.to_come entropy.new) (E.faults entropy.new) (E.names entropy.new) (V.keys vault.new) (V.faults vault.new) (V.names vault.new)) }
+    ensures named { IfOk result (λ sealed. IfOk sealed (λ sent. sent_names sent ≡ use_names (uses_in params.now encs.now))) }
+    ensures of_vault { IsOf (V.keys vault.new) store.new }
+{
+    let mut sent = Seq::new(alloc);
+    for i in 0..params.len() {
+        let enc = match encs[i] {
+            Some(enc) => enc,
+            None => continue,
+        };
+        let sealed = match seal_param(alloc, store, vault, entropy, metas, &params[i], &enc) {
+            Ok(sealed) => sealed,
+            Err(halt) => return Err(halt),
+        };
+        match sealed {
+            Ok(part) => match sent.push(part) {
+                Ok(()) => {}
+                Err(_) => return Err(Halt::OutOfMemory),
+            },
+            Err(fault) => return Ok(Err(fault)),
+        }
+    }
+    Ok(Ok(sent))
+}
+
+/// Parameters that are few, with names that differ.
+fn listed<'r>(params: Seq<SentParam<'r>>) -> SentParams<'r>
+    requires few { length params ≤ 128 }
+    requires differ { IsTrue (all_differ (sent_names params)) }
+    ensures { result ≡ params.entry }
+{
+    match ParamList::from_seq(params) {
+        Some(params) => params,
+        None => unreachable!(),
+    }
+}
+
+fn seal<'r, V: Vault, E: Entropy>(
+    alloc: Global,
+    store: &mut KeyStore,
+    vault: &mut V,
+    entropy: &mut E,
+    pending: &Pending,
+) -> Result<Result<SentParams<'r>, DriverFault>, Halt>
+    requires { IsOf (V.keys vault.old) store.old }
+    ensures leads { (k : List SentParam → Talk) (fails : DriverFault → Talk) → Leads result (sealing pending.now.keys (uses_of pending.now) k fails) (on k fails) (devices (E.to_come entropy.old) (E.faults entropy.old) (E.names entropy.old) (V.keys vault.old) (V.faults vault.old) (V.names vault.old)) (devices (E.to_come entropy.new) (E.faults entropy.new) (E.names entropy.new) (V.keys vault.new) (V.faults vault.new) (V.names vault.new)) }
+    ensures of_vault { IsOf (V.keys vault.new) store.new }
+{
+    let sealed = match seal_params(
+        alloc,
+        store,
+        vault,
+        entropy,
+        pending.keys(),
+        pending.params(),
+        pending.encs(),
+    ) {
+        Ok(sealed) => sealed,
+        Err(halt) => return Err(halt),
+    };
+    match sealed {
+        Ok(params) => Ok(Ok(listed(params))),
+        Err(fault) => Ok(Err(fault)),
+    }
+}
+
+fn sent<'r>(
+    number: SessionId,
+    pending: Pending,
+    sealed: Result<SentParams<'r>, DriverFault>,
+) -> Turn<Result<Request<'r>, DriverFault>>
+    ensures { result ≡ sent number pending sealed.entry }
+{
+    match sealed {
+        Ok(params) => {
+            let version = pending.version();
+            Turn {
+                answer: Ok(Request::Execute {
+                    session: number,
+                    version,
+                    text: statement(pending.into_batch().into_text()),
+                    params,
+                }),
+                after: Session::Sent,
+            }
+        }
+        Err(fault) => Turn {
+            answer: Err(fault),
+            after: Session::Idle,
+        },
+    }
+}
+
+fn execute_pending<'r, V: Vault, E: Entropy>(
+    alloc: Global,
+    store: &mut KeyStore,
+    vault: &mut V,
+    entropy: &mut E,
+    pending: Pending,
+    number: SessionId,
+) -> Turn<Result<Result<Request<'r>, DriverFault>, Halt>>
+    requires { IsOf (V.keys vault.old) store.old }
+    ensures executes { Executes result.answer number (Session.Pending pending) result.after (devices (E.to_come entropy.old) (E.faults entropy.old) (E.names entropy.old) (V.keys vault.old) (V.faults vault.old) (V.names vault.old)) (devices (E.to_come entropy.new) (E.faults entropy.new) (E.names entropy.new) (V.keys vault.new) (V.faults vault.new) (V.names vault.new)) }
+    ensures sent { IsSent result.answer result.after }
+    ensures of_vault { IsOf (V.keys vault.new) store.new }
+{
+    match seal(alloc, store, vault, entropy, &pending) {
+        Ok(sealed) => {
+            let turn = sent(number, pending, sealed);
+            Turn {
+                answer: Ok(turn.answer),
+                after: turn.after,
+            }
+        }
+        Err(halt) => Turn {
+            answer: Err(halt),
+            after: Session::Pending(pending),
+        },
+    }
+}
+
+fn nothing_pending<'r>(session: Session) -> Turn<Result<Result<Request<'r>, DriverFault>, Halt>>
+    ensures { result ≡ record { answer = Ok (Err DriverFault.NothingPending); after = session } }
+{
+    Turn {
+        answer: Ok(Err(DriverFault::NothingPending)),
+        after: session,
+    }
+}
+
+/// Executes the described batch of a session: the request to do so.
+pub fn execute<'r, V: Vault, E: Entropy>(
+    alloc: Global,
+    store: &mut KeyStore,
+    vault: &mut V,
+    entropy: &mut E,
+    session: Session,
+    number: SessionId,
+) -> Turn<Result<Result<Request<'r>, DriverFault>, Halt>>
+    requires { IsOf (V.keys vault.old) store.old }
+    ensures executes { Executes result.answer number session result.after (devices (E.to_come entropy.old) (E.faults entropy.old) (E.names entropy.old) (V.keys vault.old) (V.faults vault.old) (V.names vault.old)) (devices (E.to_come entropy.new) (E.faults entropy.new) (E.names entropy.new) (V.keys vault.new) (V.faults vault.new) (V.names vault.new)) }
+    ensures sent { IsSent result.answer result.after }
+    ensures of_vault { IsOf (V.keys vault.new) store.new }
+{
+    match session {
+        Session::Pending(pending) => {
+            execute_pending(alloc, store, vault, entropy, pending, number)
+        }
+        Session::Idle => nothing_pending(Session::Idle),
+        Session::Begun(batch) => nothing_pending(Session::Begun(batch)),
+        Session::Sent => nothing_pending(Session::Sent),
+        Session::Reading {
+            columns,
+            keys,
+            count,
+        } => nothing_pending(Session::Reading {
+            columns,
+            keys,
+            count,
+        }),
+        Session::Skipping { columns, count } => {
+            nothing_pending(Session::Skipping { columns, count })
+        }
+    }
+}

@@ -1,0 +1,378 @@
+//! A session takes a reply to the execution of its batch.
+
+ghost use Rattle.std.specs.Prelude.{◌≡◌, IfOk, Err, map};
+ghost use Rattle.key_store.specs.Stores.{IsOf};
+ghost use Rattle.conversation.specs.Devices.{Devices, with_vault};
+ghost use Rattle.conversation.specs.Sessions as held;
+ghost use Rattle.conversation.specs.declared.sessions.Session.{Session};
+ghost use Rattle.driver.specs.Calls.{Replies, ShowsTurn, TellsAs, is_end};
+ghost use Rattle.driver.specs.Listed.{AreListed};
+ghost use Rattle.wire_messages.specs.declared.replies.Reply.TheVariants as reply;
+
+use crate::describing::own_keys;
+use crate::opening::open_columns;
+use crate::reading::{is_row_of, read_row};
+use ae_base::batches::KeyMeta;
+use ae_base::faults::SqlFault;
+use ae_base::lists::{Duplicate, Seq};
+use ae_base::names::Title;
+use ae_edge::vaults::Vault;
+use conversation::answers::ReplyAnswer;
+use conversation::faults::Halt;
+use conversation::sessions::{ColumnType, Session, Turn};
+use hmac_kdf::CellKeys;
+use key_store::KeyStore;
+use std::alloc::{AllocError, Global};
+use wire_messages::columns::SentColumn;
+use wire_messages::replies::{Done, Header, Reply, RowParts};
+
+fn titles_of(alloc: Global, columns: &[SentColumn<'_>]) -> Result<Seq<Title>, AllocError>
+    ensures { IfOk result (λ titles. titles ≡ map (λ c. c.title) columns.now) }
+{
+    let mut titles = Seq::new(alloc);
+    for column in columns {
+        titles.push(column.title.to_title(alloc)?)?;
+    }
+    Ok(titles)
+}
+
+fn types_of(alloc: Global, columns: &[SentColumn<'_>]) -> Result<Seq<ColumnType>, AllocError>
+    ensures { IfOk result (λ types. types ≡ map (λ c. record { ty = c.ty; enc = c.enc }) columns.now) }
+{
+    let mut types = Seq::new(alloc);
+    for column in columns {
+        types.push(ColumnType {
+            ty: column.ty,
+            enc: column.enc,
+        })?;
+    }
+    Ok(types)
+}
+
+/// What columns show: their titles, their types, and their keys.
+#[derive(Drop)]
+struct Heading {
+    titles: Seq<Title>,
+    types: Seq<ColumnType>,
+    metas: Seq<KeyMeta>,
+}
+
+fn heading_of(alloc: Global, header: &Header<'_>) -> Result<Heading, AllocError>
+    ensures titles { IfOk result (λ heading. heading.titles ≡ held.titles_of header.now) }
+    ensures types { IfOk result (λ heading. heading.types ≡ held.types_of header.now) }
+    ensures metas { IfOk result (λ heading. heading.metas ≡ header.now.keys) }
+    ensures listed { AreListed header.now.keys (map (λ c. c.enc) (held.types_of header.now)) }
+{
+    let metas = own_keys(alloc, header.keys());
+    Ok(Heading {
+        titles: titles_of(alloc, header.columns())?,
+        types: types_of(alloc, header.columns())?,
+        metas: metas?,
+    })
+}
+
+fn show<V: Vault>(
+    alloc: Global,
+    store: &mut KeyStore,
+    vault: &mut V,
+    header: &Header<'_>,
+) -> Result<Turn<ReplyAnswer>, Halt>
+    requires { IsOf (V.keys vault.old) store.old }
+    ensures shows { (beside : Devices) → ShowsTurn result header.now (with_vault beside (V.keys vault.old) (V.faults vault.old) (V.names vault.old)) (with_vault beside (V.keys vault.new) (V.faults vault.new) (V.names vault.new)) }
+    ensures of_vault { IsOf (V.keys vault.new) store.new }
+{
+    let heading = match heading_of(alloc, header) {
+        Ok(heading) => heading,
+        Err(_) => return Err(Halt::OutOfMemory),
+    };
+    let opened = match open_columns(
+        alloc,
+        store,
+        vault,
+        heading.metas.as_slice(),
+        heading.types.as_slice(),
+    ) {
+        Ok(opened) => opened,
+        Err(halt) => return Err(halt),
+    };
+    match opened {
+        Ok(keys) => Ok(Turn {
+            answer: ReplyAnswer::Header(heading.titles),
+            after: Session::Reading {
+                columns: heading.types,
+                keys,
+                count: 0,
+            },
+        }),
+        Err(fault) => Ok(Turn {
+            answer: ReplyAnswer::Failed(fault),
+            after: Session::Skipping {
+                columns: heading.types,
+                count: 0,
+            },
+        }),
+    }
+}
+
+fn halted(halt: Halt, session: Session) -> Turn<Result<ReplyAnswer, Halt>>
+    ensures { result ≡ record { answer = Err halt; after = session } }
+{
+    Turn {
+        answer: Err(halt),
+        after: session,
+    }
+}
+
+fn sent_refused(fault: &SqlFault) -> Turn<Result<ReplyAnswer, Halt>>
+    ensures { TellsAs result.answer (held.replied Session.Sent (reply.Refused fault.now)) Session.Sent result.after }
+{
+    match fault.copy() {
+        Ok(fault) => Turn {
+            answer: Ok(ReplyAnswer::Refused(fault)),
+            after: Session::Idle,
+        },
+        Err(_) => halted(Halt::OutOfMemory, Session::Sent),
+    }
+}
+
+fn sent_ended(done: Done) -> Turn<Result<ReplyAnswer, Halt>>
+    ensures { TellsAs result.answer (held.replied Session.Sent (reply.Ended done)) Session.Sent result.after }
+{
+    match done {
+        Done::Defined => Turn {
+            answer: Ok(ReplyAnswer::Defined),
+            after: Session::Idle,
+        },
+        Done::Changed(count) => Turn {
+            answer: Ok(ReplyAnswer::Changed(count)),
+            after: Session::Idle,
+        },
+        Done::Answered(_) => halted(Halt::BadReply, Session::Sent),
+    }
+}
+
+fn read_next(
+    alloc: Global,
+    columns: Seq<ColumnType>,
+    keys: Seq<Option<CellKeys>>,
+    count: u64,
+    row: &RowParts<'_>,
+) -> Turn<Result<ReplyAnswer, Halt>>
+    ensures { TellsAs result.answer (held.replied (Session.Reading columns keys count) (reply.Row row.now)) (Session.Reading columns keys count) result.after }
+{
+    if !is_row_of(columns.as_slice(), row.atoms()) {
+        return halted(
+            Halt::BadReply,
+            Session::Reading {
+                columns,
+                keys,
+                count,
+            },
+        );
+    }
+    // There is no memory for as many rows as 64 bits count.
+    let Some(more) = count.checked_add(1) else {
+        return halted(
+            Halt::OutOfMemory,
+            Session::Reading {
+                columns,
+                keys,
+                count,
+            },
+        );
+    };
+    let read = match read_row(
+        alloc,
+        more,
+        columns.as_slice(),
+        keys.as_slice(),
+        row.atoms(),
+    ) {
+        Ok(read) => read,
+        Err(_) => {
+            return halted(
+                Halt::OutOfMemory,
+                Session::Reading {
+                    columns,
+                    keys,
+                    count,
+                },
+            );
+        }
+    };
+    match read {
+        Ok(values) => Turn {
+            answer: Ok(ReplyAnswer::Row(values)),
+            after: Session::Reading {
+                columns,
+                keys,
+                count: more,
+            },
+        },
+        Err(fault) => Turn {
+            answer: Ok(ReplyAnswer::Failed(fault)),
+            after: Session::Skipping {
+                columns,
+                count: more,
+            },
+        },
+    }
+}
+
+fn skip_next(
+    columns: Seq<ColumnType>,
+    count: u64,
+    row: &RowParts<'_>,
+) -> Turn<Result<ReplyAnswer, Halt>>
+    ensures { TellsAs result.answer (held.replied (Session.Skipping columns count) (reply.Row row.now)) (Session.Skipping columns count) result.after }
+{
+    if !is_row_of(columns.as_slice(), row.atoms()) {
+        return halted(Halt::BadReply, Session::Skipping { columns, count });
+    }
+    match count.checked_add(1) {
+        Some(more) => Turn {
+            answer: Ok(ReplyAnswer::Skipped),
+            after: Session::Skipping {
+                columns,
+                count: more,
+            },
+        },
+        None => halted(Halt::OutOfMemory, Session::Skipping { columns, count }),
+    }
+}
+
+/// Whether a reply is the end of so many rows.
+fn ends(done: Done, count: u64) -> bool
+    ensures { result ≡ is_end done count }
+{
+    match done {
+        Done::Answered(rows) => rows == count,
+        Done::Defined | Done::Changed(_) => false,
+    }
+}
+
+fn reading_replied(
+    alloc: Global,
+    columns: Seq<ColumnType>,
+    keys: Seq<Option<CellKeys>>,
+    count: u64,
+    reply: &Reply<'_>,
+) -> Turn<Result<ReplyAnswer, Halt>>
+    ensures { TellsAs result.answer (held.replied (Session.Reading columns keys count) reply.now) (Session.Reading columns keys count) result.after }
+{
+    match reply {
+        Reply::Row(row) => read_next(alloc, columns, keys, count, row),
+        Reply::Ended(done) => {
+            if ends(*done, count) {
+                return Turn {
+                    answer: Ok(ReplyAnswer::Rows(count)),
+                    after: Session::Idle,
+                };
+            }
+            halted(
+                Halt::BadReply,
+                Session::Reading {
+                    columns,
+                    keys,
+                    count,
+                },
+            )
+        }
+        Reply::Described(_) | Reply::Columns(_) | Reply::Refused(_) => halted(
+            Halt::BadReply,
+            Session::Reading {
+                columns,
+                keys,
+                count,
+            },
+        ),
+    }
+}
+
+fn skipping_replied(
+    columns: Seq<ColumnType>,
+    count: u64,
+    reply: &Reply<'_>,
+) -> Turn<Result<ReplyAnswer, Halt>>
+    ensures { TellsAs result.answer (held.replied (Session.Skipping columns count) reply.now) (Session.Skipping columns count) result.after }
+{
+    match reply {
+        Reply::Row(row) => skip_next(columns, count, row),
+        Reply::Ended(done) => {
+            if ends(*done, count) {
+                return Turn {
+                    answer: Ok(ReplyAnswer::Over),
+                    after: Session::Idle,
+                };
+            }
+            halted(Halt::BadReply, Session::Skipping { columns, count })
+        }
+        Reply::Described(_) | Reply::Columns(_) | Reply::Refused(_) => {
+            halted(Halt::BadReply, Session::Skipping { columns, count })
+        }
+    }
+}
+
+fn shown<V: Vault>(
+    alloc: Global,
+    store: &mut KeyStore,
+    vault: &mut V,
+    header: &Header<'_>,
+) -> Turn<Result<ReplyAnswer, Halt>>
+    requires { IsOf (V.keys vault.old) store.old }
+    ensures replies { (beside : Devices) → Replies result.answer (held.replied Session.Sent (reply.Columns header.now)) Session.Sent result.after (with_vault beside (V.keys vault.old) (V.faults vault.old) (V.names vault.old)) (with_vault beside (V.keys vault.new) (V.faults vault.new) (V.names vault.new)) }
+    ensures of_vault { IsOf (V.keys vault.new) store.new }
+{
+    match show(alloc, store, vault, header) {
+        Ok(turn) => Turn {
+            answer: Ok(turn.answer),
+            after: turn.after,
+        },
+        Err(halt) => halted(halt, Session::Sent),
+    }
+}
+
+fn sent_replied<V: Vault>(
+    alloc: Global,
+    store: &mut KeyStore,
+    vault: &mut V,
+    reply: &Reply<'_>,
+) -> Turn<Result<ReplyAnswer, Halt>>
+    requires { IsOf (V.keys vault.old) store.old }
+    ensures replies { (beside : Devices) → Replies result.answer (held.replied Session.Sent reply.now) Session.Sent result.after (with_vault beside (V.keys vault.old) (V.faults vault.old) (V.names vault.old)) (with_vault beside (V.keys vault.new) (V.faults vault.new) (V.names vault.new)) }
+    ensures of_vault { IsOf (V.keys vault.new) store.new }
+{
+    match reply {
+        Reply::Columns(header) => shown(alloc, store, vault, header),
+        Reply::Ended(done) => sent_ended(*done),
+        Reply::Refused(fault) => sent_refused(fault),
+        Reply::Row(_) => halted(Halt::BadReply, Session::Sent),
+        Reply::Described(_) => halted(Halt::BadReply, Session::Sent),
+    }
+}
+
+/// Takes a reply to a session's request to execute a batch.
+pub fn replied<V: Vault>(
+    alloc: Global,
+    store: &mut KeyStore,
+    vault: &mut V,
+    session: Session,
+    reply: &Reply<'_>,
+) -> Turn<Result<ReplyAnswer, Halt>>
+    requires { IsOf (V.keys vault.old) store.old }
+    ensures replies { (beside : Devices) → Replies result.answer (held.replied session reply.now) session result.after (with_vault beside (V.keys vault.old) (V.faults vault.old) (V.names vault.old)) (with_vault beside (V.keys vault.new) (V.faults vault.new) (V.names vault.new)) }
+    ensures of_vault { IsOf (V.keys vault.new) store.new }
+{
+    match session {
+        Session::Sent => sent_replied(alloc, store, vault, reply),
+        Session::Reading {
+            columns,
+            keys,
+            count,
+        } => reading_replied(alloc, columns, keys, count, reply),
+        Session::Skipping { columns, count } => skipping_replied(columns, count, reply),
+        Session::Idle => halted(Halt::BadReply, Session::Idle),
+        Session::Begun(batch) => halted(Halt::BadReply, Session::Begun(batch)),
+        Session::Pending(pending) => halted(Halt::BadReply, Session::Pending(pending)),
+    }
+}

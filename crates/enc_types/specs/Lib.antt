@@ -1,0 +1,10 @@
+pub mod SiteLaws
+pub mod Sites
+pub mod Rules
+pub mod Typing
+pub mod Least
+pub mod Clash
+pub mod InferenceWorked
+pub mod Renamed
+pub mod Laws
+pub mod UsedAlone

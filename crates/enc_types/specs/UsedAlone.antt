@@ -1,0 +1,27 @@
+-- A statement over the parameters that it uses alone, as a driver sends it.
+use Rattle.std.specs.Prelude.{◌≡◌, ℕ, zero, suc, List, [], ◌∷◌, Bool, if◌then◌else◌, Ok}
+use Rattle.ae_base.specs.declared.types.Enc.{Enc}
+use Rattle.sql_tree.specs.Bound.{Bound}
+use Rattle.sql_tree.specs.Placed.{IsWellPlaced}
+use Rattle.sql_tree.specs.Uses.{uses, renamed}
+use Rattle.enc_types.specs.Least.{inferred}
+
+-- of some things, one for each parameter from a place on, those of the parameters that are used
+abbrev pub used_among : {A : Type 0} → (ℕ → Bool) → ℕ → List A → List A
+used_among used place [] = []
+used_among used place (x ∷ xs) = if used place then x ∷ used_among used (suc place) xs else used_among used (suc place) xs
+
+-- where a parameter, so many places behind a first one, stands among the used ones from that on
+abbrev pub place_among : (ℕ → Bool) → ℕ → ℕ → ℕ
+place_among used first zero = 0
+place_among used first (suc behind) = if used first then suc (place_among used (suc first) behind) else place_among used (suc first) behind
+
+abbrev pub is_used : Bound → ℕ → Bool
+is_used bound place = uses place bound
+
+abbrev pub alone : Bound → Bound
+alone bound = renamed (place_among (is_used bound) 0) (used_among (is_used bound) 0 bound.params) bound
+
+-- the parameters that a statement uses are inferred alike where it stands over them alone
+abbrev pub InferredAlone : Type 0
+InferredAlone = (bound : Bound) (encs : List Enc) → IsWellPlaced bound → inferred bound ≡ Ok encs → inferred (alone bound) ≡ Ok (used_among (is_used bound) 0 encs)

@@ -1,0 +1,450 @@
+-- A step over worlds and parameters that correspond.
+use Rattle.std.proofs.Common.{◌≡◌, ℕ, zero, suc, ◌+◌, List, [], ◌∷◌, ◌++◌, length, map, refl, ap, sym, subst, ◌∙◌, arith, append_assoc, inl, inr, Option, Some, None, Result, Ok, Err, unwrap_or, Bool, true, false, cond}
+use Rattle.std.specs.Prelude.{◌==◌, nat_le, if◌then◌else◌, IsSome}
+use Rattle.std.specs.List.{All, AllZip, find, flat_map, remove, slice_get}
+use Rattle.std.specs.Option.{option_map}
+use Rattle.std.specs.Str.{bytes_eq}
+use Rattle.std.proofs.lemmas.Bool.{eqb-true}
+use Rattle.std.proofs.lemmas.List.{append-nil}
+use Rattle.std.proofs.lemmas.List.Elements.{All-head, All-tail}
+use Rattle.std.proofs.lemmas.List.Folds.{find_at}
+use Rattle.ae_base.specs.Atoms.{Atom}
+use Rattle.ae_base.specs.Results.{◌>>=◌}
+use Rattle.ae_base.specs.Values.{is_within}
+use Rattle.ae_base.specs.declared.atoms.AtomOf.TheVariants.{Null, Plain, Sealed}
+use Rattle.ae_base.specs.declared.faults.SqlFault.{SqlFault}
+use Rattle.ae_base.specs.declared.faults.SqlFault.TheVariants as fault
+use Rattle.ae_base.specs.declared.tables.ColumnDef.{ColumnDef}
+use Rattle.ae_base.specs.declared.tables.TableDef.{TableDef}
+use Rattle.ae_base.specs.declared.types.Enc.{Enc}
+use Rattle.ae_base.specs.declared.types.Enc.TheVariants as enc
+use Rattle.ae_base.specs.declared.types.Ty.{Ty}
+use Rattle.ae_base.specs.declared.values.Value.TheVariants as value
+use Rattle.sql_tree.specs.declared.bound.BoundSource.{BoundSource}
+use Rattle.sql_tree.specs.declared.bound.ColumnSite.{ColumnSite}
+use Rattle.sql_tree.specs.Operands as operands
+use Rattle.sql_tree.specs.Bound.{BoundOperand, BoundCondition, BoundRow, BoundInsert, BoundJoin, BoundItemValue, BoundItem, BoundQuery, BoundStatement, Bound}
+use Rattle.sql_tree.specs.Bound as bound
+use Rattle.sql_tree.specs.OnTables.{IsSourceOn, IsStatementOn, columns_in, sites_among, table_among}
+use Rattle.sql_tree.specs.Placed.{site_of}
+use Rattle.catalog.specs.Catalogs.{Catalog, with_master, with_key, with_table, without_master, without_key, without_table}
+use Rattle.scalar.specs.Classes.{Class, Open, Det, Rnd, Pairing, class_of, class_at, IsNotNull, IsNotSealed, IsOneToOne, Correspond, PlacesCorrespond, RowsCorrespond, BothAnswer}
+use Rattle.scalar.specs.Eval.{eval}
+use Rattle.scalar.specs.Typed.{StandsAt, IsNotRandomized, IsTypedCondition}
+use Rattle.scalar.specs.declared.faults.Overflow.{Overflow}
+use Rattle.scalar.proofs.Correspondence.{nulls_correspond, corresponds_at, eval_places}
+use Rattle.operators.specs.Events.{Event, or_overflow, scanned, joined}
+use Rattle.engine.specs.BoundOn.{IsBoundOn}
+use Rattle.engine.specs.Columns.{site_at, ty_at, enc_at, shown_by, shown_of, result_column}
+use Rattle.engine.specs.Correspond.{IsWithinClass, ArePairsWithin, class_of_column, class_of_result, TablesCorrespond, ContentsCorrespond, AreKeysTyped, WorldsCorrespond, AnswersCorrespond, OutcomesCorrespond}
+use Rattle.engine.specs.Executes.{executes_query, executes_statement, executes}
+use Rattle.engine.specs.Keys.{first_twins, unless_twins}
+use Rattle.engine.specs.Queries as queries
+use Rattle.engine.specs.Queries.{item_of, items_of, joined_all, where_true, found_in, results}
+use Rattle.engine.specs.Rows.{admitted, column_at, value_into, values_into, value_at, value_or_null, completed, new_row, new_rows}
+use Rattle.engine.specs.Step as step
+use Rattle.engine.specs.Step.{Done, outcome, columns_of, uniques_of, rows_to_insert, done_by}
+use Rattle.engine.specs.Typed.{classes_of, param_classes, IsValueFor, AreValuesFor, IsTypedFilter, IsTypedItem, IsTypedStatement, IsTypedBy}
+use Rattle.engine.specs.Worlds.{World, place_of, rows_of}
+use Rattle.engine.proofs.Contents.{table_place_there, master_made, key_made, master_dropped, key_dropped, table_made, table_dropped}
+use Rattle.engine.proofs.Kept.{created_done, dropped_done, done_ok, classes_same}
+use Rattle.engine.proofs.Suited.{class_placed}
+use Rattle.engine.proofs.Moving.{inserted_done, selected_done}
+use Rattle.engine.proofs.Pairs.{both_then, both_before, both_within, EventsCorrespond, contents_at, contents_set, contents_push, contents_remove, scanned_alike, results_alike, first_alike, filtered_alike, joined_alike}
+use Rattle.engine.proofs.Pairs as pairs
+use Rattle.engine.proofs.Walks.{found_bare}
+
+-- ---- classes of places
+
+class_site : (columns : List ColumnSite) (p : ℕ) → class_of (site_at columns p).ty (site_at columns p).enc ≡ class_at (classes_of columns) p
+class_site [] p = refl
+class_site (c ∷ columns) zero = refl
+class_site (c ∷ columns) (suc p) = class_site columns p
+
+class_param : (tys : List Ty) (encs : List Enc) (p : ℕ) → length encs ≡ length tys → class_of (ty_at tys p) (enc_at encs p) ≡ class_at (param_classes tys encs) p
+class_param [] [] p n = refl
+class_param [] (e ∷ encs) p n = absurd (omega arith)
+class_param (t ∷ tys) [] p n = absurd (omega arith)
+class_param (t ∷ tys) (e ∷ encs) zero n = refl
+class_param (t ∷ tys) (e ∷ encs) (suc p) n = class_param tys encs p (omega arith)
+
+classes_append : (xs ys : List ColumnSite) → classes_of (xs ++ ys) ≡ classes_of xs ++ classes_of ys
+classes_append [] ys = refl
+classes_append (x ∷ xs) ys = ap (λ cs. class_of x.ty x.enc ∷ cs) (classes_append xs ys)
+
+abbrev kept_ok : Atom → Result Atom SqlFault
+kept_ok atom = Ok atom
+
+abbrev pair_ok : ℕ → Atom → Result (ℕ × Atom) SqlFault
+pair_ok place atom = Ok (place, atom)
+
+abbrev row_ok : Atom → List Atom → Result (List Atom) SqlFault
+row_ok atom row = Ok (atom ∷ row)
+
+abbrev some_table : TableDef → Option TableDef
+some_table table = Some table
+
+abbrev other_of : Catalog → List (List (List Atom)) → World
+other_of catalog contents = record { catalog = catalog; contents = contents }
+
+zip_length : {A B : Type 0} (P : A → B → Type 0) (xs : List A) (ys : List B) → AllZip P xs ys → length xs ≡ length ys
+zip_length P [] [] h = refl
+zip_length P [] (y ∷ ys) h = absurd h
+zip_length P (x ∷ xs) [] h = absurd h
+zip_length P (x ∷ xs) (y ∷ ys) h = ap suc (zip_length P xs ys h.1)
+
+all_at : {A : Type 0} (P : A → Type 0) (xs : List A) (i : ℕ) (x : A) → All P xs → slice_get xs i ≡ Some x → P x
+all_at P [] i x h e = absurd cc
+all_at P (y ∷ xs) zero x h e = let f : y ≡ x = cc in subst P f (All-head P y xs h)
+all_at P (y ∷ xs) (suc i) x h e = all_at P xs i x (All-tail P y xs h) e
+
+-- the same key refuses both, or none does
+twins_apart : {A : Type 0} (P : A → A → Type 0) (x y : List A) (o p : Option ℕ) → AllZip P x y → o ≡ p → BothAnswer {E = SqlFault} (AllZip P) (unless_twins o x) (unless_twins p y)
+twins_apart P x y o p m e = subst (λ q. BothAnswer (AllZip P) (unless_twins o x) (unless_twins q y)) e (there o)
+  where
+    there : (o : Option ℕ) → BothAnswer (AllZip P) (unless_twins o x) (unless_twins o y)
+    there None = m
+    there (Some n) = refl
+
+stands_shown : (columns : List ColumnSite) (tys : List Ty) (encs : List Enc) (v : BoundOperand) → length encs ≡ length tys
+    → StandsAt (classes_of columns) (param_classes tys encs) (class_of (shown_by columns tys encs v).ty (shown_by columns tys encs v).enc) v
+stands_shown columns tys encs (operands.Literal at value.Null) n = tt
+stands_shown columns tys encs (operands.Literal at (value.Is d)) n = refl
+stands_shown columns tys encs (operands.Param at p) n = class_param tys encs p n
+stands_shown columns tys encs (operands.Column at p) n = class_site columns p
+stands_shown columns tys encs (operands.Minus at x) n = refl
+stands_shown columns tys encs (operands.Sum first terms) n = refl
+
+overflow_alike : {A B : Type 0} (P : A → B → Type 0) (s : Result A Overflow) (t : Result B Overflow) → BothAnswer P s t → BothAnswer P (or_overflow s) (or_overflow t)
+overflow_alike P (Ok x) (Ok y) m = m
+overflow_alike P (Ok x) (Err e) m = absurd m
+overflow_alike P (Err e) (Ok y) m = absurd m
+overflow_alike P (Err e) (Err f) m = refl
+
+module _ (R : Pairing) (r : IsOneToOne R) (within : ArePairsWithin R) where
+  -- ---- what a column takes
+
+  null_admitted : (c : Class) (column : ColumnDef) → BothAnswer (Correspond R c) (admitted column Null) (admitted column Null)
+  null_admitted c column = by_test column.not_null
+    where
+      by_test : (b : Bool) → BothAnswer (Correspond R c) (cond b (Err (fault.NullNotAllowed column.name)) (kept_ok Null)) (cond b (Err (fault.NullNotAllowed column.name)) (kept_ok Null))
+      by_test true = refl
+      by_test false = nulls_correspond R r c
+
+  open_admitted : (column : ColumnDef) (a : Atom) → IsNotSealed a → BothAnswer (Correspond R Open) (admitted column a) (admitted column a)
+  open_admitted column Null h = null_admitted Open column
+  open_admitted column (Plain d) h = by_test (is_within d column.ty)
+    where
+      by_test : (b : Bool) → BothAnswer (Correspond R Open) (cond b (kept_ok (Plain d)) (Err (fault.Truncated column.name))) (cond b (kept_ok (Plain d)) (Err (fault.Truncated column.name)))
+      by_test true = (refl, tt)
+      by_test false = refl
+  open_admitted column (Sealed c) h = absurd h
+
+  det_admitted : (column : ColumnDef) (key : ℕ) (a : Atom) → IsNotNull a → IsWithinClass (Det key column.ty) a → admitted column a ≡ kept_ok a
+  det_admitted column key Null h k = absurd h
+  det_admitted column key (Plain d) h k = ap (λ b. if b then kept_ok (Plain d) else Err (fault.Truncated column.name)) k
+  det_admitted column key (Sealed c) h k = refl
+
+  rnd_admitted : (column : ColumnDef) (key : ℕ) (a : Atom) → IsNotNull a → IsWithinClass (Rnd key column.ty) a → admitted column a ≡ kept_ok a
+  rnd_admitted column key Null h k = absurd h
+  rnd_admitted column key (Plain d) h k = ap (λ b. if b then kept_ok (Plain d) else Err (fault.Truncated column.name)) k
+  rnd_admitted column key (Sealed c) h k = refl
+
+  both_admitted : (c : Class) (column : ColumnDef) (a b : Atom) → Correspond R c a b → admitted column a ≡ kept_ok a → admitted column b ≡ kept_ok b → BothAnswer (Correspond R c) (admitted column a) (admitted column b)
+  both_admitted c column a b m e f = subst (λ x. BothAnswer (Correspond R c) x (admitted column b)) (sym e) (subst (λ y. BothAnswer (Correspond R c) (kept_ok a) y) (sym f) m)
+
+  both_null : (c : Class) (column : ColumnDef) (a b : Atom) → (a ≡ Null) × (b ≡ Null) → BothAnswer (Correspond R c) (admitted column a) (admitted column b)
+  both_null c column a b e =
+      subst (λ x. BothAnswer (Correspond R c) (admitted column x) (admitted column b)) (sym e.0) (subst (λ y. BothAnswer (Correspond R c) (admitted column Null) (admitted column y)) (sym e.1) (null_admitted c column))
+
+  admitted_by : (column : ColumnDef) (e : Enc) (a b : Atom) → Correspond R (class_of column.ty e) a b → BothAnswer (Correspond R (class_of column.ty e)) (admitted column a) (admitted column b)
+  admitted_by column enc.Plain a b m = subst (λ x. BothAnswer (Correspond R Open) (admitted column a) (admitted column x)) (sym m.0) (open_admitted column a m.1)
+  admitted_by column (enc.Det key) a b m =
+      let c = Det key column.ty in
+      elim m [
+        | inl e ↦ both_null c column a b e
+        | inr p ↦ both_admitted c column a b (inr p) (det_admitted column key a (r.left_there c a b p) (within.left c a b p)) (det_admitted column key b (r.right_there c a b p) (within.right c a b p))
+      ]
+  admitted_by column (enc.Rnd key) a b m =
+      let c = Rnd key column.ty in
+      elim m [
+        | inl e ↦ both_null c column a b e
+        | inr p ↦ both_admitted c column a b (inr p) (rnd_admitted column key a (r.left_there c a b p) (within.left c a b p)) (rnd_admitted column key b (r.right_there c a b p) (within.right c a b p))
+      ]
+
+  -- ---- new rows
+
+  -- values for one place
+  abbrev GivenAlike : List Class → ℕ × Atom → ℕ × Atom → Type 0
+  GivenAlike cs x y = (y.0 ≡ x.0) × Correspond R (class_at cs x.0) x.1 y.1
+
+  abbrev BothHave : Class → Option Atom → Option Atom → Type 0
+  BothHave c None None = Unit {0}
+  BothHave c None (Some b) = ⊥
+  BothHave c (Some a) None = ⊥
+  BothHave c (Some a) (Some b) = Correspond R c a b
+
+  at_alike : (cs : List Class) (given other : List (ℕ × Atom)) (p : ℕ) → AllZip (GivenAlike cs) given other → BothHave (class_at cs p) (value_at given p) (value_at other p)
+  at_alike cs [] [] p h = tt
+  at_alike cs [] (y ∷ other) p h = absurd h
+  at_alike cs (x ∷ given) [] p h = absurd h
+  at_alike cs (x ∷ given) (y ∷ other) p h =
+      subst (λ b. BothHave (class_at cs p) (value_at (x ∷ given) p) (option_map (λ (v : ℕ × Atom). v.1) (cond b (Some y) (find (λ (v : ℕ × Atom). v.0 == p) other)))) (sym (ap (λ k. k == p) h.0.0)) (by_test (at_alike cs given other p h.1) (x.0 == p) refl)
+    where
+      by_test : BothHave (class_at cs p) (value_at given p) (value_at other p) → (b : Bool) → (x.0 == p) ≡ b
+          → BothHave (class_at cs p) (option_map (λ (v : ℕ × Atom). v.1) (cond b (Some x) (find (λ (v : ℕ × Atom). v.0 == p) given))) (option_map (λ (v : ℕ × Atom). v.1) (cond b (Some y) (find (λ (v : ℕ × Atom). v.0 == p) other)))
+      by_test rest true e = subst (λ k. Correspond R (class_at cs k) x.1 y.1) (eqb-true x.0 p e) h.0.1
+      by_test rest false e = rest
+
+  filled_alike : (column : ColumnDef) (o p : Option Atom) → BothHave (class_of column.ty column.enc) o p → BothAnswer (Correspond R (class_of column.ty column.enc)) (value_or_null column o) (value_or_null column p)
+  filled_alike column None None m = null_admitted (class_of column.ty column.enc) column
+  filled_alike column None (Some b) m = absurd m
+  filled_alike column (Some a) None m = absurd m
+  filled_alike column (Some a) (Some b) m = m
+
+  completed_alike : (place : ℕ) (given other : List (ℕ × Atom)) (columns : List ColumnDef) → ((p : ℕ) → BothHave (class_at (classes_of (map site_of columns)) p) (value_at given (place + p)) (value_at other (place + p)))
+      → BothAnswer (RowsCorrespond R (classes_of (map site_of columns))) (completed place given columns) (completed place other columns)
+  completed_alike place given other [] h = tt
+  completed_alike place given other (column ∷ columns) h =
+      let c = class_of column.ty column.enc in
+      let cs = classes_of (map site_of columns) in
+      let z : place + 0 ≡ place = omega arith in
+      both_then (Correspond R c) (RowsCorrespond R (c ∷ cs)) (value_or_null column (value_at given place)) (value_or_null column (value_at other place)) (λ atom. completed (place + 1) given columns >>= row_ok atom)
+      (λ atom. completed (place + 1) other columns >>= row_ok atom) (filled_alike column (value_at given place) (value_at other place) (subst (λ k. BothHave c (value_at given k) (value_at other k)) z (h 0)))
+      (λ a b m. both_then (RowsCorrespond R cs) (RowsCorrespond R (c ∷ cs)) (completed (place + 1) given columns) (completed (place + 1) other columns) (row_ok a) (row_ok b)
+      (completed_alike (place + 1) given other columns
+      (λ p. let n : place + suc p ≡ (place + 1) + p = omega arith in subst (λ k. BothHave (class_at cs p) (value_at given k) (value_at other k)) n (h (suc p)))) (λ us vs q. (m, q)))
+
+  module _ (ps : List Class) (values others : List Atom) (given : PlacesCorrespond R ps values others) where
+    module _ (columns : List ColumnDef) where
+      value_alike : (place : ℕ) (v : BoundOperand) → IsValueFor (classes_of (map site_of columns)) [] ps place v
+          → BothAnswer (GivenAlike (classes_of (map site_of columns))) (value_into columns [] values place v) (value_into columns [] others place v)
+      value_alike place v h =
+          let cs = classes_of (map site_of columns) in
+          let column = column_at columns place in
+          let c = class_at cs place in
+          let same = class_placed columns place in
+          both_then (Correspond R c) (GivenAlike cs) (or_overflow (eval [] values v)) (or_overflow (eval [] others v)) (λ atom. admitted column atom >>= pair_ok place) (λ atom. admitted column atom >>= pair_ok place)
+          (overflow_alike (Correspond R c) (eval [] values v) (eval [] others v) (eval_places R [] ps [] [] values others v c r (λ p. nulls_correspond R r Open) given h.1 h.0))
+          (λ a b m. both_then (Correspond R c) (GivenAlike cs) (admitted column a) (admitted column b) (pair_ok place) (pair_ok place)
+          (subst (λ x. BothAnswer (Correspond R x) (admitted column a) (admitted column b)) (sym same) (admitted_by column column.enc a b (subst (λ x. Correspond R x a b) same m))) (λ x y k. (refl, k)))
+
+      values_alike : (places : List ℕ) (vs : List BoundOperand) → AreValuesFor (classes_of (map site_of columns)) [] ps places vs
+          → BothAnswer (AllZip (GivenAlike (classes_of (map site_of columns)))) (values_into columns [] values places vs) (values_into columns [] others places vs)
+      values_alike [] vs h = tt
+      values_alike (place ∷ places) [] h = tt
+      values_alike (place ∷ places) (v ∷ vs) h =
+          both_before (GivenAlike (classes_of (map site_of columns))) (value_into columns [] values place v) (value_into columns [] others place v) (values_into columns [] values places vs) (values_into columns [] others places vs)
+          (value_alike place v h.0) (values_alike places vs h.1)
+
+      new_row_alike : (named : List ℕ) (vs : List BoundOperand) → AreValuesFor (classes_of (map site_of columns)) [] ps named vs
+          → BothAnswer (RowsCorrespond R (classes_of (map site_of columns))) (new_row columns named values vs) (new_row columns named others vs)
+      new_row_alike named vs h =
+          let cs = classes_of (map site_of columns) in
+          both_then (AllZip (GivenAlike cs)) (RowsCorrespond R cs) (values_into columns [] values named vs) (values_into columns [] others named vs) (λ given. completed 0 given columns) (λ given. completed 0 given columns)
+          (values_alike named vs h) (λ x y m. completed_alike 0 x y columns (λ p. let z : p ≡ 0 + p = omega arith in subst (λ k. BothHave (class_at cs p) (value_at x k) (value_at y k)) z (at_alike cs x y p m)))
+
+      new_rows_alike : (named : List ℕ) (count : ℕ) (rows : List BoundRow) → All (λ (row : BoundRow). AreValuesFor (classes_of (map site_of columns)) [] ps named row.values) rows
+          → BothAnswer (AllZip (RowsCorrespond R (classes_of (map site_of columns)))) (new_rows columns named values count rows) (new_rows columns named others count rows)
+      new_rows_alike named count [] h = tt
+      new_rows_alike named count (row ∷ rows) h =
+          let P = RowsCorrespond R (classes_of (map site_of columns)) in
+          both_before P (if nat_le 100000 count then Err fault.TableFull else new_row columns named values row.values) (if nat_le 100000 count then Err fault.TableFull else new_row columns named others row.values)
+          (new_rows columns named values (count + 1) rows) (new_rows columns named others (count + 1) rows)
+          (both_within P (nat_le 100000 count) fault.TableFull (new_row columns named values row.values) (new_row columns named others row.values)
+          (new_row_alike named row.values (All-head (λ (row : BoundRow). AreValuesFor (classes_of (map site_of columns)) [] ps named row.values) row rows h)))
+          (new_rows_alike named (count + 1) rows (All-tail (λ (row : BoundRow). AreValuesFor (classes_of (map site_of columns)) [] ps named row.values) row rows h))
+
+  -- ---- what is shown
+
+  module _ (columns : List ColumnSite) (tys : List Ty) (encs : List Enc) (n : length encs ≡ length tys) (values others : List Atom) (given : PlacesCorrespond R (param_classes tys encs) values others) where
+    item_alike : (row other : List Atom) (v : BoundItemValue) → PlacesCorrespond R (classes_of columns) row other → IsTypedItem (classes_of columns) (param_classes tys encs) v
+        → BothAnswer (Correspond R (class_of (shown_of columns tys encs v).ty (shown_of columns tys encs v).enc)) (item_of values 0 row v) (item_of others 0 other v)
+    item_alike row other (bound.Value x) h t =
+        let c = class_of (shown_by columns tys encs x).ty (shown_by columns tys encs x).enc in
+        overflow_alike (Correspond R c) (eval row values x) (eval other others x) (eval_places R (classes_of columns) (param_classes tys encs) row other values others x c r h given t (stands_shown columns tys encs x n))
+    item_alike row other (bound.Count at) h t = (refl, tt)
+
+    items_alike : (row other : List Atom) (items : List BoundItem) → PlacesCorrespond R (classes_of columns) row other → All (λ (item : BoundItem). IsTypedItem (classes_of columns) (param_classes tys encs) item.value) items
+        → BothAnswer (RowsCorrespond R (map class_of_result (map (result_column columns tys encs) items))) (items_of values 0 row items) (items_of others 0 other items)
+    items_alike row other [] h t = tt
+    items_alike row other (item ∷ items) h t =
+        let c = class_of (shown_of columns tys encs item.value).ty (shown_of columns tys encs item.value).enc in
+        let cs = map class_of_result (map (result_column columns tys encs) items) in
+        let P : BoundItem → Type 0 = λ (item : BoundItem). IsTypedItem (classes_of columns) (param_classes tys encs) item.value in
+        both_then (Correspond R c) (RowsCorrespond R (c ∷ cs)) (item_of values 0 row item.value) (item_of others 0 other item.value) (λ atom. items_of values 0 row items >>= row_ok atom) (λ atom. items_of others 0 other items >>= row_ok atom)
+        (item_alike row other item.value h (All-head P item items t))
+        (λ a b m. both_then (RowsCorrespond R cs) (RowsCorrespond R (c ∷ cs)) (items_of values 0 row items) (items_of others 0 other items) (row_ok a) (row_ok b) (items_alike row other items h (All-tail P item items t)) (λ us vs q. (m, q)))
+
+  -- ---- two worlds over one catalog
+
+  module _ (world : World) (more : List (List (List Atom))) (corr : ContentsCorrespond R world.catalog.tables world.contents more) where
+    abbrev other_world : World
+    other_world = record { catalog = world.catalog; contents = more }
+
+    abbrev DoneAlike : Done → Done → Type 0
+    DoneAlike x y = AnswersCorrespond R x.answer y.answer × WorldsCorrespond R x.world y.world
+
+    place_there : (name : List ℕ) (table : TableDef) → table_among world.catalog.tables name ≡ Some table → slice_get world.catalog.tables (place_of world name) ≡ Some table
+    place_there name table t =
+        let there : IsSome (table_among world.catalog.tables name) = subst IsSome (sym t) refl in
+        ap (λ o. slice_get world.catalog.tables (unwrap_or o 0)) (table_place_there world.catalog name there) ∙ sym (find_at (λ (x : TableDef). bytes_eq x.name name) world.catalog.tables) ∙ t
+
+    table_alike : (name : List ℕ) (table : TableDef) → table_among world.catalog.tables name ≡ Some table → TablesCorrespond R table (rows_of world name) (rows_of other_world name)
+    table_alike name table t = contents_at R world.catalog.tables world.contents more (place_of world name) table corr (place_there name table t)
+
+    -- in the classes of its sites
+    sites_alike : (name : List ℕ) → IsSome (table_among world.catalog.tables name) → AllZip (RowsCorrespond R (classes_of (sites_among world.catalog.tables name))) (rows_of world name) (rows_of other_world name)
+    sites_alike name there = table_is (table_among world.catalog.tables name) refl there
+      where
+        table_is : (o : Option TableDef) → table_among world.catalog.tables name ≡ o → IsSome o → AllZip (RowsCorrespond R (classes_of (sites_among world.catalog.tables name))) (rows_of world name) (rows_of other_world name)
+        table_is None t h = absurd cc
+        table_is (Some table) t h =
+            subst (λ (o : Option TableDef). AllZip (RowsCorrespond R (classes_of (map site_of (columns_in o)))) (rows_of world name) (rows_of other_world name)) (sym t)
+            (subst (λ cs. AllZip (RowsCorrespond R cs) (rows_of world name) (rows_of other_world name)) (sym (classes_same table.columns)) (table_alike name table t))
+
+    -- ---- definitions
+
+    defined_alike : (d : Result Catalog SqlFault) → ((new : Catalog) → d ≡ Ok new → new.tables ≡ world.catalog.tables) → BothAnswer DoneAlike (step.defined world d) (step.defined other_world d)
+    defined_alike (Ok new) h = (tt, record { catalog = refl; contents = subst (λ ts. ContentsCorrespond R ts world.contents more) (sym (h new refl)) corr })
+    defined_alike (Err f) h = refl
+
+    created_alike : (table : TableDef) → BothAnswer DoneAlike (step.create_table world table) (step.create_table other_world table)
+    created_alike table = made (with_table world.catalog table) refl
+      where
+        made : (d : Result Catalog SqlFault) → with_table world.catalog table ≡ d → BothAnswer DoneAlike (d >>= λ catalog. done_ok (created_done world catalog)) (d >>= λ catalog. done_ok (created_done other_world catalog))
+        made (Ok new) e =
+            (tt, record { catalog = refl; contents = subst (λ ts. ContentsCorrespond R ts (world.contents ++ [] ∷ []) (more ++ [] ∷ [])) (sym (table_made world.catalog new table e)) (contents_push R world.catalog.tables world.contents more table corr) })
+        made (Err f) e = refl
+
+    dropped_alike : (name : List ℕ) → BothAnswer DoneAlike (step.drop_table world name) (step.drop_table other_world name)
+    dropped_alike name = made (without_table world.catalog name) refl
+      where
+        made : (d : Result Catalog SqlFault) → without_table world.catalog name ≡ d → BothAnswer DoneAlike (d >>= λ catalog. done_ok (dropped_done world name catalog)) (d >>= λ catalog. done_ok (dropped_done other_world name catalog))
+        made (Ok new) e =
+            let d = table_dropped world.catalog new name e in
+            let tables : remove world.catalog.tables d.0 ≡ new.tables = ap (λ (x : Catalog). x.tables) d.2 in
+            let place : d.0 ≡ place_of world name = ap (λ o. unwrap_or o 0) (sym d.1) in (
+              tt,
+              record {
+                catalog = refl;
+                contents = subst (λ p. ContentsCorrespond R new.tables (remove world.contents p) (remove more p)) place
+                    (subst (λ ts. ContentsCorrespond R ts (remove world.contents d.0) (remove more d.0)) tables (contents_remove R world.catalog.tables world.contents more d.0 corr));
+              },
+            )
+        made (Err f) e = refl
+
+    -- ---- rows
+
+    module _ (tys : List Ty) (encs : List Enc) (n : length encs ≡ length tys) (values others : List Atom) (given : PlacesCorrespond R (param_classes tys encs) values others) where
+      inserted_alike : (columns : List ColumnSite) (i : BoundInsert) → AreKeysTyped world.catalog.tables → IsSome (table_among world.catalog.tables i.table) → columns ≡ sites_among world.catalog.tables i.table
+          → All (λ (row : BoundRow). AreValuesFor (classes_of columns) [] (param_classes tys encs) i.named row.values) i.rows → BothAnswer DoneAlike (step.insert world i values) (step.insert other_world i others)
+      inserted_alike columns i keys there same typed = table_is (table_among world.catalog.tables i.table) refl there
+        where
+          table_is : (o : Option TableDef) → table_among world.catalog.tables i.table ≡ o → IsSome o → BothAnswer DoneAlike (step.insert world i values) (step.insert other_world i others)
+          table_is None t h = absurd cc
+          table_is (Some table) t h =
+              let own = columns_of world i.table in
+              let cs = classes_of (map site_of own) in
+              let P = RowsCorrespond R cs in
+              let old = rows_of world i.table in
+              let old_other = rows_of other_world i.table in
+              let count : length old_other ≡ length old = sym (zip_length P old old_other (sites_alike i.table there)) in
+              let for = subst (λ sites. All (λ (row : BoundRow). AreValuesFor (classes_of sites) [] (param_classes tys encs) i.named row.values) i.rows) same typed in
+              let class : cs ≡ map class_of_column table.columns = classes_same own ∙ ap (λ (o : Option TableDef). map class_of_column (columns_in o)) t in
+              let uniques : uniques_of world i.table ≡ table.uniques = ap step.uniques_in t in
+              let typed_keys : All (λ key. All (λ place. IsNotRandomized (class_at cs place)) key) (uniques_of world i.table) =
+              subst (λ ks. All (λ key. All (λ place. IsNotRandomized (class_at cs place)) key) ks) (sym uniques)
+              (subst (λ x. All (λ key. All (λ place. IsNotRandomized (class_at x place)) key) table.uniques) (sym class) (key_of table (place_there i.table table t))) in
+              both_then (AllZip P) DoneAlike (rows_to_insert world i values) (rows_to_insert other_world i others) (λ rows. done_ok (inserted_done world i.table rows)) (λ rows. done_ok (inserted_done other_world i.table rows))
+              (both_then (AllZip P) (AllZip P) (new_rows own i.named values (length old) i.rows) (new_rows own i.named others (length old_other) i.rows)
+              (λ rows. unless_twins (first_twins 1 (uniques_of world i.table) (old ++ rows)) rows) (λ rows. unless_twins (first_twins 1 (uniques_of world i.table) (old_other ++ rows)) rows)
+              (subst (λ m. BothAnswer (AllZip P) (new_rows own i.named values (length old) i.rows) (new_rows own i.named others m i.rows)) (sym count) (new_rows_alike (param_classes tys encs) values others given own i.named (length old) i.rows for))
+              (λ x y m. twins_apart P x y (first_twins 1 (uniques_of world i.table) (old ++ x)) (first_twins 1 (uniques_of world i.table) (old_other ++ y)) m
+              (first_alike R r cs 1 (uniques_of world i.table) (old ++ x) (old_other ++ y) typed_keys (pairs.zip_append P old x old_other y (sites_alike i.table there) m))))
+              (λ x y m. (
+                sym (zip_length P x y m),
+                record {
+                  catalog = refl;
+                  contents = contents_set R world.catalog.tables world.contents more (place_of world i.table) (old ++ x) (old_other ++ y) corr
+                      (λ def e. subst (λ z. AllZip (RowsCorrespond R z) (old ++ x) (old_other ++ y)) (class ∙ ap (λ (d : TableDef). map class_of_column d.columns) (same_table table def (sym (place_there i.table table t) ∙ e)))
+                      (pairs.zip_append P old x old_other y (sites_alike i.table there) m));
+                },
+              ))
+            where
+              same_table : (a b : TableDef) → some_table a ≡ some_table b → a ≡ b
+              same_table a b e = cc
+
+              key_of : (table : TableDef) → slice_get world.catalog.tables (place_of world i.table) ≡ Some table → All (λ key. All (λ place. IsNotRandomized (class_at (map class_of_column table.columns) place)) key) table.uniques
+              key_of table e = all_at (λ (def : TableDef). All (λ key. All (λ place. IsNotRandomized (class_at (map class_of_column def.columns) place)) key) def.uniques) world.catalog.tables (place_of world i.table) table keys e
+
+      joins_alike : (all : List Class) (joins : List BoundJoin) (sites : List ColumnSite) (es fs : List Event) → All (IsSourceOn world.catalog.tables) (map (λ (j : BoundJoin). j.source) joins)
+          → All (λ (j : BoundJoin). IsTypedCondition all (param_classes tys encs) j.on) joins
+          → all ≡ classes_of (sites ++ flat_map (λ (s : BoundSource). sites_among world.catalog.tables s.table) (map (λ (j : BoundJoin). j.source) joins)) → EventsCorrespond R (classes_of sites) es fs
+          → EventsCorrespond R all (joined_all world values joins es) (joined_all other_world others joins fs)
+      joins_alike all [] sites es fs h t same k = subst (λ cs. EventsCorrespond R cs es fs) (sym (same ∙ ap classes_of (append-nil sites))) k
+      joins_alike all (join ∷ joins) sites es fs h t same k =
+          let own = sites_among world.catalog.tables join.source.table in
+          let rest = flat_map (λ (s : BoundSource). sites_among world.catalog.tables s.table) (map (λ (j : BoundJoin). j.source) joins) in
+          let there = All-head (IsSourceOn world.catalog.tables) join.source (map (λ (j : BoundJoin). j.source) joins) h in
+          let front : all ≡ classes_of ((sites ++ own) ++ rest) = same ∙ ap classes_of (sym (append_assoc sites own rest)) in
+          let parts : all ≡ (classes_of sites ++ classes_of own) ++ classes_of rest = front ∙ classes_append (sites ++ own) rest ∙ ap (λ cs. cs ++ classes_of rest) (classes_append sites own) in
+          let on = subst (λ cs. IsTypedCondition cs (param_classes tys encs) join.on) parts (All-head (λ (j : BoundJoin). IsTypedCondition all (param_classes tys encs) j.on) join joins t) in
+          let next = joined_alike R r (param_classes tys encs) values others given (classes_of sites) (classes_of own) (classes_of rest) join.on on (rows_of world join.source.table) (rows_of other_world join.source.table) es fs
+          (sites_alike join.source.table there.0) k in
+          joins_alike all joins (sites ++ own) (joined values join.on (rows_of world join.source.table) es) (joined others join.on (rows_of other_world join.source.table) fs)
+          (All-tail (IsSourceOn world.catalog.tables) join.source (map (λ (j : BoundJoin). j.source) joins) h) (All-tail (λ (j : BoundJoin). IsTypedCondition all (param_classes tys encs) j.on) join joins t) front
+          (subst (λ cs. EventsCorrespond R cs (joined values join.on (rows_of world join.source.table) es) (joined others join.on (rows_of other_world join.source.table) fs)) (sym (classes_append sites own)) next)
+
+      where_alike : (cs : List Class) (filter : Option BoundCondition) (es fs : List Event) → IsTypedFilter cs (param_classes tys encs) filter → EventsCorrespond R cs es fs → EventsCorrespond R cs (where_true values filter es) (where_true others filter fs)
+      where_alike cs None es fs t k = k
+      where_alike cs (Some condition) es fs t k = filtered_alike R r (param_classes tys encs) values others given cs condition es fs t k
+
+      selected_alike : (columns : List ColumnSite) (q : BoundQuery) → IsStatementOn world.catalog.tables columns (bound.Select q) → IsTypedStatement (classes_of columns) (param_classes tys encs) (bound.Select q) → executes_query q ≡ true
+          → BothAnswer DoneAlike (step.select world columns tys encs q values) (step.select other_world columns tys encs q others)
+      selected_alike columns q on t x =
+          let all = classes_of columns in
+          let shown = map (result_column columns tys encs) q.items in
+          let P = RowsCorrespond R (map class_of_result shown) in
+          let sources = map (λ (j : BoundJoin). j.source) q.joins in
+          let first = All-head (IsSourceOn world.catalog.tables) q.from sources on.0 in
+          let own = sites_among world.catalog.tables q.from.table in
+          let start = scanned_alike R (classes_of own) (rows_of world q.from.table) (rows_of other_world q.from.table) (sites_alike q.from.table first.0) in
+          let walk = joins_alike all q.joins own (scanned (rows_of world q.from.table)) (scanned (rows_of other_world q.from.table)) (All-tail (IsSourceOn world.catalog.tables) q.from sources on.0) t.joins (ap classes_of on.1) start in
+          let met = where_alike all q.filter (joined_all world values q.joins (scanned (rows_of world q.from.table))) (joined_all other_world others q.joins (scanned (rows_of other_world q.from.table))) t.filter walk in
+          let rows : BothAnswer (AllZip P) (results (λ row. items_of values 0 row q.items) 0 (queries.events_of world q values)) (results (λ row. items_of others 0 row q.items) 0 (queries.events_of other_world q others)) =
+          results_alike R all P (λ row. items_of values 0 row q.items) (λ row. items_of others 0 row q.items) 0 (queries.events_of world q values) (queries.events_of other_world q others)
+          (λ row other p. items_alike columns tys encs n values others given row other q.items (corresponds_at R r all row other p) t.items) met in
+          both_then (AllZip P) DoneAlike (found_in world q values) (found_in other_world q others) (λ rows. done_ok (selected_done world shown rows)) (λ rows. done_ok (selected_done other_world shown rows))
+          (subst (λ x. BothAnswer (AllZip P) x (found_in other_world q others)) (sym (found_bare world q values x))
+          (subst (λ y. BothAnswer (AllZip P) (results (λ row. items_of values 0 row q.items) 0 (queries.events_of world q values)) y) (sym (found_bare other_world q others x)) rows))
+          (λ x y m. ((refl, m), record { catalog = refl; contents = corr }))
+
+      done_alike : (b : Bound) → b.params ≡ tys → (s : BoundStatement) → AreKeysTyped world.catalog.tables → IsStatementOn world.catalog.tables b.columns s → IsTypedStatement (classes_of b.columns) (param_classes tys encs) s → executes_statement s ≡ true
+          → BothAnswer DoneAlike (done_by world b encs s values) (done_by other_world b encs s others)
+      done_alike b same (bound.CreateMaster name path) keys on t x = defined_alike (with_master world.catalog name path) (λ new e. master_made world.catalog new name path e)
+      done_alike b same (bound.CreateKey name key wrapped) keys on t x = defined_alike (with_key world.catalog name key wrapped) (λ new e. key_made world.catalog new name key wrapped e)
+      done_alike b same (bound.CreateTable table) keys on t x = created_alike table.def
+      done_alike b same (bound.DropTable name) keys on t x = dropped_alike name
+      done_alike b same (bound.DropMaster name) keys on t x = defined_alike (without_master world.catalog name) (λ new e. master_dropped world.catalog new name e)
+      done_alike b same (bound.DropKey name) keys on t x = defined_alike (without_key world.catalog name) (λ new e. key_dropped world.catalog new name e)
+      done_alike b same (bound.Insert i) keys on t x = inserted_alike b.columns i keys on.0 on.1 t
+      done_alike b same (bound.Update u) keys on t x = absurd cc
+      done_alike b same (bound.Delete d) keys on t x = absurd cc
+      done_alike b same (bound.Select q) keys on t x =
+          subst (λ ts. BothAnswer DoneAlike (step.select world b.columns ts encs q values) (step.select other_world b.columns ts encs q others)) (sym same) (selected_alike b.columns q on t x)
+
+    outcomes_alike : (s u : Result Done SqlFault) → BothAnswer DoneAlike s u → OutcomesCorrespond R (outcome world s) (outcome other_world u)
+    outcomes_alike (Ok x) (Ok y) m = record { answers = m.0; worlds = m.1 }
+    outcomes_alike (Ok x) (Err f) m = absurd m
+    outcomes_alike (Err e) (Ok y) m = absurd m
+    outcomes_alike (Err e) (Err f) m = record { answers = m; worlds = record { catalog = refl; contents = corr } }
+
+  pub step_alike : (world other : World) (b : Bound) (encs : List Enc) (params others : List Atom) → AreKeysTyped world.catalog.tables → WorldsCorrespond R world other → RowsCorrespond R (param_classes b.params encs) params others
+      → IsBoundOn world.catalog b encs params → executes b ≡ true → IsTypedBy encs b → OutcomesCorrespond R (step.step world b encs params) (step.step other b encs others)
+  step_alike world other b encs params others keys w given o x t =
+      let more = other.contents in
+      let same : other_of world.catalog more ≡ other = ap (λ c. other_of c more) (sym w.catalog) in
+      subst (λ (u : World). OutcomesCorrespond R (step.step world b encs params) (step.step u b encs others)) same
+      (outcomes_alike world more w.contents (done_by world b encs b.statement params) (done_by (other_of world.catalog more) b encs b.statement others)
+      (done_alike world more w.contents b.params encs o.encs params others (corresponds_at R r (param_classes b.params encs) params others given) b refl b.statement keys o.tables t x))

@@ -1,0 +1,5 @@
+mod Alike
+mod Traces
+mod Ways
+mod Passes
+mod Inferring

@@ -1,0 +1,5 @@
+pub mod Found
+pub mod Steps
+pub mod Ways
+pub mod Reached
+pub mod Infers

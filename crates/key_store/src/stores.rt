@@ -1,0 +1,98 @@
+ghost use Rattle.std.specs.Prelude.{◌≡◌, ◌≤◌, ℕ, List, Option, Contains, Err, IfOk, IfSome, length};
+ghost use Rattle.ae_edge.specs.Devices.{Rose};
+ghost use Rattle.ae_edge.specs.Vaults.{KeyMap};
+ghost use Rattle.key_store.specs.Opening.{open_key, Opens};
+ghost use Rattle.key_store.specs.Stores.{IsOf, AreKept, AreKeptWith};
+
+use crate::faults::OpenFault;
+use crate::opening::open;
+use crate::origins::Origin;
+use ae_base::batches::KeyMeta;
+use ae_edge::vaults::Vault;
+use hmac_kdf::CellKeys;
+use lru::LruCache;
+use std::alloc::{AllocError, Global};
+use std::marker::Model;
+use std::num::NonZeroUsize;
+
+/// Column keys that were opened by one vault: the 8 most recently used at most. A key is found by
+/// its master key's path and its wrapped bytes, never by its name or number.
+#[derive(Drop)]
+pub struct KeyStore {
+    kept: LruCache<Origin, [u8; 32]>,
+}
+
+impl Model for KeyStore {
+    ghost use Rattle.std.specs.Prelude.{◌≡◌, List, ℕ};
+    ghost use Rattle.key_store.specs.declared.origins.Origin.{Origin};
+
+    ghost Value = { List (Origin × List ℕ) };
+
+    ghost view = { λ s. s.kept.entries };
+
+    ghost invariant = { λ s. s.kept.cap ≡ 8 };
+}
+
+impl KeyStore {
+    /// The most keys that are kept.
+    pub const MOST_KEYS: usize = 8;
+
+    /// A store that keeps no key yet.
+    pub fn new(alloc: Global) -> Result<KeyStore, AllocError>
+        ensures { IfOk result (λ store. (keys : Option KeyMap) → IsOf keys store) }
+    {
+        Ok(KeyStore {
+            kept: LruCache::new(alloc, NonZeroUsize::new(KeyStore::MOST_KEYS).unwrap())?,
+        })
+    }
+
+    /// How many keys are kept.
+    pub fn len(&self) -> usize
+        ensures count { result ≡ length self.now }
+        ensures few { result ≤ 8 }
+    {
+        self.kept.len()
+    }
+
+    /// The keys for the cells under a column key, opened by the one vault that the store is used
+    /// with: each key that the store keeps is what this vault gives. The vault isn't asked for a key
+    /// that is kept. A key that isn't opened isn't kept, and the store stays one of this vault.
+    pub fn column_key<V: Vault>(
+        &mut self,
+        vault: &mut V,
+        meta: &KeyMeta,
+    ) -> Result<CellKeys, OpenFault>
+        requires { IsOf (V.keys vault.old) self.old }
+        ensures opens { IfSome (V.keys vault.old) (λ map. Opens result (open_key map meta.now)) }
+        ensures of_vault { IsOf (V.keys vault.new) self.new }
+        ensures unchanged { V.keys vault.new ≡ V.keys vault.old }
+        ensures same { V.names vault.new ≡ V.names vault.old }
+        ensures count { V.faults vault.old ≤ V.faults vault.new }
+        ensures failed { result ≡ Err OpenFault.VaultFault → Rose (V.faults vault.old) (V.faults vault.new) }
+    {
+        let origin = Origin::of_meta(meta)?;
+        if let Some(key) = self.kept(&origin) {
+            return Ok(CellKeys::derive(&key));
+        }
+        let key = open(vault, meta)?;
+        self.keep(origin, key)?;
+        Ok(CellKeys::derive(&key))
+    }
+
+    /// The key that is kept under an origin, which becomes the most recently used.
+    fn kept(&mut self, origin: &Origin) -> Option<[u8; 32]>
+        ensures found { IfSome result (λ key. Contains self.new (origin.now, key)) }
+        ensures kept { AreKept self.old self.new }
+    {
+        self.kept.promote(origin);
+        self.kept.peek(origin).copied()
+    }
+
+    /// Keeps a key under an origin. Want of memory changes nothing.
+    fn keep(&mut self, origin: Origin, key: [u8; 32]) -> Result<(), AllocError>
+        ensures { AreKeptWith origin key self.old self.new }
+    {
+        self.kept.put(origin, key)?;
+        Ok(())
+    }
+}

@@ -1,0 +1,154 @@
+// Opened keys.
+
+use crate::makers::{name, path, wrapped};
+use ae_base::batches::KeyMeta;
+use ae_base::texts::Txt;
+use ae_base::types::KeyId;
+use ae_edge::memory::vault::MemVault;
+use aes_block::Aes256;
+use hmac_kdf::CellKeys;
+use key_store::{KeyFault, KeyStore, OpenFault};
+use std::alloc::Global;
+use std::marker::Model;
+use std::test::Fail;
+
+// The vectors of RFC 3394, section 4.6: the key encryption key, the key, and the wrapped key.
+
+const MASTER: [u8; 32] = [
+    0x00, 0x01, 0x02, 0x03, 0x04, 0x05, 0x06, 0x07, 0x08, 0x09, 0x0a, 0x0b, 0x0c, 0x0d, 0x0e, 0x0f,
+    0x10, 0x11, 0x12, 0x13, 0x14, 0x15, 0x16, 0x17, 0x18, 0x19, 0x1a, 0x1b, 0x1c, 0x1d, 0x1e, 0x1f,
+];
+
+const WRAPPED: [u8; 40] = [
+    0x28, 0xc9, 0xf4, 0x04, 0xc4, 0xb8, 0x10, 0xf4, 0xcb, 0xcc, 0xb3, 0x5c, 0xfb, 0x87, 0xf8, 0x26,
+    0x3f, 0x57, 0x86, 0xe2, 0xd8, 0x0e, 0xd3, 0x26, 0xcb, 0xc7, 0xf0, 0xe7, 0x1a, 0x99, 0xf4, 0x3b,
+    0xfb, 0x98, 0x8b, 0x9b, 0x7a, 0x02, 0xdd, 0x21,
+];
+
+// What Python's module hmac derives from the key for the encryption of cells.
+const ENC_KEY: [u8; 32] = [
+    0x03, 0x94, 0xa3, 0xff, 0xe7, 0x08, 0xdc, 0x2c, 0x35, 0x68, 0xef, 0x6e, 0x17, 0x38, 0x91, 0xc6,
+    0xa8, 0x5e, 0x88, 0x58, 0x6b, 0x75, 0xf1, 0xeb, 0x1a, 0xb1, 0x73, 0x75, 0x8e, 0xfa, 0x72, 0xaa,
+];
+
+// A store with its one vault.
+struct Client {
+    store: KeyStore,
+    vault: MemVault,
+}
+
+impl Model for Client {
+    ghost use Rattle.std.specs.Prelude.{ℕ, Some};
+    ghost use Rattle.key_store.specs.Stores.{IsOf};
+
+    ghost Value = { ℕ };
+
+    ghost view = { λ c. c.vault.calls.faults };
+
+    ghost invariant = { λ c. IsOf (Some c.vault.keys) c.store };
+}
+
+impl Drop for Client {
+    fn drop(self) {
+        let Client { store: _, vault: _ } = self;
+    }
+}
+
+impl Client {
+    // The vault has the key of the vectors at main, and fails at the listed calls.
+    fn new(alloc: Global, failing: &[u64]) -> Result<Client, Fail> {
+        let mut keys = Vec::new(alloc);
+        keys.push((Txt::copied(alloc, "main")?, MASTER))?;
+        Ok(Client {
+            store: KeyStore::new(alloc)?,
+            vault: MemVault::new(keys, Vec::from_slice(alloc, failing)?),
+        })
+    }
+
+    // The key for the encryption of cells, where it is opened.
+    fn enc_key(&mut self, meta: &KeyMeta) -> Option<[u8; 32]> {
+        let keys = self.store.column_key(&mut self.vault, meta).ok()?;
+        Some(*keys.enc_key())
+    }
+
+    // Why a key isn't opened: 1 for a missing master key, 2 for a refused key, 3 for a failing vault.
+    fn refusal(&mut self, meta: &KeyMeta) -> u8 {
+        match self.store.column_key(&mut self.vault, meta) {
+            Err(OpenFault::Fault(KeyFault::NoMasterKey(_))) => 1,
+            Err(OpenFault::Fault(KeyFault::KeyRefused(_))) => 2,
+            Err(OpenFault::VaultFault) => 3,
+            Ok(_) | Err(OpenFault::OutOfMemory) => 0,
+        }
+    }
+}
+
+fn meta(alloc: Global, at: &str, bytes: &[u8]) -> Option<KeyMeta> {
+    Some(KeyMeta {
+        id: KeyId::from_number(1)?,
+        name: name(alloc, "K")?,
+        path: path(alloc, at)?,
+        wrapped: wrapped(alloc, bytes)?,
+    })
+}
+
+fn is_key(found: Option<[u8; 32]>, want: &[u8; 32]) -> bool {
+    match found {
+        Some(key) => key == *want,
+        None => false,
+    }
+}
+
+// Whether the column key of one byte repeated opens, as the master key wraps it.
+fn opens_repeated(client: &mut Client, alloc: Global, byte: u8) -> bool {
+    let bytes = key_wrap::wrap(&Aes256::new(&MASTER), &[byte; 32]);
+    match meta(alloc, "main", &bytes) {
+        Some(meta) => is_key(
+            client.enc_key(&meta),
+            CellKeys::derive(&[byte; 32]).enc_key(),
+        ),
+        None => false,
+    }
+}
+
+// Why a key isn't opened, or 9 where there is no memory.
+fn refused(client: &mut Client, alloc: Global, at: &str, bytes: &[u8]) -> u8 {
+    match meta(alloc, at, bytes) {
+        Some(meta) => client.refusal(&meta),
+        None => 9,
+    }
+}
+
+#[test]
+fn opens_the_vector_of_rfc_3394(rt: HostRuntime) -> Result<(), Fail> {
+    let alloc = rt.alloc();
+    let mut client = Client::new(alloc, &[])?;
+    let meta = meta(alloc, "main", &WRAPPED).ok_or("a key")?;
+    assert!(rt; is_key(client.enc_key(&meta), &ENC_KEY));
+    assert!(rt; is_key(client.enc_key(&meta), &ENC_KEY));
+    Ok(())
+}
+
+#[test]
+fn refuses_and_misses(rt: HostRuntime) -> Result<(), Fail> {
+    let alloc = rt.alloc();
+    let mut client = Client::new(alloc, &[1])?;
+    let mut changed = WRAPPED;
+    changed[39] = 0x20;
+    assert_eq!(rt; refused(&mut client, alloc, "gone", &WRAPPED), 1);
+    assert_eq!(rt; refused(&mut client, alloc, "main", &WRAPPED), 3);
+    assert_eq!(rt; refused(&mut client, alloc, "gone", &WRAPPED[..39]), 1);
+    assert_eq!(rt; refused(&mut client, alloc, "main", &WRAPPED[..39]), 2);
+    assert_eq!(rt; refused(&mut client, alloc, "main", &changed), 2);
+    Ok(())
+}
+
+#[test]
+fn opens_nine_keys_in_turn(rt: HostRuntime) -> Result<(), Fail> {
+    let alloc = rt.alloc();
+    let mut client = Client::new(alloc, &[])?;
+    for turn in 0..19u8 {
+        assert!(rt; opens_repeated(&mut client, alloc, turn % 9));
+    }
+    assert_eq!(rt; client.store.len(), 8);
+    Ok(())
+}

@@ -1,0 +1,2 @@
+mod MemAnswers
+pub mod ReplyKinds

@@ -1,0 +1,2 @@
+pub mod MemPeers
+pub mod Tested

@@ -1,0 +1,13 @@
+mod Agreement
+mod Growing
+mod History
+mod OpenWorlds
+mod Pairs
+mod Reading
+mod Sealed
+mod SealedAgreement
+mod SealedTalk
+mod Sending
+mod Told
+mod Understood
+mod Values

@@ -1,0 +1,232 @@
+-- The parameters that a driver sends: those that the statement uses, in the order of their declarations, each with its value.
+use Rattle.std.proofs.Common.{◌≡◌, ℕ, zero, suc, ◌+◌, List, [], ◌∷◌, map, length, Option, Some, None, Ok, Bool, true, false, cond, not, ◌||◌, refl, sym, ap, ◌∙◌, subst, arith, add-one}
+use Rattle.std.specs.List.{slice_get, list_any}
+use Rattle.std.specs.Str.{bytes_eq}
+use Rattle.std.proofs.lemmas.Bool.{and_parts}
+use Rattle.std.proofs.lemmas.Slice.Eq.{bytes_eq-Decides}
+use Rattle.ae_base.specs.Atoms.{plain_atom}
+use Rattle.ae_base.specs.Batches.{first_unfit}
+use Rattle.ae_base.specs.Names.{all_differ}
+use Rattle.ae_base.specs.Values.{value_is_within}
+use Rattle.ae_base.specs.declared.batches.KeyMeta.{KeyMeta}
+use Rattle.ae_base.specs.declared.batches.Param.{Param}
+use Rattle.ae_base.specs.declared.batches.ParamDecl.{ParamDecl}
+use Rattle.ae_base.specs.declared.types.Enc.{Enc}
+use Rattle.ae_base.specs.declared.types.Enc.TheVariants as enc
+use Rattle.ae_base.specs.declared.types.Ty.{Ty}
+use Rattle.ae_base.specs.declared.values.Value.{Value}
+use Rattle.ae_base.specs.declared.values.Value.TheVariants as value
+use Rattle.ae_edge.specs.Vaults.{KeyMap}
+use Rattle.sql_tree.specs.Bound.{Bound}
+use Rattle.sql_tree.specs.Uses.{uses}
+use Rattle.enc_types.specs.UsedAlone.{used_among, place_among, is_used}
+use Rattle.wire_messages.specs.declared.params.SentParam.{SentParam}
+use Rattle.wire_messages.specs.declared.params.UsedParam.{UsedParam}
+use Rattle.server_core.specs.Describing.{used_from}
+use Rattle.server_core.specs.Params.{declaration_of, suited_atom, suited}
+use Rattle.conversation.specs.Pending.{Use, uses_in}
+use Rattle.conversation.specs.Sessions.{with_enc, encs_of}
+use Rattle.conversation.specs.Talk.{Talk}
+use Rattle.conversation.specs.Turns.{sent_param, sealing_value, sealing}
+use Rattle.conversation.specs.declared.faults.DriverFault.{DriverFault}
+use Rattle.plain_meaning.specs.Reference.{why_unopened}
+
+-- each has the property
+abbrev pub Each : {A : Type 0} → (A → Type 0) → List A → Type 0
+Each P [] = Unit {0}
+Each P (x ∷ xs) = P x × Each P xs
+
+pub each_map : {A : Type 0} (P Q : A → Type 0) → ((x : A) → P x → Q x) → (xs : List A) → Each P xs → Each Q xs
+each_map P Q f [] h = tt
+each_map P Q f (x ∷ xs) h = (f x h.0, each_map P Q f xs h.1)
+
+pub each_over : {A B : Type 0} (P : B → Type 0) (f : A → B) (xs : List A) → Each P (map f xs) → Each (λ x. P (f x)) xs
+each_over P f [] h = tt
+each_over P f (x ∷ xs) h = (h.0, each_over P f xs h.1)
+
+-- how each declared parameter is to be encrypted, where it is used
+abbrev pub told_among : (ℕ → Bool) → ℕ → List Enc → List (Option Enc)
+told_among used place [] = []
+told_among used place (e ∷ es) = cond (used place) (Some e) None ∷ told_among used (suc place) es
+
+-- ---- the list of those that are used
+
+module _ (used : ℕ → Bool) where
+  used_one : {A : Type 0} (f : Use → A) (p : Param) (ps : List Param) (e : Enc) (es : List (Option Enc)) (x : A) (xs : List A) (b : Bool) → f (record { param = p; enc = e }) ≡ x → map f (uses_in ps es) ≡ xs
+      → map f (uses_in (p ∷ ps) (cond b (Some e) None ∷ es)) ≡ cond b (x ∷ xs) xs
+  used_one f p ps e es x xs true h k = rw (h, k) refl
+  used_one f p ps e es x xs false h k = k
+
+  -- what is of the parameters alone
+  pub params_used : {A : Type 0} (f : Param → A) (place : ℕ) (ps : List Param) (es : List Enc) → length es ≡ length ps
+      → map (λ (u : Use). f u.param) (uses_in ps (told_among used place es)) ≡ used_among used place (map f ps)
+  params_used f place [] [] l = refl
+  params_used f place [] (e ∷ es) l = absurd (omega (arith, l))
+  params_used f place (p ∷ ps) [] l = absurd (omega (arith, l))
+  params_used f place (p ∷ ps) (e ∷ es) l =
+      let m : length es ≡ length ps = omega (arith, l) in
+      used_one (λ (u : Use). f u.param) p ps e (told_among used (suc place) es) (f p) (used_among used (suc place) (map f ps)) (used place) refl (params_used f (suc place) ps es m)
+
+  pub encs_used : (place : ℕ) (ps : List Param) (es : List Enc) → length es ≡ length ps
+      → map (λ (u : Use). u.enc) (uses_in ps (told_among used place es)) ≡ used_among used place es
+  encs_used place [] [] l = refl
+  encs_used place [] (e ∷ es) l = absurd (omega (arith, l))
+  encs_used place (p ∷ ps) [] l = absurd (omega (arith, l))
+  encs_used place (p ∷ ps) (e ∷ es) l =
+      let m : length es ≡ length ps = omega (arith, l) in
+      used_one (λ (u : Use). u.enc) p ps e (told_among used (suc place) es) e (used_among used (suc place) es) (used place) refl (encs_used (suc place) ps es m)
+
+  each_one : {A : Type 0} (P : A → Type 0) (x : A) (xs : List A) (b : Bool) → P x → Each P xs → Each P (cond b (x ∷ xs) xs)
+  each_one P x xs true h k = (h, k)
+  each_one P x xs false h k = k
+
+  pub each_used : {A : Type 0} (P : A → Type 0) (place : ℕ) (xs : List A) → Each P xs → Each P (used_among used place xs)
+  each_used P place [] h = tt
+  each_used P place (x ∷ xs) h = each_one P x (used_among used (suc place) xs) (used place) h.0 (each_used P (suc place) xs h.1)
+
+  at_rank : {A : Type 0} (x : A) (rest xs : List A) (m j : ℕ) (b : Bool) → slice_get rest m ≡ slice_get xs j → slice_get (cond b (x ∷ rest) rest) (cond b (suc m) m) ≡ slice_get xs j
+  at_rank x rest xs m j true h = h
+  at_rank x rest xs m j false h = h
+
+  -- what is used stands where it is told
+  pub found_among : {A : Type 0} (xs : List A) (first j : ℕ) → used (first + j) ≡ true → slice_get (used_among used first xs) (place_among used first j) ≡ slice_get xs j
+  found_among [] first j u = refl
+  found_among (x ∷ xs) first zero u =
+      let e : first + 0 ≡ first = omega arith in ap (λ b. slice_get (cond b (x ∷ used_among used (suc first) xs) (used_among used (suc first) xs)) 0) (ap used (sym e) ∙ u)
+  found_among (x ∷ xs) first (suc j) u =
+      let e : suc first + j ≡ first + suc j = omega arith in
+      at_rank x (used_among used (suc first) xs) xs (place_among used (suc first) j) j (used first) (found_among xs (suc first) j (ap used e ∙ u))
+
+-- ---- a description tells each used parameter, and the driver finds it by its name
+
+abbrev pub names_of : List UsedParam → List (List ℕ)
+names_of used = map (λ p. p.name) used
+
+abbrev pub names_in : List Param → List (List ℕ)
+names_in ps = map (λ p. p.declaration.name) ps
+
+abbrev pub declarations_in : List Param → List ParamDecl
+declarations_in ps = map (λ p. p.declaration) ps
+
+or-false : (x y : Bool) → (x || y) ≡ false → (x ≡ false) × (y ≡ false)
+or-false true y e = absurd cc
+or-false false y e = (refl, e)
+
+not-true : (x : Bool) → not x ≡ true → x ≡ false
+not-true true e = absurd cc
+not-true false e = refl
+
+absent_one : (n name : List ℕ) (enc : Enc) (rest : List UsedParam) (is : Bool) → bytes_eq n name ≡ false → list_any (bytes_eq n) (names_of rest) ≡ false
+    → list_any (bytes_eq n) (names_of (cond is (record { name = name; enc = enc } ∷ rest) rest)) ≡ false
+absent_one n name enc rest true f r = rw (f, r) refl
+absent_one n name enc rest false f r = r
+
+absent_used : (n : List ℕ) (place : ℕ) (b : Bound) (ps : List Param) (es : List Enc) → list_any (bytes_eq n) (names_in ps) ≡ false
+    → list_any (bytes_eq n) (names_of (used_from place b (declarations_in ps) es)) ≡ false
+absent_used n place b [] es h = refl
+absent_used n place b (p ∷ ps) [] h = refl
+absent_used n place b (p ∷ ps) (e ∷ es) h =
+    let q = or-false (bytes_eq n p.declaration.name) (list_any (bytes_eq n) (names_in ps)) h in
+    absent_one n p.declaration.name e (used_from (place + 1) b (declarations_in ps) es) (uses place b) q.0 (absent_used n (place + 1) b ps es q.1)
+
+other_name : (a b : List ℕ) → bytes_eq a b ≡ false → bytes_eq b a ≡ false
+other_name a b h = at (bytes_eq b a) refl
+  where
+    at : (t : Bool) → bytes_eq b a ≡ t → bytes_eq b a ≡ false
+    at true e = let same : b ≡ a = (bytes_eq-Decides b a).0 e in let back : bytes_eq a b ≡ true = (bytes_eq-Decides a b).1 (sym same) in absurd cc
+    at false e = e
+
+-- one that isn't used is passed over
+passed_over : (p : Param) (ps : List Param) (rest : List UsedParam) → list_any (bytes_eq p.declaration.name) (names_of rest) ≡ false
+    → encs_of (p ∷ ps) rest ≡ with_enc None (encs_of ps rest)
+passed_over p ps [] h = refl
+passed_over p ps (x ∷ rest) h =
+    let f = (or-false (bytes_eq p.declaration.name x.name) (list_any (bytes_eq p.declaration.name) (names_of rest)) h).0 in
+    let g = other_name p.declaration.name x.name f in
+    rw g refl
+
+same_name : (name : List ℕ) → bytes_eq name name ≡ true
+same_name name = (bytes_eq-Decides name name).1 refl
+
+pub encs_found : (b : Bound) (place : ℕ) (ps : List Param) (es : List Enc) → length es ≡ length ps → all_differ (names_in ps) ≡ true
+    → encs_of ps (used_from place b (declarations_in ps) es) ≡ Some (told_among (is_used b) place es)
+encs_found b place [] [] l d = refl
+encs_found b place [] (e ∷ es) l d = absurd (omega (arith, l))
+encs_found b place (p ∷ ps) [] l d = absurd (omega (arith, l))
+encs_found b place (p ∷ ps) (e ∷ es) l d =
+    let m : length es ≡ length ps = omega (arith, l) in
+    let q = and_parts (not (list_any (bytes_eq p.declaration.name) (names_in ps))) (all_differ (names_in ps)) d in
+    let next : place + 1 ≡ suc place = add-one place in
+    let rest : encs_of ps (used_from (place + 1) b (declarations_in ps) es) ≡ Some (told_among (is_used b) (suc place) es) =
+    ap (λ n. encs_of ps (used_from n b (declarations_in ps) es)) next ∙ encs_found b (suc place) ps es m q.1 in
+    let absent = absent_used p.declaration.name (place + 1) b ps es (not-true (list_any (bytes_eq p.declaration.name) (names_in ps)) q.0) in
+    at (uses place b) (used_from (place + 1) b (declarations_in ps) es) (told_among (is_used b) (suc place) es) rest absent
+  where
+    at : (t : Bool) (more : List UsedParam) (told : List (Option Enc)) → encs_of ps more ≡ Some told → list_any (bytes_eq p.declaration.name) (names_of more) ≡ false
+        → encs_of (p ∷ ps) (cond t (record { name = p.declaration.name; enc = e } ∷ more) more) ≡ Some (cond t (Some e) None ∷ told)
+    at true more told r a = let s = same_name p.declaration.name in rw (s, r) refl
+    at false more told r a = passed_over p ps more a ∙ ap (with_enc None) r
+
+-- ---- plain parameters
+
+abbrev pub IsPlain : Enc → Type 0
+IsPlain e = e ≡ enc.Plain
+
+abbrev pub ArePlain : List Use → Type 0
+ArePlain us = Each (λ u. IsPlain u.enc) us
+
+pub plain_uses : (used : ℕ → Bool) (ps : List Param) (es : List Enc) → length es ≡ length ps → Each IsPlain es → ArePlain (uses_in ps (told_among used 0 es))
+plain_uses used ps es l h =
+    each_over IsPlain (λ (u : Use). u.enc) (uses_in ps (told_among used 0 es)) (subst (Each IsPlain) (sym (encs_used used 0 ps es l)) (each_used used IsPlain 0 es h))
+
+abbrev pub sent_plain : Use → SentParam
+sent_plain u = sent_param u (plain_atom u.param.value)
+
+-- nothing is opened and nothing is drawn
+pub sealing_plain : (metas : List KeyMeta) (us : List Use) (k : List SentParam → Talk) (fails : DriverFault → Talk) → ArePlain us → sealing metas us k fails ≡ k (map sent_plain us)
+sealing_plain metas [] k fails h = refl
+sealing_plain metas (u ∷ us) k fails h =
+    ap (λ e. sealing_value metas e u.param.declaration.ty u.param.value (λ a. sealing metas us (λ ys. k (sent_param u a ∷ ys)) fails) fails) h.0
+    ∙ sealing_plain metas us (λ ys. k (sent_plain u ∷ ys)) fails h.1
+
+pub nothing_unopened : (keys : KeyMap) (metas : List KeyMeta) (es : List Enc) → Each IsPlain es → why_unopened keys metas es ≡ None
+nothing_unopened keys metas [] h = refl
+nothing_unopened keys metas (e ∷ es) h = ap (λ e. why_unopened keys metas (e ∷ es)) h.0 ∙ nothing_unopened keys metas es h.1
+
+-- ---- values that fit are suited
+
+abbrev pub IsFit : Param → Type 0
+IsFit p = value_is_within p.value p.declaration.ty ≡ true
+
+fit_first : (p : Param) (ps : List Param) (b : Bool) → value_is_within p.value p.declaration.ty ≡ b → (first_unfit ps ≡ None → Each IsFit ps) → cond b (first_unfit ps) (Some p.declaration.name) ≡ None → IsFit p × Each IsFit ps
+fit_first p ps true e more k = (e, more k)
+fit_first p ps false e more k = absurd cc
+
+pub all_fit : (ps : List Param) → first_unfit ps ≡ None → Each IsFit ps
+all_fit [] h = tt
+all_fit (p ∷ ps) h = fit_first p ps (value_is_within p.value p.declaration.ty) refl (all_fit ps) h
+
+fit_one : (p : Param) (ps : List Param) (o : Option Enc) (es : List (Option Enc)) → IsFit p → Each (λ (u : Use). IsFit u.param) (uses_in ps es) → Each (λ (u : Use). IsFit u.param) (uses_in (p ∷ ps) (o ∷ es))
+fit_one p ps None es h k = k
+fit_one p ps (Some e) es h k = (h, k)
+
+pub fit_uses : (ps : List Param) (es : List (Option Enc)) → Each IsFit ps → Each (λ (u : Use). IsFit u.param) (uses_in ps es)
+fit_uses [] es h = tt
+fit_uses (p ∷ ps) [] h = tt
+fit_uses (p ∷ ps) (o ∷ es) h = fit_one p ps o es h.0 (fit_uses ps es h.1)
+
+suited_plain : (name : List ℕ) (ty : Ty) (e : Enc) (v : Value) → e ≡ enc.Plain → value_is_within v ty ≡ true
+    → suited_atom e (record { name = name; ty = ty; enc = e; atom = plain_atom v }) ≡ Ok (plain_atom v)
+suited_plain name ty e value.Null p h = rw p refl
+suited_plain name ty e (value.Is datum) p h = rw (p, h) refl
+
+pub all_suited : (us : List Use) → ArePlain us → Each (λ (u : Use). IsFit u.param) us → suited (map (λ (u : Use). u.enc) us) (map sent_plain us) ≡ Ok (map (λ (u : Use). plain_atom u.param.value) us)
+all_suited [] h k = refl
+all_suited (u ∷ us) h k =
+    let one = suited_plain u.param.declaration.name u.param.declaration.ty u.enc u.param.value h.0 k.0 in
+    let rest = all_suited us h.1 k.1 in
+    rw (one, rest) refl
+
+pub declared_sent : (us : List Use) → map declaration_of (map sent_plain us) ≡ map (λ (u : Use). u.param.declaration) us
+declared_sent [] = refl
+declared_sent (u ∷ us) = ap (λ ds. u.param.declaration ∷ ds) (declared_sent us)

@@ -1,0 +1,292 @@
+-- What is bound over some declarations is bound alike over others that have those it uses.
+use Rattle.std.proofs.Common.{◌≡◌, ℕ, ◌+◌, List, [], ◌∷◌, map, refl, ap, sym, subst, Bool, true, false, ◌||◌, Option, Some, None, Result, Ok}
+use Rattle.std.specs.List.{list_any}
+use Rattle.std.proofs.lemmas.Bool.{eq-eqb}
+use Rattle.ae_base.specs.Results.{each}
+use Rattle.ae_base.specs.declared.batches.ParamDecl.{ParamDecl}
+use Rattle.ae_base.specs.declared.tables.TableDef.{TableDef}
+use Rattle.ae_base.specs.declared.faults.SqlFault.{SqlFault}
+use Rattle.sql_tree.specs.declared.operands.ColumnRef.{ColumnRef}
+use Rattle.sql_tree.specs.declared.bound.PlaceAt.{PlaceAt}
+use Rattle.sql_tree.specs.declared.bound.BoundOrderKey.{BoundOrderKey}
+use Rattle.sql_tree.specs.Operands.{Operand, Terms}
+use Rattle.sql_tree.specs.Operands as operands
+use Rattle.sql_tree.specs.Conditions.{Condition, Conditions}
+use Rattle.sql_tree.specs.Conditions as conditions
+use Rattle.sql_tree.specs.Statements as tree
+use Rattle.sql_tree.specs.Bound as bound
+use Rattle.sql_tree.specs.Uses.{uses_in, uses_in_terms, uses_in_condition, uses_in_conditions, uses_in_filter, uses_in_row, uses_in_assignment, uses_in_value, uses_in_item, uses_in_join, uses_in_statement, renamed_operand, renamed_terms, renamed_condition, renamed_conditions, renamed_filter, renamed_row, renamed_assignment, renamed_value, renamed_item, renamed_join, renamed_query, renamed_statement}
+use Rattle.catalog.specs.Catalogs.{Catalog}
+use Rattle.resolve.specs.Walks.{each_from}
+use Rattle.resolve.specs.Scopes.{Scope, ScopeColumn, nothing_in_scope, scope_of, with_source, param_place, column_place, named_place}
+use Rattle.resolve.specs.Names.{short, bind_operand, bind_terms, bind_operands, bind_condition, bind_conditions, bind_filter}
+use Rattle.resolve.specs.Tables.{Joined, Sources, all_sources, table_for, sources_for}
+use Rattle.resolve.specs.Queries.{starred, title_of, bind_value, bind_item, bind_items, bind_join, bind_joins, bind_column_at, bind_key, bind_query}
+use Rattle.resolve.specs.Changes.{table_scope, places_for, bind_row, bind_insert, column_of, bind_assignment, assigned, bind_update, bind_delete}
+use Rattle.resolve.specs.Definitions.{key_path, wrapped_key, master_for, bind_table}
+use Rattle.resolve.specs.Bind.{bound_over, named}
+use Rattle.resolve.specs.Laws.{Keeps, NamesKeepTheUsed}
+use Rattle.resolve.proofs.Parts.{one_part, two_parts, first_part, one_ok, two_ok}
+use Rattle.resolve.proofs.QueryParts.{made, ordered, grouped, filtered, joined}
+
+or_left : (a b : Bool) → a ≡ true → (a || b) ≡ true
+or_left true b e = refl
+or_left false b e = cc
+
+or_right : (a b : Bool) → b ≡ true → (a || b) ≡ true
+or_right true b e = refl
+or_right false b e = e
+
+left : {ds es : List ParamDecl} {f : ℕ → ℕ} (u v : ℕ → Bool) → Keeps ds es f (λ p. u p || v p) → Keeps ds es f u
+left u v k = record { named = λ name p e h. k.named name p e (or_left (u p) (v p) h); typed = λ p h. k.typed p (or_left (u p) (v p) h) }
+
+right : {ds es : List ParamDecl} {f : ℕ → ℕ} (u v : ℕ → Bool) → Keeps ds es f (λ p. u p || v p) → Keeps ds es f v
+right u v k = record { named = λ name p e h. k.named name p e (or_right (u p) (v p) h); typed = λ p h. k.typed p (or_right (u p) (v p) h) }
+
+-- ---- operands
+
+mutual
+  operand_kept : (s : Scope) (ds es : List ParamDecl) (f : ℕ → ℕ) (o : Operand ColumnRef (List ℕ)) (b : Operand ℕ ℕ) → bind_operand s ds o ≡ Ok b → Keeps ds es f (λ p. uses_in p b)
+      → bind_operand s es o ≡ Ok (renamed_operand f b)
+  operand_kept s ds es f (operands.Literal at v) b e =
+      one_part (short v) (λ x. operands.Literal at v) b (λ z. Keeps ds es f (λ p. uses_in p z) → bind_operand s es (operands.Literal at v) ≡ Ok (renamed_operand f z)) e
+      (λ x ex k. one_ok (short v) x (λ y. Ok (operands.Literal at v)) _ ex refl)
+  operand_kept s ds es f (operands.Param at name) b e =
+      one_part (param_place ds name) (operands.Param at) b (λ z. Keeps ds es f (λ p. uses_in p z) → bind_operand s es (operands.Param at name) ≡ Ok (renamed_operand f z)) e
+      (λ p ep k. one_ok (param_place es name) (f p) (λ y. Ok (operands.Param at y)) _ (k.named name p ep (eq-eqb p p refl)) refl)
+  operand_kept s ds es f (operands.Column at ref) b e =
+      one_part (column_place s ref) (operands.Column at) b (λ z. Keeps ds es f (λ p. uses_in p z) → bind_operand s es (operands.Column at ref) ≡ Ok (renamed_operand f z)) e
+      (λ p ep k. one_ok (column_place s ref) p (λ y. Ok (operands.Column at y)) _ ep refl)
+  operand_kept s ds es f (operands.Minus at x) b e =
+      one_part (bind_operand s ds x) (operands.Minus at) b (λ z. Keeps ds es f (λ p. uses_in p z) → bind_operand s es (operands.Minus at x) ≡ Ok (renamed_operand f z)) e
+      (λ a ea k. one_ok (bind_operand s es x) (renamed_operand f a) (λ y. Ok (operands.Minus at y)) _ (operand_kept s ds es f x a ea k) refl)
+  operand_kept s ds es f (operands.Sum x terms) b e =
+      two_parts (bind_operand s ds x) (bind_terms s ds terms) operands.Sum b (λ z. Keeps ds es f (λ p. uses_in p z) → bind_operand s es (operands.Sum x terms) ≡ Ok (renamed_operand f z)) e
+      (λ a m ea em k. two_ok (bind_operand s es x) (bind_terms s es terms) operands.Sum (renamed_operand f a) (renamed_terms f m)
+      (operand_kept s ds es f x a ea (left (λ p. uses_in p a) (λ p. uses_in_terms p m) k)) (terms_kept s ds es f terms m em (right (λ p. uses_in p a) (λ p. uses_in_terms p m) k)))
+
+  terms_kept : (s : Scope) (ds es : List ParamDecl) (f : ℕ → ℕ) (o : Terms ColumnRef (List ℕ)) (b : Terms ℕ ℕ) → bind_terms s ds o ≡ Ok b → Keeps ds es f (λ p. uses_in_terms p b)
+      → bind_terms s es o ≡ Ok (renamed_terms f b)
+  terms_kept s ds es f operands.NoMore b e = let i : operands.NoMore ≡ b = cc in subst (λ z. Keeps ds es f (λ p. uses_in_terms p z) → bind_terms s es operands.NoMore ≡ Ok (renamed_terms f z)) i (λ k. refl)
+  terms_kept s ds es f (operands.PlusThen at x terms) b e =
+      two_parts (bind_operand s ds x) (bind_terms s ds terms) (operands.PlusThen at) b (λ z. Keeps ds es f (λ p. uses_in_terms p z) → bind_terms s es (operands.PlusThen at x terms) ≡ Ok (renamed_terms f z)) e
+      (λ a m ea em k. two_ok (bind_operand s es x) (bind_terms s es terms) (operands.PlusThen at) (renamed_operand f a) (renamed_terms f m)
+      (operand_kept s ds es f x a ea (left (λ p. uses_in p a) (λ p. uses_in_terms p m) k)) (terms_kept s ds es f terms m em (right (λ p. uses_in p a) (λ p. uses_in_terms p m) k)))
+  terms_kept s ds es f (operands.MinusThen at x terms) b e =
+      two_parts (bind_operand s ds x) (bind_terms s ds terms) (operands.MinusThen at) b (λ z. Keeps ds es f (λ p. uses_in_terms p z) → bind_terms s es (operands.MinusThen at x terms) ≡ Ok (renamed_terms f z)) e
+      (λ a m ea em k. two_ok (bind_operand s es x) (bind_terms s es terms) (operands.MinusThen at) (renamed_operand f a) (renamed_terms f m)
+      (operand_kept s ds es f x a ea (left (λ p. uses_in p a) (λ p. uses_in_terms p m) k)) (terms_kept s ds es f terms m em (right (λ p. uses_in p a) (λ p. uses_in_terms p m) k)))
+
+-- ---- lists
+
+each_kept : {A B : Type 0} (ds es : List ParamDecl) (f : ℕ → ℕ) (g h : A → Result B SqlFault) (us : ℕ → B → Bool) (r : B → B)
+    → ((x : A) (y : B) → g x ≡ Ok y → Keeps ds es f (λ p. us p y) → h x ≡ Ok (r y)) → (xs : List A) (ys : List B) → each g xs ≡ Ok ys → Keeps ds es f (λ p. list_any (us p) ys)
+    → each h xs ≡ Ok (map r ys)
+each_kept ds es f g h us r one [] ys e = let i : [] ≡ ys = cc in subst (λ z. Keeps ds es f (λ p. list_any (us p) z) → each h [] ≡ Ok (map r z)) i (λ k. refl)
+each_kept ds es f g h us r one (x ∷ xs) ys e =
+    two_parts (g x) (each g xs) ◌∷◌ ys (λ z. Keeps ds es f (λ p. list_any (us p) z) → each h (x ∷ xs) ≡ Ok (map r z)) e
+    (λ y zs ey ez k. two_ok (h x) (each h xs) ◌∷◌ (r y) (map r zs)
+    (one x y ey (left (λ p. us p y) (λ p. list_any (us p) zs) k)) (each_kept ds es f g h us r one xs zs ez (right (λ p. us p y) (λ p. list_any (us p) zs) k)))
+
+each_from_kept : {A B : Type 0} (ds es : List ParamDecl) (f : ℕ → ℕ) (g h : ℕ → A → Result B SqlFault) (us : ℕ → B → Bool) (r : B → B)
+    → ((i : ℕ) (x : A) (y : B) → g i x ≡ Ok y → Keeps ds es f (λ p. us p y) → h i x ≡ Ok (r y)) → (xs : List A) (i : ℕ) (ys : List B) → each_from g i xs ≡ Ok ys → Keeps ds es f (λ p. list_any (us p) ys)
+    → each_from h i xs ≡ Ok (map r ys)
+each_from_kept ds es f g h us r one [] i ys e = let j : [] ≡ ys = cc in subst (λ z. Keeps ds es f (λ p. list_any (us p) z) → each_from h i [] ≡ Ok (map r z)) j (λ k. refl)
+each_from_kept ds es f g h us r one (x ∷ xs) i ys e =
+    two_parts (g i x) (each_from g (i + 1) xs) ◌∷◌ ys (λ z. Keeps ds es f (λ p. list_any (us p) z) → each_from h i (x ∷ xs) ≡ Ok (map r z)) e
+    (λ y zs ey ez k. two_ok (h i x) (each_from h (i + 1) xs) ◌∷◌ (r y) (map r zs)
+    (one i x y ey (left (λ p. us p y) (λ p. list_any (us p) zs) k)) (each_from_kept ds es f g h us r one xs (i + 1) zs ez (right (λ p. us p y) (λ p. list_any (us p) zs) k)))
+
+operands_kept : (s : Scope) (ds es : List ParamDecl) (f : ℕ → ℕ) (xs : List (Operand ColumnRef (List ℕ))) (ys : List (Operand ℕ ℕ)) → bind_operands s ds xs ≡ Ok ys
+    → Keeps ds es f (λ p. list_any (uses_in p) ys) → bind_operands s es xs ≡ Ok (map (renamed_operand f) ys)
+operands_kept s ds es f xs ys e k = each_kept ds es f (bind_operand s ds) (bind_operand s es) uses_in (renamed_operand f) (λ x y. operand_kept s ds es f x y) xs ys e k
+
+-- ---- conditions
+
+mutual
+  condition_kept : (s : Scope) (ds es : List ParamDecl) (f : ℕ → ℕ) (o : Condition ColumnRef (List ℕ)) (b : Condition ℕ ℕ) → bind_condition s ds o ≡ Ok b → Keeps ds es f (λ p. uses_in_condition p b)
+      → bind_condition s es o ≡ Ok (renamed_condition f b)
+  condition_kept s ds es f (conditions.Compare at c x y) b e =
+      two_parts (bind_operand s ds x) (bind_operand s ds y) (conditions.Compare at c) b (λ z. Keeps ds es f (λ p. uses_in_condition p z) → bind_condition s es (conditions.Compare at c x y) ≡ Ok (renamed_condition f z)) e
+      (λ l r el er k. two_ok (bind_operand s es x) (bind_operand s es y) (conditions.Compare at c) (renamed_operand f l) (renamed_operand f r)
+      (operand_kept s ds es f x l el (left (λ p. uses_in p l) (λ p. uses_in p r) k)) (operand_kept s ds es f y r er (right (λ p. uses_in p l) (λ p. uses_in p r) k)))
+  condition_kept s ds es f (conditions.IsNull negated x) b e =
+      one_part (bind_operand s ds x) (conditions.IsNull negated) b (λ z. Keeps ds es f (λ p. uses_in_condition p z) → bind_condition s es (conditions.IsNull negated x) ≡ Ok (renamed_condition f z)) e
+      (λ a ea k. one_ok (bind_operand s es x) (renamed_operand f a) (λ y. Ok (conditions.IsNull negated y)) _ (operand_kept s ds es f x a ea k) refl)
+  condition_kept s ds es f (conditions.In at negated x list) b e =
+      two_parts (bind_operand s ds x) (bind_operands s ds list) (conditions.In at negated) b (λ z. Keeps ds es f (λ p. uses_in_condition p z) → bind_condition s es (conditions.In at negated x list) ≡ Ok (renamed_condition f z)) e
+      (λ a m ea em k. two_ok (bind_operand s es x) (bind_operands s es list) (conditions.In at negated) (renamed_operand f a) (map (renamed_operand f) m)
+      (operand_kept s ds es f x a ea (left (λ p. uses_in p a) (λ p. list_any (uses_in p) m) k)) (operands_kept s ds es f list m em (right (λ p. uses_in p a) (λ p. list_any (uses_in p) m) k)))
+  condition_kept s ds es f (conditions.Not c) b e =
+      one_part (bind_condition s ds c) conditions.Not b (λ z. Keeps ds es f (λ p. uses_in_condition p z) → bind_condition s es (conditions.Not c) ≡ Ok (renamed_condition f z)) e
+      (λ a ea k. one_ok (bind_condition s es c) (renamed_condition f a) (λ y. Ok (conditions.Not y)) _ (condition_kept s ds es f c a ea k) refl)
+  condition_kept s ds es f (conditions.AllOf all) b e =
+      one_part (bind_conditions s ds all) conditions.AllOf b (λ z. Keeps ds es f (λ p. uses_in_condition p z) → bind_condition s es (conditions.AllOf all) ≡ Ok (renamed_condition f z)) e
+      (λ a ea k. one_ok (bind_conditions s es all) (renamed_conditions f a) (λ y. Ok (conditions.AllOf y)) _ (conditions_kept s ds es f all a ea k) refl)
+  condition_kept s ds es f (conditions.AnyOf any) b e =
+      one_part (bind_conditions s ds any) conditions.AnyOf b (λ z. Keeps ds es f (λ p. uses_in_condition p z) → bind_condition s es (conditions.AnyOf any) ≡ Ok (renamed_condition f z)) e
+      (λ a ea k. one_ok (bind_conditions s es any) (renamed_conditions f a) (λ y. Ok (conditions.AnyOf y)) _ (conditions_kept s ds es f any a ea k) refl)
+
+  conditions_kept : (s : Scope) (ds es : List ParamDecl) (f : ℕ → ℕ) (o : Conditions ColumnRef (List ℕ)) (b : Conditions ℕ ℕ) → bind_conditions s ds o ≡ Ok b → Keeps ds es f (λ p. uses_in_conditions p b)
+      → bind_conditions s es o ≡ Ok (renamed_conditions f b)
+  conditions_kept s ds es f conditions.NoMore b e =
+      let i : conditions.NoMore ≡ b = cc in subst (λ z. Keeps ds es f (λ p. uses_in_conditions p z) → bind_conditions s es conditions.NoMore ≡ Ok (renamed_conditions f z)) i (λ k. refl)
+  conditions_kept s ds es f (conditions.Then c all) b e =
+      two_parts (bind_condition s ds c) (bind_conditions s ds all) conditions.Then b (λ z. Keeps ds es f (λ p. uses_in_conditions p z) → bind_conditions s es (conditions.Then c all) ≡ Ok (renamed_conditions f z)) e
+      (λ a m ea em k. two_ok (bind_condition s es c) (bind_conditions s es all) conditions.Then (renamed_condition f a) (renamed_conditions f m)
+      (condition_kept s ds es f c a ea (left (λ p. uses_in_condition p a) (λ p. uses_in_conditions p m) k)) (conditions_kept s ds es f all m em (right (λ p. uses_in_condition p a) (λ p. uses_in_conditions p m) k)))
+
+filter_kept : (s : Scope) (ds es : List ParamDecl) (f : ℕ → ℕ) (o : Option (Condition ColumnRef (List ℕ))) (b : Option (Condition ℕ ℕ)) → bind_filter s ds o ≡ Ok b → Keeps ds es f (λ p. uses_in_filter p b)
+    → bind_filter s es o ≡ Ok (renamed_filter f b)
+filter_kept s ds es f None b e = let i : None ≡ b = cc in subst (λ z. Keeps ds es f (λ p. uses_in_filter p z) → bind_filter s es None ≡ Ok (renamed_filter f z)) i (λ k. refl)
+filter_kept s ds es f (Some c) b e =
+    one_part (bind_condition s ds c) Some b (λ z. Keeps ds es f (λ p. uses_in_filter p z) → bind_filter s es (Some c) ≡ Ok (renamed_filter f z)) e
+    (λ a ea k. one_ok (bind_condition s es c) (renamed_condition f a) (λ y. Ok (Some y)) _ (condition_kept s ds es f c a ea k) refl)
+
+-- ---- changes
+
+row_kept : (ds es : List ParamDecl) (f : ℕ → ℕ) (o : tree.ValueRow) (b : bound.BoundRow) → bind_row ds o ≡ Ok b → Keeps ds es f (λ p. uses_in_row p b) → bind_row es o ≡ Ok (renamed_row f b)
+row_kept ds es f o b e =
+    one_part (bind_operands nothing_in_scope ds o.values) (λ vs. record { at = o.at; values = vs }) b (λ z. Keeps ds es f (λ p. uses_in_row p z) → bind_row es o ≡ Ok (renamed_row f z)) e
+    (λ vs ev k. one_ok (bind_operands nothing_in_scope es o.values) (map (renamed_operand f) vs) (λ y. Ok (record { at = o.at; values = y })) _ (operands_kept nothing_in_scope ds es f o.values vs ev k) refl)
+
+insert_kept : (ds es : List ParamDecl) (f : ℕ → ℕ) (def : TableDef) (table : List ℕ) (names : Option (List (List ℕ))) (rows : List tree.ValueRow) (b : bound.BoundInsert)
+    → bind_insert ds def table names rows ≡ Ok b → Keeps ds es f (λ p. list_any (uses_in_row p) b.rows)
+    → bind_insert es def table names rows ≡ Ok (record { table = b.table; named = b.named; rows = map (renamed_row f) b.rows })
+insert_kept ds es f def table names rows b e =
+    two_parts (places_for def.columns names) (each (bind_row ds) rows) (λ n rs. record { table = table; named = n; rows = rs }) b
+    (λ z. Keeps ds es f (λ p. list_any (uses_in_row p) z.rows) → bind_insert es def table names rows ≡ Ok (record { table = z.table; named = z.named; rows = map (renamed_row f) z.rows })) e
+    (λ n rs en er k. two_ok (places_for def.columns names) (each (bind_row es) rows) (λ n rs. record { table = table; named = n; rows = rs }) n (map (renamed_row f) rs)
+    en (each_kept ds es f (bind_row ds) (bind_row es) uses_in_row (renamed_row f) (λ x y. row_kept ds es f x y) rows rs er k))
+
+assignment_kept : (ds es : List ParamDecl) (f : ℕ → ℕ) (def : TableDef) (s : Scope) (before : List tree.Assignment) (o : tree.Assignment) (b : bound.BoundAssignment)
+    → bind_assignment ds def s before o ≡ Ok b → Keeps ds es f (λ p. uses_in_assignment p b) → bind_assignment es def s before o ≡ Ok (renamed_assignment f b)
+assignment_kept ds es f def s before o b e =
+    two_parts (named_place def.columns (map column_of before) o.column) (bind_operand s ds o.value) (λ p v. record { at = o.at; place = p; value = v }) b
+    (λ z. Keeps ds es f (λ p. uses_in_assignment p z) → bind_assignment es def s before o ≡ Ok (renamed_assignment f z)) e
+    (λ p v ep ev k. two_ok (named_place def.columns (map column_of before) o.column) (bind_operand s es o.value) (λ p v. record { at = o.at; place = p; value = v }) p (renamed_operand f v)
+    ep (operand_kept s ds es f o.value v ev k))
+
+update_kept : (ds es : List ParamDecl) (f : ℕ → ℕ) (def : TableDef) (table : List ℕ) (all : List tree.Assignment) (filter : Option (Condition ColumnRef (List ℕ))) (b : bound.BoundUpdate)
+    → bind_update ds def table all filter ≡ Ok b → Keeps ds es f (λ p. list_any (uses_in_assignment p) b.assignments || uses_in_filter p b.filter)
+    → bind_update es def table all filter ≡ Ok (record { table = b.table; assignments = map (renamed_assignment f) b.assignments; filter = renamed_filter f b.filter })
+update_kept ds es f def table all filter b e =
+    two_parts (each_from (assigned ds def (table_scope table def) all) 0 all) (bind_filter (table_scope table def) ds filter) (λ a c. record { table = table; assignments = a; filter = c }) b
+    (λ z. Keeps ds es f (λ p. list_any (uses_in_assignment p) z.assignments || uses_in_filter p z.filter)
+    → bind_update es def table all filter ≡ Ok (record { table = z.table; assignments = map (renamed_assignment f) z.assignments; filter = renamed_filter f z.filter })) e
+    (λ a c ea ec k. two_ok (each_from (assigned es def (table_scope table def) all) 0 all) (bind_filter (table_scope table def) es filter) (λ a c. record { table = table; assignments = a; filter = c }) (map (renamed_assignment f) a) (renamed_filter f c)
+    (each_from_kept ds es f (assigned ds def (table_scope table def) all) (assigned es def (table_scope table def) all) uses_in_assignment (renamed_assignment f) (λ i x y. assignment_kept ds es f def (table_scope table def) _ x y) all 0 a ea
+    (left (λ p. list_any (uses_in_assignment p) a) (λ p. uses_in_filter p c) k))
+    (filter_kept (table_scope table def) ds es f filter c ec (right (λ p. list_any (uses_in_assignment p) a) (λ p. uses_in_filter p c) k)))
+
+delete_kept : (ds es : List ParamDecl) (f : ℕ → ℕ) (def : TableDef) (table : List ℕ) (filter : Option (Condition ColumnRef (List ℕ))) (b : bound.BoundDelete)
+    → bind_delete ds def table filter ≡ Ok b → Keeps ds es f (λ p. uses_in_filter p b.filter) → bind_delete es def table filter ≡ Ok (record { table = b.table; filter = renamed_filter f b.filter })
+delete_kept ds es f def table filter b e =
+    one_part (bind_filter (table_scope table def) ds filter) (λ c. record { table = table; filter = c }) b
+    (λ z. Keeps ds es f (λ p. uses_in_filter p z.filter) → bind_delete es def table filter ≡ Ok (record { table = z.table; filter = renamed_filter f z.filter })) e
+    (λ c ec k. one_ok (bind_filter (table_scope table def) es filter) (renamed_filter f c) (λ c. Ok (record { table = table; filter = c })) _ (filter_kept (table_scope table def) ds es f filter c ec k) refl)
+
+-- ---- queries
+
+value_kept : (s : Scope) (ds es : List ParamDecl) (f : ℕ → ℕ) (o : tree.ItemValue) (b : bound.BoundItemValue) → bind_value s ds o ≡ Ok b → Keeps ds es f (λ p. uses_in_value p b)
+    → bind_value s es o ≡ Ok (renamed_value f b)
+value_kept s ds es f (tree.Value x) b e =
+    one_part (bind_operand s ds x) bound.Value b (λ z. Keeps ds es f (λ p. uses_in_value p z) → bind_value s es (tree.Value x) ≡ Ok (renamed_value f z)) e
+    (λ a ea k. one_ok (bind_operand s es x) (renamed_operand f a) (λ y. Ok (bound.Value y)) _ (operand_kept s ds es f x a ea k) refl)
+value_kept s ds es f (tree.Count at) b e =
+    let i : bound.Count at ≡ b = cc in subst (λ z. Keeps ds es f (λ p. uses_in_value p z) → bind_value s es (tree.Count at) ≡ Ok (renamed_value f z)) i (λ k. refl)
+
+item_kept : (s : Scope) (ds es : List ParamDecl) (f : ℕ → ℕ) (o : tree.Item) (b : bound.BoundItem) → bind_item s ds o ≡ Ok b → Keeps ds es f (λ p. uses_in_item p b)
+    → bind_item s es o ≡ Ok (renamed_item f b)
+item_kept s ds es f o b e =
+    one_part (bind_value s ds o.value) (λ v. record { title = title_of o; value = v }) b (λ z. Keeps ds es f (λ p. uses_in_item p z) → bind_item s es o ≡ Ok (renamed_item f z)) e
+    (λ v ev k. one_ok (bind_value s es o.value) (renamed_value f v) (λ y. Ok (record { title = title_of o; value = y })) _ (value_kept s ds es f o.value v ev k) refl)
+
+starred_kept : (f : ℕ → ℕ) (at : ℕ) (cs : List ScopeColumn) (i : ℕ) → map (renamed_item f) (starred at i cs) ≡ starred at i cs
+starred_kept f at [] i = refl
+starred_kept f at (c ∷ cs) i = ap (λ z. record { title = c.column.name; value = bound.Value (operands.Column at i) } ∷ z) (starred_kept f at cs (i + 1))
+
+items_kept : (s : Scope) (ds es : List ParamDecl) (f : ℕ → ℕ) (o : tree.Items) (b : List bound.BoundItem) → bind_items s ds o ≡ Ok b → Keeps ds es f (λ p. list_any (uses_in_item p) b)
+    → bind_items s es o ≡ Ok (map (renamed_item f) b)
+items_kept s ds es f (tree.Star at) b e k = let i : starred at 0 s.columns ≡ b = cc in subst (λ z. bind_items s es (tree.Star at) ≡ Ok (map (renamed_item f) z)) i (ap Ok (sym (starred_kept f at s.columns 0)))
+items_kept s ds es f (tree.Listed items) b e k = each_kept ds es f (bind_item s ds) (bind_item s es) uses_in_item (renamed_item f) (λ x y. item_kept s ds es f x y) items b e k
+
+join_kept : (s : Scope) (ds es : List ParamDecl) (f : ℕ → ℕ) (o : Joined) (b : bound.BoundJoin) → bind_join s ds o ≡ Ok b → Keeps ds es f (λ p. uses_in_join p b) → bind_join s es o ≡ Ok (renamed_join f b)
+join_kept s ds es f o b e =
+    one_part (bind_condition s ds o.on) _ b (λ z. Keeps ds es f (λ p. uses_in_join p z) → bind_join s es o ≡ Ok (renamed_join f z)) e
+    (λ c ec k. one_ok (bind_condition s es o.on) (renamed_condition f c) _ _ (condition_kept s ds es f o.on c ec k) refl)
+
+joins_kept : (ds es : List ParamDecl) (f : ℕ → ℕ) (joins : List Joined) (s : Scope) (b : List bound.BoundJoin) → bind_joins ds s joins ≡ Ok b → Keeps ds es f (λ p. list_any (uses_in_join p) b)
+    → bind_joins es s joins ≡ Ok (map (renamed_join f) b)
+joins_kept ds es f [] s b e = let i : [] ≡ b = cc in subst (λ z. Keeps ds es f (λ p. list_any (uses_in_join p) z) → bind_joins es s [] ≡ Ok (map (renamed_join f) z)) i (λ k. refl)
+joins_kept ds es f (j ∷ js) s b e =
+    two_parts (bind_join (with_source s j.source) ds j) (bind_joins ds (with_source s j.source) js) ◌∷◌ b (λ z. Keeps ds es f (λ p. list_any (uses_in_join p) z) → bind_joins es s (j ∷ js) ≡ Ok (map (renamed_join f) z)) e
+    (λ a m ea em k. two_ok (bind_join (with_source s j.source) es j) (bind_joins es (with_source s j.source) js) ◌∷◌ (renamed_join f a) (map (renamed_join f) m)
+    (join_kept (with_source s j.source) ds es f j a ea (left (λ p. uses_in_join p a) (λ p. list_any (uses_in_join p) m) k)) (joins_kept ds es f js (with_source s j.source) m em (right (λ p. uses_in_join p a) (λ p. list_any (uses_in_join p) m) k)))
+
+abbrev KeptQuery : List ParamDecl → List ParamDecl → (ℕ → ℕ) → Sources → tree.Query → bound.BoundQuery → Type 0
+KeptQuery ds es f sources q z =
+    Keeps ds es f (λ p. list_any (uses_in_item p) z.items || (list_any (uses_in_join p) z.joins || uses_in_filter p z.filter)) → bind_query es sources q ≡ Ok (renamed_query f z)
+
+parts_kept : (ds es : List ParamDecl) (f : ℕ → ℕ) (sources : Sources) (q : tree.Query) (items : List bound.BoundItem) (joins : List bound.BoundJoin) (filter : Option (Condition ℕ ℕ)) (group : List PlaceAt) (order : List BoundOrderKey)
+    → bind_items (scope_of (all_sources sources)) ds q.items ≡ Ok items → bind_joins ds (scope_of (sources.from ∷ [])) sources.joins ≡ Ok joins → bind_filter (scope_of (all_sources sources)) ds q.filter ≡ Ok filter
+    → each (bind_column_at (scope_of (all_sources sources))) q.group_by ≡ Ok group → each (bind_key (scope_of (all_sources sources))) q.order_by ≡ Ok order
+    → KeptQuery ds es f sources q (made q sources items joins filter group order)
+parts_kept ds es f sources q items joins filter group order ei ej ec eg eo k =
+    let s = scope_of (all_sources sources) in
+    let later = right (λ p. list_any (uses_in_item p) items) (λ p. list_any (uses_in_join p) joins || uses_in_filter p filter) k in
+    one_ok (bind_items s es q.items) (map (renamed_item f) items) (joined es q sources) _
+    (items_kept s ds es f q.items items ei (left (λ p. list_any (uses_in_item p) items) (λ p. list_any (uses_in_join p) joins || uses_in_filter p filter) k))
+    (one_ok (bind_joins es (scope_of (sources.from ∷ [])) sources.joins) (map (renamed_join f) joins) (filtered es q sources (map (renamed_item f) items)) _
+    (joins_kept ds es f sources.joins (scope_of (sources.from ∷ [])) joins ej (left (λ p. list_any (uses_in_join p) joins) (λ p. uses_in_filter p filter) later))
+    (one_ok (bind_filter s es q.filter) (renamed_filter f filter) (grouped q sources (map (renamed_item f) items) (map (renamed_join f) joins)) _
+    (filter_kept s ds es f q.filter filter ec (right (λ p. list_any (uses_in_join p) joins) (λ p. uses_in_filter p filter) later))
+    (one_ok (each (bind_column_at s) q.group_by) group (ordered q sources (map (renamed_item f) items) (map (renamed_join f) joins) (renamed_filter f filter)) _ eg
+    (one_ok (each (bind_key s) q.order_by) order (λ o. Ok (made q sources (map (renamed_item f) items) (map (renamed_join f) joins) (renamed_filter f filter) group o)) _ eo refl))))
+
+query_kept : (ds es : List ParamDecl) (f : ℕ → ℕ) (sources : Sources) (q : tree.Query) (b : bound.BoundQuery) → bind_query ds sources q ≡ Ok b → KeptQuery ds es f sources q b
+query_kept ds es f sources q b e =
+    let s = scope_of (all_sources sources) in
+    first_part (bind_items s ds q.items) (joined ds q sources) b (KeptQuery ds es f sources q b) e
+    (λ items ei e1. first_part (bind_joins ds (scope_of (sources.from ∷ [])) sources.joins) (filtered ds q sources items) b (KeptQuery ds es f sources q b) e1
+    (λ joins ej e2. first_part (bind_filter s ds q.filter) (grouped q sources items joins) b (KeptQuery ds es f sources q b) e2
+    (λ filter ec e3. first_part (each (bind_column_at s) q.group_by) (ordered q sources items joins filter) b (KeptQuery ds es f sources q b) e3
+    (λ group eg e4. one_part (each (bind_key s) q.order_by) (made q sources items joins filter group) b (KeptQuery ds es f sources q) e4
+    (λ order eo. parts_kept ds es f sources q items joins filter group order ei ej ec eg eo)))))
+
+-- ---- statements
+
+abbrev Whole : Catalog → tree.Statement → List ParamDecl → List ParamDecl → (ℕ → ℕ) → bound.Bound → Type 0
+Whole catalog statement ds es f b =
+    Keeps ds es f (λ p. uses_in_statement p b.statement) → named catalog statement es ≡ Ok (bound_over es b.columns (renamed_statement f b.statement))
+
+named_kept : (catalog : Catalog) (statement : tree.Statement) (ds es : List ParamDecl) (f : ℕ → ℕ) (b : bound.Bound) → named catalog statement ds ≡ Ok b → Whole catalog statement ds es f b
+named_kept catalog (tree.CreateMaster name path) ds es f b e =
+    one_part (key_path path) _ b (Whole catalog (tree.CreateMaster name path) ds es f) e (λ p ep k. one_ok (key_path path) p _ _ ep refl)
+named_kept catalog (tree.CreateKey name master wrapped) ds es f b e =
+    two_parts (wrapped_key wrapped) (master_for catalog master) _ b (Whole catalog (tree.CreateKey name master wrapped) ds es f) e
+    (λ w m ew em k. two_ok (wrapped_key wrapped) (master_for catalog master) _ w m ew em)
+named_kept catalog (tree.CreateTable table columns uniques) ds es f b e =
+    one_part (bind_table catalog table columns uniques) _ b (Whole catalog (tree.CreateTable table columns uniques) ds es f) e (λ p ep k. one_ok (bind_table catalog table columns uniques) p _ _ ep refl)
+named_kept catalog (tree.DropTable name) ds es f b e = let i : bound_over ds [] (bound.DropTable name) ≡ b = cc in subst (Whole catalog (tree.DropTable name) ds es f) i (λ k. refl)
+named_kept catalog (tree.DropMaster name) ds es f b e = let i : bound_over ds [] (bound.DropMaster name) ≡ b = cc in subst (Whole catalog (tree.DropMaster name) ds es f) i (λ k. refl)
+named_kept catalog (tree.DropKey name) ds es f b e = let i : bound_over ds [] (bound.DropKey name) ≡ b = cc in subst (Whole catalog (tree.DropKey name) ds es f) i (λ k. refl)
+named_kept catalog (tree.Insert table names rows) ds es f b e =
+    first_part (table_for catalog table) _ b (Whole catalog (tree.Insert table names rows) ds es f b) e (λ def ed e1.
+    one_part (bind_insert ds def table names rows) _ b (Whole catalog (tree.Insert table names rows) ds es f) e1
+    (λ i ei k. one_ok (table_for catalog table) def _ _ ed (one_ok (bind_insert es def table names rows) _ _ _ (insert_kept ds es f def table names rows i ei k) refl)))
+named_kept catalog (tree.Update table all filter) ds es f b e =
+    first_part (table_for catalog table) _ b (Whole catalog (tree.Update table all filter) ds es f b) e (λ def ed e1.
+    one_part (bind_update ds def table all filter) _ b (Whole catalog (tree.Update table all filter) ds es f) e1
+    (λ i ei k. one_ok (table_for catalog table) def _ _ ed (one_ok (bind_update es def table all filter) _ _ _ (update_kept ds es f def table all filter i ei k) refl)))
+named_kept catalog (tree.Delete table filter) ds es f b e =
+    first_part (table_for catalog table) _ b (Whole catalog (tree.Delete table filter) ds es f b) e (λ def ed e1.
+    one_part (bind_delete ds def table filter) _ b (Whole catalog (tree.Delete table filter) ds es f) e1
+    (λ i ei k. one_ok (table_for catalog table) def _ _ ed (one_ok (bind_delete es def table filter) _ _ _ (delete_kept ds es f def table filter i ei k) refl)))
+named_kept catalog (tree.Select q) ds es f b e =
+    first_part (sources_for catalog q) _ b (Whole catalog (tree.Select q) ds es f b) e (λ sources es1 e1.
+    one_part (bind_query ds sources q) _ b (Whole catalog (tree.Select q) ds es f) e1
+    (λ i ei k. one_ok (sources_for catalog q) sources _ _ es1 (one_ok (bind_query es sources q) _ _ _ (query_kept ds es f sources q i ei k) refl)))
+
+pub names_keep_the_used : NamesKeepTheUsed
+names_keep_the_used = record { kept = λ catalog statement ds es f b e k. named_kept catalog statement ds es f b e k }

@@ -1,0 +1,11 @@
+-- Those bound so far stand before the others.
+use Rattle.std.proofs.Common.{◌≡◌, drop}
+use Rattle.resolve.specs.Walks.{each_from}
+use Rattle.resolve.proofs.Walks.{onto}
+use Rattle.resolve.specs.Changes.{listed_place}
+use Rattle.resolve.proofs.changes.listed_places.Given as goal
+
+abbrev pub invariant-loop-given : goal.invariant-loop-given
+invariant-loop-given l =
+    each_from (listed_place l.columns l.names) 0 l.names
+    ≡ onto l.places (each_from (listed_place l.columns l.names) l.given (drop l.given l.names))

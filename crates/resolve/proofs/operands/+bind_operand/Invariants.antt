@@ -1,0 +1,12 @@
+-- The terms so far stand before the others.
+use Rattle.std.proofs.Common.{◌≡◌, drop}
+use Rattle.sql_tree.specs.Listed.{terms_listed}
+use Rattle.resolve.specs.Names.{bind_terms}
+use Rattle.resolve.specs.Seen.{scope_seen}
+use Rattle.resolve.proofs.Trees.{onto_terms}
+use Rattle.resolve.proofs.operands.+bind_operand.Given as goal
+
+abbrev pub invariant-bind_terms-loop-term : goal.invariant-bind_terms-loop-term
+invariant-bind_terms-loop-term l =
+    bind_terms (scope_seen l.scope) l.declarations (terms_listed l.terms)
+    ≡ onto_terms (terms_listed l.bound) (bind_terms (scope_seen l.scope) l.declarations (terms_listed (drop l.term-index l.terms)))

@@ -1,0 +1,56 @@
+-- What each bound statement is; and one that is bound over all declarations is bound alike over others that have those it uses.
+use Rattle.std.specs.Prelude.{◌≡◌, ℕ, List, map, Bool, true, Ok, IsSome}
+use Rattle.std.specs.List.{All, slice_get}
+use Rattle.ae_base.specs.Results.{◌>>=◌}
+use Rattle.ae_base.specs.declared.batches.ParamDecl.{ParamDecl}
+use Rattle.ae_base.specs.declared.types.Enc.{Enc}
+use Rattle.sql_tree.specs.Statements.{Statement}
+use Rattle.sql_tree.specs.Bound.{Bound, CreateKey}
+use Rattle.sql_tree.specs.OnTables.{IsOnTables}
+use Rattle.sql_tree.specs.Placed.{IsWellPlaced}
+use Rattle.sql_tree.specs.Uses.{uses, renamed, renamed_statement}
+use Rattle.enc_types.specs.Least.{inferred}
+use Rattle.enc_types.specs.UsedAlone.{used_among, is_used, alone}
+use Rattle.catalog.specs.Catalogs.{Catalog, master_named}
+use Rattle.catalog.specs.WellFormed.{IsKeyThere, IsCatalog}
+use Rattle.resolve.specs.Scopes.{param_place}
+use Rattle.resolve.specs.Bind.{bound_over, type_of, named, bind}
+
+-- a bound statement has the declared types, its places lie within them and its columns, and its tables and keys are those of
+-- the catalog
+pub record IsBoundOver (catalog : Catalog) (declarations : List ParamDecl) (b : Bound) : Type 0 where
+  pub params : b.params ≡ map type_of declarations
+  pub placed : IsWellPlaced b
+  pub tables : IsOnTables catalog.tables b
+  pub master : (name master wrapped : List ℕ) → b.statement ≡ CreateKey name master wrapped → IsSome (master_named catalog master)
+  pub keys : IsCatalog catalog → All (λ site. IsKeyThere catalog site.enc) b.columns
+
+abbrev pub BoundStatementsAre : Type 0
+BoundStatementsAre = (catalog : Catalog) (statement : Statement) (declarations : List ParamDecl) (b : Bound) → bind catalog statement declarations ≡ Ok b → IsBoundOver catalog declarations b
+
+-- each parameter that is used stands in the other list too, where f puts it, with its type
+pub record Keeps (declarations others : List ParamDecl) (f : ℕ → ℕ) (used : ℕ → Bool) : Type 0 where
+  pub named : (name : List ℕ) (place : ℕ) → param_place declarations name ≡ Ok place → used place ≡ true → param_place others name ≡ Ok (f place)
+  pub typed : (place : ℕ) → used place ≡ true → slice_get (map type_of others) (f place) ≡ slice_get (map type_of declarations) place
+
+-- over those it is the same statement, its parameters where f puts them
+pub record NamesKeepTheUsed : Type 0 where
+  pub kept : (catalog : Catalog) (statement : Statement) (declarations others : List ParamDecl) (f : ℕ → ℕ) (bound : Bound)
+      → named catalog statement declarations ≡ Ok bound → Keeps declarations others f (λ place. uses place bound)
+      → named catalog statement others ≡ Ok (bound_over others bound.columns (renamed_statement f bound.statement))
+
+-- and the whole statement is, or the same fault of its kinds, its groups or its length is answered
+pub record BindKeepsTheUsed : Type 0 where
+  pub kept : (catalog : Catalog) (statement : Statement) (declarations others : List ParamDecl) (f : ℕ → ℕ) (bound : Bound)
+      → named catalog statement declarations ≡ Ok bound → Keeps declarations others f (λ place. uses place bound)
+      → bind catalog statement others ≡ (bind catalog statement declarations >>= λ made. Ok (renamed f (map type_of others) made))
+
+-- a statement that is described over all declarations is, over those that it uses alone, the same with its parameters there,
+-- and these are inferred alike
+pub record IsPreparedAlone (catalog : Catalog) (statement : Statement) (declarations : List ParamDecl) (b : Bound) (encs : List Enc) : Type 0 where
+  pub is_bound : bind catalog statement (used_among (is_used b) 0 declarations) ≡ Ok (alone b)
+  pub is_inferred : inferred (alone b) ≡ Ok (used_among (is_used b) 0 encs)
+
+abbrev pub PreparedAlone : Type 0
+PreparedAlone = (catalog : Catalog) (statement : Statement) (declarations : List ParamDecl) (b : Bound) (encs : List Enc) → bind catalog statement declarations ≡ Ok b → inferred b ≡ Ok encs
+    → IsPreparedAlone catalog statement declarations b encs

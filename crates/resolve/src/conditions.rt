@@ -1,0 +1,104 @@
+ghost use Rattle.std.specs.Option.{option_map};
+ghost use Rattle.ae_base.specs.Results.{AnswersAs};
+ghost use Rattle.sql_tree.specs.Listed.{conditions_listed};
+ghost use Rattle.sql_tree.specs.Conditions.{condition_of};
+ghost use Rattle.resolve.specs.Names.{bind_condition, bind_conditions, bind_filter};
+ghost use Rattle.resolve.specs.Seen.{scope_seen};
+
+use crate::boxes::boxed;
+use crate::operands::{bind_operand, bind_operands};
+use crate::scopes::Scope;
+use ae_base::batches::ParamDecl;
+use ae_base::lists::Seq;
+use ae_base::names::ParamName;
+use ae_base::refusals::Refusal;
+use sql_tree::bound::BoundCondition;
+use sql_tree::conditions::Condition;
+use sql_tree::operands::ColumnRef;
+use std::alloc::Global;
+
+#[cycle(bind_condition)]
+#[tactic(auto, using(crate::proofs::Trees::all_seen, crate::proofs::Trees::any_seen))]
+pub(crate) fn bind_condition(
+    alloc: Global,
+    scope: &Scope<'_>,
+    declarations: &[ParamDecl],
+    condition: &Condition<ColumnRef, ParamName>,
+) -> Result<BoundCondition, Refusal>
+    ensures { AnswersAs condition_of result (bind_condition (scope_seen scope.now) declarations.now (condition_of condition.now)) }
+{
+    match condition {
+        Condition::Compare {
+            at,
+            comparison,
+            left,
+            right,
+        } => Ok(Condition::Compare {
+            at: *at,
+            comparison: *comparison,
+            left: bind_operand(alloc, scope, declarations, left)?,
+            right: bind_operand(alloc, scope, declarations, right)?,
+        }),
+        Condition::IsNull { negated, operand } => Ok(Condition::IsNull {
+            negated: *negated,
+            operand: bind_operand(alloc, scope, declarations, operand)?,
+        }),
+        Condition::In {
+            at,
+            negated,
+            operand,
+            list,
+        } => Ok(Condition::In {
+            at: *at,
+            negated: *negated,
+            operand: bind_operand(alloc, scope, declarations, operand)?,
+            list: bind_operands(alloc, scope, declarations, list)?.into_vec(),
+        }),
+        Condition::Not(condition) => {
+            let condition = bind_condition(alloc, scope, declarations, condition)?;
+            Ok(Condition::Not(boxed(alloc, condition)?))
+        }
+        Condition::AllOf(all) => Ok(Condition::AllOf(bind_conditions(
+            alloc,
+            scope,
+            declarations,
+            all,
+        )?.into_vec())),
+        Condition::AnyOf(any) => Ok(Condition::AnyOf(bind_conditions(
+            alloc,
+            scope,
+            declarations,
+            any,
+        )?.into_vec())),
+    }
+}
+
+#[cycle(bind_condition)]
+fn bind_conditions(
+    alloc: Global,
+    scope: &Scope<'_>,
+    declarations: &[ParamDecl],
+    conditions: &[Condition<ColumnRef, ParamName>],
+) -> Result<Seq<BoundCondition>, Refusal>
+    ensures { AnswersAs conditions_listed result (bind_conditions (scope_seen scope.now) declarations.now (conditions_listed conditions.now)) }
+{
+    let mut bound = Seq::new(alloc);
+    for condition in conditions {
+        bound.push(bind_condition(alloc, scope, declarations, condition)?)?;
+    }
+    Ok(bound)
+}
+
+pub(crate) fn bind_filter(
+    alloc: Global,
+    scope: &Scope<'_>,
+    declarations: &[ParamDecl],
+    filter: &Option<Condition<ColumnRef, ParamName>>,
+) -> Result<Option<BoundCondition>, Refusal>
+    ensures { AnswersAs (option_map condition_of) result (bind_filter (scope_seen scope.now) declarations.now (option_map condition_of filter.now)) }
+{
+    match filter {
+        Some(condition) => Ok(Some(bind_condition(alloc, scope, declarations, condition)?)),
+        None => Ok(None),
+    }
+}

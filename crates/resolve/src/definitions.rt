@@ -1,0 +1,269 @@
+ghost use Rattle.std.specs.Prelude.{◌≡◌, ◌++◌, IfOk, OnOk, map};
+ghost use Rattle.std.specs.List.{flat_map, list_any};
+ghost use Rattle.std.specs.Str.{bytes_eq};
+ghost use Rattle.ae_base.specs.Results.{each, Answers};
+ghost use Rattle.resolve.specs.Walks.{each_from};
+ghost use Rattle.resolve.specs.Definitions.{alone, bind_column, column_behind, key_column_behind, bind_key_column, bind_table, bind_unique, enc_for, enc_of, key_path, listed_name, master_for, name_of, new_name, place_of_key, places_of_list, word_keys, wrapped_key};
+
+use crate::scopes::new_place;
+use ae_base::blobs::Blob;
+use ae_base::faults::SqlFault;
+use ae_base::keys::{KeyPath, WrappedKey};
+use ae_base::lists::{Duplicate, Seq};
+use ae_base::names::Name;
+use ae_base::refusals::Refusal;
+use ae_base::tables::{ColumnDef, TableDef, UniqueKey};
+use ae_base::texts::Txt;
+use ae_base::types::{Enc, KeyId};
+use catalog::catalogs::Catalog;
+use sql_tree::bound::{BoundTable, PlaceAt};
+use sql_tree::statements::{ColumnSpec, Encryption, EncryptionKind, NameAt, UniqueSpec};
+use std::alloc::{AllocError, Global};
+
+pub(crate) fn key_path(path: &Txt) -> Result<KeyPath, Refusal>
+    ensures { Answers result (key_path path.now) }
+{
+    match KeyPath::from_txt(path.copy()?) {
+        Some(path) => Ok(path),
+        None => Err(Refusal::Fault(SqlFault::TooLong)),
+    }
+}
+
+pub(crate) fn wrapped_key(bytes: &Blob) -> Result<WrappedKey, Refusal>
+    ensures { Answers result (wrapped_key bytes.now) }
+{
+    match WrappedKey::from_blob(bytes.copy()?) {
+        Some(key) => Ok(key),
+        None => Err(Refusal::Fault(SqlFault::TooLong)),
+    }
+}
+
+/// Whether a master key of the name is there.
+pub(crate) fn master_for(catalog: &Catalog, name: &Name) -> Result<(), Refusal>
+    ensures { Answers result (master_for catalog.now name.now) }
+{
+    match catalog.master(name) {
+        Some(_) => Ok(()),
+        None => Err(Refusal::Fault(SqlFault::NoKey(name.copy()?))),
+    }
+}
+
+fn enc_of(kind: EncryptionKind, id: KeyId) -> Enc
+    ensures { result ≡ enc_of kind id }
+{
+    match kind {
+        EncryptionKind::Deterministic => Enc::Det(id),
+        EncryptionKind::Randomized => Enc::Rnd(id),
+    }
+}
+
+fn enc_for(catalog: &Catalog, encryption: &Option<Encryption>) -> Result<Enc, Refusal>
+    ensures { Answers result (enc_for catalog.now encryption.now) }
+{
+    match encryption {
+        None => Ok(Enc::Plain),
+        Some(encryption) => match catalog.key(&encryption.key) {
+            Some(id) => Ok(enc_of(encryption.kind, id)),
+            None => Err(Refusal::Fault(SqlFault::NoKey(encryption.key.copy()?))),
+        },
+    }
+}
+
+fn is_column(columns: &[ColumnSpec], name: &Name) -> bool
+    ensures { result ≡ list_any (bytes_eq name.now) (map name_of columns.now) }
+{
+    for column in columns {
+        if *name == column.name {
+            return true;
+        }
+    }
+    false
+}
+
+fn new_name(before: &[ColumnSpec], name: &Name) -> Result<(), Refusal>
+    ensures { Answers result (new_name (map name_of before.now) name.now) }
+{
+    if is_column(before, name) {
+        return Err(Refusal::Fault(SqlFault::Ambiguous(name.copy()?)));
+    }
+    Ok(())
+}
+
+fn bind_column(
+    catalog: &Catalog,
+    before: &[ColumnSpec],
+    column: &ColumnSpec,
+) -> Result<ColumnDef, Refusal>
+    ensures { Answers result (column_behind catalog.now before.now column.now) }
+{
+    new_name(before, &column.name)?;
+    let enc = enc_for(catalog, &column.encryption)?;
+    Ok(ColumnDef {
+        name: column.name.copy()?,
+        ty: column.ty,
+        enc,
+        not_null: column.not_null,
+    })
+}
+
+fn bind_columns(
+    alloc: Global,
+    catalog: &Catalog,
+    columns: &[ColumnSpec],
+) -> Result<Seq<ColumnDef>, Refusal>
+    ensures { Answers result (each_from (bind_column catalog.now columns.now) 0 columns.now) }
+{
+    let mut defs = Seq::new(alloc);
+    for (i, column) in columns.iter().enumerate() {
+        defs.push(bind_column(catalog, &columns[..i], column)?)?;
+    }
+    Ok(defs)
+}
+
+/// The columns with the word UNIQUE.
+fn word_keys(alloc: Global, columns: &[ColumnSpec]) -> Result<Seq<PlaceAt>, AllocError>
+    ensures { IfOk result (λ keys. keys ≡ word_keys 0 columns.now) }
+{
+    let mut keys = Seq::new(alloc);
+    for (place, column) in columns.iter().enumerate() {
+        if let Some(at) = column.unique {
+            keys.push(PlaceAt { at, place })?;
+        }
+    }
+    Ok(keys)
+}
+
+fn is_listed(names: &[NameAt], name: &Name) -> bool
+    ensures { result ≡ list_any (bytes_eq name.now) (map listed_name names.now) }
+{
+    for listed in names {
+        if *name == listed.name {
+            return true;
+        }
+    }
+    false
+}
+
+fn bind_key_column(
+    columns: &[ColumnDef],
+    before: &[NameAt],
+    named: &NameAt,
+) -> Result<PlaceAt, Refusal>
+    ensures { Answers result (key_column_behind columns.now before.now named.now) }
+{
+    let given = is_listed(before, &named.name);
+    Ok(PlaceAt {
+        at: named.at,
+        place: new_place(columns, &named.name, given)?,
+    })
+}
+
+fn bind_unique(
+    alloc: Global,
+    columns: &[ColumnDef],
+    names: &[NameAt],
+) -> Result<Seq<PlaceAt>, Refusal>
+    ensures { Answers result (each_from (bind_key_column columns.now names.now) 0 names.now) }
+{
+    let mut keys = Seq::new(alloc);
+    for (i, named) in names.iter().enumerate() {
+        keys.push(bind_key_column(columns, &names[..i], named)?)?;
+    }
+    Ok(keys)
+}
+
+fn bind_uniques(
+    alloc: Global,
+    columns: &[ColumnDef],
+    uniques: &[UniqueSpec],
+) -> Result<Seq<Seq<PlaceAt>>, Refusal>
+    ensures { Answers result (each (bind_unique columns.now) uniques.now) }
+{
+    let mut lists = Seq::new(alloc);
+    for unique in uniques {
+        lists.push(bind_unique(alloc, columns, unique.columns.as_slice())?)?;
+    }
+    Ok(lists)
+}
+
+fn places_of_list(alloc: Global, keys: &[PlaceAt]) -> Result<UniqueKey, AllocError>
+    ensures { IfOk result (λ places. places ≡ places_of_list keys.now) }
+{
+    let mut places = Seq::new(alloc);
+    for key in keys {
+        places.push(key.place)?;
+    }
+    Ok(places)
+}
+
+fn each_alone(alloc: Global, words: &[PlaceAt]) -> Result<Seq<UniqueKey>, AllocError>
+    ensures { IfOk result (λ uniques. uniques ≡ map alone words.now) }
+{
+    let mut uniques = Seq::new(alloc);
+    for key in words {
+        let mut places = Seq::new(alloc);
+        places.push(key.place)?;
+        uniques.push(places)?;
+    }
+    Ok(uniques)
+}
+
+/// The unique keys of a table: those by a word, then those by a list.
+fn uniques_of(
+    alloc: Global,
+    words: &[PlaceAt],
+    lists: &[Seq<PlaceAt>],
+) -> Result<Seq<UniqueKey>, AllocError>
+    ensures { IfOk result (λ uniques. uniques ≡ map alone words.now ++ map places_of_list lists.now) }
+{
+    let mut uniques = each_alone(alloc, words)?;
+    for keys in lists {
+        uniques.push(places_of_list(alloc, keys.as_slice())?)?;
+    }
+    Ok(uniques)
+}
+
+/// The columns of the unique keys one after another, of which those by a word are given.
+fn keyed_of(words: Seq<PlaceAt>, lists: &[Seq<PlaceAt>]) -> Result<Seq<PlaceAt>, AllocError>
+    ensures { IfOk result (λ keyed. keyed ≡ words ++ flat_map (λ keys. keys) lists.now) }
+{
+    let mut keyed = words;
+    for keys in lists {
+        add_all(&mut keyed, keys.as_slice())?;
+    }
+    Ok(keyed)
+}
+
+fn add_all(keyed: &mut Seq<PlaceAt>, keys: &[PlaceAt]) -> Result<(), AllocError>
+    ensures { OnOk result (keyed.new ≡ keyed.old ++ keys.now) }
+{
+    for key in keys {
+        keyed.push(*key)?;
+    }
+    Ok(())
+}
+
+/// The table that CREATE TABLE defines.
+pub(crate) fn bind_table(
+    alloc: Global,
+    catalog: &Catalog,
+    table: &Name,
+    columns: &[ColumnSpec],
+    uniques: &[UniqueSpec],
+) -> Result<BoundTable, Refusal>
+    ensures { Answers result (bind_table catalog.now table.now columns.now uniques.now) }
+{
+    let defs = bind_columns(alloc, catalog, columns)?;
+    let lists = bind_uniques(alloc, defs.as_slice(), uniques)?;
+    let words = word_keys(alloc, columns)?;
+    let uniques = uniques_of(alloc, words.as_slice(), lists.as_slice())?;
+    let def = TableDef {
+        name: table.copy()?,
+        columns: defs,
+        uniques,
+    };
+    Ok(BoundTable {
+        def,
+        keyed: keyed_of(words, lists.as_slice())?,
+    })
+}

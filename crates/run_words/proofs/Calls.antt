@@ -1,0 +1,323 @@
+-- One call after another: printing, asking, hearing, and what the driver does by itself.
+use Rattle.std.proofs.Common.{◌≡◌, ℕ, ◌+◌, ◌≤◌, List, [], ◌∷◌, ◌++◌, Option, Some, None, Result, Ok, Err, Bool, true, false, ◌||◌, length, map, refl, sym, ◌∙◌, ap, subst, append_assoc, append-nil, length-append, ◌⊎◌, inl, inr, arith}
+use Rattle.std.specs.Prelude.{flat_map, IfSome}
+use Rattle.std.specs.Borrow.{GName}
+use Rattle.ae_base.specs.declared.batches.KeyMeta.{KeyMeta}
+use Rattle.ae_edge.specs.Devices.{WhereTold, Adds, AddsFront, Rose}
+use Rattle.ae_edge.specs.Vaults.{KeyMap}
+use Rattle.ae_edge.proofs.Told.{told_same, adds_none, adds_front_none, removes_none}
+use Rattle.wire_messages.specs.declared.requests.Request.{Request}
+use Rattle.wire_messages.specs.declared.replies.Reply.{Reply}
+use Rattle.wire_spelling.specs.Spelling.{request_frame, reply_frame}
+use Rattle.server_core.specs.Serve.{State, serve}
+use Rattle.conversation.specs.declared.outcomes.Listing.{Listing}
+use Rattle.conversation.specs.declared.outcomes.Outcome.{Outcome}
+use Rattle.conversation.specs.declared.sessions.Session.{Session}
+use Rattle.conversation.specs.Devices.{Devices, AreOwn, HasShare}
+use Rattle.conversation.specs.Devices as own
+use Rattle.conversation.specs.Paths.{Event, Asked, Took, Strayed, Drew, Opened, Printed, Follows, stays, asks, takes_more, takes_last, strays, prints_last, prints, taken_in, drawn_in, outcome_in, Waits, OpensAll, IsStray, next_of}
+use Rattle.conversation.specs.Talk.{Talk, Ends, Stops, Asks, Hears, Draws, Opens, Prints, Heard, Hearing, More, Got, Missed, hear, broken}
+use Rattle.run_words.specs.Printing.{printed_outcome, is_refusal, has_refusal}
+use Rattle.run_words.specs.Shares.{Desk, Wire, Outside, Serves, DeskPut, WirePut, HasPut, WireRead, HasRead, text_of, frames_of, exchanges_of, devices_of, with_devices}
+use Rattle.run_words.specs.Ways.{Goes, Halts, Breaks, Fails, Leads, AsksInPart, TakesOne, IsFirst}
+use Rattle.run_words.specs.declared.stops.Stop.{Stop}
+use Rattle.run_words.specs.declared.stops.Stop.TheVariants as stop
+use Rattle.run_words.proofs.Going.{no_keys, same_state, desk_still, wire_still, nothing_put, nothing_read, stay, or_false, desk_front, wire_front, breaks_between, goes_then}
+
+-- ---- events of the driver by itself leave text, tap and replies
+
+module _ (f : Event → List ℕ) (draws : (bytes : List ℕ) → f (Drew bytes) ≡ []) (opens : (meta : KeyMeta) (key : _) → f (Opened meta key) ≡ []) where
+  none_of : (xs : List Event) → AreOwn xs → flat_map f xs ≡ []
+  none_of [] h = refl
+  none_of (Drew bytes ∷ xs) h = rw (draws bytes) (none_of xs h)
+  none_of (Opened meta key ∷ xs) h = rw (opens meta key) (none_of xs h)
+  none_of (Asked request replies ∷ xs) h = absurd h
+  none_of (Took reply ∷ xs) h = absurd h
+  none_of (Strayed next ∷ xs) h = absurd h
+  none_of (Printed comes ∷ xs) h = absurd h
+
+no_text : (xs : List Event) → AreOwn xs → flat_map text_of xs ≡ []
+no_text = none_of text_of (λ bytes. refl) (λ meta key. refl)
+
+no_frames : (xs : List Event) → AreOwn xs → flat_map frames_of xs ≡ []
+no_frames = none_of frames_of (λ bytes. refl) (λ meta key. refl)
+
+no_exchanges : (xs : List Event) → AreOwn xs → flat_map exchanges_of xs ≡ []
+no_exchanges [] h = refl
+no_exchanges (Drew bytes ∷ xs) h = no_exchanges xs h
+no_exchanges (Opened meta key ∷ xs) h = no_exchanges xs h
+no_exchanges (Asked request replies ∷ xs) h = absurd h
+no_exchanges (Took reply ∷ xs) h = absurd h
+no_exchanges (Strayed next ∷ xs) h = absurd h
+no_exchanges (Printed comes ∷ xs) h = absurd h
+
+no_outcomes : (xs : List Event) → AreOwn xs → flat_map outcome_in xs ≡ []
+no_outcomes [] h = refl
+no_outcomes (Drew bytes ∷ xs) h = no_outcomes xs h
+no_outcomes (Opened meta key ∷ xs) h = no_outcomes xs h
+no_outcomes (Asked request replies ∷ xs) h = absurd h
+no_outcomes (Took reply ∷ xs) h = absurd h
+no_outcomes (Strayed next ∷ xs) h = absurd h
+no_outcomes (Printed comes ∷ xs) h = absurd h
+
+none_taken : (xs : List Event) → AreOwn xs → flat_map taken_in xs ≡ []
+none_taken [] h = refl
+none_taken (Drew bytes ∷ xs) h = none_taken xs h
+none_taken (Opened meta key ∷ xs) h = none_taken xs h
+none_taken (Asked request replies ∷ xs) h = absurd h
+none_taken (Took reply ∷ xs) h = absurd h
+none_taken (Strayed next ∷ xs) h = absurd h
+none_taken (Printed comes ∷ xs) h = absurd h
+
+own_serves : (xs : List Event) → AreOwn xs → (x : State) → Serves xs x x
+own_serves [] h x = refl
+own_serves (Drew bytes ∷ xs) h x = own_serves xs h x
+own_serves (Opened meta key ∷ xs) h x = own_serves xs h x
+own_serves (Asked request replies ∷ xs) h x = absurd h
+own_serves (Took reply ∷ xs) h x = absurd h
+own_serves (Strayed next ∷ xs) h x = absurd h
+own_serves (Printed comes ∷ xs) h x = absurd h
+
+own_waits : (xs : List Event) → AreOwn xs → (x : List Reply) → Waits xs x x
+own_waits [] h x = refl
+own_waits (Drew bytes ∷ xs) h x = own_waits xs h x
+own_waits (Opened meta key ∷ xs) h x = own_waits xs h x
+own_waits (Asked request replies ∷ xs) h x = absurd h
+own_waits (Took reply ∷ xs) h x = absurd h
+own_waits (Strayed next ∷ xs) h x = absurd h
+own_waits (Printed comes ∷ xs) h x = absurd h
+
+added_none : {A : Type 0} (xs : List A) (a : Option (List A)) → xs ≡ [] → Adds xs a a
+added_none xs a e = subst (λ w. Adds w a a) (sym e) (adds_none a)
+
+-- what the driver does by itself, beside all else
+pub own_goes : (t u : Talk) (old : Outside) (x : Devices) → own.Goes t u (devices_of old.desk) x → Goes t u old (record old { desk = with_devices old.desk x })
+own_goes t u old x g = record {
+  events = g.events;
+  follows = g.follows;
+  put = record {
+    desk = record {
+      out_same = refl;
+      entropy_same = g.share.entropy_same;
+      vault_same = g.share.vault_same;
+      out = added_none (flat_map text_of g.events) old.desk.out (no_text g.events g.own);
+      entropy = g.share.entropy;
+      keys = g.share.keys;
+      opened = g.share.opened;
+      out_count = omega arith;
+      entropy_count = g.share.entropy_count;
+      vault_count = g.share.vault_count;
+    };
+    wire = record {
+      names = refl;
+      tap = added_none (flat_map frames_of g.events) old.wire.tap (no_frames g.events g.own);
+      log = added_none (flat_map exchanges_of g.events) old.wire.log (no_exchanges g.events g.own);
+      state = told_same (Serves g.events) (own_serves g.events g.own) old.wire.state;
+      count = omega arith;
+    };
+  };
+  read = record {
+    refused = or_false old.desk.refused ∙ ap (λ w. old.desk.refused || has_refusal w) (sym (no_outcomes g.events g.own));
+    wire = record {
+      waiting = own_waits g.events g.own old.wire.waiting;
+      taken = let e : length (flat_map reply_frame (flat_map taken_in g.events)) ≡ 0 = ap (λ w. length (flat_map reply_frame w)) (none_taken g.events g.own) in omega arith;
+    };
+  };
+}
+
+-- it stands at the draw, or at the key, that wasn't given
+pub own_halts : (P : Talk → Type 0) (t : Talk) (old : Outside) (x : Devices) → own.Halts P t (devices_of old.desk) x → Halts (λ rest now. P rest) t old (record old { desk = with_devices old.desk x })
+own_halts P t old x h = record { rest = h.rest; goes = own_goes t h.rest old x h.goes; place = h.place }
+
+pub own_breaks : (P : Talk → Type 0) (t : Talk) (old : Outside) (x : Devices) → own.Halts P t (devices_of old.desk) x → Breaks t old (record old { desk = with_devices old.desk x })
+own_breaks P t old x h = breaks_between t h.rest old (record old { desk = with_devices old.desk x }) (own_goes t h.rest old x h.goes)
+
+-- ---- printing
+
+keys_printed : (comes : Outcome) (keys : Option KeyMap) → IfSome keys (OpensAll (Printed comes ∷ []))
+keys_printed comes None = tt
+keys_printed comes (Some keys) = tt
+
+or_none : (b c : Bool) → b || (c || false) ≡ b || c
+or_none true c = refl
+or_none false true = refl
+or_none false false = refl
+
+twice_nil : (xs : List ℕ) → (xs ++ []) ++ [] ≡ xs
+twice_nil xs = append-nil (xs ++ []) ∙ append-nil xs
+
+wire_printed : (comes : Outcome) (w : Wire) → WirePut Adds (Printed comes ∷ []) w w
+wire_printed comes w = record { names = refl; tap = adds_none w.tap; log = adds_none w.log; state = told_same (Serves (Printed comes ∷ [])) (λ x. refl) w.state; count = omega arith }
+
+module _ (comes : Outcome) (t u : Talk) (follows : Follows t (Printed comes ∷ []) u) (old : Outside) (out : Option (List ℕ)) (faults : ℕ) (names : List GName)
+    (same : names ≡ old.desk.out_names) (count : old.desk.out_faults ≤ faults) where
+  pub printed_goes : Adds (printed_outcome comes) old.desk.out out → (refused : Bool) → refused ≡ old.desk.refused || is_refusal comes
+      → Goes t u old (record old { desk = record old.desk { out_names = names; out = out; refused = refused; out_faults = faults } })
+  printed_goes h refused r = record {
+    events = Printed comes ∷ [];
+    follows = follows;
+    put = record {
+      desk = record {
+        out_same = same;
+        entropy_same = refl;
+        vault_same = refl;
+        out = subst (λ w. Adds w old.desk.out out) (sym (twice_nil (printed_outcome comes))) h;
+        entropy = removes_none old.desk.entropy;
+        keys = refl;
+        opened = keys_printed comes old.desk.keys;
+        out_count = count;
+        entropy_count = omega arith;
+        vault_count = omega arith;
+      };
+      wire = wire_printed comes old.wire;
+    };
+    read = record { refused = r ∙ sym (or_none old.desk.refused (is_refusal comes)); wire = record { waiting = refl; taken = omega arith } };
+  }
+
+  pub printed_breaks : AddsFront (printed_outcome comes) old.desk.out out
+      → Breaks t old (record old { desk = record old.desk { out_names = names; out = out; out_faults = faults } })
+  printed_breaks h = record {
+    between = t;
+    rest = u;
+    mid = old;
+    last = Printed comes ∷ [];
+    goes = stay t old;
+    one = omega arith;
+    follows = follows;
+    put = record {
+      desk = record {
+        out_same = same;
+        entropy_same = refl;
+        vault_same = refl;
+        out = subst (λ w. AddsFront w old.desk.out out) (sym (twice_nil (printed_outcome comes))) h;
+        entropy = removes_none old.desk.entropy;
+        keys = refl;
+        opened = keys_printed comes old.desk.keys;
+        out_count = count;
+        entropy_count = omega arith;
+        vault_count = omega arith;
+      };
+      wire = wire_front (Printed comes ∷ []) old.wire old.wire (wire_printed comes old.wire);
+    };
+  }
+
+-- ---- the wire
+
+keys_asked : (request : Request) (replies : List Reply) (keys : Option KeyMap) → IfSome keys (OpensAll (Asked request replies ∷ []))
+keys_asked request replies None = tt
+keys_asked request replies (Some keys) = tt
+
+desk_asked : (request : Request) (replies : List Reply) (d : Desk) → DeskPut Adds (Asked request replies ∷ []) d d
+desk_asked request replies d = record {
+  out_same = refl;
+  entropy_same = refl;
+  vault_same = refl;
+  out = adds_none d.out;
+  entropy = removes_none d.entropy;
+  keys = refl;
+  opened = keys_asked request replies d.keys;
+  out_count = omega arith;
+  entropy_count = omega arith;
+  vault_count = omega arith;
+}
+
+-- a request was asked, and its replies wait
+pub asked_goes : (request : Request) (replies : List Reply) (t : Talk) (old : Outside) (wire : Wire)
+    → WirePut Adds (Asked request replies ∷ []) old.wire wire → WireRead (Asked request replies ∷ []) old.wire wire
+    → Goes (Asks request t) t old (record old { wire = wire })
+asked_goes request replies t old wire p r = record {
+  events = Asked request replies ∷ [];
+  follows = asks request replies t t [] (stays t);
+  put = record { desk = desk_asked request replies old.desk; wire = p };
+  read = record { refused = or_false old.desk.refused; wire = r };
+}
+
+pub asked_breaks : (request : Request) (t : Talk) (old : Outside) (wire : Wire) → AsksInPart request old.wire wire → Breaks (Asks request t) old (record old { wire = wire })
+asked_breaks request t old wire (inl h) = record {
+  between = Asks request t;
+  rest = Asks request t;
+  mid = old;
+  last = [];
+  goes = stay (Asks request t) old;
+  one = omega arith;
+  follows = stays (Asks request t);
+  put = record { desk = desk_front [] old.desk old.desk (desk_still old.desk); wire = h };
+}
+asked_breaks request t old wire (inr h) = record {
+  between = Asks request t;
+  rest = t;
+  mid = old;
+  last = Asked request h.0 ∷ [];
+  goes = stay (Asks request t) old;
+  one = omega arith;
+  follows = asks request h.0 t t [] (stays t);
+  put = record { desk = desk_front (Asked request h.0 ∷ []) old.desk old.desk (desk_asked request h.0 old.desk); wire = h.1 };
+}
+
+-- ---- hearing
+
+keys_took : (reply : Reply) (keys : Option KeyMap) → IfSome keys (OpensAll (Took reply ∷ []))
+keys_took reply None = tt
+keys_took reply (Some keys) = tt
+
+desk_took : (reply : Reply) (d : Desk) → DeskPut Adds (Took reply ∷ []) d d
+desk_took reply d = record {
+  out_same = refl;
+  entropy_same = refl;
+  vault_same = refl;
+  out = adds_none d.out;
+  entropy = removes_none d.entropy;
+  keys = refl;
+  opened = keys_took reply d.keys;
+  out_count = omega arith;
+  entropy_count = omega arith;
+  vault_count = omega arith;
+}
+
+took_goes : (reply : Reply) (t u : Talk) (old : Outside) (wire : Wire) → Follows t (Took reply ∷ []) u → TakesOne reply old.wire wire → Goes t u old (record old { wire = wire })
+took_goes reply t u old wire f h = record {
+  events = Took reply ∷ [];
+  follows = f;
+  put = record { desk = desk_took reply old.desk; wire = h.put };
+  read = record { refused = or_false old.desk.refused; wire = h.read };
+}
+
+-- a reply was taken, and more is awaited
+pub heard_more : (session after : Session) (shown more : Listing) (f : Heard → Talk) (reply : Reply) (old : Outside) (wire : Wire)
+    → hear session shown reply ≡ More after more → TakesOne reply old.wire wire → Goes (Hears session shown f) (Hears after more f) old (record old { wire = wire })
+heard_more session after shown more f reply old wire e h =
+    took_goes reply (Hears session shown f) (Hears after more f) old wire (takes_more session after shown more f reply (Hears after more f) [] e (stays (Hears after more f))) h
+
+-- a reply was taken, and all was heard
+pub heard_last : (session : Session) (shown : Listing) (f : Heard → Talk) (reply : Reply) (heard : Heard) (old : Outside) (wire : Wire)
+    → hear session shown reply ≡ Got heard → TakesOne reply old.wire wire → Goes (Hears session shown f) (f heard) old (record old { wire = wire })
+heard_last session shown f reply heard old wire e h =
+    took_goes reply (Hears session shown f) (f heard) old wire (takes_last session shown f reply heard (f heard) [] e (stays (f heard))) h
+
+keys_strayed : (next : Option Reply) (keys : Option KeyMap) → IfSome keys (OpensAll (Strayed next ∷ []))
+keys_strayed next None = tt
+keys_strayed next (Some keys) = tt
+
+-- the next reply isn't awaited, or none is there
+pub strayed_goes : (session : Session) (shown : Listing) (f : Heard → Talk) (next : Option Reply) (old : Outside)
+    → IsStray session shown next → next_of old.wire.waiting ≡ next → Goes (Hears session shown f) (Stops (broken session shown)) old old
+strayed_goes session shown f next old s e = record {
+  events = Strayed next ∷ [];
+  follows = strays session shown f next (Stops (broken session shown)) [] s (stays (Stops (broken session shown)));
+  put = record {
+    desk = record {
+      out_same = refl;
+      entropy_same = refl;
+      vault_same = refl;
+      out = adds_none old.desk.out;
+      entropy = removes_none old.desk.entropy;
+      keys = refl;
+      opened = keys_strayed next old.desk.keys;
+      out_count = omega arith;
+      entropy_count = omega arith;
+      vault_count = omega arith;
+    };
+    wire = record { names = refl; tap = adds_none old.wire.tap; log = adds_none old.wire.log; state = told_same (Serves (Strayed next ∷ [])) (λ x. refl) old.wire.state; count = omega arith };
+  };
+  read = record { refused = or_false old.desk.refused; wire = record { waiting = (e, refl); taken = omega arith } };
+}

@@ -1,0 +1,237 @@
+-- One way after another, with what all that a run touches has of them.
+use Rattle.std.proofs.Common.{◌≡◌, ℕ, ◌+◌, ◌≤◌, List, [], ◌∷◌, ◌++◌, Option, Some, None, Result, Ok, Err, Bool, true, false, ◌||◌, length, map, refl, sym, ◌∙◌, ap, subst, append_assoc, append-nil, length-append, ◌⊎◌, inl, inr, arith}
+use Rattle.std.specs.Prelude.{flat_map, IfSome, min, ◌-◌, ◌^◌}
+use Rattle.std.specs.List.{list_any}
+use Rattle.std.proofs.lemmas.List.Folds.{list_any-append}
+use Rattle.ae_edge.specs.Devices.{Rose, WhereTold, Adds, AddsFront}
+use Rattle.ae_edge.specs.Vaults.{KeyMap}
+use Rattle.ae_edge.proofs.Told.{told_then, told_same, adds_none, adds_then, adds_front_none, removes_none, removes_then, front_of, front_same}
+use Rattle.wire_messages.specs.Exchanges.{Served}
+use Rattle.wire_messages.specs.declared.replies.Reply.{Reply}
+use Rattle.wire_spelling.specs.Spelling.{reply_frame}
+use Rattle.server_core.specs.Serve.{State, serve}
+use Rattle.conversation.specs.Paths.{Event, Asked, Took, Strayed, Drew, Opened, Printed, Follows, stays, taken_in, drawn_in, outcome_in, Waits, OpensAll, next_of}
+use Rattle.conversation.specs.Talk.{Talk}
+use Rattle.conversation.specs.declared.outcomes.Outcome.{Outcome}
+use Rattle.conversation.proofs.Going.{flat_append, follows_then, opens_then}
+use Rattle.run_words.specs.Printing.{is_refusal, has_refusal}
+use Rattle.run_words.specs.Shares.{Desk, Wire, Outside, Serves, DeskPut, WirePut, HasPut, WireRead, HasRead, text_of, frames_of, exchanges_of}
+use Rattle.run_words.specs.Ways.{Goes, Halts, Breaks, Fails, Leads}
+use Rattle.run_words.specs.declared.stops.Stop.{Stop}
+use Rattle.run_words.specs.declared.stops.Stop.TheVariants as stop
+
+waits_then : (xs ys : List Event) (a b c : List Reply) → Waits xs a b → Waits ys b c → Waits (xs ++ ys) a c
+waits_then [] ys a b c p q = subst (λ w. Waits ys w c) p q
+waits_then (Asked request replies ∷ xs) ys a b c p q = waits_then xs ys (a ++ replies) b c p q
+waits_then (Took reply ∷ xs) ys a b c p q = (p.0, p.1, waits_then xs ys p.0 b c p.2 q)
+waits_then (Strayed next ∷ xs) ys a b c p q = (p.0, waits_then xs ys a b c p.1 q)
+waits_then (Drew bytes ∷ xs) ys a b c p q = waits_then xs ys a b c p q
+waits_then (Opened meta key ∷ xs) ys a b c p q = waits_then xs ys a b c p q
+waits_then (Printed comes ∷ xs) ys a b c p q = waits_then xs ys a b c p q
+
+serves_then : (xs ys : List Event) (a b c : State) → Serves xs a b → Serves ys b c → Serves (xs ++ ys) a c
+serves_then [] ys a b c p q = subst (λ w. Serves ys w c) p q
+serves_then (Asked request replies ∷ xs) ys a b c p q = (p.0, p.1, serves_then xs ys p.0 b c p.2 q)
+serves_then (Took reply ∷ xs) ys a b c p q = serves_then xs ys a b c p q
+serves_then (Strayed next ∷ xs) ys a b c p q = serves_then xs ys a b c p q
+serves_then (Drew bytes ∷ xs) ys a b c p q = serves_then xs ys a b c p q
+serves_then (Opened meta key ∷ xs) ys a b c p q = serves_then xs ys a b c p q
+serves_then (Printed comes ∷ xs) ys a b c p q = serves_then xs ys a b c p q
+
+opened_then : (xs ys : List Event) (a b : Option KeyMap) → b ≡ a → IfSome a (OpensAll xs) → IfSome b (OpensAll ys) → IfSome a (OpensAll (xs ++ ys))
+opened_then xs ys None b e p q = tt
+opened_then xs ys (Some keys) b e p q = let r : IfSome (Some keys) (OpensAll ys) = subst (λ w. IfSome w (OpensAll ys)) e q in opens_then keys xs ys p r
+
+-- what is put of each event in turn is put of all
+puts_then : {A : Type 0} (f : Event → List A) (xs ys : List Event) (a b c : Option (List A)) → Adds (flat_map f xs) a b → Adds (flat_map f ys) b c → Adds (flat_map f (xs ++ ys)) a c
+puts_then f xs ys a b c p q = subst (λ w. Adds w a c) (sym (flat_append f xs ys)) (adds_then (flat_map f xs) (flat_map f ys) a b c p q)
+
+drawn_then : (xs ys : List Event) (a b c : Option (List ℕ)) → WhereTold (λ x y. x ≡ flat_map drawn_in xs ++ y) a b → WhereTold (λ x y. x ≡ flat_map drawn_in ys ++ y) b c
+    → WhereTold (λ x y. x ≡ flat_map drawn_in (xs ++ ys) ++ y) a c
+drawn_then xs ys a b c p q =
+    subst (λ w. WhereTold (λ x y. x ≡ w ++ y) a c) (sym (flat_append drawn_in xs ys)) (removes_then (flat_map drawn_in xs) (flat_map drawn_in ys) a b c p q)
+
+or_assoc : (a b c : Bool) → (a || b) || c ≡ a || (b || c)
+or_assoc true b c = refl
+or_assoc false b c = refl
+
+desk_then : (xs ys : List Event) (a b c : Desk) → DeskPut Adds xs a b → DeskPut Adds ys b c → DeskPut Adds (xs ++ ys) a c
+desk_then xs ys a b c p q = record {
+  out_same = q.out_same ∙ p.out_same;
+  entropy_same = q.entropy_same ∙ p.entropy_same;
+  vault_same = q.vault_same ∙ p.vault_same;
+  out = puts_then text_of xs ys a.out b.out c.out p.out q.out;
+  entropy = drawn_then xs ys a.entropy b.entropy c.entropy p.entropy q.entropy;
+  keys = q.keys ∙ p.keys;
+  opened = opened_then xs ys a.keys b.keys p.keys p.opened q.opened;
+  out_count = let x = p.out_count in let y = q.out_count in omega arith;
+  entropy_count = let x = p.entropy_count in let y = q.entropy_count in omega arith;
+  vault_count = let x = p.vault_count in let y = q.vault_count in omega arith;
+}
+
+wire_then : (xs ys : List Event) (a b c : Wire) → WirePut Adds xs a b → WirePut Adds ys b c → WirePut Adds (xs ++ ys) a c
+wire_then xs ys a b c p q = record {
+  names = q.names ∙ p.names;
+  tap = puts_then frames_of xs ys a.tap b.tap c.tap p.tap q.tap;
+  log = puts_then exchanges_of xs ys a.log b.log c.log p.log q.log;
+  state = told_then (Serves xs) (Serves ys) (Serves (xs ++ ys)) (serves_then xs ys) a.state b.state c.state p.state q.state;
+  count = let x = p.count in let y = q.count in omega arith;
+}
+
+put_then : (xs ys : List Event) (a b c : Outside) → HasPut Adds xs a b → HasPut Adds ys b c → HasPut Adds (xs ++ ys) a c
+put_then xs ys a b c p q = record { desk = desk_then xs ys a.desk b.desk c.desk p.desk q.desk; wire = wire_then xs ys a.wire b.wire c.wire p.wire q.wire }
+
+-- how many bytes the frames of the replies that were taken have
+abbrev taken_bytes : List Event → ℕ
+taken_bytes events = length (flat_map reply_frame (flat_map taken_in events))
+
+taken_then : (xs ys : List Event) → taken_bytes (xs ++ ys) ≡ taken_bytes xs + taken_bytes ys
+taken_then xs ys =
+    ap (λ w. length (flat_map reply_frame w)) (flat_append taken_in xs ys)
+    ∙ ap length (flat_append reply_frame (flat_map taken_in xs) (flat_map taken_in ys))
+    ∙ length-append (flat_map reply_frame (flat_map taken_in xs)) (flat_map reply_frame (flat_map taken_in ys))
+
+wire_read_then : (xs ys : List Event) (a b c : Wire) → WireRead xs a b → WireRead ys b c → WireRead (xs ++ ys) a c
+wire_read_then xs ys a b c p q = record {
+  waiting = waits_then xs ys a.waiting b.waiting c.waiting p.waiting q.waiting;
+  taken =
+      let e : c.taken ≡ (a.taken + taken_bytes xs) + taken_bytes ys = q.taken ∙ ap (λ n. n + taken_bytes ys) p.taken in
+      let f = taken_then xs ys in
+      omega arith;
+}
+
+refused_then : (xs ys : List Event) → has_refusal (flat_map outcome_in (xs ++ ys)) ≡ has_refusal (flat_map outcome_in xs) || has_refusal (flat_map outcome_in ys)
+refused_then xs ys =
+    ap has_refusal (flat_append outcome_in xs ys) ∙ list_any-append is_refusal (flat_map outcome_in xs) (flat_map outcome_in ys)
+
+read_then : (xs ys : List Event) (a b c : Outside) → HasRead xs a b → HasRead ys b c → HasRead (xs ++ ys) a c
+read_then xs ys a b c p q = record {
+  refused =
+      q.refused ∙ ap (λ r. r || has_refusal (flat_map outcome_in ys)) p.refused
+      ∙ or_assoc a.desk.refused (has_refusal (flat_map outcome_in xs)) (has_refusal (flat_map outcome_in ys))
+      ∙ ap (λ r. a.desk.refused || r) (sym (refused_then xs ys));
+  wire = wire_read_then xs ys a.wire b.wire c.wire p.wire q.wire;
+}
+
+-- ---- nothing happens
+
+pub no_keys : (keys : Option KeyMap) → IfSome keys (OpensAll [])
+no_keys None = tt
+no_keys (Some keys) = tt
+
+pub same_state : (a : Option State) → WhereTold (Serves []) a a
+same_state = told_same (Serves []) (λ x. refl)
+
+pub desk_still : (a : Desk) → DeskPut Adds [] a a
+desk_still a = record {
+  out_same = refl;
+  entropy_same = refl;
+  vault_same = refl;
+  out = adds_none a.out;
+  entropy = removes_none a.entropy;
+  keys = refl;
+  opened = no_keys a.keys;
+  out_count = omega arith;
+  entropy_count = omega arith;
+  vault_count = omega arith;
+}
+
+pub wire_still : (a : Wire) → WirePut Adds [] a a
+wire_still a = record { names = refl; tap = adds_none a.tap; log = adds_none a.log; state = same_state a.state; count = omega arith }
+
+pub nothing_put : (a : Outside) → HasPut Adds [] a a
+nothing_put a = record { desk = desk_still a.desk; wire = wire_still a.wire }
+
+pub or_false : (a : Bool) → a ≡ a || false
+or_false true = refl
+or_false false = refl
+
+pub nothing_read : (a : Outside) → HasRead [] a a
+nothing_read a = record { refused = or_false a.desk.refused; wire = record { waiting = refl; taken = omega arith } }
+
+pub stay : (t : Talk) (a : Outside) → Goes t t a a
+stay t a = record { events = []; follows = stays t; put = nothing_put a; read = nothing_read a }
+
+-- ---- what was put whole is a front of it
+
+pub desk_front : (xs : List Event) (a b : Desk) → DeskPut Adds xs a b → DeskPut AddsFront xs a b
+desk_front xs a b p = record {
+  out_same = p.out_same;
+  entropy_same = p.entropy_same;
+  vault_same = p.vault_same;
+  out = front_of (flat_map text_of xs) (flat_map text_of xs) a.out b.out p.out (front_same (flat_map text_of xs));
+  entropy = p.entropy;
+  keys = p.keys;
+  opened = p.opened;
+  out_count = p.out_count;
+  entropy_count = p.entropy_count;
+  vault_count = p.vault_count;
+}
+
+pub wire_front : (xs : List Event) (a b : Wire) → WirePut Adds xs a b → WirePut AddsFront xs a b
+wire_front xs a b p = record {
+  names = p.names;
+  tap = front_of (flat_map frames_of xs) (flat_map frames_of xs) a.tap b.tap p.tap (front_same (flat_map frames_of xs));
+  log = p.log;
+  state = p.state;
+  count = p.count;
+}
+
+-- ---- one way after another
+
+pub goes_then : (t u v : Talk) (a b c : Outside) → Goes t u a b → Goes u v b c → Goes t v a c
+goes_then t u v a b c p q = record {
+  events = p.events ++ q.events;
+  follows = follows_then t u v p.events q.events p.follows q.follows;
+  put = put_then p.events q.events a b c p.put q.put;
+  read = read_then p.events q.events a b c p.read q.read;
+}
+
+pub halts_then : (P : Talk → Outside → Type 0) (t u : Talk) (a b c : Outside) → Goes t u a b → Halts P u b c → Halts P t a c
+halts_then P t u a b c p q = record { rest = q.rest; goes = goes_then t u q.rest a b c p q.goes; place = q.place }
+
+pub breaks_then : (t u : Talk) (a b c : Outside) → Goes t u a b → Breaks u b c → Breaks t a c
+breaks_then t u a b c p q = record {
+  between = q.between;
+  rest = q.rest;
+  mid = q.mid;
+  last = q.last;
+  goes = goes_then t u q.between a b q.mid p q.goes;
+  one = q.one;
+  follows = q.follows;
+  put = q.put;
+}
+
+-- it breaks off where everything stands whole
+pub breaks_between : (t u : Talk) (a b : Outside) → Goes t u a b → Breaks t a b
+breaks_between t u a b p = record {
+  between = u;
+  rest = u;
+  mid = b;
+  last = [];
+  goes = p;
+  one = omega arith;
+  follows = stays u;
+  put = record { desk = desk_front [] b.desk b.desk (desk_still b.desk); wire = wire_front [] b.wire b.wire (wire_still b.wire) };
+}
+
+rose_before : (a b c : ℕ) → a ≤ b → Rose b c → Rose a c
+rose_before a b c p q = omega arith
+
+either_rose : (a b c x y z : ℕ) → a ≤ b → x ≤ y → Rose b c ⊎ Rose y z → Rose a c ⊎ Rose x z
+either_rose a b c x y z p q (inl r) = inl (rose_before a b c p r)
+either_rose a b c x y z p q (inr r) = inr (rose_before x y z q r)
+
+pub fails_then : (s : Stop) (t u : Talk) (a b c : Outside) → Goes t u a b → Fails s u b c → Fails s t a c
+fails_then (stop.BadReply place) t u a b c p f = halts_then _ t u a b c p f
+fails_then stop.EntropyFault t u a b c p f = (halts_then _ t u a b c p f.0, rose_before a.desk.entropy_faults b.desk.entropy_faults c.desk.entropy_faults p.put.desk.entropy_count f.1)
+fails_then stop.VaultFault t u a b c p f = (halts_then _ t u a b c p f.0, rose_before a.desk.vault_faults b.desk.vault_faults c.desk.vault_faults p.put.desk.vault_count f.1)
+fails_then stop.WriteFault t u a b c p f = (
+  breaks_then t u a b c p f.0,
+  either_rose a.desk.out_faults b.desk.out_faults c.desk.out_faults a.wire.faults b.wire.faults c.wire.faults p.put.desk.out_count p.put.wire.count f.1,
+)
+fails_then stop.OutOfMemory t u a b c p f = breaks_then t u a b c p f
+
+pub leads_then : {A : Type 0} (result : Result A Stop) (t u : Talk) (onward : A → Talk) (a b c : Outside) → Goes t u a b → Leads result u onward b c → Leads result t onward a c
+leads_then (Ok x) t u onward a b c p l = goes_then t u (onward x) a b c p l
+leads_then (Err s) t u onward a b c p l = fails_then s t u a b c p l

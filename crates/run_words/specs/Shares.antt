@@ -1,0 +1,134 @@
+-- What is told of all that a run touches, and what each device has of the events of a conversation.
+use Rattle.std.specs.Prelude.{◌≡◌, ℕ, ◌+◌, ◌≤◌, List, [], ◌∷◌, ◌++◌, length, flat_map, map, Option, IfSome, Bool, ◌||◌}
+use Rattle.std.specs.Borrow.{GName}
+use Rattle.ae_edge.specs.Devices.{WhereTold, Adds}
+use Rattle.ae_edge.specs.Vaults.{KeyMap}
+use Rattle.wire_messages.specs.Exchanges.{Exchange}
+use Rattle.wire_messages.specs.declared.requests.Request.{Request}
+use Rattle.wire_messages.specs.declared.replies.Reply.{Reply}
+use Rattle.wire_spelling.specs.Spelling.{request_frame, reply_frame}
+use Rattle.server_core.specs.Serve.{State, serve}
+use Rattle.conversation.specs.Devices.{Devices}
+use Rattle.conversation.specs.Paths.{Event, Asked, Took, Strayed, Drew, Opened, Printed, taken_in, drawn_in, outcome_in, Waits, OpensAll}
+use Rattle.run_words.specs.Printing.{printed_outcome, has_refusal}
+
+-- this side: what it is lent, the text, the random bytes to come and the keys, where they are told, whether a refusal was
+-- printed, and the counts of faults
+pub record Desk : Type 0 where
+  pub out_names : List GName
+  pub entropy_names : List GName
+  pub vault_names : List GName
+  pub out : Option (List ℕ)
+  pub entropy : Option (List ℕ)
+  pub keys : Option KeyMap
+  pub refused : Bool
+  pub out_faults : ℕ
+  pub entropy_faults : ℕ
+  pub vault_faults : ℕ
+
+-- what the driver touches of it by itself
+abbrev pub devices_of : Desk → Devices
+devices_of d = record {
+  entropy = d.entropy;
+  keys = d.keys;
+  entropy_faults = d.entropy_faults;
+  vault_faults = d.vault_faults;
+  entropy_names = d.entropy_names;
+  vault_names = d.vault_names;
+}
+
+-- a desk with these in its place
+abbrev pub with_devices : Desk → Devices → Desk
+with_devices d x = record d {
+  entropy = x.entropy;
+  keys = x.keys;
+  entropy_faults = x.entropy_faults;
+  vault_faults = x.vault_faults;
+  entropy_names = x.entropy_names;
+  vault_names = x.vault_names;
+}
+
+-- the other side: what it is lent, its frames, what was asked and answered and the state that it serves by, where they are
+-- told; the replies that wait, how many bytes the frames of those that were taken have, and the count of faults
+pub record Wire : Type 0 where
+  pub names : List (List GName)
+  pub tap : Option (List ℕ)
+  pub log : Option (List Exchange)
+  pub state : Option State
+  pub waiting : List Reply
+  pub taken : ℕ
+  pub faults : ℕ
+
+pub record Outside : Type 0 where
+  pub desk : Desk
+  pub wire : Wire
+
+-- ---- what each device has of an event
+
+abbrev pub text_of : Event → List ℕ
+text_of event = flat_map printed_outcome (outcome_in event)
+
+-- a request's frame, and the frames of the replies that it brings
+abbrev pub frames_of : Event → List ℕ
+frames_of (Asked request replies) = request_frame request ++ flat_map reply_frame replies
+frames_of (Took reply) = []
+frames_of (Strayed next) = []
+frames_of (Drew bytes) = []
+frames_of (Opened meta key) = []
+frames_of (Printed comes) = []
+
+abbrev pub exchanges_of : Event → List Exchange
+exchanges_of (Asked request replies) = record { request = request; replies = replies } ∷ []
+exchanges_of (Took reply) = []
+exchanges_of (Strayed next) = []
+exchanges_of (Drew bytes) = []
+exchanges_of (Opened meta key) = []
+exchanges_of (Printed comes) = []
+
+-- the state served the requests
+abbrev pub Serves : List Event → State → State → Type 0
+Serves [] old new = new ≡ old
+Serves (Asked request replies ∷ events) old new = (next : State) × (serve old request ≡ record { replies = replies; after = next }) × Serves events next new
+Serves (Took reply ∷ events) old new = Serves events old new
+Serves (Strayed next ∷ events) old new = Serves events old new
+Serves (Drew bytes ∷ events) old new = Serves events old new
+Serves (Opened meta key ∷ events) old new = Serves events old new
+Serves (Printed comes ∷ events) old new = Serves events old new
+
+-- ---- what was put: whole, or a front of it
+
+abbrev pub Puts : Type 1
+Puts = List ℕ → Option (List ℕ) → Option (List ℕ) → Type 0
+
+pub record DeskPut (P : Puts) (events : List Event) (old new : Desk) : Type 0 where
+  pub out_same : new.out_names ≡ old.out_names
+  pub entropy_same : new.entropy_names ≡ old.entropy_names
+  pub vault_same : new.vault_names ≡ old.vault_names
+  pub out : P (flat_map text_of events) old.out new.out
+  pub entropy : WhereTold (λ before after. before ≡ flat_map drawn_in events ++ after) old.entropy new.entropy
+  pub keys : new.keys ≡ old.keys
+  pub opened : IfSome old.keys (OpensAll events)
+  pub out_count : old.out_faults ≤ new.out_faults
+  pub entropy_count : old.entropy_faults ≤ new.entropy_faults
+  pub vault_count : old.vault_faults ≤ new.vault_faults
+
+pub record WirePut (P : Puts) (events : List Event) (old new : Wire) : Type 0 where
+  pub names : new.names ≡ old.names
+  pub tap : P (flat_map frames_of events) old.tap new.tap
+  pub log : Adds (flat_map exchanges_of events) old.log new.log
+  pub state : WhereTold (Serves events) old.state new.state
+  pub count : old.faults ≤ new.faults
+
+pub record HasPut (P : Puts) (events : List Event) (old new : Outside) : Type 0 where
+  pub desk : DeskPut P events old.desk new.desk
+  pub wire : WirePut P events old.wire new.wire
+
+-- ---- what was read: the replies in order, and the bytes of their frames; and whether a refusal was printed
+
+pub record WireRead (events : List Event) (old new : Wire) : Type 0 where
+  pub waiting : Waits events old.waiting new.waiting
+  pub taken : new.taken ≡ old.taken + length (flat_map reply_frame (flat_map taken_in events))
+
+pub record HasRead (events : List Event) (old new : Outside) : Type 0 where
+  pub refused : new.desk.refused ≡ old.desk.refused || has_refusal (flat_map outcome_in events)
+  pub wire : WireRead events old.wire new.wire

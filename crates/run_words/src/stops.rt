@@ -1,0 +1,13 @@
+/// Why a conversation is followed no further.
+#[derive(Clone, Copy, PartialEq, Eq, Debug)]
+pub enum Stop {
+    /// The reply at this place among the bytes of the reply frames isn't awaited.
+    BadReply(u64),
+    /// The source of random bytes failed.
+    EntropyFault,
+    /// The vault failed.
+    VaultFault,
+    /// The text or the tap couldn't be put.
+    WriteFault,
+    OutOfMemory,
+}

@@ -1,0 +1,336 @@
+-- A reply is heard, or it isn't awaited.
+use Rattle.std.proofs.Common.{◌≡◌, ℕ, ◌+◌, ◌≤◌, List, [], ◌∷◌, ◌++◌, Option, Some, None, Result, Ok, Err, Bool, true, false, length, refl, sym, ◌∙◌, ap, subst, append-nil, arith}
+use Rattle.std.specs.Prelude.{◌<◌, IfOk, MatchResult}
+use Rattle.std.specs.Borrow.{GName}
+use Rattle.ae_edge.specs.Devices.{Adds, AddsFront, Rose}
+use Rattle.ae_edge.proofs.Told.{told_map, front_of, front_same}
+use Rattle.hmac_kdf.specs.Keys.{Keys}
+use Rattle.wire_messages.specs.Messages.{Header}
+use Rattle.wire_messages.specs.declared.replies.Done.{Done}
+use Rattle.wire_messages.specs.declared.replies.Done.TheVariants as done
+use Rattle.wire_messages.specs.declared.requests.Request.{Request}
+use Rattle.wire_messages.specs.declared.replies.Reply.{Reply}
+use Rattle.wire_messages.specs.declared.replies.Reply.TheVariants as reply
+use Rattle.conversation.specs.declared.answers.DescribeAnswer.{DescribeAnswer}
+use Rattle.conversation.specs.declared.answers.ReplyAnswer.{ReplyAnswer}
+use Rattle.conversation.specs.declared.answers.ReplyAnswer.TheVariants as answer
+use Rattle.conversation.specs.declared.faults.DriverFault.{DriverFault}
+use Rattle.conversation.specs.declared.faults.Halt.{Halt}
+use Rattle.conversation.specs.declared.faults.Halt.TheVariants as halt
+use Rattle.conversation.specs.declared.outcomes.Listing.{Listing}
+use Rattle.conversation.specs.declared.outcomes.Outcome.{Outcome}
+use Rattle.conversation.specs.declared.outcomes.Outcome.TheVariants as outcome
+use Rattle.conversation.specs.declared.sessions.Session.{Session}
+use Rattle.conversation.specs.declared.sessions.Session.TheVariants.{Idle, Begun, Pending, Sent, Reading, Skipping}
+use Rattle.conversation.specs.Devices.{Devices}
+use Rattle.conversation.specs.Devices as own
+use Rattle.conversation.specs.Paths.{Event, Took, Printed, Follows, stays, prints_last, IsStray, next_of}
+use Rattle.conversation.specs.Sessions.{described, Told, Tells, Shows, Stray, replied, sent_ended, titles_of, types_of}
+use Rattle.conversation.specs.Talk.{Talk, Ends, Stops, Hears, Prints, Heard, Said, Shown, Hearing, More, Got, Missed, hear, heard_answer, broken, nothing_shown, described_outcome}
+use Rattle.conversation.specs.Turns.{opening, reading, answered_on, rows_on, rested}
+use Rattle.driver.specs.Calls.{SaysAs, ShowsAs, HaltsAs, IsSent, Replies}
+use Rattle.run_words.specs.Printing.{printed_listing}
+use Rattle.run_words.specs.Shares.{Desk, Wire, Outside, Serves, DeskPut, WirePut, HasPut, devices_of, with_devices}
+use Rattle.run_words.specs.Ways.{Goes, Halts, Breaks, Fails, Leads, IsStuck, IsFirst, TakesOne}
+use Rattle.run_words.specs.declared.stops.Stop.{Stop}
+use Rattle.run_words.specs.declared.stops.Stop.TheVariants as stop
+use Rattle.run_words.proofs.Going.{stay, or_false, desk_still, desk_front, breaks_between, breaks_then, goes_then, fails_then}
+use Rattle.run_words.proofs.Calls.{own_goes, own_halts, own_breaks, printed_goes, printed_breaks, heard_more, heard_last, strayed_goes}
+use Rattle.script_run.specs.declared.around.First.{First}
+use Rattle.script_run.specs.declared.around.First.TheVariants as first
+use Rattle.script_run.specs.declared.around.RowHeard.{RowHeard}
+use Rattle.script_run.specs.declared.around.RowHeard.TheVariants as row
+use Rattle.script_run.specs.Heard.{FirstIs, HeardAs, stop_of}
+use Rattle.script_run.specs.Onward.{IsRows, IsLeft, RowsStay, shown_first, first_on, row_on}
+use Rattle.script_run.proofs.Awaited.{TellsRows, tells_rows, says_told, halts_told, hears_rows, rows_stay}
+
+pub none_next : (waiting : List Reply) → waiting ≡ [] → next_of waiting ≡ None
+none_next waiting e = ap next_of e
+
+pub first_next : (r : Reply) (waiting : List Reply) → IsFirst r waiting → next_of waiting ≡ Some r
+first_next r waiting h = ap next_of h.1
+
+-- ---- it isn't awaited, and nothing was shown
+
+pub missed : (session : Session) (shown : Listing) (f : Heard → Talk) (next : Option Reply) (x : Outside) (place : ℕ)
+    → broken session shown ≡ None → IsStray session shown next → next_of x.wire.waiting ≡ next → place ≡ x.wire.taken → Fails (stop.BadReply place) (Hears session shown f) x x
+missed session shown f next x place b s e p = record {
+  rest = Stops (broken session shown);
+  goes = strayed_goes session shown f next x s e;
+  place = (subst (λ w. IsStuck (Stops w) x.wire.waiting) (sym b) tt, sym p);
+}
+
+-- ---- or what was shown is printed
+
+module _ (session : Session) (shown : Listing) (f : Heard → Talk) (next : Option Reply) (x : Outside)
+    (b : broken session shown ≡ Some (outcome.Broken shown None)) (s : IsStray session shown next) (e : next_of x.wire.waiting ≡ next)
+    (out : Option (List ℕ)) (faults : ℕ) (names : List GName) (same : names ≡ x.desk.out_names) (count : x.desk.out_faults ≤ faults) where
+  away : Goes (Hears session shown f) (Stops (Some (outcome.Broken shown None))) x x
+  away = subst (λ w. Goes (Hears session shown f) (Stops w) x x) b (strayed_goes session shown f next x s e)
+
+  last : Follows (Stops (Some (outcome.Broken shown None))) (Printed (outcome.Broken shown None) ∷ []) (Stops None)
+  last = prints_last (outcome.Broken shown None) (Stops None) [] (stays (Stops None))
+
+  pub shown_printed : Adds (printed_listing shown) x.desk.out out → (place : ℕ) → place ≡ x.wire.taken
+      → Fails (stop.BadReply place) (Hears session shown f) x (record x { desk = record x.desk { out_names = names; out = out; out_faults = faults } })
+  shown_printed h place p = record {
+    rest = Stops None;
+    goes =
+        goes_then _ _ _ _ _ _ away
+        (printed_goes (outcome.Broken shown None) (Stops (Some (outcome.Broken shown None))) (Stops None) last x out faults names same count
+        (subst (λ w. Adds w x.desk.out out) (sym (append-nil (printed_listing shown))) h) x.desk.refused (or_false x.desk.refused));
+    place = (tt, sym p);
+  }
+
+  pub shown_cut : AddsFront (printed_listing shown) x.desk.out out
+      → Breaks (Hears session shown f) x (record x { desk = record x.desk { out_names = names; out = out; out_faults = faults } })
+  shown_cut h =
+      breaks_then _ _ _ _ _ away
+      (printed_breaks (outcome.Broken shown None) (Stops (Some (outcome.Broken shown None))) (Stops None) last x out faults names same count
+      (subst (λ w. AddsFront w x.desk.out out) (sym (append-nil (printed_listing shown))) h))
+
+-- ---- a description
+
+pub described_goes : (session : Session) (f : Heard → Talk) (r : Reply) (a : DescribeAnswer) (after : Session) (x : Outside) (wire : Wire)
+    → hear session nothing_shown r ≡ Got (Said (described_outcome a) after) → TakesOne r x.wire wire
+    → Goes (Hears session nothing_shown f) (f (Said (described_outcome a) after)) x (record x { wire = wire })
+described_goes session f r a after x wire e h = heard_last session nothing_shown f r (Said (described_outcome a) after) x wire e h
+
+-- ---- the first reply to an execution
+
+-- no device was touched
+untouched : (t u : Talk) (x : Outside) (wire : Wire) (now : Devices) → now ≡ devices_of x.desk → Goes t u x (record x { wire = wire })
+    → Goes t u x (record x { desk = with_devices x.desk now; wire = wire })
+untouched t u x wire now e g = subst (λ w. Goes t u x (record x { desk = with_devices x.desk w; wire = wire })) (sym e) g
+
+module _ (k : Session → Talk) (x : Outside) (wire : Wire) (now : Devices) where
+  abbrev To : Talk → Type 0
+  To t = Goes (Hears Sent nothing_shown (answered_on k)) t x (record x { desk = with_devices x.desk now; wire = wire })
+
+  -- one that says all there is
+  says_first : (r : Reply) (comes : Outcome) (wanted : Session) (y : First) (after : Session) → TakesOne r x.wire wire → hear Sent nothing_shown r ≡ Got (Said (Some comes) wanted)
+      → after ≡ wanted → now ≡ devices_of x.desk → y ≡ first.Says comes → To (first_on k after y)
+  says_first r comes wanted y after h e a d i =
+      subst (λ w. To (first_on k after w)) (sym i)
+      (subst (λ w. To (Prints comes (k w))) (sym a)
+      (untouched _ _ x wire now d (heard_last Sent nothing_shown (answered_on k) r (Said (Some comes) wanted) x wire e h)))
+
+  -- columns are shown, and their keys are opened
+  shown_goes : (header : Header) (u : Talk) → TakesOne (reply.Columns header) x.wire wire → own.Goes (reading header k) u (devices_of x.desk) now → To u
+  shown_goes header u h g =
+      goes_then _ _ _ _ _ _ (heard_last Sent nothing_shown (answered_on k) (reply.Columns header) (Shown header) x wire refl h)
+      (own_goes (reading header k) u (record x { wire = wire }) now g)
+
+  abbrev OnKeys : Header → List (Option Keys) → Talk
+  OnKeys header keys = Hears (Reading (types_of header) keys 0) (record { titles = titles_of header; rows = [] }) (rows_on k)
+
+  abbrev OnFault : Header → DriverFault → Talk
+  OnFault header f = Prints (outcome.Failed f) (rested k (Skipping (types_of header) 0))
+
+  shows_first : (header : Header) (a : ReplyAnswer) (y : First) (after : Session) → TakesOne (reply.Columns header) x.wire wire
+      → ShowsAs a header after (devices_of x.desk) now → FirstIs y a → To (first_on k after y)
+  shows_first header (answer.Header titles) y after h s e =
+      subst (λ w. To (first_on k after w)) (sym e)
+      (subst (λ w. To (Hears w (record { titles = titles; rows = [] }) (rows_on k))) (sym s.2)
+      (subst (λ w. To (Hears (Reading (types_of header) s.0 0) (record { titles = w; rows = [] }) (rows_on k))) (sym s.1)
+      (shown_goes header _ h (s.3 (OnKeys header) (OnFault header)))))
+  shows_first header (answer.Failed f) y after h s e =
+      subst (λ w. To (first_on k after w)) (sym e)
+      (subst (λ w. To (Prints (outcome.Failed f) (rested k w))) (sym s.0) (shown_goes header _ h (s.1 (OnKeys header) (OnFault header))))
+  shows_first header (answer.Row values) y after h s e = absurd s
+  shows_first header (answer.Rows count) y after h s e = absurd s
+  shows_first header (answer.Changed count) y after h s e = absurd s
+  shows_first header answer.Defined y after h s e = absurd s
+  shows_first header (answer.Refused f) y after h s e = absurd s
+  shows_first header answer.Skipped y after h s e = absurd s
+  shows_first header answer.Over y after h s e = absurd s
+
+  first_ended : (d : Done) (a : ReplyAnswer) (y : First) (after : Session) → TakesOne (reply.Ended d) x.wire wire
+      → SaysAs a (sent_ended d) after (devices_of x.desk) now → FirstIs y a → To (first_on k after y)
+  first_ended done.Defined a y after h s e = says_first (reply.Ended done.Defined) outcome.Defined Idle y after h refl s.1 s.2 (subst (λ w. FirstIs y w) s.0 e)
+  first_ended (done.Changed count) a y after h s e =
+      says_first (reply.Ended (done.Changed count)) (outcome.Changed count) Idle y after h refl s.1 s.2 (subst (λ w. FirstIs y w) s.0 e)
+  first_ended (done.Answered count) a y after h s e = absurd s
+
+  pub first_goes : (r : Reply) (a : ReplyAnswer) (y : First) (after : Session) → TakesOne r x.wire wire
+      → SaysAs a (replied Sent r) after (devices_of x.desk) now → FirstIs y a → To (first_on k after y)
+  first_goes (reply.Columns header) a y after h s e = shows_first header a y after h s e
+  first_goes (reply.Ended d) a y after h s e = first_ended d a y after h s e
+  first_goes (reply.Refused f) a y after h s e = says_first (reply.Refused f) (outcome.Refused f) Idle y after h refl s.1 s.2 (subst (λ w. FirstIs y w) s.0 e)
+  first_goes (reply.Row atoms) a y after h s e = absurd s
+  first_goes (reply.Described d) a y after h s e = absurd s
+
+-- ---- rows
+
+pub row_goes : (session : Session) → IsRows session → (shown more : Listing) (f : Heard → Talk) (r : Reply) (a : ReplyAnswer) (after : Session) (heard : RowHeard) (x : Outside) (wire : Wire) (now : Devices)
+    → SaysAs a (replied session r) after (devices_of x.desk) now → HeardAs heard more after (heard_answer shown (Tells a after)) → TakesOne r x.wire wire
+    → Goes (Hears session shown f) (row_on f after more heard) x (record x { desk = with_devices x.desk now; wire = wire })
+row_goes session w shown more f r a after row.More x wire now s e h =
+    let told = says_told (replied session r) (tells_rows session w r) a after (devices_of x.desk) now s in
+    untouched _ _ x wire now told.1 (heard_more session after shown more f r x wire (hears_rows session w shown r ∙ ap (heard_answer shown) told.0 ∙ e) h)
+row_goes session w shown more f r a after (row.Said comes) x wire now s e h =
+    let told = says_told (replied session r) (tells_rows session w r) a after (devices_of x.desk) now s in
+    untouched _ _ x wire now told.1 (heard_last session shown f r (Said comes after) x wire (hears_rows session w shown r ∙ ap (heard_answer shown) told.0 ∙ e) h)
+
+-- ---- a call that halts
+
+-- a reply was taken, and it broke off
+pub took_breaks : (r : Reply) (t : Talk) (x : Outside) (wire : Wire) → TakesOne r x.wire wire → Breaks t x (record x { wire = wire })
+took_breaks r t x wire h = record {
+  between = t;
+  rest = t;
+  mid = x;
+  last = [];
+  goes = stay t x;
+  one = omega arith;
+  follows = stays t;
+  put = record {
+    desk = desk_front [] x.desk x.desk (desk_still x.desk);
+    wire = record {
+      names = h.put.names;
+      tap = front_of [] [] x.wire.tap wire.tap h.put.tap (front_same []);
+      log = h.put.log;
+      state = told_map (Serves (Took r ∷ [])) (Serves []) (λ a b p. p) x.wire.state wire.state h.put.state;
+      count = h.put.count;
+    };
+  };
+}
+
+pub halted : (h : Halt) (t : Talk) (x : Outside) (now : Devices) → own.Fails h t (devices_of x.desk) now → Fails (stop_of h) t x (record x { desk = with_devices x.desk now })
+halted halt.EntropyFault t x now p = (own_halts own.IsAtDraw t x now p.0, p.1)
+halted halt.VaultFault t x now p = (own_halts own.IsAtKey t x now p.0, p.1)
+halted halt.OutOfMemory t x now p = own_breaks own.IsAnywhere t x now p
+halted halt.BadReply t x now p = absurd p
+
+-- a reply was taken that doesn't show columns, and it broke off
+took_fails : (h : Halt) (r : Reply) (t : Talk) (x : Outside) (wire : Wire) (now : Devices) → TakesOne r x.wire wire → (h ≡ halt.OutOfMemory) × (now ≡ devices_of x.desk)
+    → Fails (stop_of h) t x (record x { desk = with_devices x.desk now; wire = wire })
+took_fails h r t x wire now one e =
+    subst (λ w. Fails (stop_of w) t x (record x { desk = with_devices x.desk now; wire = wire })) (sym e.0)
+    (subst (λ w. Breaks t x (record x { desk = with_devices x.desk w; wire = wire })) (sym e.1) (took_breaks r t x wire one))
+
+ended_fails : (d : Done) (h : Halt) (r : Reply) (t : Talk) (x : Outside) (wire : Wire) (now : Devices) → TakesOne r x.wire wire → HaltsAs h (sent_ended d) (devices_of x.desk) now
+    → Fails (stop_of h) t x (record x { desk = with_devices x.desk now; wire = wire })
+ended_fails done.Defined h r t x wire now one p = took_fails h r t x wire now one p
+ended_fails (done.Changed count) h r t x wire now one p = took_fails h r t x wire now one p
+ended_fails (done.Answered count) h r t x wire now one p = took_fails h r t x wire now one p
+
+answer_fails : (k : Session → Talk) (h : Halt) (r : Reply) (x : Outside) (wire : Wire) (now : Devices) → TakesOne r x.wire wire → HaltsAs h (replied Sent r) (devices_of x.desk) now
+    → Fails (stop_of h) (Hears Sent nothing_shown (answered_on k)) x (record x { desk = with_devices x.desk now; wire = wire })
+answer_fails k h (reply.Columns header) x wire now one p =
+    fails_then (stop_of h) _ _ _ _ _ (heard_last Sent nothing_shown (answered_on k) (reply.Columns header) (Shown header) x wire refl one)
+    (halted h (reading header k) (record x { wire = wire }) now
+    (p (λ keys. Hears (Reading (types_of header) keys 0) (record { titles = titles_of header; rows = [] }) (rows_on k)) (λ f. Prints (outcome.Failed f) (rested k (Skipping (types_of header) 0)))))
+answer_fails k h (reply.Ended d) x wire now one p = ended_fails d h (reply.Ended d) _ x wire now one p
+answer_fails k h (reply.Refused f) x wire now one p = took_fails h (reply.Refused f) _ x wire now one p
+answer_fails k h (reply.Row atoms) x wire now one p = took_fails h (reply.Row atoms) _ x wire now one p
+answer_fails k h (reply.Described d) x wire now one p = took_fails h (reply.Described d) _ x wire now one p
+
+pub answer_halts : (k : Session → Talk) (h : Halt) (r : Reply) (x : Outside) (wire : Wire) (now : Devices) (old new : Session) → TakesOne r x.wire wire
+    → Replies (Err h) (replied Sent r) old new (devices_of x.desk) now → Fails (stop_of h) (Hears Sent nothing_shown (answered_on k)) x (record x { desk = with_devices x.desk now; wire = wire })
+answer_halts k halt.BadReply r x wire now old new one p =
+    subst (λ w. Breaks (Hears Sent nothing_shown (answered_on k)) x (record x { desk = with_devices x.desk w; wire = wire })) (sym p.2) (took_breaks r (Hears Sent nothing_shown (answered_on k)) x wire one)
+answer_halts k halt.OutOfMemory r x wire now old new one p = answer_fails k halt.OutOfMemory r x wire now one p.1
+answer_halts k halt.VaultFault r x wire now old new one p = answer_fails k halt.VaultFault r x wire now one p.1
+answer_halts k halt.EntropyFault r x wire now old new one p = absurd p
+
+left_stuck : (sessions : List Session) (waiting : List Reply) → IsLeft waiting → IsStuck (Ends sessions) waiting
+left_stuck sessions [] h = absurd h
+left_stuck sessions (r ∷ waiting) h = tt
+
+-- the conversation is at its end, and a reply is left
+pub stuck_at : (sessions : List Session) (t : Talk) (x y : Outside) (place : ℕ) → Goes t (Ends sessions) x y → IsLeft y.wire.waiting × (place ≡ y.wire.taken) → Fails (stop.BadReply place) t x y
+stuck_at sessions t x y place g h = record { rest = Ends sessions; goes = g; place = (left_stuck sessions y.wire.waiting h.0, sym h.1) }
+
+-- ---- the session after it
+
+pub is_sent : (answer : Result Request DriverFault) (after : Session) → IsSent (Ok answer) after → IfOk answer (λ request. after ≡ Sent)
+is_sent (Ok request) after e = e
+is_sent (Err f) after e = tt
+
+shown_rows : (header : Header) (a : ReplyAnswer) (y : First) (after : Session) (before now : Devices) → ShowsAs a header after before now → FirstIs y a → shown_first after y
+shown_rows header (answer.Header titles) y after before now s e = subst (shown_first after) (sym e) (subst IsRows (sym s.2) tt)
+shown_rows header (answer.Failed f) y after before now s e = subst (shown_first after) (sym e) tt
+shown_rows header (answer.Row values) y after before now s e = absurd s
+shown_rows header (answer.Rows count) y after before now s e = absurd s
+shown_rows header (answer.Changed count) y after before now s e = absurd s
+shown_rows header answer.Defined y after before now s e = absurd s
+shown_rows header (answer.Refused f) y after before now s e = absurd s
+shown_rows header answer.Skipped y after before now s e = absurd s
+shown_rows header answer.Over y after before now s e = absurd s
+
+says_rows : (y : First) (comes : Outcome) (after : Session) → y ≡ first.Says comes → shown_first after y
+says_rows y comes after e = subst (shown_first after) (sym e) tt
+
+ended_rows : (d : Done) (a : ReplyAnswer) (y : First) (after : Session) (before now : Devices) → SaysAs a (sent_ended d) after before now → FirstIs y a → shown_first after y
+ended_rows done.Defined a y after before now s e = says_rows y outcome.Defined after (subst (λ w. FirstIs y w) s.0 e)
+ended_rows (done.Changed count) a y after before now s e = says_rows y (outcome.Changed count) after (subst (λ w. FirstIs y w) s.0 e)
+ended_rows (done.Answered count) a y after before now s e = absurd s
+
+pub first_rows : (r : Reply) (a : ReplyAnswer) (y : First) (after : Session) (before now : Devices) → SaysAs a (replied Sent r) after before now → FirstIs y a → shown_first after y
+first_rows (reply.Columns header) a y after before now s e = shown_rows header a y after before now s e
+first_rows (reply.Ended d) a y after before now s e = ended_rows d a y after before now s e
+first_rows (reply.Refused f) a y after before now s e = says_rows y (outcome.Refused f) after (subst (λ w. FirstIs y w) s.0 e)
+first_rows (reply.Row atoms) a y after before now s e = absurd s
+first_rows (reply.Described d) a y after before now s e = absurd s
+
+-- ---- no device was touched
+
+pub after_same : (s : Stop) (t : Talk) (x y : Outside) (now : Devices) → now ≡ devices_of x.desk → Fails s t (record x { desk = with_devices x.desk now }) y → Fails s t x y
+after_same s t x y now e f = subst (λ w. Fails s t (record x { desk = with_devices x.desk w }) y) e f
+
+pub sent_stray : (k : Session → Talk) (r : Reply) (x : Outside) (now : Devices) (place : ℕ) → replied Sent r ≡ Stray → now ≡ devices_of x.desk → next_of x.wire.waiting ≡ Some r → place ≡ x.wire.taken
+    → Fails (stop.BadReply place) (Hears Sent nothing_shown (answered_on k)) x (record x { desk = with_devices x.desk now })
+sent_stray k r x now place s d e p =
+    subst (λ w. Fails (stop.BadReply place) (Hears Sent nothing_shown (answered_on k)) x (record x { desk = with_devices x.desk w })) (sym d)
+    (missed Sent nothing_shown (answered_on k) (Some r) x place refl (ap (heard_answer nothing_shown) s) e p)
+
+-- ---- a row, or no memory for it
+
+pub row_stray : (session : Session) → IsRows session → (shown : Listing) (r : Reply) → replied session r ≡ Stray → IsStray session shown (Some r)
+row_stray session w shown r e = hears_rows session w shown r ∙ ap (heard_answer shown) e
+
+row_breaks : (session : Session) → IsRows session → (h : Halt) (r : Reply) (t : Talk) (x : Outside) (now : Devices) → HaltsAs h (replied session r) (devices_of x.desk) now
+    → Breaks t x (record x { desk = with_devices x.desk now })
+row_breaks session w h r t x now p =
+    subst (λ d. Breaks t x (record x { desk = with_devices x.desk d })) (sym (halts_told (replied session r) (tells_rows session w r) h (devices_of x.desk) now p))
+    (breaks_between t t x x (stay t x))
+
+pub row_halts : (session : Session) → IsRows session → (h : Halt) (r : Reply) (t : Talk) (x : Outside) (now : Devices) (old new : Session) → Replies (Err h) (replied session r) old new (devices_of x.desk) now
+    → Breaks t x (record x { desk = with_devices x.desk now })
+row_halts session w halt.BadReply r t x now old new p = subst (λ d. Breaks t x (record x { desk = with_devices x.desk d })) (sym p.2) (breaks_between t t x x (stay t x))
+row_halts session w halt.OutOfMemory r t x now old new p = row_breaks session w halt.OutOfMemory r t x now p.1
+row_halts session w halt.VaultFault r t x now old new p = row_breaks session w halt.VaultFault r t x now p.1
+row_halts session w halt.EntropyFault r t x now old new p = absurd p
+
+module _ (session : Session) (w : IsRows session) (shown more : Listing) (r : Reply) (a : ReplyAnswer) (after : Session) (x : Outside) (wire : Wire) (now : Devices)
+    (says : SaysAs a (replied session r) after (devices_of x.desk) now) where
+  pub row_leads : (f : Heard → Talk) (result : Result RowHeard Stop) → MatchResult result (λ h. HeardAs h more after (heard_answer shown (Tells a after))) (λ s. s ≡ stop.OutOfMemory) → TakesOne r x.wire wire
+      → Leads result (Hears session shown f) (row_on f after more) x (record x { desk = with_devices x.desk now; wire = wire })
+  row_leads f (Ok heard) e h = row_goes session w shown more f r a after heard x wire now says e h
+  row_leads f (Err s) e h =
+      let d = says_told (replied session r) (tells_rows session w r) a after (devices_of x.desk) now says in
+      subst (λ u. Fails u (Hears session shown f) x (record x { desk = with_devices x.desk now; wire = wire })) (sym e)
+      (subst (λ v. Breaks (Hears session shown f) x (record x { desk = with_devices x.desk v; wire = wire })) (sym d.1) (took_breaks r (Hears session shown f) x wire h))
+
+pub rows_left : (session : Session) → IsRows session → (shown more : Listing) (r : Reply) (a : ReplyAnswer) (after : Session) (before now : Devices) → SaysAs a (replied session r) after before now
+    → (result : Result RowHeard Stop) → MatchResult result (λ h. HeardAs h more after (heard_answer shown (Tells a after))) (λ s. s ≡ stop.OutOfMemory) → IfOk result (RowsStay after)
+rows_left session w shown more r a after before now says (Ok heard) e =
+    let d = says_told (replied session r) (tells_rows session w r) a after before now says in
+    rows_stay heard a after shown more (subst TellsRows d.0 (tells_rows session w r)) e
+rows_left session w shown more r a after before now says (Err s) e = tt
+
+one_less : (r : Reply) (old new : Wire) → TakesOne r old new → length new.waiting < length old.waiting
+one_less r old new h =
+    let q = h.read.waiting in
+    let a = ap length q.1 in
+    let b = ap length q.2 in
+    omega arith
+
+pub less_left : {A : Type 0} (result : Result A Stop) (r : Reply) (old new : Wire) → TakesOne r old new → IfOk result (λ o. length new.waiting < length old.waiting)
+less_left (Ok x) r old new h = one_less r old new h
+less_left (Err s) r old new h = tt
+
+pub kept_so : {A : Type 0} (result : Result A Stop) (P : Type 0) → P → IfOk result (λ o. P)
+kept_so (Ok x) P p = p
+kept_so (Err s) P p = tt

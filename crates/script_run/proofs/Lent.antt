@@ -1,0 +1,173 @@
+-- What a run leaves of what it was lent.
+use Rattle.std.proofs.Common.{◌≡◌, ℕ, ◌+◌, ◌≤◌, ◌<◌, List, [], ◌∷◌, ◌++◌, Option, Some, None, Result, Ok, Err, Bool, true, false, length, replicate, ◌⊎◌, refl, sym, ◌∙◌, ap, subst, append-nil, arith, length-append}
+use Rattle.std.proofs.lemmas.List.{length-replicate}
+use Rattle.std.specs.Prelude.{IfSome, IfOk}
+use Rattle.std.specs.List.{All}
+use Rattle.std.specs.Borrow.{GName}
+use Rattle.ae_edge.specs.Devices.{Rose, WhereTold}
+use Rattle.ae_edge.proofs.Told.{told_map}
+use Rattle.ae_edge.specs.Streams.{HasTaken, ReadsAll}
+use Rattle.ae_edge.specs.declared.streams.ReadAll.TheVariants as read
+use Rattle.conversation.specs.Paths.{Event}
+use Rattle.conversation.specs.Sessions.{nobody}
+use Rattle.conversation.specs.Talk.{Talk, Ends}
+use Rattle.conversation.specs.declared.sessions.Session.{Session}
+use Rattle.plain_meaning.specs.Steps.{talk}
+use Rattle.run_words.specs.Shares.{Outside, Puts, HasPut}
+use Rattle.run_words.specs.Ways.{Goes, Breaks, Fails, Leads}
+use Rattle.run_words.specs.declared.stops.Stop.{Stop}
+use Rattle.run_words.specs.declared.stops.Stop.TheVariants as stop
+use Rattle.run_words.proofs.Going.{stay, breaks_between}
+use Rattle.script_lang.specs.declared.steps.Step.{Step}
+use Rattle.script_lang.specs.Limits.{IsWithinLimits}
+use Rattle.script_run.specs.declared.runs.Ran.{Ran}
+use Rattle.script_run.specs.declared.runs.Ran.TheVariants as ran
+use Rattle.script_run.specs.declared.runs.Unread.TheVariants as unread
+use Rattle.script_run.specs.Ends.{Lent, outside, CameTo, RunsTo, RunsScript, TakesScript, IsScript, IsRead, most_script_bytes}
+
+-- ---- the same is lent after it
+
+pub record AreSame (old new : Outside) : Type 0 where
+  pub out : new.desk.out_names ≡ old.desk.out_names
+  pub entropy : new.desk.entropy_names ≡ old.desk.entropy_names
+  pub vault : new.desk.vault_names ≡ old.desk.vault_names
+  pub wire : new.wire.names ≡ old.wire.names
+
+put_same : (P : Puts) (events : List Event) (old new : Outside) → HasPut P events old new → AreSame old new
+put_same P events old new h = record { out = h.desk.out_same; entropy = h.desk.entropy_same; vault = h.desk.vault_same; wire = h.wire.names }
+
+goes_same : (t u : Talk) (old new : Outside) → Goes t u old new → AreSame old new
+goes_same t u old new g = put_same _ g.events old new g.put
+
+breaks_same : (t : Talk) (old new : Outside) → Breaks t old new → AreSame old new
+breaks_same t old new b =
+    let p = goes_same t b.between old b.mid b.goes in
+    let q = put_same _ b.last b.mid new b.put in
+    record { out = q.out ∙ p.out; entropy = q.entropy ∙ p.entropy; vault = q.vault ∙ p.vault; wire = q.wire ∙ p.wire }
+
+fails_same : (s : Stop) (t : Talk) (old new : Outside) → Fails s t old new → AreSame old new
+fails_same (stop.BadReply place) t old new h = goes_same t h.rest old new h.goes
+fails_same stop.EntropyFault t old new h = goes_same t h.0.rest old new h.0.goes
+fails_same stop.VaultFault t old new h = goes_same t h.0.rest old new h.0.goes
+fails_same stop.WriteFault t old new h = breaks_same t old new h.0
+fails_same stop.OutOfMemory t old new h = breaks_same t old new h
+
+pub leads_same : (result : Result (Unit {0}) Stop) (t : Talk) (onward : Unit {0} → Talk) (old new : Outside) → Leads result t onward old new → AreSame old new
+leads_same (Ok o) t onward old new g = goes_same t (onward o) old new g
+leads_same (Err s) t onward old new f = fails_same s t old new f
+
+pub only_same : (a b : GName) → a ∷ [] ≡ b ∷ [] → a ≡ b
+only_same a b e = cc
+
+pub tap_same : (a b c d : GName) → (a ∷ []) ∷ (c ∷ []) ∷ [] ≡ (b ∷ []) ∷ (d ∷ []) ∷ [] → a ≡ b
+tap_same a b c d e = cc
+
+pub peer_same : (a b c d : GName) → (a ∷ []) ∷ (c ∷ []) ∷ [] ≡ (b ∷ []) ∷ (d ∷ []) ∷ [] → c ≡ d
+peer_same a b c d e = cc
+
+-- ---- how it ended
+
+-- it ended before it began
+pub unstarted : (steps : List Step) (lent : Lent) → RunsTo (ran.Stopped stop.OutOfMemory) steps lent lent
+unstarted steps lent = (
+  false,
+  record {
+    sessions = nobody;
+    waiting = [];
+    taken = 0;
+    out = [];
+    entropy = [];
+    vault = [];
+    wire = [];
+    out_after = [];
+    entropy_after = [];
+    vault_after = [];
+    wire_after = [];
+    leads = breaks_between _ _ _ _ (stay (talk steps nobody) (outside [] [] [] [] false [] 0 lent));
+    read = tt;
+  },
+)
+
+-- ---- a script
+
+pub runs_script : (r : Ran) (bytes : List ℕ) (steps : List Step) (old new : Lent) → IsScript bytes steps → All IsWithinLimits steps → RunsTo r steps old new → RunsScript r bytes old new
+runs_script ran.Done bytes steps old new s l h = (steps, s, l, h)
+runs_script ran.Refusals bytes steps old new s l h = (steps, s, l, h)
+runs_script (ran.Stopped why) bytes steps old new s l h = (steps, s, l, h)
+runs_script (ran.Unread why) bytes steps old new s l h = absurd h
+
+pub was_read : (r : Ran) (steps : List Step) (old new : Lent) → RunsTo r steps old new → IsRead r
+was_read ran.Done steps old new h = tt
+was_read ran.Refusals steps old new h = tt
+was_read (ran.Stopped why) steps old new h = tt
+was_read (ran.Unread why) steps old new h = absurd h
+
+-- the bytes that a source had
+pub some_bytes : (left : Option (List ℕ)) → (bytes : List ℕ) × IfSome left (λ xs. bytes ≡ xs)
+some_bytes (Some xs) = (xs, refl)
+some_bytes None = ([], tt)
+
+-- a front that is longer than the limit
+longer_front : (bytes left : List ℕ) → HasTaken (λ n. n ≡ most_script_bytes + 1) bytes left → most_script_bytes < length bytes
+longer_front bytes left h =
+    let l : length bytes ≡ length h.0 + length left = ap length h.1 ∙ length-append h.0 left in
+    omega (arith, h.2)
+
+-- there are lists of every length
+many_of : (n z : ℕ) → (bytes : List ℕ) × (n < length bytes)
+many_of n z =
+    let l : length (replicate (n + 1) z) ≡ n + 1 = length-replicate (n + 1) z in
+    (replicate (n + 1) z, omega (arith, l))
+
+many : (n : ℕ) → (bytes : List ℕ) × (n < length bytes)
+many n = many_of n 0
+
+pub too_many_bytes : (old new : Option (List ℕ)) → WhereTold (ReadsAll most_script_bytes read.TooLong) old new → (bytes : List ℕ) × IfSome old (λ xs. bytes ≡ xs) × (most_script_bytes < length bytes)
+too_many_bytes (Some xs) (Some left) h = (xs, refl, longer_front xs left h)
+too_many_bytes (Some xs) None h = absurd h
+too_many_bytes None new h = let m = many most_script_bytes in (m.0, tt, m.1)
+
+pub whole_bytes : (old new : Option (List ℕ)) (bytes : List ℕ) → WhereTold (ReadsAll most_script_bytes (read.Whole bytes)) old new → IfSome old (λ xs. bytes ≡ xs)
+whole_bytes (Some xs) (Some left) bytes h = sym h.0
+whole_bytes (Some xs) None bytes h = absurd h
+whole_bytes None new bytes h = tt
+
+-- ---- what was taken of it
+
+takes : (r : Ran) (bytes xs left : List ℕ) → IsRead r → ReadsAll most_script_bytes (read.Whole bytes) xs left → TakesScript r xs left
+takes ran.Done bytes xs left w h = h.1
+takes ran.Refusals bytes xs left w h = h.1
+takes (ran.Stopped why) bytes xs left w h = h.1
+takes (ran.Unread unread.ReadFault) bytes xs left w h = absurd w
+takes (ran.Unread unread.TooLong) bytes xs left w h = absurd w
+takes (ran.Unread (unread.BadLine line)) bytes xs left w h = h.1
+takes (ran.Unread unread.OutOfMemory) bytes xs left w h =
+    let l = h.2 in
+    (xs, sym (append-nil xs) ∙ ap (λ w. xs ++ w) (sym h.1), omega arith)
+
+pub takes_whole : (r : Ran) (bytes : List ℕ) (old new : Option (List ℕ)) → IsRead r → WhereTold (ReadsAll most_script_bytes (read.Whole bytes)) old new → WhereTold (TakesScript r) old new
+takes_whole r bytes old new w h = told_map (ReadsAll most_script_bytes (read.Whole bytes)) (TakesScript r) (λ x y p. takes r bytes x y w p) old new h
+
+pub read_it : (r : Ran) → IsRead r → r ≡ ran.Unread unread.ReadFault → ⊥
+read_it r w e = subst IsRead e w
+
+-- ---- a count rose
+
+came_rose : (P : Lent → Lent → Type 0) (s : Stop) (bytes : List ℕ) (old new : Lent) → RunsScript (ran.Stopped s) bytes old new
+    → ((steps : List Step) (refused : Bool) → CameTo (Err s) refused steps old new → P old new) → P old new
+came_rose P s bytes old new h f = f h.0 h.3.0 h.3.1
+
+pub write_rose : (r : Ran) (bytes : List ℕ) (old new : Lent) → RunsScript r bytes old new → r ≡ ran.Stopped stop.WriteFault → Rose old.out_faults new.out_faults ⊎ Rose old.tap_faults new.tap_faults
+write_rose r bytes old new h e =
+    came_rose (λ x y. Rose x.out_faults y.out_faults ⊎ Rose x.tap_faults y.tap_faults) stop.WriteFault bytes old new (subst (λ w. RunsScript w bytes old new) e h)
+    (λ steps refused (c : CameTo (Err stop.WriteFault) refused steps old new). c.leads.1)
+
+pub entropy_rose : (r : Ran) (bytes : List ℕ) (old new : Lent) → RunsScript r bytes old new → r ≡ ran.Stopped stop.EntropyFault → Rose old.entropy_faults new.entropy_faults
+entropy_rose r bytes old new h e =
+    came_rose (λ x y. Rose x.entropy_faults y.entropy_faults) stop.EntropyFault bytes old new (subst (λ w. RunsScript w bytes old new) e h)
+    (λ steps refused (c : CameTo (Err stop.EntropyFault) refused steps old new). c.leads.1)
+
+pub vault_rose : (r : Ran) (bytes : List ℕ) (old new : Lent) → RunsScript r bytes old new → r ≡ ran.Stopped stop.VaultFault → Rose old.vault_faults new.vault_faults
+vault_rose r bytes old new h e =
+    came_rose (λ x y. Rose x.vault_faults y.vault_faults) stop.VaultFault bytes old new (subst (λ w. RunsScript w bytes old new) e h)
+    (λ steps refused (c : CameTo (Err stop.VaultFault) refused steps old new). c.leads.1)

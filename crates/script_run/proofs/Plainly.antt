@@ -1,0 +1,243 @@
+-- What a run prints over a server is what its script means, once over the server's replies it means just that.
+use Rattle.std.proofs.Common.{◌≡◌, ◌≤◌, ℕ, ◌+◌, List, [], ◌∷◌, ◌++◌, Option, Some, None, Result, Ok, Err, Bool, true, false, ◌||◌, refl, sym, ◌∙◌, ap, subst, append_assoc, append-nil, length, arith}
+use Rattle.std.specs.Prelude.{flat_map, IfSome}
+use Rattle.std.specs.List.{All}
+use Rattle.ae_edge.specs.Devices.{WhereTold, Adds, AddsFront, GrewByFront, IsFront}
+use Rattle.ae_edge.specs.Vaults.{KeyMap}
+use Rattle.ae_edge.proofs.Told.{told_then, told_map, front_then, front_behind, adds_then_front, adds_front_then, front_of}
+use Rattle.wire_messages.specs.declared.replies.Reply.{Reply}
+use Rattle.server_core.specs.Serve.{State, serve, empty_state}
+use Rattle.conversation.specs.declared.outcomes.Outcome.{Outcome}
+use Rattle.conversation.specs.declared.sessions.Session.{Session}
+use Rattle.conversation.specs.Drive.{End, Done, Dry, BadReply, Passed, over, end_at, stopped}
+use Rattle.conversation.specs.Paths.{Event, Asked, Took, Strayed, Drew, Opened, Printed, Follows, taken_in, drawn_in, outcome_in, Waits, OpensAll}
+use Rattle.conversation.specs.Sessions.{nobody}
+use Rattle.conversation.specs.Talk.{Talk, Ends, Stops, Asks, Hears, Draws, Opens, Prints}
+use Rattle.conversation.proofs.Going.{flat_append}
+use Rattle.script_lang.specs.Limits.{IsWithinLimits}
+use Rattle.script_lang.specs.declared.steps.Step.{Step}
+use Rattle.plain_meaning.specs.Laws.{EndsWith, Agrees, ServedIsPlain}
+use Rattle.plain_meaning.specs.Steps.{talk}
+use Rattle.run_words.specs.Printing.{printed_outcome, print, has_refusal}
+use Rattle.run_words.specs.Shares.{Outside, Serves, text_of}
+use Rattle.run_words.specs.Ways.{Goes, Halts, Breaks, Fails, IsStuck}
+use Rattle.run_words.specs.declared.stops.Stop.{Stop}
+use Rattle.run_words.specs.declared.stops.Stop.TheVariants as stop
+use Rattle.script_run.specs.declared.runs.Ran.{Ran}
+use Rattle.script_run.specs.declared.runs.Ran.TheVariants as ran
+use Rattle.script_run.specs.declared.runs.Unread.TheVariants as unread
+use Rattle.script_run.specs.Ends.{Lent, outside, CameTo, RunsTo, IsScript, RunsSteps, RunsScript}
+use Rattle.script_run.specs.Plain.{meaning, PrintsPlain, IsDoneOrFault}
+use Rattle.script_run.proofs.Passing.{ahead, path_passes}
+
+-- a conversation over a peer that serves from the empty state, with keys that are told
+pub record Starts (map : KeyMap) (old : Outside) : Type 0 where
+  pub state : old.wire.state ≡ Some empty_state
+  pub keys : old.desk.keys ≡ Some map
+  pub waiting : old.wire.waiting ≡ []
+
+-- ---- what was printed
+
+flat_flat : {A B C : Type 0} (f : B → List C) (g : A → List B) (xs : List A) → flat_map (λ x. flat_map f (g x)) xs ≡ flat_map f (flat_map g xs)
+flat_flat f g [] = refl
+flat_flat f g (x ∷ xs) = ap (λ w. flat_map f (g x) ++ w) (flat_flat f g xs) ∙ sym (flat_append f (g x) (flat_map g xs))
+
+text_is : (events : List Event) → flat_map text_of events ≡ print (flat_map outcome_in events)
+text_is events = flat_flat printed_outcome outcome_in events
+
+text_front : (outcomes wanted : List Outcome) → IsFront outcomes wanted → IsFront (print outcomes) (print wanted)
+text_front outcomes wanted h = record { rest = print h.rest; is = ap print h.is ∙ flat_append printed_outcome outcomes h.rest }
+
+-- ---- where it stands
+
+served : (events : List Event) (a b : Option State) (s : State) → a ≡ Some s → WhereTold (Serves events) a b → (v : State) × Serves events s v
+served events a (Some v) s e h = (v, subst (λ x. WhereTold (Serves events) x (Some v)) e h)
+served events a None s e h = let g : ⊥ = subst (λ x. WhereTold (Serves events) x None) e h in absurd g
+
+stuck_ends : (keys : KeyMap) (t : Talk) (n : ℕ) (s : State) (left : List Reply) → IsStuck t left → (place : ℕ) × ((over serve keys t n [] s left).end ≡ BadReply place)
+stuck_ends keys (Stops None) n s left h = (n, refl)
+stuck_ends keys (Stops (Some comes)) n s left h = absurd h
+stuck_ends keys (Ends sessions) n s [] h = absurd h
+stuck_ends keys (Ends sessions) n s (reply ∷ left) h = (n, refl)
+stuck_ends keys (Asks request t) n s left h = absurd h
+stuck_ends keys (Hears session shown f) n s left h = absurd h
+stuck_ends keys (Draws f) n s left h = absurd h
+stuck_ends keys (Opens meta f) n s left h = absurd h
+stuck_ends keys (Prints comes t) n s left h = absurd h
+
+-- those so far are a front
+front_means : (end : End) (outcomes whole rest wanted : List Outcome) → whole ≡ outcomes ++ rest → EndsWith end whole wanted → IsFront outcomes wanted
+front_means (Done sessions) outcomes whole rest wanted e a = record { rest = rest; is = sym a ∙ e }
+front_means Dry outcomes whole rest wanted e a = record { rest = rest ++ a.rest; is = a.is ∙ ap (λ xs. xs ++ a.rest) e ∙ append_assoc outcomes rest a.rest }
+front_means (BadReply n) outcomes whole rest wanted e a = absurd a
+
+quiet_front : (outcomes last wanted : List Outcome) → last ≡ [] → IsFront outcomes wanted → IsFront (outcomes ++ last) wanted
+quiet_front outcomes last wanted n h = subst (λ xs. IsFront xs wanted) (sym (ap (λ xs. outcomes ++ xs) n ∙ append-nil outcomes)) h
+
+module _ (keys : KeyMap) (steps : List Step) (wanted : List Outcome) (agrees : (entropy : List ℕ) → Agrees (over serve keys (talk steps nobody) 0 entropy empty_state []) wanted) where
+  pub record Reached (u : Talk) (events : List Event) (left : List Reply) : Type 0 where
+    pub state : State
+    pub taken : ℕ
+    pub is : over serve keys (talk steps nobody) 0 (flat_map drawn_in events ++ []) empty_state [] ≡ ahead events (over serve keys u taken [] state left)
+
+  module _ (u : Talk) (old new : Outside) (st : Starts keys old) (g : Goes (talk steps nobody) u old new) where
+    reached : Reached u g.events new.wire.waiting
+    reached =
+        let v = served g.events old.wire.state new.wire.state empty_state st.state g.put.wire.state in
+        let q : Waits g.events [] new.wire.waiting = subst (λ q. Waits g.events q new.wire.waiting) st.waiting g.read.wire.waiting in
+        let o : OpensAll g.events keys = subst (λ x. IfSome x (OpensAll g.events)) st.keys g.put.desk.opened in
+        record {
+          state = v.0;
+          taken = 0 + length (flat_map taken_in g.events);
+          is = path_passes keys (talk steps nobody) u g.events g.follows [] new.wire.waiting q o empty_state v.0 v.1 0 [];
+        }
+
+    ahead_agrees : (r : Reached u g.events new.wire.waiting) → Agrees (ahead g.events (over serve keys u r.taken [] r.state new.wire.waiting)) wanted
+    ahead_agrees r = subst (λ p. Agrees p wanted) r.is (agrees (flat_map drawn_in g.events ++ []))
+
+    goes_front : IsFront (flat_map outcome_in g.events) wanted
+    goes_front =
+        let r = reached in
+        let p = over serve keys u r.taken [] r.state new.wire.waiting in
+        front_means p.end (flat_map outcome_in g.events) (flat_map outcome_in g.events ++ p.outcomes) p.outcomes wanted refl (ahead_agrees r)
+
+    goes_prints : AddsFront (print wanted) old.desk.out new.desk.out
+    goes_prints =
+        front_of (flat_map text_of g.events) (print wanted) old.desk.out new.desk.out g.put.desk.out
+        (subst (λ xs. IsFront xs (print wanted)) (sym (text_is g.events)) (text_front (flat_map outcome_in g.events) wanted goes_front))
+
+    -- with a print that is cut
+    print_front : (comes : Outcome) (v : Talk) → Follows u (Printed comes ∷ []) v → IsFront (flat_map outcome_in g.events ++ comes ∷ []) wanted
+    print_front comes v f =
+        let r = reached in
+        let p = over serve keys u r.taken [] r.state new.wire.waiting in
+        let q = over serve keys v (r.taken + 0) [] r.state new.wire.waiting in
+        let i : p ≡ ahead (Printed comes ∷ []) q = path_passes keys u v (Printed comes ∷ []) f new.wire.waiting new.wire.waiting refl tt r.state r.state refl r.taken [] in
+        let o : p.outcomes ≡ comes ∷ q.outcomes = ap (λ (x : Passed State). x.outcomes) i in
+        front_means p.end (flat_map outcome_in g.events ++ comes ∷ []) (flat_map outcome_in g.events ++ p.outcomes) q.outcomes wanted
+        (ap (λ xs. flat_map outcome_in g.events ++ xs) o ∙ sym (append_assoc (flat_map outcome_in g.events) (comes ∷ []) q.outcomes)) (ahead_agrees r)
+
+    last_front : (v : Talk) (last : List Event) → length last ≤ 1 → Follows u last v → IsFront (flat_map outcome_in g.events ++ flat_map outcome_in last) wanted
+    last_front v [] one f = quiet_front _ _ wanted refl goes_front
+    last_front v (Printed comes ∷ []) one f = print_front comes v f
+    last_front v (Asked request replies ∷ []) one f = quiet_front _ _ wanted refl goes_front
+    last_front v (Took reply ∷ []) one f = quiet_front _ _ wanted refl goes_front
+    last_front v (Strayed next ∷ []) one f = quiet_front _ _ wanted refl goes_front
+    last_front v (Drew bytes ∷ []) one f = quiet_front _ _ wanted refl goes_front
+    last_front v (Opened meta key ∷ []) one f = quiet_front _ _ wanted refl goes_front
+    last_front v (e ∷ d ∷ es) one f = absurd (omega arith)
+
+    cut_prints : (v : Talk) (last : List Event) (cut : Outside) → length last ≤ 1 → Follows u last v → AddsFront (flat_map text_of last) new.desk.out cut.desk.out → AddsFront (print wanted) old.desk.out cut.desk.out
+    cut_prints v last cut one f h =
+        let i : print (flat_map outcome_in g.events ++ flat_map outcome_in last) ≡ flat_map text_of g.events ++ flat_map text_of last =
+        flat_append printed_outcome (flat_map outcome_in g.events) (flat_map outcome_in last)
+        ∙ ap (λ w. w ++ print (flat_map outcome_in last)) (sym (text_is g.events))
+        ∙ ap (λ w. flat_map text_of g.events ++ w) (sym (text_is last)) in
+        adds_front_then (flat_map text_of g.events ++ flat_map text_of last) (print wanted) old.desk.out cut.desk.out
+        (adds_then_front (flat_map text_of g.events) (flat_map text_of last) old.desk.out new.desk.out cut.desk.out g.put.desk.out h)
+        (subst (λ xs. IsFront xs (print wanted)) i (text_front (flat_map outcome_in g.events ++ flat_map outcome_in last) wanted (last_front v last one f)))
+
+    never_stuck : IsStuck u new.wire.waiting → ⊥
+    never_stuck s =
+        let r = reached in
+        let p = over serve keys u r.taken [] r.state new.wire.waiting in
+        let b = stuck_ends keys u r.taken r.state new.wire.waiting s in
+        subst (λ e. EndsWith e (flat_map outcome_in g.events ++ p.outcomes) wanted) b.1 (ahead_agrees r)
+
+  -- ---- to its end, no further, or cut
+
+  module _ (old new : Outside) (st : Starts keys old) where
+    done_is : (sessions : List Session) (g : Goes (talk steps nobody) (Ends sessions) old new) → new.wire.waiting ≡ [] → flat_map outcome_in g.events ≡ wanted
+    done_is sessions g e =
+        let r = reached (Ends sessions) old new st g in
+        let a = ahead_agrees (Ends sessions) old new st g r in
+        let b : (flat_map outcome_in g.events ++ []) ≡ wanted = subst (λ w. EndsWith (end_at sessions r.taken w) (flat_map outcome_in g.events ++ []) wanted) e a in
+        sym (append-nil (flat_map outcome_in g.events)) ∙ b
+
+    pub done_prints : (sessions : List Session) → Goes (talk steps nobody) (Ends sessions) old new → new.wire.waiting ≡ [] → Adds (print wanted) old.desk.out new.desk.out
+    done_prints sessions g e = subst (λ xs. Adds xs old.desk.out new.desk.out) (text_is g.events ∙ ap print (done_is sessions g e)) g.put.desk.out
+
+    pub done_refuses : (sessions : List Session) → Goes (talk steps nobody) (Ends sessions) old new → new.wire.waiting ≡ [] → new.desk.refused ≡ old.desk.refused || has_refusal wanted
+    done_refuses sessions g e = g.read.refused ∙ ap (λ xs. old.desk.refused || has_refusal xs) (done_is sessions g e)
+
+    pub halts_prints : (P : Talk → Outside → Type 0) → Halts P (talk steps nobody) old new → AddsFront (print wanted) old.desk.out new.desk.out
+    halts_prints P h = goes_prints h.rest old new st h.goes
+
+    pub breaks_prints : Breaks (talk steps nobody) old new → AddsFront (print wanted) old.desk.out new.desk.out
+    breaks_prints b = cut_prints b.between old b.mid st b.goes b.rest b.last new b.one b.follows b.put.desk.out
+
+    pub no_stray : (place : ℕ) → Fails (stop.BadReply place) (talk steps nobody) old new → ⊥
+    no_stray place h = never_stuck h.rest old new st h.goes h.place.0
+
+-- ---- a run of a script
+
+module _ (law : ServedIsPlain) (keys : KeyMap) (steps : List Step) (limits : All IsWithinLimits steps) (old new : Lent) (state : old.state ≡ Some empty_state) (told : old.keys ≡ Some keys) where
+  agrees_so : (entropy : List ℕ) → Agrees (over serve keys (talk steps nobody) 0 entropy empty_state []) (meaning keys steps)
+  agrees_so entropy = law keys steps limits entropy
+
+  starts : (ended : Result (Unit {0}) Stop) (refused : Bool) (c : CameTo ended refused steps old new) → Starts keys (outside c.out c.entropy c.vault c.wire false [] 0 old)
+  starts ended refused c = record { state = state; keys = told; waiting = refl }
+
+  ends : (refused : Bool) → CameTo (Ok tt) refused steps old new → Adds (print (meaning keys steps)) old.out new.out × (has_refusal (meaning keys steps) ≡ refused)
+  ends refused c =
+      let x = outside c.out c.entropy c.vault c.wire false [] 0 old in
+      let y = outside c.out_after c.entropy_after c.vault_after c.wire_after refused c.waiting c.taken new in
+      let st = starts (Ok tt) refused c in (
+        done_prints keys steps (meaning keys steps) agrees_so x y st c.sessions c.leads c.read,
+        sym (done_refuses keys steps (meaning keys steps) agrees_so x y st c.sessions c.leads c.read),
+      )
+
+  stops_at : (s : Stop) (x y : Outside) → Starts keys x → Fails s (talk steps nobody) x y → x.desk.out ≡ old.out → y.desk.out ≡ new.out → PrintsPlain (ran.Stopped s) keys steps old.out new.out
+  stops_at (stop.BadReply place) x y st h e f = no_stray keys steps (meaning keys steps) agrees_so x y st place h
+  stops_at stop.EntropyFault x y st h e f = rw (← e, ← f) (halts_prints keys steps (meaning keys steps) agrees_so x y st _ h.0)
+  stops_at stop.VaultFault x y st h e f = rw (← e, ← f) (halts_prints keys steps (meaning keys steps) agrees_so x y st _ h.0)
+  stops_at stop.WriteFault x y st h e f = rw (← e, ← f) (breaks_prints keys steps (meaning keys steps) agrees_so x y st h.0)
+  stops_at stop.OutOfMemory x y st h e f = rw (← e, ← f) (breaks_prints keys steps (meaning keys steps) agrees_so x y st h)
+
+  stops : (s : Stop) (refused : Bool) → CameTo (Err s) refused steps old new → PrintsPlain (ran.Stopped s) keys steps old.out new.out
+  stops s refused c =
+      stops_at s (outside c.out c.entropy c.vault c.wire false [] 0 old) (outside c.out_after c.entropy_after c.vault_after c.wire_after refused c.waiting c.taken new)
+      (starts (Err s) refused c) c.leads refl refl
+
+  pub steps_plain : (r : Ran) → RunsTo r steps old new → PrintsPlain r keys steps old.out new.out
+  steps_plain ran.Done c = ends false c
+  steps_plain ran.Refusals c = ends true c
+  steps_plain (ran.Stopped s) c = stops s c.0 c.1
+  steps_plain (ran.Unread why) c = absurd c
+
+-- the steps of a script are one list
+pub one_script : (bytes : List ℕ) (steps others : List Step) → IsScript bytes steps → IsScript bytes others → others ≡ steps
+one_script bytes steps others s o = let a = s.read in let b = o.read in cc
+
+runs_so : (law : ServedIsPlain) (r : Ran) (keys : KeyMap) (bytes : List ℕ) (steps : List Step) (old new : Lent) → old.state ≡ Some empty_state → old.keys ≡ Some keys
+    → IsScript bytes steps → RunsSteps r bytes old new → PrintsPlain r keys steps old.out new.out
+runs_so law r keys bytes steps old new w k s h =
+    subst (λ ss. PrintsPlain r keys ss old.out new.out) (one_script bytes steps h.0 s h.1) (steps_plain law keys h.0 h.2 old new w k r h.3)
+
+pub runs_plain : (law : ServedIsPlain) (r : Ran) (keys : KeyMap) (bytes : List ℕ) (steps : List Step) (old new : Lent) → old.state ≡ Some empty_state → old.keys ≡ Some keys
+    → IsScript bytes steps → RunsScript r bytes old new → PrintsPlain r keys steps old.out new.out
+runs_plain law ran.Done keys bytes steps old new w k s h = runs_so law ran.Done keys bytes steps old new w k s h
+runs_plain law ran.Refusals keys bytes steps old new w k s h = runs_so law ran.Refusals keys bytes steps old new w k s h
+runs_plain law (ran.Stopped why) keys bytes steps old new w k s h = runs_so law (ran.Stopped why) keys bytes steps old new w k s h
+runs_plain law (ran.Unread unread.ReadFault) keys bytes steps old new w k s h = ap (λ (x : Lent). x.out) h
+runs_plain law (ran.Unread unread.TooLong) keys bytes steps old new w k s h = ap (λ (x : Lent). x.out) h.1
+runs_plain law (ran.Unread (unread.BadLine line)) keys bytes steps old new w k s h = ap (λ (x : Lent). x.out) h.2
+runs_plain law (ran.Unread unread.OutOfMemory) keys bytes steps old new w k s h = ap (λ (x : Lent). x.out) h
+
+pub runs_whole : (law : ServedIsPlain) (r : Ran) (keys : KeyMap) (bytes : List ℕ) (steps : List Step) (old new : Lent) → old.state ≡ Some empty_state → old.keys ≡ Some keys
+    → IsScript bytes steps → RunsScript r bytes old new → IsDoneOrFault r
+runs_whole law ran.Done keys bytes steps old new w k s h = tt
+runs_whole law ran.Refusals keys bytes steps old new w k s h = tt
+runs_whole law (ran.Stopped (stop.BadReply place)) keys bytes steps old new w k s h = runs_plain law (ran.Stopped (stop.BadReply place)) keys bytes steps old new w k s h
+runs_whole law (ran.Stopped stop.EntropyFault) keys bytes steps old new w k s h = tt
+runs_whole law (ran.Stopped stop.VaultFault) keys bytes steps old new w k s h = tt
+runs_whole law (ran.Stopped stop.WriteFault) keys bytes steps old new w k s h = tt
+runs_whole law (ran.Stopped stop.OutOfMemory) keys bytes steps old new w k s h = tt
+runs_whole law (ran.Unread unread.ReadFault) keys bytes steps old new w k s h = tt
+runs_whole law (ran.Unread unread.TooLong) keys bytes steps old new w k s h = let a = s.within in let b = h.0 in absurd (omega arith)
+runs_whole law (ran.Unread (unread.BadLine line)) keys bytes steps old new w k s h = let a = s.read in let b = h.1 in cc
+runs_whole law (ran.Unread unread.OutOfMemory) keys bytes steps old new w k s h = tt
+
+-- of the bytes that the source tells
+pub told_bytes : (left : Option (List ℕ)) (bytes given : List ℕ) → left ≡ Some bytes → IfSome left (λ xs. given ≡ xs) → given ≡ bytes
+told_bytes left bytes given e h = subst (λ w. IfSome w (λ xs. given ≡ xs)) e h

@@ -1,0 +1,191 @@
+-- What a run puts on its tap over a server is the transcript, or a front of it.
+use Rattle.std.proofs.Common.{◌≡◌, ◌≤◌, ℕ, ◌+◌, List, [], ◌∷◌, ◌++◌, Option, Some, None, Ok, Err, Bool, true, false, refl, sym, ◌∙◌, ap, subst, append_assoc, append-nil, length, arith}
+use Rattle.std.specs.Prelude.{flat_map, IfSome, Result}
+use Rattle.ae_edge.specs.Devices.{WhereTold, Adds, AddsFront, IsFront}
+use Rattle.ae_edge.specs.Vaults.{KeyMap}
+use Rattle.ae_edge.proofs.Told.{told_then, adds_then_front, adds_front_then, front_of}
+use Rattle.wire_messages.specs.Exchanges.{Exchange}
+use Rattle.wire_messages.specs.declared.replies.Reply.{Reply}
+use Rattle.wire_messages.specs.declared.requests.Request.{Request}
+use Rattle.server_core.specs.Serve.{State, serve, empty_state}
+use Rattle.conversation.specs.declared.sessions.Session.{Session}
+use Rattle.conversation.specs.Drive.{Passed, over}
+use Rattle.conversation.specs.Paths.{Event, Asked, Took, Strayed, Drew, Opened, Printed, Follows, taken_in, drawn_in, Waits, OpensAll}
+use Rattle.conversation.specs.Sessions.{nobody}
+use Rattle.conversation.specs.Talk.{Talk, Ends}
+use Rattle.conversation.proofs.Going.{flat_append}
+use Rattle.script_lang.specs.declared.steps.Step.{Step}
+use Rattle.plain_meaning.specs.Steps.{talk}
+use Rattle.run_words.specs.Shares.{Outside, Serves, frames_of, exchanges_of}
+use Rattle.run_words.specs.Ways.{Goes, Halts, Breaks, Fails}
+use Rattle.run_words.specs.declared.stops.Stop.{Stop}
+use Rattle.run_words.specs.declared.stops.Stop.TheVariants as stop
+use Rattle.script_run.specs.declared.runs.Ran.{Ran}
+use Rattle.script_run.specs.declared.runs.Ran.TheVariants as ran
+use Rattle.script_run.specs.declared.runs.Unread.TheVariants as unread
+use Rattle.script_run.specs.Ends.{Lent, outside, CameTo, RunsTo, IsScript, RunsSteps, RunsScript}
+use Rattle.script_run.specs.Transcript.{exchange_frames, transcript, TapsWhole, TapsFront, TapsTranscript}
+use Rattle.script_run.proofs.Passing.{ahead, path_passes}
+use Rattle.script_run.proofs.Plainly.{Starts, one_script}
+
+frames_are : (events : List Event) → flat_map frames_of events ≡ flat_map exchange_frames (flat_map exchanges_of events)
+frames_are [] = refl
+frames_are (Asked request replies ∷ events) = ap (λ w. frames_of (Asked request replies) ++ w) (frames_are events)
+frames_are (Took reply ∷ events) = frames_are events
+frames_are (Strayed next ∷ events) = frames_are events
+frames_are (Drew bytes ∷ events) = frames_are events
+frames_are (Opened meta key ∷ events) = frames_are events
+frames_are (Printed comes ∷ events) = frames_are events
+
+frames_front : (events : List Event) (more : List Exchange) → IsFront (flat_map frames_of events) (flat_map exchange_frames (flat_map exchanges_of events ++ more))
+frames_front events more = record {
+  rest = flat_map exchange_frames more;
+  is = flat_append exchange_frames (flat_map exchanges_of events) more ∙ ap (λ w. w ++ flat_map exchange_frames more) (sym (frames_are events));
+}
+
+-- the state that is told, behind some events
+served_so : (events : List Event) (a b : Option State) (s : State) → a ≡ Some s → WhereTold (Serves events) a b → (v : State) × (b ≡ Some v) × Serves events s v
+served_so events a (Some v) s e h = (v, refl, subst (λ x. WhereTold (Serves events) x (Some v)) e h)
+served_so events a None s e h = let g : ⊥ = subst (λ x. WhereTold (Serves events) x None) e h in absurd g
+
+module _ (keys : KeyMap) (steps : List Step) where
+  record Reached (u : Talk) (events : List Event) (now : Option State) (left : List Reply) : Type 0 where
+    state : State
+    told : now ≡ Some state
+    taken : ℕ
+    is : (more : List ℕ) → over serve keys (talk steps nobody) 0 (flat_map drawn_in events ++ more) empty_state [] ≡ ahead events (over serve keys u taken more state left)
+
+  module _ (u : Talk) (old new : Outside) (st : Starts keys old) (g : Goes (talk steps nobody) u old new) where
+    reached : Reached u g.events new.wire.state new.wire.waiting
+    reached =
+        let v = served_so g.events old.wire.state new.wire.state empty_state st.state g.put.wire.state in
+        let q : Waits g.events [] new.wire.waiting = subst (λ q. Waits g.events q new.wire.waiting) st.waiting g.read.wire.waiting in
+        let o : OpensAll g.events keys = subst (λ x. IfSome x (OpensAll g.events)) st.keys g.put.desk.opened in
+        record {
+          state = v.0;
+          told = v.1;
+          taken = 0 + length (flat_map taken_in g.events);
+          is = path_passes keys (talk steps nobody) u g.events g.follows [] new.wire.waiting q o empty_state v.0 v.2 0;
+        }
+
+    goes_front : (more : List ℕ) → IsFront (flat_map frames_of g.events) (transcript keys steps (flat_map drawn_in g.events ++ more))
+    goes_front more =
+        let r = reached in
+        let p = over serve keys u r.taken more r.state new.wire.waiting in
+        subst (λ (x : Passed State). IsFront (flat_map frames_of g.events) (flat_map exchange_frames x.exchanges)) (sym (r.is more)) (frames_front g.events p.exchanges)
+
+    goes_taps : (more : List ℕ) → AddsFront (transcript keys steps (flat_map drawn_in g.events ++ more)) old.wire.tap new.wire.tap
+    goes_taps more = front_of (flat_map frames_of g.events) _ old.wire.tap new.wire.tap g.put.wire.tap (goes_front more)
+
+    -- with a request that is cut
+    ask_front : (request : Request) (replies : List Reply) (v : Talk) (after : Option State) → Follows u (Asked request replies ∷ []) v
+        → WhereTold (Serves (Asked request replies ∷ [])) new.wire.state after → (more : List ℕ)
+        → IsFront (flat_map frames_of g.events ++ flat_map frames_of (Asked request replies ∷ [])) (transcript keys steps (flat_map drawn_in g.events ++ more))
+    ask_front request replies v after f h more =
+        let r = reached in
+        let w = served_so (Asked request replies ∷ []) new.wire.state after r.state r.told h in
+        let last = Asked request replies ∷ [] in
+        let q = over serve keys v (r.taken + 0) more w.0 (new.wire.waiting ++ replies) in
+        let i : over serve keys u r.taken more r.state new.wire.waiting ≡ ahead last q = path_passes keys u v last f new.wire.waiting (new.wire.waiting ++ replies) refl tt r.state w.0 w.2 r.taken more in
+        let a : (over serve keys (talk steps nobody) 0 (flat_map drawn_in g.events ++ more) empty_state []).exchanges ≡ flat_map exchanges_of g.events ++ (flat_map exchanges_of last ++ q.exchanges) =
+        ap (λ (x : Passed State). x.exchanges) (r.is more) ∙ ap (λ (x : Passed State). flat_map exchanges_of g.events ++ x.exchanges) i in
+        let b = frames_front last q.exchanges in
+        record {
+          rest = b.rest;
+          is =
+              ap (flat_map exchange_frames) a
+              ∙ flat_append exchange_frames (flat_map exchanges_of g.events) (flat_map exchanges_of last ++ q.exchanges)
+              ∙ ap (λ w. w ++ flat_map exchange_frames (flat_map exchanges_of last ++ q.exchanges)) (sym (frames_are g.events))
+              ∙ ap (λ w. flat_map frames_of g.events ++ w) b.is
+              ∙ sym (append_assoc (flat_map frames_of g.events) (flat_map frames_of last) b.rest);
+        }
+
+    quiet : (more : List ℕ) → IsFront (flat_map frames_of g.events ++ []) (transcript keys steps (flat_map drawn_in g.events ++ more))
+    quiet more = subst (λ xs. IsFront xs (transcript keys steps (flat_map drawn_in g.events ++ more))) (sym (append-nil (flat_map frames_of g.events))) (goes_front more)
+
+    last_front : (v : Talk) (last : List Event) (after : Option State) → length last ≤ 1 → Follows u last v → WhereTold (Serves last) new.wire.state after → (more : List ℕ)
+        → IsFront (flat_map frames_of g.events ++ flat_map frames_of last) (transcript keys steps (flat_map drawn_in g.events ++ more))
+    last_front v [] after one f h more = quiet more
+    last_front v (Asked request replies ∷ []) after one f h more = ask_front request replies v after f h more
+    last_front v (Took reply ∷ []) after one f h more = quiet more
+    last_front v (Strayed next ∷ []) after one f h more = quiet more
+    last_front v (Drew bytes ∷ []) after one f h more = quiet more
+    last_front v (Opened meta key ∷ []) after one f h more = quiet more
+    last_front v (Printed comes ∷ []) after one f h more = quiet more
+    last_front v (e ∷ d ∷ es) after one f h more = absurd (omega arith)
+
+  both_drew : (xs ys : List ℕ) (a b c : Option (List ℕ)) → WhereTold (λ x y. x ≡ xs ++ y) a b → WhereTold (λ x y. x ≡ ys ++ y) b c → WhereTold (λ x y. x ≡ (xs ++ ys) ++ y) a c
+  both_drew xs ys =
+      told_then (λ x y. x ≡ xs ++ y) (λ x y. x ≡ ys ++ y) (λ x y. x ≡ (xs ++ ys) ++ y) (λ x y z p q. p ∙ ap (λ w. xs ++ w) q ∙ sym (append_assoc xs ys z))
+
+  -- ---- to its end, no further, or cut
+
+  module _ (old new : Outside) (st : Starts keys old) where
+    done_taps : (sessions : List Session) → Goes (talk steps nobody) (Ends sessions) old new → TapsWhole keys steps old.desk.entropy new.desk.entropy old.wire.tap new.wire.tap
+    done_taps sessions g =
+        let r = reached (Ends sessions) old new st g in
+        let a : (over serve keys (talk steps nobody) 0 (flat_map drawn_in g.events ++ []) empty_state []).exchanges ≡ flat_map exchanges_of g.events ++ [] = ap (λ (x : Passed State). x.exchanges) (r.is []) in
+        let b : (over serve keys (talk steps nobody) 0 (flat_map drawn_in g.events) empty_state []).exchanges ≡ flat_map exchanges_of g.events =
+        ap (λ d. (over serve keys (talk steps nobody) 0 d empty_state []).exchanges) (sym (append-nil (flat_map drawn_in g.events))) ∙ a ∙ append-nil (flat_map exchanges_of g.events) in
+        record {
+          drawn = flat_map drawn_in g.events;
+          share = g.put.desk.entropy;
+          tap = subst (λ xs. Adds xs old.wire.tap new.wire.tap) (frames_are g.events ∙ sym (ap (flat_map exchange_frames) b)) g.put.wire.tap;
+        }
+
+    halts_taps : (P : Talk → Outside → Type 0) → Halts P (talk steps nobody) old new → TapsFront keys steps old.desk.entropy new.desk.entropy old.wire.tap new.wire.tap
+    halts_taps P h = record { drawn = flat_map drawn_in h.goes.events; share = h.goes.put.desk.entropy; tap = goes_taps h.rest old new st h.goes }
+
+    breaks_taps : Breaks (talk steps nobody) old new → TapsFront keys steps old.desk.entropy new.desk.entropy old.wire.tap new.wire.tap
+    breaks_taps b =
+        let events = b.goes.events in
+        record {
+          drawn = flat_map drawn_in events ++ flat_map drawn_in b.last;
+          share = both_drew (flat_map drawn_in events) (flat_map drawn_in b.last) old.desk.entropy b.mid.desk.entropy new.desk.entropy b.goes.put.desk.entropy b.put.desk.entropy;
+          tap = λ more.
+              let f = last_front b.between old b.mid st b.goes b.rest b.last new.wire.state b.one b.follows b.put.wire.state (flat_map drawn_in b.last ++ more) in
+              adds_front_then (flat_map frames_of events ++ flat_map frames_of b.last) _ old.wire.tap new.wire.tap
+              (adds_then_front (flat_map frames_of events) (flat_map frames_of b.last) old.wire.tap b.mid.wire.tap new.wire.tap b.goes.put.wire.tap b.put.wire.tap)
+              (subst (λ d. IsFront (flat_map frames_of events ++ flat_map frames_of b.last) (transcript keys steps d)) (sym (append_assoc (flat_map drawn_in events) (flat_map drawn_in b.last) more)) f);
+        }
+
+    fails_taps : (why : Stop) → Fails why (talk steps nobody) old new → TapsFront keys steps old.desk.entropy new.desk.entropy old.wire.tap new.wire.tap
+    fails_taps (stop.BadReply place) h = halts_taps _ h
+    fails_taps stop.EntropyFault h = halts_taps _ h.0
+    fails_taps stop.VaultFault h = halts_taps _ h.0
+    fails_taps stop.WriteFault h = breaks_taps h.0
+    fails_taps stop.OutOfMemory h = breaks_taps h
+
+-- ---- a run of a script
+
+module _ (keys : KeyMap) (steps : List Step) (old new : Lent) (state : old.state ≡ Some empty_state) (told : old.keys ≡ Some keys) where
+  starts : (ended : Result (Unit {0}) Stop) (refused : Bool) (c : CameTo ended refused steps old new) → Starts keys (outside c.out c.entropy c.vault c.wire false [] 0 old)
+  starts ended refused c = record { state = state; keys = told; waiting = refl }
+
+  ends : (refused : Bool) → CameTo (Ok tt) refused steps old new → TapsWhole keys steps old.entropy new.entropy old.tap new.tap
+  ends refused c =
+      done_taps keys steps (outside c.out c.entropy c.vault c.wire false [] 0 old) (outside c.out_after c.entropy_after c.vault_after c.wire_after refused c.waiting c.taken new)
+      (starts (Ok tt) refused c) c.sessions c.leads
+
+  steps_tap : (r : Ran) → RunsTo r steps old new → TapsTranscript r keys steps old.entropy new.entropy old.tap new.tap
+  steps_tap ran.Done c = ends false c
+  steps_tap ran.Refusals c = ends true c
+  steps_tap (ran.Stopped why) c =
+      fails_taps keys steps (outside c.1.out c.1.entropy c.1.vault c.1.wire false [] 0 old) (outside c.1.out_after c.1.entropy_after c.1.vault_after c.1.wire_after c.0 c.1.waiting c.1.taken new)
+      (starts (Err why) c.0 c.1) why c.1.leads
+  steps_tap (ran.Unread why) c = absurd c
+
+taps_so : (r : Ran) (keys : KeyMap) (bytes : List ℕ) (steps : List Step) (old new : Lent) → old.state ≡ Some empty_state → old.keys ≡ Some keys → IsScript bytes steps → RunsSteps r bytes old new
+    → TapsTranscript r keys steps old.entropy new.entropy old.tap new.tap
+taps_so r keys bytes steps old new w k s h =
+    subst (λ ss. TapsTranscript r keys ss old.entropy new.entropy old.tap new.tap) (one_script bytes steps h.0 s h.1) (steps_tap keys h.0 old new w k r h.3)
+
+pub runs_tap : (r : Ran) (keys : KeyMap) (bytes : List ℕ) (steps : List Step) (old new : Lent) → old.state ≡ Some empty_state → old.keys ≡ Some keys → IsScript bytes steps → RunsScript r bytes old new
+    → TapsTranscript r keys steps old.entropy new.entropy old.tap new.tap
+runs_tap ran.Done keys bytes steps old new w k s h = taps_so ran.Done keys bytes steps old new w k s h
+runs_tap ran.Refusals keys bytes steps old new w k s h = taps_so ran.Refusals keys bytes steps old new w k s h
+runs_tap (ran.Stopped why) keys bytes steps old new w k s h = taps_so (ran.Stopped why) keys bytes steps old new w k s h
+runs_tap (ran.Unread unread.ReadFault) keys bytes steps old new w k s h = ap (λ (x : Lent). x.tap) h
+runs_tap (ran.Unread unread.TooLong) keys bytes steps old new w k s h = ap (λ (x : Lent). x.tap) h.1
+runs_tap (ran.Unread (unread.BadLine line)) keys bytes steps old new w k s h = ap (λ (x : Lent). x.tap) h.2
+runs_tap (ran.Unread unread.OutOfMemory) keys bytes steps old new w k s h = ap (λ (x : Lent). x.tap) h

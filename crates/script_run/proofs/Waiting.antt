@@ -1,0 +1,33 @@
+-- The replies that wait: one is taken, from the front.
+use Rattle.std.proofs.Common.{◌≡◌, ℕ, ◌+◌, ◌<◌, List, [], ◌∷◌, ◌++◌, Option, Some, None, length, drop, refl, sym, ◌∙◌, ap, subst, append-nil, arith}
+use Rattle.std.specs.Prelude.{◌↔◌, IsSome, slice_index_or, option_to_list, flat_map}
+use Rattle.std.proofs.lemmas.Bool.{false≢true}
+use Rattle.ae_edge.proofs.Told.{told_same, adds_none}
+use Rattle.wire_messages.specs.declared.replies.Reply.{Reply}
+use Rattle.wire_spelling.specs.Spelling.{reply_frame}
+use Rattle.conversation.specs.Paths.{Took}
+use Rattle.run_words.specs.Shares.{Wire, Serves}
+use Rattle.run_words.specs.Ways.{IsFirst, TakesOne}
+
+pub front_none : (items : List Reply) (got : Option Reply) → got ≡ None → (n : ℕ) → n ≡ length items → (IsSome got ↔ (0 < n)) → items ≡ []
+front_none [] got e n l h = refl
+front_none (reply ∷ items) got e n l h = absurd (false≢true (subst IsSome e (h.1 (omega arith))))
+
+pub front_some : (items : List Reply) (reply : Reply) → 0 < length items → reply ≡ slice_index_or items 0 reply → IsFirst reply items
+front_some [] reply h e = absurd (omega arith)
+front_some (first ∷ items) reply h e = (items, ap (λ w. w ∷ items) (sym e))
+
+popped : (reply : Reply) (rest items : List Reply) (got : Option Reply) (left : List Reply) → items ≡ reply ∷ rest → items ≡ option_to_list got ++ left → (IsSome got ↔ (0 < length items)) → left ≡ rest
+popped reply rest items (Some other) left e h s = let k : other ∷ left ≡ reply ∷ rest = sym h ∙ e in ap (drop 1) k
+popped reply rest items None left e h s = let l = ap length e in absurd (false≢true (s.1 (omega arith)))
+
+pub takes_one : (reply : Reply) (old : Wire) (got : Option Reply) (left : List Reply) (taken : ℕ) → IsFirst reply old.waiting → old.waiting ≡ option_to_list got ++ left
+    → (n : ℕ) → n ≡ length old.waiting → (IsSome got ↔ (0 < n)) → taken ≡ old.taken + length (reply_frame reply)
+    → TakesOne reply old (record old { waiting = left; taken = taken })
+takes_one reply old got left taken f e n l s t = record {
+  put = record { names = refl; tap = adds_none old.tap; log = adds_none old.log; state = told_same (Serves (Took reply ∷ [])) (λ x. refl) old.state; count = omega arith };
+  read = record {
+    waiting = (f.0, f.1, popped reply f.0 old.waiting got left f.1 e (subst (λ k. IsSome got ↔ (0 < k)) l s));
+    taken = t ∙ ap (λ w. old.taken + length w) (sym (append-nil (reply_frame reply)));
+  };
+}

@@ -1,0 +1,123 @@
+-- How a run ends, in words of what it was lent.
+use Rattle.std.specs.Prelude.{◌≡◌, ℕ, ◌≤◌, ◌<◌, ◌+◌, List, [], ◌∷◌, length, Option, Result, Ok, Err, Bool, true, false, IfOk}
+use Rattle.std.specs.List.{All}
+use Rattle.std.specs.Borrow.{GName}
+use Rattle.ae_edge.specs.Streams.{HasTaken}
+use Rattle.ae_edge.specs.Vaults.{KeyMap}
+use Rattle.wire_messages.specs.Exchanges.{Exchange}
+use Rattle.wire_messages.specs.declared.replies.Reply.{Reply}
+use Rattle.server_core.specs.Serve.{State}
+use Rattle.conversation.specs.declared.sessions.Session.{Session}
+use Rattle.conversation.specs.Sessions.{nobody}
+use Rattle.conversation.specs.Talk as talks
+use Rattle.run_words.specs.Shares.{Outside}
+use Rattle.run_words.specs.Ways.{Leads}
+use Rattle.run_words.specs.declared.stops.Stop.{Stop}
+use Rattle.script_lang.specs.declared.steps.Step.{Step}
+use Rattle.script_lang.specs.Limits.{IsWithinLimits}
+use Rattle.script_lang.specs.Script.{steps_of}
+use Rattle.plain_meaning.specs.Steps.{talk}
+use Rattle.script_run.specs.declared.runs.Ran.{Ran}
+use Rattle.script_run.specs.declared.runs.Ran.TheVariants as ran
+use Rattle.script_run.specs.declared.runs.Unread.TheVariants as unread
+
+-- what is told of all that a run is lent: text and tap, the random bytes to come, the keys, what the peer was asked and answered and the
+-- state that it serves by, and the counts of faults
+pub record Lent : Type 0 where
+  pub out : Option (List ℕ)
+  pub tap : Option (List ℕ)
+  pub entropy : Option (List ℕ)
+  pub keys : Option KeyMap
+  pub log : Option (List Exchange)
+  pub state : Option State
+  pub out_faults : ℕ
+  pub tap_faults : ℕ
+  pub entropy_faults : ℕ
+  pub vault_faults : ℕ
+
+-- with the names of what is lent, and what a run keeps for itself: whether a refusal was printed, the replies that wait, and how
+-- many bytes those have that were taken
+abbrev pub outside : List GName → List GName → List GName → List (List GName) → Bool → List Reply → ℕ → Lent → Outside
+outside out_names entropy_names vault_names wire_names refused waiting taken l = record {
+  desk = record {
+    out_names = out_names;
+    entropy_names = entropy_names;
+    vault_names = vault_names;
+    out = l.out;
+    entropy = l.entropy;
+    keys = l.keys;
+    refused = refused;
+    out_faults = l.out_faults;
+    entropy_faults = l.entropy_faults;
+    vault_faults = l.vault_faults;
+  };
+  wire = record { names = wire_names; tap = l.tap; log = l.log; state = l.state; waiting = waiting; taken = taken; faults = l.tap_faults };
+}
+
+-- from 64 idle sessions the script's conversation was followed to its end, with no reply left, or stopped
+pub record CameTo (ended : Result (Unit {0}) Stop) (refused : Bool) (steps : List Step) (old new : Lent) : Type 0 where
+  pub sessions : List Session
+  pub waiting : List Reply
+  pub taken : ℕ
+  pub out : List GName
+  pub entropy : List GName
+  pub vault : List GName
+  pub wire : List (List GName)
+  pub out_after : List GName
+  pub entropy_after : List GName
+  pub vault_after : List GName
+  pub wire_after : List (List GName)
+  pub leads : Leads ended (talk steps nobody) (λ o. talks.Ends sessions) (outside out entropy vault wire false [] 0 old) (outside out_after entropy_after vault_after wire_after refused waiting taken new)
+  pub read : IfOk ended (λ o. waiting ≡ [])
+
+-- what a run of these steps leaves, by how it ended
+abbrev pub RunsTo : Ran → List Step → Lent → Lent → Type 0
+RunsTo ran.Done steps old new = CameTo (Ok tt) false steps old new
+RunsTo ran.Refusals steps old new = CameTo (Ok tt) true steps old new
+RunsTo (ran.Stopped stop) steps old new = (refused : Bool) × CameTo (Err stop) refused steps old new
+RunsTo (ran.Unread why) steps old new = ⊥
+
+-- ---- scripts
+
+-- a script has at most 16,777,216 bytes
+abbrev pub most_script_bytes : ℕ
+most_script_bytes = 16777216
+
+-- the bytes are a script of these steps
+pub record IsScript (bytes : List ℕ) (steps : List Step) : Type 0 where
+  pub within : length bytes ≤ most_script_bytes
+  pub read : steps_of bytes ≡ Ok steps
+
+-- each step is of one of the sessions, with few parameters, whose names differ
+abbrev pub RunsSteps : Ran → List ℕ → Lent → Lent → Type 0
+RunsSteps r bytes old new = (steps : List Step) × IsScript bytes steps × All IsWithinLimits steps × RunsTo r steps old new
+
+-- what a run of a script's bytes leaves, by how it ended; a script that is refused or can't be read leaves everything as it was
+abbrev pub RunsScript : Ran → List ℕ → Lent → Lent → Type 0
+RunsScript ran.Done bytes old new = RunsSteps ran.Done bytes old new
+RunsScript ran.Refusals bytes old new = RunsSteps ran.Refusals bytes old new
+RunsScript (ran.Stopped stop) bytes old new = RunsSteps (ran.Stopped stop) bytes old new
+RunsScript (ran.Unread unread.ReadFault) bytes old new = new ≡ old
+RunsScript (ran.Unread unread.TooLong) bytes old new = (most_script_bytes < length bytes) × (new ≡ old)
+RunsScript (ran.Unread (unread.BadLine line)) bytes old new = (length bytes ≤ most_script_bytes) × (steps_of bytes ≡ Err line) × (new ≡ old)
+RunsScript (ran.Unread unread.OutOfMemory) bytes old new = new ≡ old
+
+-- what was taken of a script's bytes: all of them, unless it wasn't read
+abbrev pub TakesScript : Ran → List ℕ → List ℕ → Type 0
+TakesScript ran.Done bytes left = left ≡ []
+TakesScript ran.Refusals bytes left = left ≡ []
+TakesScript (ran.Stopped stop) bytes left = left ≡ []
+TakesScript (ran.Unread unread.ReadFault) bytes left = HasTaken (λ n. n ≤ most_script_bytes) bytes left
+TakesScript (ran.Unread unread.TooLong) bytes left = HasTaken (λ n. n ≡ most_script_bytes + 1) bytes left
+TakesScript (ran.Unread (unread.BadLine line)) bytes left = left ≡ []
+TakesScript (ran.Unread unread.OutOfMemory) bytes left = HasTaken (λ n. n ≤ most_script_bytes + 1) bytes left
+
+-- the script was read
+abbrev pub IsRead : Ran → Type 0
+IsRead ran.Done = Unit {0}
+IsRead ran.Refusals = Unit {0}
+IsRead (ran.Stopped stop) = Unit {0}
+IsRead (ran.Unread unread.ReadFault) = ⊥
+IsRead (ran.Unread unread.TooLong) = ⊥
+IsRead (ran.Unread (unread.BadLine line)) = Unit {0}
+IsRead (ran.Unread unread.OutOfMemory) = Unit {0}

@@ -1,0 +1,68 @@
+-- What the driver's answers say.
+use Rattle.std.specs.Prelude.{◌≡◌, Some, None, Bool, true, false}
+use Rattle.conversation.specs.declared.answers.ReplyAnswer.{ReplyAnswer}
+use Rattle.conversation.specs.declared.answers.ReplyAnswer.TheVariants as answer
+use Rattle.conversation.specs.declared.faults.Halt.{Halt}
+use Rattle.conversation.specs.declared.faults.Halt.TheVariants as halt
+use Rattle.conversation.specs.declared.outcomes.Listing.{Listing}
+use Rattle.conversation.specs.declared.outcomes.Outcome.TheVariants as outcome
+use Rattle.conversation.specs.declared.sessions.Session.{Session}
+use Rattle.conversation.specs.declared.sessions.Session.TheVariants.{Idle, Begun, Pending, Sent, Reading, Skipping}
+use Rattle.conversation.specs.Talk.{Hearing, More, Got, Said}
+use Rattle.run_words.specs.declared.stops.Stop.{Stop}
+use Rattle.run_words.specs.declared.stops.Stop.TheVariants as stop
+use Rattle.script_run.specs.declared.around.First.{First}
+use Rattle.script_run.specs.declared.around.First.TheVariants as first
+use Rattle.script_run.specs.declared.around.RowHeard.{RowHeard}
+use Rattle.script_run.specs.declared.around.RowHeard.TheVariants as row
+
+abbrev pub is_reading : Session → Bool
+is_reading (Reading columns keys count) = true
+is_reading Idle = false
+is_reading (Begun batch) = false
+is_reading (Pending pending) = false
+is_reading Sent = false
+is_reading (Skipping columns count) = false
+
+abbrev pub is_skipping : Session → Bool
+is_skipping (Skipping columns count) = true
+is_skipping (Reading columns keys count) = false
+is_skipping Idle = false
+is_skipping (Begun batch) = false
+is_skipping (Pending pending) = false
+is_skipping Sent = false
+
+-- why a call that halts stops the run
+abbrev pub stop_of : Halt → Stop
+stop_of halt.EntropyFault = stop.EntropyFault
+stop_of halt.VaultFault = stop.VaultFault
+stop_of halt.OutOfMemory = stop.OutOfMemory
+stop_of halt.BadReply = stop.OutOfMemory
+
+-- an answer to the first reply to an execution
+abbrev pub IsOfFirst : ReplyAnswer → Type 0
+IsOfFirst (answer.Header titles) = Unit {0}
+IsOfFirst (answer.Failed f) = Unit {0}
+IsOfFirst (answer.Changed count) = Unit {0}
+IsOfFirst answer.Defined = Unit {0}
+IsOfFirst (answer.Refused f) = Unit {0}
+IsOfFirst (answer.Row values) = ⊥
+IsOfFirst (answer.Rows count) = ⊥
+IsOfFirst answer.Skipped = ⊥
+IsOfFirst answer.Over = ⊥
+
+abbrev pub FirstIs : First → ReplyAnswer → Type 0
+FirstIs x (answer.Header titles) = x ≡ first.Shows titles
+FirstIs x (answer.Failed f) = x ≡ first.Skips f
+FirstIs x (answer.Changed count) = x ≡ first.Says (outcome.Changed count)
+FirstIs x answer.Defined = x ≡ first.Says outcome.Defined
+FirstIs x (answer.Refused f) = x ≡ first.Says (outcome.Refused f)
+FirstIs x (answer.Row values) = ⊥
+FirstIs x (answer.Rows count) = ⊥
+FirstIs x answer.Skipped = ⊥
+FirstIs x answer.Over = ⊥
+
+-- what was made of a hearing
+abbrev pub HeardAs : RowHeard → Listing → Session → Hearing → Type 0
+HeardAs row.More shown after hearing = hearing ≡ More after shown
+HeardAs (row.Said comes) shown after hearing = hearing ≡ Got (Said comes after)

@@ -1,0 +1,259 @@
+//! All that a run touches.
+
+ghost use Rattle.std.specs.Prelude.{◌≡◌, ◌+◌, ◌||◌, Option, IfOk, MatchResult, length, string_bytes};
+ghost use Rattle.key_store.specs.Stores.{IsOf};
+ghost use Rattle.wire_messages.specs.declared.replies.Reply.{Reply};
+ghost use Rattle.conversation.specs.declared.sessions.Session.{Session};
+ghost use Rattle.conversation.specs.Paths.{IsStray, next_of};
+ghost use Rattle.conversation.specs.Sessions.{Tells};
+ghost use Rattle.conversation.specs.Talk.{Talk, Hears, Heard, heard_answer, nothing_shown};
+ghost use Rattle.run_words.specs.Printing as printing;
+ghost use Rattle.run_words.specs.declared.stops.Stop.TheVariants as stop_is;
+ghost use Rattle.wire_spelling.specs.Spelling.{reply_frame};
+ghost use Rattle.script_run.specs.Frames.{PutsBytes};
+ghost use Rattle.run_words.specs.Shares.{Outside, Desk};
+ghost use Rattle.run_words.specs.Ways.{Fails, Leads};
+ghost use Rattle.script_run.specs.Heard.{HeardAs, is_reading};
+ghost use Rattle.script_run.specs.Onward.{IsBegun, IsDescribed, IsRows, told_on};
+ghost use Rattle.script_run.specs.Desks.{desk};
+
+use crate::around::{Around, First, RowHeard};
+use crate::calls::{described_in, execute_in, replied_in};
+use crate::hearing::{first_of, is_reading, row_heard, stop_of};
+use crate::lines::{Line, Sent, behind};
+use ae_base::sessions::SessionId;
+use ae_edge::entropies::Entropy;
+use ae_edge::sinks::Sink;
+use ae_edge::streams::{PutAll, put_all};
+use ae_edge::vaults::Vault;
+use conversation::answers::{DescribeAnswer, ReplyAnswer};
+use conversation::faults::{DriverFault, Halt};
+use conversation::outcomes::{Listing, Outcome};
+use conversation::sessions::Session;
+use key_store::KeyStore;
+use run_words::stops::Stop;
+use run_words::texts::{is_refusal, listing_text, text_of};
+use std::alloc::{AllocError, Global};
+use wire_messages::replies::Reply;
+use wire_messages::requests::Request;
+
+/// Puts a text.
+fn put_text<W: Sink>(out: &mut W, text: String) -> PutAll
+    ensures puts { PutsBytes result (string_bytes text) (W.held out.old) (W.held out.new) (W.faults out.old) (W.faults out.new) }
+    ensures same { W.names out.new ≡ W.names out.old }
+{
+    put_all(out, text.as_bytes())
+}
+
+/// Whether a refusal was printed by now.
+fn or_refusal(refused: bool, outcome: &Outcome) -> bool
+    ensures { result ≡ refused || printing.is_refusal outcome.now }
+{
+    refused || is_refusal(outcome)
+}
+
+/// The place behind the frame of the reply that is taken next.
+fn next_place<L: Line>(alloc: Global, line: &L, reply: &Reply<'_>) -> Result<u64, AllocError>
+    ensures { IfOk result (λ n. n ≡ (L.wire line.now).taken + length (reply_frame reply.now)) }
+{
+    behind(alloc, line.place(), reply)
+}
+
+/// Hears the description of a batch, which touches the wire alone.
+fn hear_described<L: Line>(
+    alloc: Global,
+    line: &mut L,
+    session: &mut Session,
+) -> Result<DescribeAnswer, Stop>
+    requires { IsBegun session.old }
+    ensures leads { (f : Heard → Talk) (desk : Desk) → Leads result (Hears session.old nothing_shown f) (told_on f session.new) (record { desk = desk; wire = L.wire line.old }) (record { desk = desk; wire = L.wire line.new }) }
+    ensures described { IfOk result (λ answer. IsDescribed answer session.new) }
+{
+    let reply = match line.front() {
+        Some(reply) => reply,
+        None => return Err(Stop::BadReply(line.place())),
+    };
+    let place = match next_place(alloc, line, reply) {
+        Ok(place) => place,
+        Err(_) => return Err(Stop::OutOfMemory),
+    };
+    match described_in(alloc, session, reply) {
+        Ok(answer) => {
+            line.take(place);
+            Ok(answer)
+        }
+        Err(Halt::BadReply) => Err(Stop::BadReply(line.place())),
+        Err(_) => Err(Stop::OutOfMemory),
+    }
+}
+
+/// What a reply says while rows are awaited, or there is no memory for it.
+fn row_or_stop(alloc: Global, answer: ReplyAnswer, shown: &mut Listing) -> Result<RowHeard, Stop>
+    ensures { (after : Session) → MatchResult result (λ h. HeardAs h shown.new after (heard_answer shown.old (Tells answer after))) (λ stop. stop ≡ stop_is.OutOfMemory) }
+{
+    match row_heard(alloc, answer, shown) {
+        Ok(heard) => Ok(heard),
+        Err(_) => Err(Stop::OutOfMemory),
+    }
+}
+
+/// All that a run touches.
+#[derive(Drop)]
+pub struct Env<'a, W: Sink, E: Entropy, V: Vault, L: Line> {
+    pub out: W,
+    pub entropy: E,
+    pub vault: V,
+    /// Whether a refusal was printed.
+    pub refused: bool,
+    pub line: L,
+    pub store: &'a mut KeyStore,
+}
+
+impl<W: Sink, E: Entropy, V: Vault, L: Line> Around for Env<'_, W, E, V, L> {
+    ghost outside = { λ e. record {
+      desk = record {
+        out_names = W.names e.out;
+        entropy_names = E.names e.entropy;
+        vault_names = V.names e.vault;
+        out = W.held e.out;
+        entropy = E.to_come e.entropy;
+        keys = V.keys e.vault;
+        refused = e.refused;
+        out_faults = W.faults e.out;
+        entropy_faults = E.faults e.entropy;
+        vault_faults = V.faults e.vault;
+      };
+      wire = L.wire e.line;
+    } };
+
+    ghost kept = { λ e. e.store.now };
+
+    fn ask(&mut self, alloc: Global, request: &Request<'_>) -> Result<(), Stop> {
+        match self.line.ask(alloc, request) {
+            Sent::Whole => Ok(()),
+            Sent::WriteFault => Err(Stop::WriteFault),
+            Sent::OutOfMemory => Err(Stop::OutOfMemory),
+        }
+    }
+
+    fn left(&self) -> Option<u64> {
+        match self.line.front() {
+            Some(_) => Some(self.line.place()),
+            None => None,
+        }
+    }
+
+    fn print(&mut self, alloc: Global, outcome: &Outcome) -> Result<(), Stop> {
+        let text = match text_of(alloc, outcome) {
+            Ok(text) => text,
+            Err(_) => return Err(Stop::OutOfMemory),
+        };
+        match put_text(&mut self.out, text) {
+            PutAll::Whole => {
+                self.refused = or_refusal(self.refused, outcome);
+                Ok(())
+            }
+            PutAll::WriteFault => Err(Stop::WriteFault),
+            PutAll::OutOfMemory => Err(Stop::OutOfMemory),
+        }
+    }
+
+    fn execute<'r>(
+        &mut self,
+        alloc: Global,
+        session: &mut Session,
+        number: SessionId,
+    ) -> Result<Result<Request<'r>, DriverFault>, Stop> {
+        match execute_in(
+            alloc,
+            self.store,
+            &mut self.vault,
+            &mut self.entropy,
+            session,
+            number,
+        ) {
+            Ok(answer) => Ok(answer),
+            Err(halt) => Err(stop_of(halt)),
+        }
+    }
+
+    fn hear_description(
+        &mut self,
+        alloc: Global,
+        session: &mut Session,
+    ) -> Result<DescribeAnswer, Stop> {
+        hear_described(alloc, &mut self.line, session)
+    }
+
+    fn hear_answer(&mut self, alloc: Global, session: &mut Session) -> Result<First, Stop> {
+        let reply = match self.line.front() {
+            Some(reply) => reply,
+            None => return Err(Stop::BadReply(self.line.place())),
+        };
+        let place = match next_place(alloc, &self.line, reply) {
+            Ok(place) => place,
+            Err(_) => return Err(Stop::OutOfMemory),
+        };
+        match replied_in(alloc, self.store, &mut self.vault, session, reply) {
+            Ok(answer) => {
+                self.line.take(place);
+                Ok(first_of(answer))
+            }
+            Err(Halt::BadReply) => Err(Stop::BadReply(self.line.place())),
+            Err(halt) => {
+                self.line.take(place);
+                Err(stop_of(halt))
+            }
+        }
+    }
+
+    fn hear_row(
+        &mut self,
+        alloc: Global,
+        session: &mut Session,
+        shown: &mut Listing,
+    ) -> Result<RowHeard, Stop> {
+        let reads = is_reading(session);
+        let reply = match self.line.front() {
+            Some(reply) => reply,
+            None => return Err(self.stray(alloc, reads, shown)),
+        };
+        let place = match next_place(alloc, &self.line, reply) {
+            Ok(place) => place,
+            Err(_) => return Err(Stop::OutOfMemory),
+        };
+        match replied_in(alloc, self.store, &mut self.vault, session, reply) {
+            Ok(answer) => {
+                self.line.take(place);
+                row_or_stop(alloc, answer, shown)
+            }
+            Err(Halt::BadReply) => Err(self.stray(alloc, reads, shown)),
+            Err(_) => Err(Stop::OutOfMemory),
+        }
+    }
+}
+
+impl<W: Sink, E: Entropy, V: Vault, L: Line> Env<'_, W, E, V, L> {
+    /// Puts what an answer came to before it broke off, and says where the reply begins that isn't
+    /// awaited.
+    fn stray(&mut self, alloc: Global, reads: bool, shown: &Listing) -> Stop
+        ensures { (session : Session) (f : Heard → Talk) (next : Option Reply) → IsRows session → reads ≡ is_reading session → IsStray session shown.now next
+            → next_of (L.wire self.old.line).waiting ≡ next
+            → Fails result (Hears session shown.now f)
+            (record { desk = desk (W.names self.old.out) (E.names self.old.entropy) (V.names self.old.vault) (W.held self.old.out) (E.to_come self.old.entropy) (V.keys self.old.vault) self.old.refused (W.faults self.old.out) (E.faults self.old.entropy) (V.faults self.old.vault); wire = L.wire self.old.line })
+            (record { desk = desk (W.names self.new.out) (E.names self.new.entropy) (V.names self.new.vault) (W.held self.new.out) (E.to_come self.new.entropy) (V.keys self.new.vault) self.new.refused (W.faults self.new.out) (E.faults self.new.entropy) (V.faults self.new.vault); wire = L.wire self.new.line }) }
+    {
+        if !reads {
+            return Stop::BadReply(self.line.place());
+        }
+        let text = match listing_text(alloc, shown) {
+            Ok(text) => text,
+            Err(_) => return Stop::OutOfMemory,
+        };
+        match put_text(&mut self.out, text) {
+            PutAll::Whole => Stop::BadReply(self.line.place()),
+            PutAll::WriteFault => Stop::WriteFault,
+            PutAll::OutOfMemory => Stop::OutOfMemory,
+        }
+    }
+}

@@ -1,0 +1,185 @@
+-- What is ready may be executed, and what is answered may be sent.
+use Rattle.std.proofs.Common.{◌≡◌, ◌⊎◌, inl, inr, ℕ, List, [], ◌∷◌, length, map, Result, Ok, Err, refl, sym, ap, ◌∙◌, subst}
+use Rattle.std.specs.Prelude.{IsSome, IsTrue, Contains, IfOk}
+use Rattle.std.specs.List.{All}
+use Rattle.std.proofs.lemmas.List.{length-map}
+use Rattle.std.proofs.lemmas.List.Elements.{All-nil, All-cons, All-head, All-tail, All-contains, All-map}
+use Rattle.ae_base.specs.Atoms.{Atom}
+use Rattle.ae_base.specs.declared.batches.ParamDecl.{ParamDecl}
+use Rattle.ae_base.specs.declared.faults.SqlFault.{SqlFault}
+use Rattle.ae_base.specs.declared.refusals.Refusal.{Refusal}
+use Rattle.ae_base.specs.declared.refusals.Refusal.TheVariants.{Fault, OutOfMemory}
+use Rattle.ae_base.specs.declared.types.Enc.{Enc}
+use Rattle.ae_base.specs.declared.types.Enc.TheVariants.{Plain}
+use Rattle.sql_tree.specs.declared.bound.ColumnSite.{ColumnSite}
+use Rattle.sql_tree.specs.declared.bound.Bound as parts
+use Rattle.sql_tree.specs.Bound.{BoundStatement, Bound, bound_of}
+use Rattle.sql_tree.specs.Bound as bound
+use Rattle.catalog.specs.Catalogs.{Catalog, master_named}
+use Rattle.catalog.specs.WellFormed.{IsCatalog, IsKeyThere}
+use Rattle.enc_types.specs.Laws.{TypingsAreOfColumns}
+use Rattle.engine.specs.declared.answers.Answer as code
+use Rattle.engine.specs.declared.answers.ResultColumn.{ResultColumn}
+use Rattle.engine.specs.Answers.{Gives, answer_of}
+use Rattle.engine.specs.BoundOn.{HasMaster, IsBoundOn}
+use Rattle.engine.specs.Laws.{AreShown, IsShownBy, StepKeepsWorlds, RowsAreShown, TypedStatementsAreAdmitted}
+use Rattle.engine.specs.Executes.{executes}
+use Rattle.enc_types.specs.declared.typed.Typed.{Typed}
+use Rattle.engine.specs.Step.{Answer, Outcome, Rows}
+use Rattle.engine.specs.Step.{step}
+use Rattle.engine.specs.WellTyped.{AreValuesOf, IsAnswerOf}
+use Rattle.resolve.specs.Bind.{type_of}
+use Rattle.wire_messages.specs.AtomBounds.{IsSendable}
+use Rattle.wire_messages.specs.declared.params.SentParam.{SentParam}
+use Rattle.engine.specs.Worlds.{World}
+use Rattle.server_core.proofs.Suiting.{are_suited}
+use Rattle.server_core.specs.Calls.{meant_of}
+use Rattle.server_core.specs.Describing.{Meant}
+use Rattle.server_core.specs.Params.{declaration_of, suited}
+use Rattle.server_core.specs.States.{IsState, is_short}
+use Rattle.server_core.specs.Understood.{IsUnderstood, IsReady, CanBeSent}
+
+has_master : (catalog : Catalog) (s : BoundStatement) → ((name master wrapped : List ℕ) → s ≡ bound.CreateKey name master wrapped → IsSome (master_named catalog master)) → HasMaster catalog s
+has_master catalog (bound.CreateMaster name path) h = tt
+has_master catalog (bound.CreateKey name master wrapped) h = h name master wrapped refl
+has_master catalog (bound.CreateTable table) h = tt
+has_master catalog (bound.DropTable name) h = tt
+has_master catalog (bound.DropMaster name) h = tt
+has_master catalog (bound.DropKey name) h = tt
+has_master catalog (bound.Insert insert) h = tt
+has_master catalog (bound.Update update) h = tt
+has_master catalog (bound.Delete delete) h = tt
+has_master catalog (bound.Select query) h = tt
+
+pub bound_on : (catalog : Catalog) (declarations : List ParamDecl) (meant : Meant) (atoms : List Atom) → TypingsAreOfColumns → IsReady catalog declarations meant atoms
+    → IsBoundOn catalog meant.bound meant.encs atoms
+unfolding IsReady
+bound_on catalog declarations meant atoms law r = record {
+  placed = r.understood.bound.placed;
+  tables = r.understood.bound.tables;
+  master = has_master catalog meant.bound.statement r.understood.bound.master;
+  keys = r.understood.bound.keys;
+  encs = (law meant.bound meant.encs r.understood.typed).0;
+  values = r.count;
+}
+
+-- ---- what is ready
+
+-- each declared parameter has an encryption
+pub encs_count : (catalog : Catalog) (declarations : List ParamDecl) (meant : Meant) → TypingsAreOfColumns → IsUnderstood catalog declarations meant → length meant.encs ≡ length declarations
+unfolding IsUnderstood
+encs_count catalog declarations meant law u = (law meant.bound meant.encs u.typed).0 ∙ ap length u.bound.params ∙ length-map declarations type_of
+
+pub sent_count : (catalog : Catalog) (params : List SentParam) (meant : Meant) → TypingsAreOfColumns → IsUnderstood catalog (map declaration_of params) meant → length meant.encs ≡ length params
+sent_count catalog params meant law u = encs_count catalog (map declaration_of params) meant law u ∙ length-map params declaration_of
+
+pub is_ready : (catalog : Catalog) (params : List SentParam) (meant : Meant) (atoms : List Atom) → TypingsAreOfColumns → IsUnderstood catalog (map declaration_of params) meant
+    → suited meant.encs params ≡ Ok atoms → All IsSendable atoms → IsReady catalog (map declaration_of params) meant atoms
+unfolding IsUnderstood IsReady
+is_ready catalog params meant atoms law u s short =
+    let a = are_suited meant.encs params atoms s (sent_count catalog params meant law u) short in
+    let p = u.bound.params in
+    record {
+      understood = u;
+      count = a.count ∙ sym (length-map params declaration_of) ∙ sym (length-map (map declaration_of params) type_of) ∙ sym (ap length p);
+      values = subst (λ tys. AreValuesOf is_short tys meant.encs atoms) (sym p) a.values;
+    }
+
+-- ---- keys
+
+All-by : {X : Type 0} (P Q : X → Type 0) → ((x : X) → P x → Q x) → (xs : List X) → All P xs → All Q xs
+All-by P Q f [] a = All-nil Q
+All-by P Q f (x ∷ xs) a = All-cons Q x xs (f x (All-head P x xs a)) (All-by P Q f xs (All-tail P x xs a))
+
+there_if : (catalog : Catalog) (sites : List ColumnSite) → All (λ (site : ColumnSite). IsKeyThere catalog site.enc) sites → (e : Enc)
+    → (e ≡ Plain) ⊎ Contains (map (λ (site : ColumnSite). site.enc) sites) e → IsKeyThere catalog e
+there_if catalog sites a e w = elim w [
+  | inl p ↦ subst (IsKeyThere catalog) (sym p) tt
+  | inr c ↦ All-contains (IsKeyThere catalog) (map (λ (site : ColumnSite). site.enc) sites) e (All-map (IsKeyThere catalog) (λ (site : ColumnSite). site.enc) sites a) c
+]
+
+-- the keys of the parameters are there
+pub keys_there : (catalog : Catalog) (declarations : List ParamDecl) (meant : Meant) → TypingsAreOfColumns → IsCatalog catalog → IsUnderstood catalog declarations meant
+    → All (IsKeyThere catalog) meant.encs
+unfolding IsUnderstood
+keys_there catalog declarations meant law c u =
+    All-by (λ e. (e ≡ Plain) ⊎ Contains (map (λ (site : ColumnSite). site.enc) meant.bound.columns) e) (IsKeyThere catalog)
+    (there_if catalog meant.bound.columns (u.bound.keys c)) meant.encs (law meant.bound meant.encs u.typed).1
+
+shown_there : (catalog : Catalog) (declarations : List ParamDecl) (meant : Meant) → TypingsAreOfColumns → IsCatalog catalog → IsUnderstood catalog declarations meant → (e : Enc)
+    → IsShownBy meant.bound meant.encs e → IsKeyThere catalog e
+unfolding IsUnderstood
+shown_there catalog declarations meant law c u e w = elim w [
+  | inl p ↦ there_if catalog meant.bound.columns (u.bound.keys c) e (inl p)
+  | inr r ↦ elim r [
+    | inl m ↦ there_if catalog meant.bound.columns (u.bound.keys c) e (inr m)
+    | inr m ↦ All-contains (IsKeyThere catalog) meant.encs e (keys_there catalog declarations meant law c u) m
+  ]
+]
+
+-- ---- what a step leaves and answers
+
+pub keeps : {K : Type 0} (result : Result (code.Answer K) (Refusal SqlFault)) (old new : World) (done : Outcome) → Gives result old new done → IsState old → IsState done.world → IsState new
+keeps (Ok answer) old new done g s t = subst IsState (ap (λ (o : Outcome). o.world) g) t
+keeps (Err (Fault f)) old new done g s t = subst IsState (sym g.1) s
+keeps (Err OutOfMemory) old new done g s t = subst IsState (sym g) s
+
+module _ (catalog : Catalog) (declarations : List ParamDecl) (meant : Meant) (law : TypingsAreOfColumns) (u : IsUnderstood catalog declarations meant) where
+  pub sendable : {K : Type 0} (result : Result (code.Answer K) (Refusal SqlFault)) (old new : World) (done : Outcome) → old.catalog ≡ catalog → IsCatalog catalog → Gives result old new done
+      → IsAnswerOf is_short done.answer → ((columns : List ResultColumn) (rows : List (List Atom)) → done.answer ≡ Ok (Rows columns rows) → AreShown old done.world meant.bound meant.encs columns)
+      → IfOk result (λ answer. CanBeSent old new (answer_of answer))
+  sendable (Ok (code.TheVariants.Rows columns rows)) old new done e c g typed shown =
+      let f : done.answer ≡ Ok (Rows columns rows) = ap (λ (o : Outcome). o.answer) g in
+      let s = shown columns rows f in
+      record {
+        few = (s.some, s.few);
+        keys = All-by (λ (column : ResultColumn). IsShownBy meant.bound meant.encs column.enc) (λ (column : ResultColumn). IsKeyThere old.catalog column.enc)
+            (λ column w. subst (λ t. IsKeyThere t column.enc) (sym e) (shown_there catalog declarations meant law c u column.enc w)) columns s.shown;
+        typed = subst (IsAnswerOf is_short) f typed;
+        same = sym (ap (λ (o : Outcome). o.world) g) ∙ s.same;
+      }
+  sendable (Ok (code.TheVariants.Changed count)) old new done e c g typed shown = tt
+  sendable (Ok code.TheVariants.Defined) old new done e c g typed shown = tt
+  sendable (Err (Fault f)) old new done e c g typed shown = tt
+  sendable (Err OutOfMemory) old new done e c g typed shown = tt
+
+-- the laws of the crates below, by which a step keeps the state and answers what can be sent
+pub record Laws : Type 0 where
+  pub typings : TypingsAreOfColumns
+  pub admitted : TypedStatementsAreAdmitted
+  pub keeps : StepKeepsWorlds
+  pub shown : RowsAreShown
+
+pub record IsDoneWell {K : Type 0} (old new : World) (result : Result (code.Answer K) (Refusal SqlFault)) : Type 0 where
+  pub state : IsState new
+  pub sent : IfOk result (λ answer. CanBeSent old new (answer_of answer))
+
+pub done_well : {K : Type 0} (laws : Laws) (old new : World) (declarations : List ParamDecl) (meant : Meant) (atoms : List Atom) (result : Result (code.Answer K) (Refusal SqlFault))
+    → IsState old → IsReady old.catalog declarations meant atoms → Gives result old new (step old meant.bound meant.encs atoms) → IsDoneWell old new result
+unfolding IsUnderstood IsReady
+done_well laws old new declarations meant atoms result s r g =
+    let b = bound_on old.catalog declarations meant atoms laws.typings r in
+    let k = laws.keeps is_short old meant.bound meant.encs atoms s b r.understood.executes (laws.admitted meant.bound meant.encs b.placed r.understood.typed) r.values in
+    record {
+      state = keeps result old new (step old meant.bound meant.encs atoms) g s k.0;
+      sent = sendable old.catalog declarations meant laws.typings r.understood result old new (step old meant.bound meant.encs atoms) refl s.catalog g k.1
+          (λ columns rows e. laws.shown old meant.bound meant.encs atoms columns rows b e);
+    }
+
+-- ---- over the parts of what is ready
+
+module _ (old : World) (declarations : List ParamDecl) (typed : Typed) (atoms : List Atom) (ready : IsReady old.catalog declarations (meant_of typed) atoms)
+    (b : parts.Bound) (encs : List Enc) (values : List Atom) (is_b : b ≡ typed.bound) (is_encs : encs ≡ typed.encs) (are_values : values ≡ atoms) where
+  pub parts_bound : TypingsAreOfColumns → IsBoundOn old.catalog (bound_of b) encs values
+  parts_bound law = rw (is_b, is_encs, are_values) (bound_on old.catalog declarations (meant_of typed) atoms law ready)
+
+  pub parts_executed : IsTrue (executes (bound_of b))
+  unfolding IsReady
+  parts_executed = rw is_b ready.understood.executes
+
+  pub parts_given : {K : Type 0} (result : Result (code.Answer K) (Refusal SqlFault)) (new : World) → Gives result old new (step old (bound_of b) encs values)
+      → Gives result old new (step old (bound_of typed.bound) typed.encs atoms)
+  parts_given result new g =
+      subst (λ (v : List Atom). Gives result old new (step old (bound_of typed.bound) typed.encs v)) are_values
+      (subst (λ (es : List Enc). Gives result old new (step old (bound_of typed.bound) es values)) is_encs
+      (subst (λ (c : parts.Bound). Gives result old new (step old (bound_of c) encs values)) is_b g))

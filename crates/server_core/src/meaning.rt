@@ -1,0 +1,83 @@
+//! What a text means: its statement, bound and typed.
+
+ghost use Rattle.std.specs.Prelude.{◌≡◌, IfOk, IsTrue};
+ghost use Rattle.ae_base.specs.Results.{AnswersAs};
+ghost use Rattle.sql_tree.specs.Bound.{bound_of};
+ghost use Rattle.engine.specs.Executes.{executes};
+ghost use Rattle.server_core.specs.Calls.{meant_of};
+ghost use Rattle.server_core.specs.Describing as spec;
+ghost use Rattle.server_core.specs.Understood.{IsNamed, IsUnderstood};
+
+use ae_base::batches::ParamDecl;
+use ae_base::faults::SqlFault;
+use ae_base::refusals::Refusal;
+use catalog::catalogs::Catalog;
+use enc_types::typed::Typed;
+use engine::executing::executes;
+use inference::infer::infer;
+use resolve::laws::bound_statements_are;
+use resolve::statements::bind;
+use sql_parse::parsing::{discard, parse};
+use sql_tree::bound::Bound;
+use std::alloc::Global;
+use wire_messages::texts::StatementPart;
+
+/// What a text means with its parameters declared so, or its first fault: of parsing, binding,
+/// typing; then Syntax for what is not executed yet.
+#[tactic(auto, unfolding(crate::specs::Describing::understood))]
+pub fn understood(
+    alloc: Global,
+    catalog: &Catalog,
+    text: &StatementPart<'_>,
+    declarations: &[ParamDecl],
+) -> Result<Typed, Refusal>
+    ensures exact { AnswersAs meant_of result (spec.understood catalog.now text.now declarations.now) }
+    ensures meant { IfOk result (λ typed. IsUnderstood catalog.now declarations.now (meant_of typed)) }
+{
+    let bound = named(alloc, catalog, text, declarations)?;
+    let typed = typed(alloc, bound)?;
+    executed_so_far(typed)
+}
+
+/// The statement of a text, with a place for each name, or its first fault.
+pub fn named(
+    alloc: Global,
+    catalog: &Catalog,
+    text: &StatementPart<'_>,
+    declarations: &[ParamDecl],
+) -> Result<Bound, Refusal>
+    ensures exact { AnswersAs bound_of result (spec.named catalog.now text.now declarations.now) }
+    ensures bound { IfOk result (λ bound. IsNamed catalog.now declarations.now (bound_of bound)) }
+{
+    bound_statements_are();
+    let statement = parse(alloc, text.as_str())?;
+    let bound = bind(alloc, catalog, &statement, declarations);
+    discard(statement);
+    bound
+}
+
+#[tactic(auto, using(crate::proofs::Typings::typed_where))]
+fn typed(alloc: Global, bound: Bound) -> Result<Typed, Refusal>
+    ensures exact { AnswersAs meant_of result (spec.typed (bound_of bound)) }
+    ensures bound { IfOk result (λ typed. typed.bound ≡ bound) }
+{
+    match infer(alloc, bound) {
+        Ok(typed) => Ok(typed),
+        Err(Refusal::Fault(clash)) => Err(Refusal::Fault(SqlFault::EncryptionClash {
+            at: clash.at,
+        })),
+        Err(Refusal::OutOfMemory) => Err(Refusal::OutOfMemory),
+    }
+}
+
+fn executed_so_far(typed: Typed) -> Result<Typed, Refusal>
+    ensures exact { AnswersAs meant_of result (spec.executed_so_far (meant_of typed)) }
+    ensures same { IfOk result (λ kept. kept ≡ typed) }
+    ensures executes { IfOk result (λ kept. IsTrue (executes (bound_of kept.bound))) }
+{
+    if executes(typed.bound()) {
+        Ok(typed)
+    } else {
+        Err(Refusal::Fault(SqlFault::Syntax))
+    }
+}

@@ -1,0 +1,68 @@
+//! What is made ready to be executed: a statement, and the values of its parameters.
+
+ghost use Rattle.std.specs.Prelude.{◌≡◌, ◌≢◌, IfOk, Err, map};
+ghost use Rattle.ae_base.specs.Results.{Answers, AnswersAs};
+ghost use Rattle.ae_base.specs.declared.faults.SqlFault.TheVariants as fault;
+ghost use Rattle.server_core.specs.Calls.{meant_of, ready_of};
+ghost use Rattle.server_core.specs.Describing.{understood};
+ghost use Rattle.server_core.specs.Params.{declaration_of, suited};
+ghost use Rattle.server_core.specs.Serve as spec;
+ghost use Rattle.server_core.specs.Understood.{IsReady, IsUnderstood};
+
+use crate::meaning::understood;
+use crate::params::declared_by;
+use crate::values::suited;
+use ae_base::atoms::Atom;
+use ae_base::cells::Cell;
+use ae_base::faults::{SqlFault, Versions};
+use ae_base::lists::Seq;
+use ae_base::refusals::Refusal;
+use catalog::catalogs::Catalog;
+use enc_types::laws::typings_are_of_columns;
+use enc_types::typed::Typed;
+use std::alloc::Global;
+use wire_messages::params::SentParam;
+use wire_messages::texts::StatementPart;
+
+/// A typed statement, and the values of its parameters.
+#[derive(Drop)]
+pub struct Ready {
+    pub typed: Typed,
+    pub atoms: Seq<Atom<Cell>>,
+}
+
+/// What a request to execute comes to before it is executed, or its first fault: Moved where the
+/// catalog's version is another, then those of the text, then those of the parameters.
+pub fn prepared(
+    alloc: Global,
+    catalog: &Catalog,
+    version: u64,
+    text: &StatementPart<'_>,
+    params: &[SentParam<'_>],
+) -> Result<Ready, Refusal>
+    ensures exact { AnswersAs ready_of result (spec.prepared catalog.now version text.now params.now) }
+    ensures ready { IfOk result (λ ready. IsReady catalog.now (map declaration_of params.now) (meant_of ready.typed) ready.atoms) }
+{
+    typings_are_of_columns();
+    let typed = understood_at(alloc, catalog, version, text, params)?;
+    let atoms = suited(alloc, typed.encs(), params)?;
+    Ok(Ready { typed, atoms })
+}
+
+/// What a text means with the declarations that come with values, or Moved.
+fn understood_at(
+    alloc: Global,
+    catalog: &Catalog,
+    version: u64,
+    text: &StatementPart<'_>,
+    params: &[SentParam<'_>],
+) -> Result<Typed, Refusal>
+    ensures exact { AnswersAs meant_of result (spec.understood_at catalog.now version text.now params.now) }
+    ensures meant { IfOk result (λ typed. IsUnderstood catalog.now (map declaration_of params.now) (meant_of typed)) }
+{
+    if let Some(versions) = Versions::that_differ(version, catalog.version()) {
+        return Err(Refusal::Fault(SqlFault::Moved(versions)));
+    }
+    let declarations = declared_by(alloc, params)?;
+    understood(alloc, catalog, text, declarations.as_slice())
+}

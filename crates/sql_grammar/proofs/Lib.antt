@@ -1,0 +1,13 @@
+pub mod Agreement
+pub mod Chosen
+pub mod Conditions
+pub mod Counting
+pub mod Definitions
+pub mod Depths
+pub mod Going
+pub mod Operands
+pub mod Pieces
+pub mod Sets
+pub mod Statements
+pub mod Whole
+pub mod Words

@@ -1,0 +1,86 @@
+-- What a text parses to: the statement that its tokens spell, or its first fault.
+use Rattle.std.specs.Prelude.{ℕ, ◌+◌, ◌-◌, List, [], ◌∷◌, length, Option, Some, None, Result, Ok, Err, Bool, false, ◌||◌, not, nat_lt, nat_le, ◌&&◌, suc, if◌then◌else◌, encode_utf8_all}
+use Rattle.std.specs.List.{list_any}
+use Rattle.ae_base.specs.Values.{is_within}
+use Rattle.ae_base.specs.declared.values.Datum.TheVariants as datum
+use Rattle.ae_base.specs.declared.types.Ty.TheVariants as ty
+use Rattle.ae_base.specs.declared.faults.SqlFault.{SqlFault}
+use Rattle.ae_base.specs.declared.faults.SqlFault.TheVariants as fault
+use Rattle.sql_tree.specs.declared.lexemes.Symbol.TheVariants as symbol
+use Rattle.sql_tree.specs.declared.lexemes.Lexeme.{Lexeme}
+use Rattle.sql_tree.specs.declared.lexemes.Lexeme.TheVariants as lexeme
+use Rattle.sql_tree.specs.declared.lexemes.Token.{Token}
+use Rattle.sql_tree.specs.Tokens.{tokens_of, first_wide}
+use Rattle.sql_tree.specs.Statements.{Items, Statement}
+use Rattle.sql_tree.specs.Statements as tree
+use Rattle.sql_grammar.specs.Readers.{◌>>=◌, is_symbol}
+use Rattle.sql_grammar.specs.Parse.{statement}
+
+-- all the tokens are read
+abbrev pub whole : Statement × List Token → Option Statement
+whole (read, []) = Some read
+whole (read, t ∷ ts) = None
+
+-- the statement that the tokens spell
+unfoldable pub tree_of : List Token → Option Statement
+tree_of tokens = statement tokens >>= whole
+
+-- more than 64 parentheses are open at once; one that closes nothing counts for nothing
+abbrev pub opens_too_deep : ℕ → List Token → Bool
+opens_too_deep depth [] = false
+opens_too_deep depth (t ∷ ts) =
+    if is_symbol symbol.Open t.lexeme then nat_lt 63 depth || opens_too_deep (depth + 1) ts
+    else if is_symbol symbol.Close t.lexeme then opens_too_deep (depth - 1) ts
+    else opens_too_deep depth ts
+
+-- a text has at most 4,000 UTF-16 units, a binary 8,000 bytes
+abbrev pub is_long : Lexeme → Bool
+is_long (lexeme.Text characters) = not (is_within (datum.Text characters) (ty.NVarChar 4000))
+is_long (lexeme.Binary bytes) = not (is_within (datum.Bin bytes) (ty.VarBinary 8000))
+is_long (lexeme.Keyword k) = false
+is_long (lexeme.Ident name) = false
+is_long (lexeme.Param name) = false
+is_long (lexeme.Number n) = false
+is_long (lexeme.Symbol s) = false
+
+abbrev pub has_long : List Token → Bool
+has_long tokens = list_any (λ t. is_long t.lexeme) tokens
+
+abbrev pub items_of : Items → ℕ
+items_of (tree.Star at) = 1
+items_of (tree.Listed items) = length items
+
+-- a key's path and its wrapped value have 1 to 1,024 bytes
+abbrev pub is_key_length : ℕ → Bool
+is_key_length bytes = nat_lt 0 bytes && nat_le bytes 1024
+
+-- 64 columns of a table, 8 unique keys, 16 columns of a key, 1,000 rows, 512 items and 8 tables
+abbrev pub passes_a_limit : Statement → Bool
+passes_a_limit (tree.CreateTable table columns uniques) =
+    nat_lt 64 (length columns) || nat_lt 8 (length uniques) || list_any (λ unique. nat_lt 16 (length unique.columns)) uniques
+passes_a_limit (tree.Insert table columns rows) = nat_lt 1000 (length rows)
+passes_a_limit (tree.Select query) = nat_lt 512 (items_of query.items) || nat_lt 8 (suc (length query.joins))
+passes_a_limit (tree.CreateMaster word path) = not (is_key_length (length (encode_utf8_all path)))
+passes_a_limit (tree.CreateKey word master wrapped) = not (is_key_length (length wrapped))
+passes_a_limit (tree.DropTable word) = false
+passes_a_limit (tree.DropMaster word) = false
+passes_a_limit (tree.DropKey word) = false
+passes_a_limit (tree.Update table assignments asked) = false
+passes_a_limit (tree.Delete table asked) = false
+
+abbrev pub parsed_tree : List Token → Option Statement → Result Statement SqlFault
+parsed_tree tokens None = Err fault.Syntax
+parsed_tree tokens (Some statement) = if has_long tokens || passes_a_limit statement then Err fault.TooLong else Ok statement
+
+abbrev pub parsed_narrow : List Token → Option ℕ → Result Statement SqlFault
+parsed_narrow tokens (Some at) = Err (fault.NumberTooWide at)
+parsed_narrow tokens None = if opens_too_deep 0 tokens then Err fault.TooDeep else parsed_tree tokens (tree_of tokens)
+
+abbrev pub parsed_tokens : Option (List Token) → Result Statement SqlFault
+parsed_tokens None = Err fault.Syntax
+parsed_tokens (Some tokens) = parsed_narrow tokens (first_wide 9223372036854775807 tokens)
+
+-- the statement of a text in UTF-8, or the first of: a text over 65,536 bytes; no token list; a number too wide;
+-- too many open parentheses; no tree; a limit passed
+unfoldable pub parsed : List ℕ → Result Statement SqlFault
+parsed text = if nat_lt 65536 (length text) then Err fault.TooLong else parsed_tokens (tokens_of text)

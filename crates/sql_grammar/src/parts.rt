@@ -1,0 +1,8 @@
+use sql_tree::statements::{ColumnSpec, UniqueSpec};
+
+/// A part of a table's definition.
+#[derive(Drop)]
+pub enum TablePart {
+    Column(ColumnSpec),
+    Unique(UniqueSpec),
+}

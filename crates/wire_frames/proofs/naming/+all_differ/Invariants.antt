@@ -1,6 +1,0 @@
--- Fewer parts are left.
-use Rattle.std.proofs.Common.{length}
-use Rattle.wire_frames.proofs.naming.+all_differ.Given as goal
-
-abbrev pub decreases-all_differ : goal.decreases-all_differ
-decreases-all_differ g l = length l.parts.now

@@ -1,0 +1,8 @@
+//! The one spelling of each message between driver and server, as bytes.
+#![tactic(auto)]
+
+mod fields;
+mod framing;
+mod writing;
+
+pub use framing::{encode_reply, encode_request, push_reply, push_request};
