@@ -5,6 +5,7 @@ use Rattle.ae_base.specs.declared.batches.KeyMeta.{KeyMeta}
 use Rattle.ae_edge.specs.Devices.{Rose, WhereTold}
 use Rattle.ae_edge.specs.Vaults.{KeyMap}
 use Rattle.hmac_kdf.specs.Keys.{Keys}
+use Rattle.aes_block.specs.Bytes.{AreBytes}
 use Rattle.conversation.specs.declared.faults.DriverFault.{DriverFault}
 use Rattle.conversation.specs.declared.faults.Halt.{Halt}
 use Rattle.conversation.specs.declared.faults.Halt.TheVariants as halt
@@ -25,7 +26,7 @@ follows_then _ _ v _ ys (takes_more session after shown more f reply u events e 
 follows_then _ _ v _ ys (takes_last session shown f reply heard u events e h) g = takes_last session shown f reply heard v (events ++ ys) e (follows_then _ u v events ys h g)
 follows_then _ _ v _ ys (strays session shown f next u events s h) g = strays session shown f next v (events ++ ys) s (follows_then _ u v events ys h g)
 follows_then _ _ v _ ys (prints_last comes u events h) g = prints_last comes v (events ++ ys) (follows_then _ u v events ys h g)
-follows_then _ _ v _ ys (draws f bytes u events n h) g = draws f bytes v (events ++ ys) n (follows_then _ u v events ys h g)
+follows_then _ _ v _ ys (draws f bytes u events n b h) g = draws f bytes v (events ++ ys) n b (follows_then _ u v events ys h g)
 follows_then _ _ v _ ys (opens meta f key u events h) g = opens meta f key v (events ++ ys) (follows_then _ u v events ys h g)
 follows_then _ _ v _ ys (prints comes t u events h) g = prints comes t v (events ++ ys) (follows_then t u v events ys h g)
 
@@ -177,12 +178,12 @@ stay_by t x y e k n m a b = record {
 }
 
 -- 16 bytes were drawn
-pub drew_goes : (bytes : List ℕ) (f : List ℕ → Talk) (x y : Devices) → length bytes ≡ 16 → WhereTold (λ before after. before ≡ bytes ++ after) x.entropy y.entropy
+pub drew_goes : (bytes : List ℕ) (f : List ℕ → Talk) (x y : Devices) → length bytes ≡ 16 → AreBytes bytes → WhereTold (λ before after. before ≡ bytes ++ after) x.entropy y.entropy
     → y.keys ≡ x.keys → x.entropy_faults ≤ y.entropy_faults → x.vault_faults ≤ y.vault_faults → y.entropy_names ≡ x.entropy_names → y.vault_names ≡ x.vault_names
     → Goes (Draws f) (f bytes) x y
-drew_goes bytes f x y long told k n m a b = record {
+drew_goes bytes f x y long are told k n m a b = record {
   events = Drew bytes ∷ [];
-  follows = draws f bytes (f bytes) [] long (stays (f bytes));
+  follows = draws f bytes (f bytes) [] long are (stays (f bytes));
   own = tt;
   share = record {
     entropy = subst (λ drawn. WhereTold (λ before after. before ≡ drawn ++ after) x.entropy y.entropy) (sym (append-nil bytes)) told;

@@ -2,6 +2,7 @@
 use Rattle.std.specs.Prelude.{◌≡◌, ℕ, List, [], ◌∷◌, ◌++◌, length, Option, Some, None, Result}
 use Rattle.ae_base.specs.declared.batches.KeyMeta.{KeyMeta}
 use Rattle.ae_edge.specs.Vaults.{KeyMap}
+use Rattle.aes_block.specs.Bytes.{AreBytes}
 use Rattle.hmac_kdf.specs.Keys.{Keys}
 use Rattle.wire_messages.specs.declared.requests.Request.{Request}
 use Rattle.wire_messages.specs.declared.replies.Reply.{Reply}
@@ -38,7 +39,7 @@ pub data Follows : Talk → List Event → Talk → Type 0 where
   strays : (session : Session) (shown : Listing) (f : Heard → Talk) (next : Option Reply) (u : Talk) (events : List Event)
       → IsStray session shown next → Follows (Stops (broken session shown)) events u → Follows (Hears session shown f) (Strayed next ∷ events) u
   prints_last : (comes : Outcome) (u : Talk) (events : List Event) → Follows (Stops None) events u → Follows (Stops (Some comes)) (Printed comes ∷ events) u
-  draws : (f : List ℕ → Talk) (bytes : List ℕ) (u : Talk) (events : List Event) → length bytes ≡ 16 → Follows (f bytes) events u → Follows (Draws f) (Drew bytes ∷ events) u
+  draws : (f : List ℕ → Talk) (bytes : List ℕ) (u : Talk) (events : List Event) → length bytes ≡ 16 → AreBytes bytes → Follows (f bytes) events u → Follows (Draws f) (Drew bytes ∷ events) u
   opens : (meta : KeyMeta) (f : Result Keys DriverFault → Talk) (key : Result Keys DriverFault) (u : Talk) (events : List Event)
       → Follows (f key) events u → Follows (Opens meta f) (Opened meta key ∷ events) u
   prints : (comes : Outcome) (t u : Talk) (events : List Event) → Follows t events u → Follows (Prints comes t) (Printed comes ∷ events) u

@@ -1,21 +1,8 @@
 -- Which statements are executed; the others are not yet.
 use Rattle.std.specs.Prelude.{◌==◌, ◌&&◌, not, length, Bool, true, false, is_none}
-use Rattle.std.specs.List.{list_all}
-use Rattle.ae_base.specs.declared.tables.TableDef.{TableDef}
-use Rattle.ae_base.specs.declared.types.Enc.{Enc}
-use Rattle.ae_base.specs.declared.types.Enc.TheVariants as enc
 use Rattle.sql_tree.specs.Bound.{BoundQuery, BoundStatement, Bound}
 use Rattle.sql_tree.specs.Bound as bound
 use Rattle.engine.specs.Queries.{is_grouped}
-
-abbrev pub is_open : Enc → Bool
-is_open enc.Plain = true
-is_open (enc.Det key) = false
-is_open (enc.Rnd key) = false
-
--- tables of plain columns alone are made
-abbrev pub executes_table : TableDef → Bool
-executes_table table = list_all (λ column. is_open column.enc) table.columns
 
 abbrev pub executes_query : BoundQuery → Bool
 executes_query q = is_none q.distinct && is_none q.top && not (is_grouped q) && (length q.order_by == 0)
@@ -23,7 +10,7 @@ executes_query q = is_none q.distinct && is_none q.top && not (is_grouped q) && 
 abbrev pub executes_statement : BoundStatement → Bool
 executes_statement (bound.CreateMaster name path) = true
 executes_statement (bound.CreateKey name master wrapped) = true
-executes_statement (bound.CreateTable table) = executes_table table.def
+executes_statement (bound.CreateTable table) = true
 executes_statement (bound.DropTable name) = true
 executes_statement (bound.DropMaster name) = true
 executes_statement (bound.DropKey name) = true

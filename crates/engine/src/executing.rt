@@ -1,11 +1,9 @@
 ghost use Rattle.std.specs.Prelude.{◌≡◌, map};
 ghost use Rattle.std.specs.List.{list_any};
 ghost use Rattle.sql_tree.specs.Bound.{bound_of, query_of, item_of};
-ghost use Rattle.engine.specs.Executes.{is_open, executes_table, executes_query, executes};
+ghost use Rattle.engine.specs.Executes.{executes_query, executes};
 ghost use Rattle.engine.specs.Queries.{is_count, is_grouped};
 
-use ae_base::tables::TableDef;
-use ae_base::types::Enc;
 use sql_tree::bound::{Bound, BoundItem, BoundItemValue, BoundQuery, BoundStatement};
 
 /// Whether a statement is executed; the others are not yet.
@@ -14,32 +12,15 @@ pub fn executes(bound: &Bound) -> bool
 {
     match &bound.statement {
         BoundStatement::Select(query) => executes_query(query),
-        BoundStatement::CreateTable(table) => executes_table(&table.def),
         BoundStatement::Update(_) | BoundStatement::Delete(_) => false,
         BoundStatement::CreateMaster { .. }
         | BoundStatement::CreateKey { .. }
+        | BoundStatement::CreateTable(_)
         | BoundStatement::DropTable(_)
         | BoundStatement::DropMaster(_)
         | BoundStatement::DropKey(_)
         | BoundStatement::Insert(_) => true,
     }
-}
-
-/// Whether a table has plain columns alone.
-fn executes_table(table: &TableDef) -> bool
-    ensures { result ≡ executes_table table.now }
-{
-    table
-        .columns
-        .as_slice()
-        .iter()
-        .all(|column| is_open(column.enc))
-}
-
-fn is_open(enc: Enc) -> bool
-    ensures { result ≡ is_open enc }
-{
-    matches!(enc, Enc::Plain)
 }
 
 fn executes_query(query: &BoundQuery) -> bool

@@ -83,7 +83,8 @@ use Rattle.server_core.specs.Describing.{used_from}
 use Rattle.conversation.specs.Turns.{sent_param, over_on}
 use Rattle.hmac_kdf.specs.Keys.{Keys}
 use Rattle.std.proofs.Common.{add-one, ◌⊎◌}
-use Rattle.plain_meaning.specs.Laws.{Agrees, IsProperStep, HasProperParams, ProtectedIsPlain}
+use Rattle.plain_meaning.specs.Laws.{Agrees, ProtectedIsPlain}
+use Rattle.script_lang.specs.Limits.{HasProperParams, IsProperStep}
 use Rattle.plain_meaning.specs.Reference as plain
 use Rattle.plain_meaning.specs.Reference.{Came, came, declared, pending, means, reference}
 use Rattle.plain_meaning.specs.Steps.{number_of, turn, talk}

@@ -1,9 +1,6 @@
 -- What a script comes to over the server is its plaintext meaning, or a front of it where random bytes are short.
 use Rattle.std.specs.Prelude.{◌≡◌, ℕ, List, []}
 use Rattle.std.specs.List.{All}
-use Rattle.ae_base.specs.Types.{IsType}
-use Rattle.ae_base.specs.Values.{IsProper}
-use Rattle.ae_base.specs.declared.batches.Batch.{Batch}
 use Rattle.ae_edge.specs.Devices.{IsFront}
 use Rattle.ae_edge.specs.Vaults.{KeyMap}
 use Rattle.aes_block.specs.Bytes.{AreBytes}
@@ -12,9 +9,8 @@ use Rattle.server_core.specs.Serve.{empty_state, serve}
 use Rattle.conversation.specs.Drive.{End, Done, Dry, BadReply, Passed, over}
 use Rattle.conversation.specs.Sessions.{nobody}
 use Rattle.conversation.specs.declared.outcomes.Outcome.{Outcome}
-use Rattle.script_lang.specs.Limits.{IsWithinLimits}
+use Rattle.script_lang.specs.Limits.{IsProperStep, IsWithinLimits}
 use Rattle.script_lang.specs.declared.steps.Step.{Step}
-use Rattle.script_lang.specs.declared.steps.Step.TheVariants.{Whole, Half, Execute}
 use Rattle.plain_meaning.specs.Reference.{reference}
 use Rattle.plain_meaning.specs.Steps.{talk}
 
@@ -32,15 +28,6 @@ ServedIsPlain = (keys : KeyMap) (steps : List Step) → All IsWithinLimits steps
     → Agrees (over serve keys (talk steps nobody) 0 entropy empty_state []) (reference keys steps nobody empty_world)
 
 -- ---- where columns are protected
-
--- each parameter's value is proper, and its type is one
-abbrev pub HasProperParams : Batch → Type 0
-HasProperParams batch = All (λ p. IsProper p.value × IsType p.declaration.ty) batch.params
-
-abbrev pub IsProperStep : Step → Type 0
-IsProperStep (Whole number batch) = HasProperParams batch
-IsProperStep (Half number batch) = HasProperParams batch
-IsProperStep (Execute number) = Unit {0}
 
 -- so it is for sealed values too, over proper values and random bytes that are bytes
 abbrev pub ProtectedIsPlain : Type 0

@@ -1,6 +1,6 @@
 ghost use Rattle.std.specs.Prelude.{◌≡◌, ◌<◌, ◌^◌, All, IfOk, length};
 ghost use Rattle.script_lang.specs.declared.scripts.ScriptFault.TheVariants.{OutOfMemory};
-ghost use Rattle.script_lang.specs.Limits.{IsWithinLimits};
+ghost use Rattle.script_lang.specs.Limits.{IsProperStep, IsWithinLimits};
 ghost use Rattle.script_lang.specs.Reading.{Reads};
 
 use crate::lines::{first_line, without_mark};
@@ -35,6 +35,7 @@ pub fn read_script(alloc: Global, bytes: &[u8]) -> Result<Seq<Step>, ScriptFault
     requires { length bytes.now < 2 ^ 32 }
     ensures exact { Reads bytes.now result }
     ensures limits { IfOk result (λ steps. All IsWithinLimits steps) }
+    ensures proper { IfOk result (λ steps. All IsProperStep steps) }
 {
     let mut reader = Reader::new(alloc);
     let mut number = 0;

@@ -70,7 +70,7 @@ path_passes keys _ _ _ (strays session shown f next u events s h) queue left q o
 path_passes keys _ _ _ (prints_last comes u events h) queue left q o state after v taken more =
     let r = path_passes keys (Stops None) u events h queue left q o state after v taken more in
     ap (coming comes) r
-path_passes keys _ _ _ (draws f bytes u events n h) queue left q o state after v taken more =
+path_passes keys _ _ _ (draws f bytes u events n b h) queue left q o state after v taken more =
     let r = path_passes keys (f bytes) u events h queue left q o state after v taken more in
     ap (λ xs. over serve keys (Draws f) taken xs state queue) (append_assoc bytes (flat_map drawn_in events) more)
     ∙ drawn_first (λ drawn remaining. over serve keys (f drawn) taken remaining state queue) bytes (flat_map drawn_in events ++ more) state n ∙ r
