@@ -14,3 +14,10 @@ Steps (next.One place used message) old new =
 Steps next.NotYet old new = (old.failed ≡ false) × (new ≡ old) × IsNotYet (has_kind old.way) old.held
 Steps (next.Bad place) old new = (place ≡ old.at) × IsRefused (has_kind old.way) (SpellsMessage old.way) old.held × (new ≡ refused old)
 Steps next.OutOfMemory old new = (old.failed ≡ false) × (new ≡ old)
+
+-- the feed after an answer
+abbrev pub after : Next → Feeding → Feeding
+after (next.One place used message) old = behind old used
+after next.NotYet old = old
+after (next.Bad place) old = refused old
+after next.OutOfMemory old = old

@@ -1,8 +1,8 @@
 //! Streams of frames in pieces.
 
-ghost use Rattle.std.specs.Prelude.{◌≡◌, true, OnOk, OnErr, IsOk};
-ghost use Rattle.frame_feed.specs.Feeding.{unfed, fed, rest_of};
-ghost use Rattle.frame_feed.specs.Steps.{Steps};
+ghost use Rattle.std.specs.Prelude.{◌≡◌, ◌≤◌, true, false, length, OnOk, OnErr, IsOk};
+ghost use Rattle.frame_feed.specs.Feeding.{unfed, fed, behind, rest_of};
+ghost use Rattle.frame_feed.specs.Steps.{Steps, after};
 
 use crate::messages::{Message, decode};
 use bytes::BytesMut;
@@ -36,12 +36,12 @@ impl Model for FrameFeed {
 
 /// What stands next.
 #[derive(Drop)]
-pub enum Next {
+pub enum Next<'a> {
     /// A message, the place of its first byte, and how many bytes its frame has.
     One {
         place: u64,
         used: usize,
-        message: Message,
+        message: Message<'a>,
     },
     /// Less than a frame, or nothing.
     NotYet,
@@ -79,35 +79,87 @@ impl FrameFeed {
         self.held.extend_from_slice(piece)
     }
 
-    /// The next message, where it is whole; its bytes are let go. A feed that met what is no frame
-    /// answers so from then on. In the other cases nothing changes.
+    /// What stands next: a message, where it is whole, whose parts borrow from the bytes that are held.
+    /// `advance` lets them go, once the message is done with.
     ///
     /// A body that comes in many pieces is read once: until all the bytes are there that the header
     /// states, the header alone is read. So a stream costs what it has bytes, and for each piece the six
     /// of a header.
-    pub fn next(&mut self, alloc: Global) -> Next
-        ensures { Steps result self.old self.new }
+    pub fn front(&self, alloc: Global) -> Next<'_>
+        ensures { Steps result self.now (after result self.now) }
     {
         if self.failed {
             return Next::Bad { place: self.at };
         }
         match decode(alloc, self.way, self.held.as_slice()) {
-            Decoded::One(message, used) => {
-                let place = self.at;
-                self.held.advance(used);
-                self.at = place.saturating_add(used as u64);
+            Decoded::One(message, used) => Next::One {
+                place: self.at,
+                used,
+                message,
+            },
+            Decoded::NotYet => Next::NotYet,
+            Decoded::Bad => Next::Bad { place: self.at },
+            Decoded::OutOfMemory => Next::OutOfMemory,
+        }
+    }
+
+    /// Lets go of the bytes of the message that stands next.
+    pub fn advance(&mut self, used: usize)
+        requires waits { self.old.failed ≡ false }
+        requires held { used ≤ length self.old.held }
+        ensures { self.new ≡ behind self.old used }
+    {
+        self.held.advance(used);
+        self.at = self.at.saturating_add(used as u64);
+    }
+
+    /// What stands next, and borrows nothing.
+    fn own_front(&self, alloc: Global) -> Next<'static>
+        ensures { Steps result self.now (after result self.now) }
+    {
+        match self.front(alloc) {
+            Next::One {
+                place,
+                used,
+                message,
+            } => match message.to_own(alloc) {
+                Ok(message) => Next::One {
+                    place,
+                    used,
+                    message,
+                },
+                Err(_) => Next::OutOfMemory,
+            },
+            Next::NotYet => Next::NotYet,
+            Next::Bad { place } => Next::Bad { place },
+            Next::OutOfMemory => Next::OutOfMemory,
+        }
+    }
+
+    /// The next message, where it is whole, as one that borrows nothing; its bytes are let go. A feed
+    /// that met what is no frame answers so from then on. In the other cases nothing changes.
+    pub fn next(&mut self, alloc: Global) -> Next<'static>
+        ensures { Steps result self.old self.new }
+    {
+        match self.own_front(alloc) {
+            Next::One {
+                place,
+                used,
+                message,
+            } => {
+                self.advance(used);
                 Next::One {
                     place,
                     used,
                     message,
                 }
             }
-            Decoded::NotYet => Next::NotYet,
-            Decoded::Bad => {
+            Next::NotYet => Next::NotYet,
+            Next::Bad { place } => {
                 self.failed = true;
-                Next::Bad { place: self.at }
+                Next::Bad { place }
             }
-            Decoded::OutOfMemory => Next::OutOfMemory,
+            Next::OutOfMemory => Next::OutOfMemory,
         }
     }
 
