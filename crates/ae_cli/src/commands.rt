@@ -26,9 +26,10 @@ use std::alloc::Global;
 /// Does what the words ask for, of which the first is the program's name, and says how it ended.
 ///
 /// So far there is one command, `run`: it reads a script from `script`, runs its steps through a
-/// driver and the peer, puts the text to `out` and every frame to `tap`. The driver opens keys
-/// through the vault, and draws from the random source. A run touches no replies. Other words are
-/// `Usage`, and touch nothing.
+/// driver and the peer, puts the text to `out` and every frame to `tap`. The values of protected
+/// columns pass as cells: the driver opens their keys through the vault, draws from the random
+/// source for randomized ones, and prints what the cells hold. A run touches no replies. Other
+/// words are `Usage`, and touch nothing.
 pub fn ae_main<S: Source, V: Vault, E: Entropy, L: Source, W: Sink, T: Sink, P: Peer>(
     alloc: Global,
     words: &[Txt],
@@ -49,10 +50,11 @@ pub fn ae_main<S: Source, V: Vault, E: Entropy, L: Source, W: Sink, T: Sink, P: 
     ensures content { is_run words.now ≡ true → (ran : Ran) × (result ≡ status_of ran) × (bytes : List ℕ) × IfSome (S.left script.old) (λ left. bytes ≡ left) × RunsScript ran bytes
         (record { out = W.held out.old; tap = T.held tap.old; entropy = E.to_come entropy.old; keys = V.keys vault.old; log = P.log peer.old; state = P.state peer.old; out_faults = W.faults out.old; tap_faults = T.faults tap.old; entropy_faults = E.faults entropy.old; vault_faults = V.faults vault.old })
         (record { out = W.held out.new; tap = T.held tap.new; entropy = E.to_come entropy.new; keys = V.keys vault.new; log = P.log peer.new; state = P.state peer.new; out_faults = W.faults out.new; tap_faults = T.faults tap.new; entropy_faults = E.faults entropy.new; vault_faults = V.faults vault.new }) }
-    // A run over a peer that serves from the empty state, with keys that are told: the text is plain SQL's over the same values.
+    // A run over a peer that serves from the empty state, with keys that are told: the text is plain SQL's over the same values,
+    // whatever columns are protected.
     ensures plain { is_run words.now ≡ true → P.state peer.old ≡ Some empty_state → (keys : KeyMap) (bytes : List ℕ) (steps : List Step) → V.keys vault.old ≡ Some keys → S.left script.old ≡ Some bytes → IsScript bytes steps
         → (ran : Ran) × (result ≡ status_of ran) × PrintsPlain ran keys steps (W.held out.old) (W.held out.new) }
-    // And the tap has the frames of the conversation over that server, whatever random bytes were drawn.
+    // And the tap has the frames of the conversation over that server, with the cells sealed under the random bytes that were drawn.
     ensures transcript { is_run words.now ≡ true → P.state peer.old ≡ Some empty_state → (keys : KeyMap) (bytes : List ℕ) (steps : List Step) → V.keys vault.old ≡ Some keys → S.left script.old ≡ Some bytes → IsScript bytes steps
         → (ran : Ran) × (result ≡ status_of ran) × TapsTranscript ran keys steps (E.to_come entropy.old) (E.to_come entropy.new) (T.held tap.old) (T.held tap.new) }
     // There a good script is run to its end, unless memory or a device fails.

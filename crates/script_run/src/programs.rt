@@ -78,7 +78,7 @@ fn run_source<S: Source, V: Vault, E: Entropy, W: Sink, T: Sink, P: Peer>(
 
 /// Reads a script to its end and runs its steps through a driver and the peer: the text goes to
 /// `out`, and every frame to `tap` in the order in which they passed, a step's frames before its
-/// text. A script that can't be read, has a bad line or is too long leaves everything as it was;
+/// text. The values of protected columns pass as cells, and are printed as they are. A script that can't be read, has a bad line or is too long leaves everything as it was;
 /// where a device fails or memory ends, text and tap hold fronts of the whole.
 pub fn run<S: Source, V: Vault, E: Entropy, W: Sink, T: Sink, P: Peer>(
     alloc: Global,
@@ -94,10 +94,11 @@ pub fn run<S: Source, V: Vault, E: Entropy, W: Sink, T: Sink, P: Peer>(
     ensures content { (bytes : List ℕ) × IfSome (S.left script.old) (λ left. bytes ≡ left) × RunsScript result bytes
         (record { out = W.held out.old; tap = T.held tap.old; entropy = E.to_come entropy.old; keys = V.keys vault.old; log = P.log peer.old; state = P.state peer.old; out_faults = W.faults out.old; tap_faults = T.faults tap.old; entropy_faults = E.faults entropy.old; vault_faults = V.faults vault.old })
         (record { out = W.held out.new; tap = T.held tap.new; entropy = E.to_come entropy.new; keys = V.keys vault.new; log = P.log peer.new; state = P.state peer.new; out_faults = W.faults out.new; tap_faults = T.faults tap.new; entropy_faults = E.faults entropy.new; vault_faults = V.faults vault.new }) }
-    // Over a peer that serves from the empty state, with keys that are told, the text is plain SQL's over the same values.
+    // Over a peer that serves from the empty state, with keys that are told, the text is plain SQL's over the same values, whatever
+    // columns are protected.
     ensures plain { (keys : KeyMap) (bytes : List ℕ) (steps : List Step) → P.state peer.old ≡ Some empty_state → V.keys vault.old ≡ Some keys → S.left script.old ≡ Some bytes → IsScript bytes steps
         → PrintsPlain result keys steps (W.held out.old) (W.held out.new) }
-    // And the tap has the frames of the conversation over that server, whatever random bytes were drawn.
+    // And the tap has the frames of the conversation over that server, with the cells sealed under the random bytes that were drawn.
     ensures transcript { (keys : KeyMap) (bytes : List ℕ) (steps : List Step) → P.state peer.old ≡ Some empty_state → V.keys vault.old ≡ Some keys → S.left script.old ≡ Some bytes → IsScript bytes steps
         → TapsTranscript result keys steps (E.to_come entropy.old) (E.to_come entropy.new) (T.held tap.old) (T.held tap.new) }
     // There a good script is run to its end, unless memory or a device fails: each reply is awaited.
