@@ -44,7 +44,7 @@ use Rattle.conversation.specs.declared.faults.DriverFault.{DriverFault}
 use Rattle.conversation.specs.declared.faults.DriverFault.TheVariants.{StillPending, NothingPending}
 use Rattle.conversation.specs.declared.sessions.ColumnType.{ColumnType}
 use Rattle.conversation.specs.declared.sessions.Session.{Session}
-use Rattle.script_lang.specs.Limits.{IsWithinLimits, HasParams, HasProperParams, IsProperStep}
+use Rattle.script_lang.specs.Limits.{IsWithinLimits, HasParams, HasProperParams, IsProperParam, IsProperStep}
 use Rattle.script_lang.specs.declared.steps.Step.{Step}
 use Rattle.ae_base.specs.Types.{IsType}
 use Rattle.ae_base.specs.Values.{IsProper}
@@ -94,11 +94,11 @@ uses_sendable [] es h = tt
 uses_sendable (p ∷ ps) [] h = tt
 uses_sendable (p ∷ ps) (o ∷ es) h = use_sendable p ps o es h.0 (uses_sendable ps es h.1)
 
-pub all_sendable : (ps : List Param) → All (λ (p : Param). IsProper p.value × IsType p.declaration.ty) ps → Each IsFit ps → Each IsSendableParam ps
+pub all_sendable : (ps : List Param) → All IsProperParam ps → Each IsFit ps → Each IsSendableParam ps
 all_sendable [] a f = tt
 all_sendable (p ∷ ps) a f =
-    let h = All-head (λ (p : Param). IsProper p.value × IsType p.declaration.ty) p ps a in
-    (record { proper = h.0; ty = h.1; fit = f.0 }, all_sendable ps (All-tail (λ (p : Param). IsProper p.value × IsType p.declaration.ty) p ps a) f.1)
+    let h = All-head IsProperParam p ps a in
+    (record { proper = h.0; ty = h.1; fit = f.0 }, all_sendable ps (All-tail IsProperParam p ps a) f.1)
 
 abbrev pub tys_in : List Use → List Ty
 tys_in us = map (λ (u : Use). u.param.declaration.ty) us
