@@ -1,27 +1,25 @@
 -- Each statement leads from a catalog whose keys are in the history to one whose keys are in a longer one.
-use Rattle.std.proofs.Common.{◌≡◌, ℕ, ◌+◌, List, [], ◌∷◌, ◌++◌, Option, Some, None, Result, Ok, Err, Bool, true, false, cond, refl, sym, ap, ◌∙◌, subst, is_some}
+use Rattle.std.proofs.Common.{◌≡◌, ℕ, ◌+◌, List, [], ◌∷◌, ◌++◌, map, Option, Some, None, Result, Ok, Err, Bool, true, false, cond, refl, sym, ap, ◌∙◌, subst, is_some}
 use Rattle.std.specs.Prelude.{IsSome}
 use Rattle.std.specs.List.{remove}
 use Rattle.ae_base.specs.Atoms.{Atom}
-use Rattle.ae_base.specs.Results.{◌>>=◌, or_fault}
+use Rattle.ae_base.specs.Results.{◌>>=◌, each, or_fault}
 use Rattle.ae_base.specs.declared.batches.KeyMeta.{KeyMeta}
 use Rattle.ae_base.specs.declared.faults.SqlFault.{SqlFault}
 use Rattle.ae_base.specs.declared.faults.SqlFault.TheVariants as fault
 use Rattle.ae_base.specs.declared.tables.TableDef.{TableDef}
 use Rattle.ae_base.specs.declared.types.Enc.{Enc}
-use Rattle.ae_base.specs.declared.types.Ty.{Ty}
-use Rattle.sql_tree.specs.Bound.{BoundInsert, BoundQuery, BoundStatement, Bound}
+use Rattle.sql_tree.specs.Bound.{BoundStatement, Bound}
 use Rattle.sql_tree.specs.Bound as bound
-use Rattle.sql_tree.specs.declared.bound.ColumnSite.{ColumnSite}
 use Rattle.catalog.specs.Catalogs.{Catalog, with_master, with_key, with_table, without_master, without_key, without_table, master_named, key_named, table_named, master_place, key_place, table_place, is_full_of_masters, is_full_of_keys, is_full_of_tables, is_at_last_version, is_master_used, is_key_used}
 use Rattle.catalog.specs.Laws.{DefinitionsAreFollowed, IdsAreNotReused}
 use Rattle.catalog.specs.WellFormed.{IsCatalog}
 use Rattle.catalog.specs.declared.keys.MasterKey.{MasterKey}
 use Rattle.engine.specs.BoundOn.{HasMaster}
-use Rattle.engine.specs.Executes.{executes_statement, executes}
+use Rattle.engine.specs.Keys.{first_twins, unless_twins}
 use Rattle.engine.specs.Queries.{found_in}
-use Rattle.engine.specs.Step.{Done, outcome, defined, done_by, create_table, drop_table, insert, select, rows_to_insert, step}
-use Rattle.engine.specs.Worlds.{World}
+use Rattle.engine.specs.Step.{Done, Tested, outcome, done_by, rows_to_insert, selects, updated_row, tested_row, uniques_of, step}
+use Rattle.engine.specs.Worlds.{World, rows_of}
 use Rattle.plain_meaning.proofs.History.{Known, Grows, master_made, table_changed, master_dropped, key_dropped, key_made}
 
 module _ (reused : IdsAreNotReused) (followed : DefinitionsAreFollowed) (history : List KeyMeta) (c : Catalog) (k : IsCatalog c) (n : Known history c) where
@@ -101,37 +99,29 @@ module _ (reused : IdsAreNotReused) (followed : DefinitionsAreFollowed) (history
   abbrev stays : Grows history w.catalog
   stays = same reused followed history w.catalog k n
 
-  defined_leads : (r : Result Catalog SqlFault) → Definition r → LeadsOn (defined w r)
-  defined_leads (Ok next) h = h
-  defined_leads (Err f) h = λ is. stays
+  -- by a definition
+  defined_leads : (r : Result Catalog SqlFault) (f : Catalog → Result Done SqlFault) → Definition r → ((next : Catalog) → (IsCatalog next → Grows history next) → LeadsOn (f next)) → LeadsOn (r >>= f)
+  defined_leads (Ok next) f h go = go next h
+  defined_leads (Err e) f h go = λ is. stays
 
-  create_leads : (table : TableDef) (r : Result Catalog SqlFault) → Definition r → with_table w.catalog table ≡ r → LeadsOn (create_table w table)
-  create_leads table (Ok next) h e = rw e h
-  create_leads table (Err f) h e = rw e (λ is. stays)
+  -- by what is found of rows
+  found_leads : {A : Type 0} (r : Result A SqlFault) (f : A → Result Done SqlFault) → ((x : A) → LeadsOn (f x)) → LeadsOn (r >>= f)
+  found_leads (Ok x) f go = go x
+  found_leads (Err e) f go = λ is. stays
 
-  drop_leads : (name : List ℕ) (r : Result Catalog SqlFault) → Definition r → without_table w.catalog name ≡ r → LeadsOn (drop_table w name)
-  drop_leads name (Ok next) h e = rw e h
-  drop_leads name (Err f) h e = rw e (λ is. stays)
+  statement_leads : (b : Bound) (encs : List Enc) (s : BoundStatement) (params : List Atom) → HasMaster w.catalog s → LeadsOn (done_by w b encs s params)
+  statement_leads b encs (bound.CreateMaster name path) params m = defined_leads (with_master w.catalog name path) _ (master_leads reused followed history w.catalog k n name path) (λ next h. h)
+  statement_leads b encs (bound.CreateKey name master wrapped) params m = defined_leads (with_key w.catalog name master wrapped) _ (key_leads reused followed history w.catalog k n name master wrapped m) (λ next h. h)
+  statement_leads b encs (bound.CreateTable table) params m = defined_leads (with_table w.catalog table.def) _ (table_leads reused followed history w.catalog k n table.def) (λ next h. h)
+  statement_leads b encs (bound.DropTable name) params m = defined_leads (without_table w.catalog name) _ (no_table_leads reused followed history w.catalog k n name) (λ next h. h)
+  statement_leads b encs (bound.DropMaster name) params m = defined_leads (without_master w.catalog name) _ (no_master_leads reused followed history w.catalog k n name) (λ next h. h)
+  statement_leads b encs (bound.DropKey name) params m = defined_leads (without_key w.catalog name) _ (no_key_leads reused followed history w.catalog k n name) (λ next h. h)
+  statement_leads b encs (bound.Insert i) params m = found_leads (rows_to_insert w i params) _ (λ rows is. stays)
+  statement_leads b encs (bound.Update u) params m =
+      found_leads (each (λ row. selects params u.filter row >>= updated_row w u params row) (rows_of w u.table)) _
+      (λ tested. found_leads (unless_twins (first_twins 1 (uniques_of w u.table) (map (λ (t : Tested). t.row) tested)) tested) _ (λ kept is. stays))
+  statement_leads b encs (bound.Delete d) params m = found_leads (each (λ row. selects params d.filter row >>= tested_row row) (rows_of w d.table)) _ (λ tested is. stays)
+  statement_leads b encs (bound.Select q) params m = found_leads (found_in w q params) _ (λ rows is. stays)
 
-  insert_leads : (i : BoundInsert) (params : List Atom) (r : Result (List (List Atom)) SqlFault) → rows_to_insert w i params ≡ r → LeadsOn (insert w i params)
-  insert_leads i params (Ok rows) e = rw e (λ is. stays)
-  insert_leads i params (Err f) e = rw e (λ is. stays)
-
-  select_leads : (columns : List ColumnSite) (tys : List Ty) (encs : List Enc) (q : BoundQuery) (params : List Atom) (r : Result (List (List Atom)) SqlFault) → found_in w q params ≡ r → LeadsOn (select w columns tys encs q params)
-  select_leads columns tys encs q params (Ok rows) e = rw e (λ is. stays)
-  select_leads columns tys encs q params (Err f) e = rw e (λ is. stays)
-
-  statement_leads : (b : Bound) (encs : List Enc) (s : BoundStatement) (params : List Atom) → HasMaster w.catalog s → executes_statement s ≡ true → LeadsOn (done_by w b encs s params)
-  statement_leads b encs (bound.CreateMaster name path) params m x = defined_leads (with_master w.catalog name path) (master_leads reused followed history w.catalog k n name path)
-  statement_leads b encs (bound.CreateKey name master wrapped) params m x = defined_leads (with_key w.catalog name master wrapped) (key_leads reused followed history w.catalog k n name master wrapped m)
-  statement_leads b encs (bound.CreateTable table) params m x = create_leads table.def (with_table w.catalog table.def) (table_leads reused followed history w.catalog k n table.def) refl
-  statement_leads b encs (bound.DropTable name) params m x = drop_leads name (without_table w.catalog name) (no_table_leads reused followed history w.catalog k n name) refl
-  statement_leads b encs (bound.DropMaster name) params m x = defined_leads (without_master w.catalog name) (no_master_leads reused followed history w.catalog k n name)
-  statement_leads b encs (bound.DropKey name) params m x = defined_leads (without_key w.catalog name) (no_key_leads reused followed history w.catalog k n name)
-  statement_leads b encs (bound.Insert i) params m x = insert_leads i params (rows_to_insert w i params) refl
-  statement_leads b encs (bound.Update u) params m x = absurd cc
-  statement_leads b encs (bound.Delete d) params m x = absurd cc
-  statement_leads b encs (bound.Select q) params m x = select_leads b.columns b.params encs q params (found_in w q params) refl
-
-  pub step_grows : (b : Bound) (encs : List Enc) (params : List Atom) → HasMaster w.catalog b.statement → executes b ≡ true → IsCatalog (step w b encs params).world.catalog → Grows history (step w b encs params).world.catalog
-  step_grows b encs params m x = statement_leads b encs b.statement params m x
+  pub step_grows : (b : Bound) (encs : List Enc) (params : List Atom) → HasMaster w.catalog b.statement → IsCatalog (step w b encs params).world.catalog → Grows history (step w b encs params).world.catalog
+  step_grows b encs params m = statement_leads b encs b.statement params m

@@ -1,13 +1,12 @@
 mod Agreement
+mod Between
 mod Growing
 mod History
-mod OpenWorlds
 mod Pairs
-mod Reading
 mod Sealed
-mod SealedAgreement
-mod SealedTalk
 mod Sending
+mod Talk
 mod Told
 mod Understood
-mod Values
+mod Used
+mod Versions

@@ -36,7 +36,7 @@ use Rattle.value_norm.specs.Reading.{ValueIsTheOne}
 use Rattle.cell_codec.specs.Cells.{sealed, sealed_det, iv_of, unsealed, is_shape, IsShape, most_blocks}
 use Rattle.cell_codec.specs.Laws.{SealedIsReadBack, SealedIsCell, SealedHasShape, DerivedAreKeys, IvIsBlock}
 use Rattle.scalar.specs.Classes.{Class, Det, Rnd, IsNotSealed, Correspond, class_of}
-use Rattle.engine.specs.WellTyped.{IsAtomOf}
+use Rattle.engine.specs.WellTyped.{IsOfType, IsAtomOf}
 use Rattle.wire_messages.specs.declared.params.SentParam.{SentParam}
 use Rattle.server_core.specs.Params.{suited_atom}
 use Rattle.server_core.specs.States.{is_short}
@@ -45,7 +45,6 @@ use Rattle.conversation.specs.Keys.{seen, open_key, meta_of}
 use Rattle.conversation.specs.declared.faults.DriverFault.{DriverFault}
 use Rattle.plain_meaning.proofs.Pairs.{found, opened, keys_in, key_in, read_so, reads, det_reads, stands, Standing}
 use Rattle.plain_meaning.proofs.Told.{IsMetaOf}
-use Rattle.plain_meaning.proofs.Values.{value_of_type}
 
 pub record SealLaws : Type 0 where
   pub back : SealedIsReadBack
@@ -79,6 +78,24 @@ within_so (datum.Bin bytes) ty.Int h = absurd cc
 within_so (datum.Bin bytes) ty.BigInt h = absurd cc
 within_so (datum.Bin bytes) (ty.NVarChar most) h = absurd cc
 within_so (datum.Bin bytes) (ty.VarBinary most) h = grind (arith, nat_tests)
+
+of_type : (t : Ty) (d : Datum) → is_within d t ≡ true → IsOfType t d
+of_type ty.Int (datum.Num n) h = within_32 n h
+of_type ty.Int (datum.Text characters) h = absurd cc
+of_type ty.Int (datum.Bin bytes) h = absurd cc
+of_type ty.BigInt (datum.Num n) h = tt
+of_type ty.BigInt (datum.Text characters) h = absurd cc
+of_type ty.BigInt (datum.Bin bytes) h = absurd cc
+of_type (ty.NVarChar most) (datum.Num n) h = absurd cc
+of_type (ty.NVarChar most) (datum.Text characters) h = grind (arith, nat_tests)
+of_type (ty.NVarChar most) (datum.Bin bytes) h = absurd cc
+of_type (ty.VarBinary most) (datum.Num n) h = absurd cc
+of_type (ty.VarBinary most) (datum.Text characters) h = absurd cc
+of_type (ty.VarBinary most) (datum.Bin bytes) h = grind (arith, nat_tests)
+
+value_of_type : (cell : List ℕ → Bool) (t : Ty) (e : Enc) (v : Value) → value_is_within v t ≡ true → IsAtomOf cell t e (plain_atom v)
+value_of_type cell t e value.Null h = tt
+value_of_type cell t e (value.Is d) h = of_type t d h
 
 most_of : (t : Ty) → IsType t → most_bytes t ≤ 8000
 most_of ty.Int h = omega arith

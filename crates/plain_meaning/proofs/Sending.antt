@@ -76,14 +76,6 @@ module _ (used : ℕ → Bool) where
       let m : length es ≡ length ps = omega (arith, l) in
       used_one (λ (u : Use). u.enc) p ps e (told_among used (suc place) es) e (used_among used (suc place) es) (used place) refl (encs_used (suc place) ps es m)
 
-  each_one : {A : Type 0} (P : A → Type 0) (x : A) (xs : List A) (b : Bool) → P x → Each P xs → Each P (cond b (x ∷ xs) xs)
-  each_one P x xs true h k = (h, k)
-  each_one P x xs false h k = k
-
-  pub each_used : {A : Type 0} (P : A → Type 0) (place : ℕ) (xs : List A) → Each P xs → Each P (used_among used place xs)
-  each_used P place [] h = tt
-  each_used P place (x ∷ xs) h = each_one P x (used_among used (suc place) xs) (used place) h.0 (each_used P (suc place) xs h.1)
-
   at_rank : {A : Type 0} (x : A) (rest xs : List A) (m j : ℕ) (b : Bool) → slice_get rest m ≡ slice_get xs j → slice_get (cond b (x ∷ rest) rest) (cond b (suc m) m) ≡ slice_get xs j
   at_rank x rest xs m j true h = h
   at_rank x rest xs m j false h = h
@@ -167,33 +159,7 @@ encs_found b place (p ∷ ps) (e ∷ es) l d =
     at true more told r a = let s = same_name p.declaration.name in rw (s, r) refl
     at false more told r a = passed_over p ps more a ∙ ap (with_enc None) r
 
--- ---- plain parameters
-
-abbrev pub IsPlain : Enc → Type 0
-IsPlain e = e ≡ enc.Plain
-
-abbrev pub ArePlain : List Use → Type 0
-ArePlain us = Each (λ u. IsPlain u.enc) us
-
-pub plain_uses : (used : ℕ → Bool) (ps : List Param) (es : List Enc) → length es ≡ length ps → Each IsPlain es → ArePlain (uses_in ps (told_among used 0 es))
-plain_uses used ps es l h =
-    each_over IsPlain (λ (u : Use). u.enc) (uses_in ps (told_among used 0 es)) (subst (Each IsPlain) (sym (encs_used used 0 ps es l)) (each_used used IsPlain 0 es h))
-
-abbrev pub sent_plain : Use → SentParam
-sent_plain u = sent_param u (plain_atom u.param.value)
-
--- nothing is opened and nothing is drawn
-pub sealing_plain : (metas : List KeyMeta) (us : List Use) (k : List SentParam → Talk) (fails : DriverFault → Talk) → ArePlain us → sealing metas us k fails ≡ k (map sent_plain us)
-sealing_plain metas [] k fails h = refl
-sealing_plain metas (u ∷ us) k fails h =
-    ap (λ e. sealing_value metas e u.param.declaration.ty u.param.value (λ a. sealing metas us (λ ys. k (sent_param u a ∷ ys)) fails) fails) h.0
-    ∙ sealing_plain metas us (λ ys. k (sent_plain u ∷ ys)) fails h.1
-
-pub nothing_unopened : (keys : KeyMap) (metas : List KeyMeta) (es : List Enc) → Each IsPlain es → why_unopened keys metas es ≡ None
-nothing_unopened keys metas [] h = refl
-nothing_unopened keys metas (e ∷ es) h = ap (λ e. why_unopened keys metas (e ∷ es)) h.0 ∙ nothing_unopened keys metas es h.1
-
--- ---- values that fit are suited
+-- ---- values that fit
 
 abbrev pub IsFit : Param → Type 0
 IsFit p = value_is_within p.value p.declaration.ty ≡ true
@@ -205,28 +171,3 @@ fit_first p ps false e more k = absurd cc
 pub all_fit : (ps : List Param) → first_unfit ps ≡ None → Each IsFit ps
 all_fit [] h = tt
 all_fit (p ∷ ps) h = fit_first p ps (value_is_within p.value p.declaration.ty) refl (all_fit ps) h
-
-fit_one : (p : Param) (ps : List Param) (o : Option Enc) (es : List (Option Enc)) → IsFit p → Each (λ (u : Use). IsFit u.param) (uses_in ps es) → Each (λ (u : Use). IsFit u.param) (uses_in (p ∷ ps) (o ∷ es))
-fit_one p ps None es h k = k
-fit_one p ps (Some e) es h k = (h, k)
-
-pub fit_uses : (ps : List Param) (es : List (Option Enc)) → Each IsFit ps → Each (λ (u : Use). IsFit u.param) (uses_in ps es)
-fit_uses [] es h = tt
-fit_uses (p ∷ ps) [] h = tt
-fit_uses (p ∷ ps) (o ∷ es) h = fit_one p ps o es h.0 (fit_uses ps es h.1)
-
-suited_plain : (name : List ℕ) (ty : Ty) (e : Enc) (v : Value) → e ≡ enc.Plain → value_is_within v ty ≡ true
-    → suited_atom e (record { name = name; ty = ty; enc = e; atom = plain_atom v }) ≡ Ok (plain_atom v)
-suited_plain name ty e value.Null p h = rw p refl
-suited_plain name ty e (value.Is datum) p h = rw (p, h) refl
-
-pub all_suited : (us : List Use) → ArePlain us → Each (λ (u : Use). IsFit u.param) us → suited (map (λ (u : Use). u.enc) us) (map sent_plain us) ≡ Ok (map (λ (u : Use). plain_atom u.param.value) us)
-all_suited [] h k = refl
-all_suited (u ∷ us) h k =
-    let one = suited_plain u.param.declaration.name u.param.declaration.ty u.enc u.param.value h.0 k.0 in
-    let rest = all_suited us h.1 k.1 in
-    rw (one, rest) refl
-
-pub declared_sent : (us : List Use) → map declaration_of (map sent_plain us) ≡ map (λ (u : Use). u.param.declaration) us
-declared_sent [] = refl
-declared_sent (u ∷ us) = ap (λ ds. u.param.declaration ∷ ds) (declared_sent us)

@@ -23,13 +23,7 @@ EndsWith (BadReply taken) outcomes wanted = ⊥
 abbrev pub Agrees : {State : Type 0} → Passed State → List Outcome → Type 0
 Agrees p wanted = EndsWith p.end p.outcomes wanted
 
+-- whatever columns are protected, over proper values and random bytes that are bytes
 abbrev pub ServedIsPlain : Type 0
-ServedIsPlain = (keys : KeyMap) (steps : List Step) → All IsWithinLimits steps → (entropy : List ℕ)
-    → Agrees (over serve keys (talk steps nobody) 0 entropy empty_state []) (reference keys steps nobody empty_world)
-
--- ---- where columns are protected
-
--- so it is for sealed values too, over proper values and random bytes that are bytes
-abbrev pub ProtectedIsPlain : Type 0
-ProtectedIsPlain = (keys : KeyMap) (steps : List Step) → All IsWithinLimits steps → All IsProperStep steps → (entropy : List ℕ) → AreBytes entropy
+ServedIsPlain = (keys : KeyMap) (steps : List Step) → All IsWithinLimits steps → All IsProperStep steps → (entropy : List ℕ) → AreBytes entropy
     → Agrees (over serve keys (talk steps nobody) 0 entropy empty_state []) (reference keys steps nobody empty_world)

@@ -1,10 +1,10 @@
-//! The laws of the plaintext meaning: functions that do nothing, whose contracts are the laws.
+//! The law of the plaintext meaning: a function that does nothing, whose contract is the law.
 
-ghost use Rattle.plain_meaning.specs.Laws.{ProtectedIsPlain, ServedIsPlain};
+ghost use Rattle.plain_meaning.specs.Laws.{ServedIsPlain};
 
 use catalog::laws::{definitions_are_followed, ids_are_not_reused, keys_are_told};
 use cell_codec::{derived_keys_are_keys, sealing_is_read_back, sealing_makes_cells};
-use enc_types::laws::{typed_statements, typings_are_of_columns};
+use enc_types::laws::typings_are_of_columns;
 use engine::laws::{
     rows_are_shown, step_keeps_worlds, step_renamed, step_simulates, typed_statements_are_admitted,
 };
@@ -12,29 +12,14 @@ use resolve::laws::{bound_statements_are, prepared_alone};
 use value_norm::{norm_is_bounded, value_of_is_the_one};
 
 /// Over a fresh server the conversation of each script comes to the script's plaintext meaning, or
-/// to a front of it where random bytes are short; no reply is one that isn't awaited.
+/// to a front of it where random bytes are short; no reply is one that isn't awaited. So it is
+/// whatever columns are protected, over proper values and random bytes: a cell stands for the value
+/// that it opens to under its class's key, and in a deterministic class it is that value's seal.
 pub fn served_is_plain()
     ensures { ServedIsPlain }
 {
     bound_statements_are();
     prepared_alone();
-    typed_statements();
-    typings_are_of_columns();
-    typed_statements_are_admitted();
-    step_renamed();
-    step_keeps_worlds();
-    rows_are_shown();
-}
-
-/// The same whatever columns are protected, over proper values and random bytes: a cell stands for
-/// the value that it opens to under its class's key, and in a deterministic class it is that
-/// value's seal.
-pub fn protected_is_plain()
-    ensures { ProtectedIsPlain }
-{
-    bound_statements_are();
-    prepared_alone();
-    typed_statements();
     typings_are_of_columns();
     typed_statements_are_admitted();
     step_renamed();

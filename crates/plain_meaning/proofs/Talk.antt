@@ -12,6 +12,9 @@ use Rattle.ae_base.specs.declared.batches.KeyMeta.{KeyMeta}
 use Rattle.ae_base.specs.declared.types.Enc.{Enc}
 use Rattle.ae_base.specs.declared.types.Enc.TheVariants as enc
 use Rattle.ae_base.specs.declared.types.Ty.{Ty}
+use Rattle.ae_base.specs.declared.types.Ty.TheVariants as ty
+use Rattle.ae_base.specs.declared.values.Datum.{Datum}
+use Rattle.ae_base.specs.declared.values.Datum.TheVariants as datum
 use Rattle.ae_base.specs.declared.values.Value.{Value}
 use Rattle.ae_base.specs.declared.values.Value.TheVariants as value
 use Rattle.ae_edge.specs.Devices.{IsFront}
@@ -22,14 +25,14 @@ use Rattle.hmac_kdf.specs.Keys.{Keys}
 use Rattle.cell_codec.specs.Cells.{unsealed}
 use Rattle.scalar.specs.Classes.{Class, Open, Det, Rnd, Correspond, RowsCorrespond, class_of}
 use Rattle.engine.specs.Correspond.{class_of_result}
-use Rattle.engine.specs.WellTyped.{IsAtomOf}
+use Rattle.engine.specs.WellTyped.{IsOfType, IsAtomOf}
 use Rattle.engine.specs.declared.answers.ResultColumn.{ResultColumn}
 use Rattle.wire_messages.specs.declared.params.SentParam.{SentParam}
 use Rattle.wire_messages.specs.declared.replies.Done.TheVariants.{Answered}
 use Rattle.wire_messages.specs.declared.replies.Reply.{Reply}
 use Rattle.wire_messages.specs.declared.replies.Reply.TheVariants.{Row, Ended}
 use Rattle.server_core.specs.Serve.{State, serve}
-use Rattle.conversation.specs.Cells.{det_atom, rnd_atom, is_atom_of, is_row_of, read_atom, read_atoms, value_in}
+use Rattle.conversation.specs.Cells.{det_atom, rnd_atom, is_of_kind, is_atom_of, is_row_of, read_atom, read_atoms, value_in}
 use Rattle.conversation.specs.Drive.{Listened, Caught, listen, over, passed_by}
 use Rattle.conversation.specs.Keys.{open_key, meta_of}
 use Rattle.conversation.specs.Pending.{Use}
@@ -44,13 +47,29 @@ use Rattle.conversation.specs.declared.sessions.Session.TheVariants.{Idle, Readi
 use Rattle.plain_meaning.specs.Laws.{Agrees}
 use Rattle.plain_meaning.specs.Reference.{unopened_or, why_unopened, value_of}
 use Rattle.plain_meaning.proofs.Pairs.{found, opened, keys_in, key_in, stands, Standing, Opens, rnd_opens, det_opens}
-use Rattle.plain_meaning.proofs.Reading.{types_shown, kind_of_type}
 use Rattle.plain_meaning.proofs.Sealed.{IsRndSeal, IsSealed}
 use Rattle.plain_meaning.proofs.Sending.{Each}
 use Rattle.plain_meaning.proofs.Told.{IsMetaOf}
 
 abbrev pub encs_in : List Use → List Enc
 encs_in us = map (λ (u : Use). u.enc) us
+
+abbrev pub types_shown : List ResultColumn → List ColumnType
+types_shown columns = map (λ (c : ResultColumn). record { ty = c.ty; enc = c.enc }) columns
+
+kind_of_type : (t : Ty) (d : Datum) → IsOfType t d → is_of_kind d t ≡ true
+kind_of_type ty.Int (datum.Num n) h = refl
+kind_of_type ty.Int (datum.Text characters) h = absurd h
+kind_of_type ty.Int (datum.Bin bytes) h = absurd h
+kind_of_type ty.BigInt (datum.Num n) h = refl
+kind_of_type ty.BigInt (datum.Text characters) h = absurd h
+kind_of_type ty.BigInt (datum.Bin bytes) h = absurd h
+kind_of_type (ty.NVarChar most) (datum.Num n) h = absurd h
+kind_of_type (ty.NVarChar most) (datum.Text characters) h = refl
+kind_of_type (ty.NVarChar most) (datum.Bin bytes) h = absurd h
+kind_of_type (ty.VarBinary most) (datum.Num n) h = absurd h
+kind_of_type (ty.VarBinary most) (datum.Text characters) h = absurd h
+kind_of_type (ty.VarBinary most) (datum.Bin bytes) h = refl
 
 -- each parameter as it is sent
 abbrev pub AreSealed : KeyMap → List KeyMeta → List Use → List SentParam → Type 0
@@ -59,6 +78,12 @@ AreSealed keys metas [] (p ∷ ps) = ⊥
 AreSealed keys metas (u ∷ us) [] = ⊥
 AreSealed keys metas (u ∷ us) (p ∷ ps) =
     ((p ≡ sent_param u p.atom) × IsSealed keys metas u.enc u.param.declaration.ty u.param.value p.atom) × AreSealed keys metas us ps
+
+unopened_later : (r : Result Keys DriverFault) (ks : Keys) (o q : Option DriverFault) → r ≡ Ok ks → o ≡ q → unopened_or r o ≡ q
+unopened_later r ks o q e f = rw (e, f) refl
+
+unopened_here : (r : Result Keys DriverFault) (f : DriverFault) (o : Option DriverFault) → r ≡ Err f → unopened_or r o ≡ Some f
+unopened_here r f o e = rw e refl
 
 module _ (keys : KeyMap) (w : State) (text : List Outcome) where
   -- ---- parameters
@@ -89,12 +114,6 @@ module _ (keys : KeyMap) (w : State) (text : List Outcome) where
         → Over (on (λ ks. drawing ks t v k) fails r) entropy
     rnd_agrees t v m k fails entropy (Ok ks) e a f g = drawing_agrees ks t v k entropy a (λ x left l s. f ks x left l e s)
     rnd_agrees t v m k fails entropy (Err x) e a f g = g x e
-
-    unopened_later : (r : Result Keys DriverFault) (ks : Keys) (o q : Option DriverFault) → r ≡ Ok ks → o ≡ q → unopened_or r o ≡ q
-    unopened_later r ks o q e f = rw (e, f) refl
-
-    unopened_here : (r : Result Keys DriverFault) (f : DriverFault) (o : Option DriverFault) → r ≡ Err f → unopened_or r o ≡ Some f
-    unopened_here r f o e = rw e refl
 
     -- all of them are sealed, or a key isn't opened
     abbrev Seals : List Use → Type 0
@@ -165,12 +184,6 @@ module _ (keys : KeyMap) (w : State) (text : List Outcome) where
     key_agrees m k fails (Ok ks) e f g = f ks e
     key_agrees m k fails (Err x) e f g = g x e
 
-    later_one : (r : Result Keys DriverFault) (ks : Keys) (o q : Option DriverFault) → r ≡ Ok ks → o ≡ q → unopened_or r o ≡ q
-    later_one r ks o q e f = rw (e, f) refl
-
-    here_one : (r : Result Keys DriverFault) (f : DriverFault) (o : Option DriverFault) → r ≡ Err f → unopened_or r o ≡ Some f
-    here_one r f o e = rw e refl
-
     column_agrees : (c : ResultColumn) (e : Enc) → c.enc ≡ e → (cs : List ResultColumn) → OpensAll cs → (k : List (Option Keys) → Talk) (fails : DriverFault → Talk)
         → ((os : List (Option Keys)) → why_unopened keys metas (e ∷ columns_encs cs) ≡ None → AreOpened metas (c ∷ cs) os → At (k os))
         → ((f : DriverFault) → why_unopened keys metas (e ∷ columns_encs cs) ≡ Some f → At (fails f))
@@ -180,15 +193,15 @@ module _ (keys : KeyMap) (w : State) (text : List Outcome) where
     column_agrees c (enc.Det id) i cs more k fails f g =
         key_agrees (meta_of metas id) (λ o. opening metas (types_shown cs) (λ os. k (o ∷ os)) fails) fails (open_key keys (meta_of metas id)) refl
         (λ ks o. more (λ os. k (Some ks ∷ os)) fails
-        (λ os n s. f (Some ks ∷ os) (later_one (open_key keys (meta_of metas id)) ks (why_unopened keys metas (columns_encs cs)) None o n) (subst (λ e. OpensAt e (Some ks) metas) (sym i) (ks, o, refl), s))
-        (λ y n. g y (later_one (open_key keys (meta_of metas id)) ks (why_unopened keys metas (columns_encs cs)) (Some y) o n)))
-        (λ y o. g y (here_one (open_key keys (meta_of metas id)) y (why_unopened keys metas (columns_encs cs)) o))
+        (λ os n s. f (Some ks ∷ os) (unopened_later (open_key keys (meta_of metas id)) ks (why_unopened keys metas (columns_encs cs)) None o n) (subst (λ e. OpensAt e (Some ks) metas) (sym i) (ks, o, refl), s))
+        (λ y n. g y (unopened_later (open_key keys (meta_of metas id)) ks (why_unopened keys metas (columns_encs cs)) (Some y) o n)))
+        (λ y o. g y (unopened_here (open_key keys (meta_of metas id)) y (why_unopened keys metas (columns_encs cs)) o))
     column_agrees c (enc.Rnd id) i cs more k fails f g =
         key_agrees (meta_of metas id) (λ o. opening metas (types_shown cs) (λ os. k (o ∷ os)) fails) fails (open_key keys (meta_of metas id)) refl
         (λ ks o. more (λ os. k (Some ks ∷ os)) fails
-        (λ os n s. f (Some ks ∷ os) (later_one (open_key keys (meta_of metas id)) ks (why_unopened keys metas (columns_encs cs)) None o n) (subst (λ e. OpensAt e (Some ks) metas) (sym i) (ks, o, refl), s))
-        (λ y n. g y (later_one (open_key keys (meta_of metas id)) ks (why_unopened keys metas (columns_encs cs)) (Some y) o n)))
-        (λ y o. g y (here_one (open_key keys (meta_of metas id)) y (why_unopened keys metas (columns_encs cs)) o))
+        (λ os n s. f (Some ks ∷ os) (unopened_later (open_key keys (meta_of metas id)) ks (why_unopened keys metas (columns_encs cs)) None o n) (subst (λ e. OpensAt e (Some ks) metas) (sym i) (ks, o, refl), s))
+        (λ y n. g y (unopened_later (open_key keys (meta_of metas id)) ks (why_unopened keys metas (columns_encs cs)) (Some y) o n)))
+        (λ y o. g y (unopened_here (open_key keys (meta_of metas id)) y (why_unopened keys metas (columns_encs cs)) o))
 
     pub opening_agrees : (columns : List ResultColumn) → OpensAll columns
     opening_agrees [] k fails f g = f [] refl tt

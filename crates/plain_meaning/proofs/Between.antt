@@ -1,0 +1,178 @@
+-- The worlds and the sessions between steps.
+use Rattle.std.proofs.Common.{◌≡◌, inl, inr, ℕ, zero, suc, ◌+◌, ◌-◌, ◌≤◌, List, [], ◌∷◌, ◌++◌, map, length, replicate, Option, Some, None, Result, Ok, Err, Bool, true, false, cond, refl, sym, ap, ◌∙◌, subst, arith, add-one, ◌⊎◌}
+use Rattle.std.specs.Prelude.{IsSome, nat_lt, encode_utf8_all, slice_index_or, slice_set, ◌==◌}
+use Rattle.std.specs.List.{All, AllZip, Contains}
+use Rattle.std.proofs.lemmas.Bool.{eqb-true}
+use Rattle.std.proofs.lemmas.List.{length-map}
+use Rattle.std.proofs.lemmas.List.Elements.{All-head, All-tail, All-nil, All-cons, All-map, All-contains}
+use Rattle.ae_base.specs.Atoms.{Atom, plain_atom}
+use Rattle.ae_base.specs.Batches.{first_unfit}
+use Rattle.ae_base.specs.Results.{◌>>=◌}
+use Rattle.ae_base.specs.declared.batches.Batch.{Batch}
+use Rattle.ae_base.specs.declared.batches.Param.{Param}
+use Rattle.ae_base.specs.declared.faults.SqlFault.{SqlFault}
+use Rattle.ae_base.specs.declared.faults.SqlFault.TheVariants.{Moved}
+use Rattle.ae_edge.specs.Vaults.{KeyMap}
+use Rattle.sql_tree.specs.Bound.{BoundStatement, Bound}
+use Rattle.catalog.specs.Catalogs.{Catalog, nothing_defined, master_named}
+use Rattle.catalog.specs.WellFormed.{IsCatalog, IsKeyThere}
+use Rattle.enc_types.specs.Laws.{TypedStatements, TypingsAreOfColumns, IsOfColumn}
+use Rattle.enc_types.specs.UsedAlone.{used_among, place_among, is_used, alone}
+use Rattle.resolve.specs.Bind.{type_of}
+use Rattle.resolve.specs.Laws.{BoundStatementsAre, PreparedAlone}
+use Rattle.engine.specs.BoundOn.{HasMaster, IsBoundOn}
+use Rattle.engine.specs.Laws.{StepRenamed, StepKeepsWorlds, RowsAreShown, TypedStatementsAreAdmitted, StepSimulates, IsShownBy}
+use Rattle.engine.specs.Step.{Answer, Rows, Changed, Defined, Outcome, done_by, step}
+use Rattle.engine.specs.WellTyped.{AreValuesOf, IsAnswerOf, AreResults}
+use Rattle.engine.specs.Worlds.{World, empty_world}
+use Rattle.engine.specs.declared.answers.ResultColumn.{ResultColumn}
+use Rattle.wire_messages.specs.Messages.{Header}
+use Rattle.wire_messages.specs.declared.columns.SentColumn.{SentColumn}
+use Rattle.wire_messages.specs.declared.replies.Done.TheVariants.{Answered}
+use Rattle.wire_messages.specs.declared.replies.Reply.TheVariants.{Row, Ended}
+use Rattle.server_core.specs.Describing.{Meant, understood, description, keys_of, used_from}
+use Rattle.server_core.specs.Params.{declaration_of, suited_atom, suited}
+use Rattle.server_core.specs.Serve.{refused, described, answered, executed, sent_column, header, serve}
+use Rattle.server_core.specs.States.{is_short, IsState}
+use Rattle.conversation.specs.Batches.{unfit_by, why_unfit, unless}
+use Rattle.conversation.specs.Drive.{End, Done, Dry, BadReply, Listened, Caught, listen, passed_on, over}
+use Rattle.conversation.specs.Pending.{Pending, Use, uses_in, uses_of}
+use Rattle.conversation.specs.Sessions.{nobody, session_at, with_session, begun, described_params, titles_of}
+use Rattle.conversation.specs.Talk.{Talk, Asks, Hears, Prints, nothing_shown, Said}
+use Rattle.conversation.specs.Turns.{opening, answered_on, described_on, describing, executing, asked, rows_on, rested, reading, sent_param, over_on}
+use Rattle.conversation.specs.declared.faults.DriverFault.{DriverFault}
+use Rattle.conversation.specs.declared.faults.DriverFault.TheVariants.{StillPending, NothingPending}
+use Rattle.conversation.specs.declared.sessions.ColumnType.{ColumnType}
+use Rattle.conversation.specs.declared.sessions.Session.{Session}
+use Rattle.script_lang.specs.Limits.{IsWithinLimits, HasParams, HasProperParams, IsProperStep}
+use Rattle.script_lang.specs.declared.steps.Step.{Step}
+use Rattle.ae_base.specs.Types.{IsType}
+use Rattle.ae_base.specs.Values.{IsProper}
+use Rattle.ae_base.specs.declared.batches.KeyMeta.{KeyMeta}
+use Rattle.ae_base.specs.declared.batches.ParamDecl.{ParamDecl}
+use Rattle.ae_base.specs.declared.types.Enc.{Enc}
+use Rattle.ae_base.specs.declared.types.Ty.{Ty}
+use Rattle.aes_block.specs.Bytes.{AreBytes}
+use Rattle.catalog.specs.Laws.{DefinitionsAreFollowed, IdsAreNotReused, KeysAreTold}
+use Rattle.sql_tree.specs.declared.bound.ColumnSite.{ColumnSite}
+use Rattle.sql_tree.specs.Uses.{uses}
+use Rattle.scalar.specs.Classes.{BothAnswer, RowsCorrespond}
+use Rattle.engine.specs.Correspond.{WorldsCorrespond, ContentsCorrespond, AnswersCorrespond, OutcomesCorrespond, class_of_result}
+use Rattle.engine.specs.Executes.{executes}
+use Rattle.engine.specs.Typed.{param_classes}
+use Rattle.wire_messages.specs.declared.params.SentParam.{SentParam}
+use Rattle.wire_messages.specs.declared.params.UsedParam.{UsedParam}
+use Rattle.wire_messages.specs.declared.replies.Reply.{Reply}
+use Rattle.hmac_kdf.specs.Keys.{Keys}
+use Rattle.plain_meaning.specs.Laws.{Agrees, EndsWith, ServedIsPlain}
+use Rattle.plain_meaning.specs.Reference.{Came, came, declared, pending, means, reference}
+use Rattle.plain_meaning.specs.Steps.{number_of, turn, talk}
+use Rattle.sql_tree.specs.Bound as bound
+use Rattle.engine.specs.Step as engine
+use Rattle.wire_messages.specs.declared.requests.Request.TheVariants as request
+use Rattle.conversation.specs.declared.outcomes.Outcome as outcomes
+use Rattle.conversation.specs.declared.outcomes.Outcome.TheVariants as outcome
+use Rattle.conversation.specs.declared.sessions.Session.TheVariants as session
+use Rattle.script_lang.specs.declared.steps.Step.TheVariants as steps_of
+use Rattle.ae_base.specs.declared.types.Enc.TheVariants as enc
+use Rattle.plain_meaning.specs.Reference as plain
+use Rattle.plain_meaning.proofs.History.{Known}
+use Rattle.plain_meaning.proofs.Pairs.{Standing}
+use Rattle.plain_meaning.proofs.Sealed.{IsSendable}
+use Rattle.plain_meaning.proofs.Sending.{Each, told_among}
+use Rattle.plain_meaning.proofs.Versions.{Newer}
+
+-- the plain world beside a server's
+abbrev pub beside : World → List (List (List Atom)) → World
+beside w others = record { catalog = w.catalog; contents = others }
+
+-- each cell of the server's world stands for the plain one's value, under a key of the history
+pub record StandsFor (keys : KeyMap) (history : List KeyMeta) (w : World) (others : List (List (List Atom))) : Type 0 where
+  pub known : Known history w.catalog
+  pub pairs : ContentsCorrespond (Standing keys history) w.catalog.tables w.contents others
+  pub state : IsState w
+
+pub record DescribedAs (catalog : Catalog) (p : Pending) : Type 0 where
+  pub meant : Meant
+  pub understood : understood catalog p.batch.text (declared p.batch) ≡ Ok meant
+  pub long : length meant.encs ≡ length p.batch.params
+  pub encs : p.encs ≡ told_among (is_used meant.bound) 0 meant.encs
+  pub metas : p.keys ≡ keys_of catalog (used_among (is_used meant.bound) 0 meant.encs)
+
+abbrev pub IsSendableParam : Param → Type 0
+IsSendableParam q = IsSendable q.declaration.ty q.value
+
+pub record HoldsBatch (catalog : Catalog) (p : Pending) : Type 0 where
+  pub past : p.version ≤ catalog.version
+  pub sendable : Each IsSendableParam p.batch.params
+  pub same : p.version ≡ catalog.version → DescribedAs catalog p
+
+abbrev pub Holds : Catalog → Session → Type 0
+Holds catalog session.Idle = Unit {0}
+Holds catalog (session.Pending p) = HoldsBatch catalog p
+Holds catalog (session.Begun batch) = ⊥
+Holds catalog session.Sent = ⊥
+Holds catalog (session.Reading columns keys count) = ⊥
+Holds catalog (session.Skipping columns count) = ⊥
+
+batch_newer : (old new : Catalog) → Newer old new → (p : Pending) → HoldsBatch old p → HoldsBatch new p
+batch_newer old new (inl e) p h = subst (λ c. HoldsBatch c p) (sym e) h
+batch_newer old new (inr lt) p h = record {
+  past = let q = h.past in omega (arith, lt, q);
+  sendable = h.sendable;
+  same = λ e. let q = h.past in absurd (omega (arith, e, lt, q));
+}
+
+holds_newer : (old new : Catalog) → Newer old new → (s : Session) → Holds old s → Holds new s
+holds_newer old new n session.Idle h = tt
+holds_newer old new n (session.Pending p) h = batch_newer old new n p h
+holds_newer old new n (session.Begun batch) h = absurd h
+holds_newer old new n session.Sent h = absurd h
+holds_newer old new n (session.Reading columns keys count) h = absurd h
+holds_newer old new n (session.Skipping columns count) h = absurd h
+
+abbrev pub AllHold : Catalog → List Session → Type 0
+AllHold catalog sessions = Each (Holds catalog) sessions
+
+pub all_newer : (old new : Catalog) → Newer old new → (ss : List Session) → AllHold old ss → AllHold new ss
+all_newer old new n [] h = tt
+all_newer old new n (s ∷ ss) h = (holds_newer old new n s h.0, all_newer old new n ss h.1)
+
+pub hold_place : (catalog : Catalog) (ss : List Session) (i : ℕ) → AllHold catalog ss → Holds catalog (slice_index_or ss i session.Idle)
+hold_place catalog [] i h = tt
+hold_place catalog (s ∷ ss) zero h = h.0
+hold_place catalog (s ∷ ss) (suc i) h = hold_place catalog ss i h.1
+
+pub hold_set : (catalog : Catalog) (ss : List Session) (i : ℕ) (s : Session) → AllHold catalog ss → Holds catalog s → AllHold catalog (slice_set ss i s)
+hold_set catalog [] i s h g = tt
+hold_set catalog (x ∷ ss) zero s h g = (g, h.1)
+hold_set catalog (x ∷ ss) (suc i) s h g = (h.0, hold_set catalog ss i s h.1 g)
+
+pub none_held : (catalog : Catalog) (n : ℕ) → AllHold catalog (replicate n session.Idle)
+none_held catalog zero = tt
+none_held catalog (suc n) = (tt, none_held catalog n)
+
+-- ---- from the beginning
+
+nothing_kept : IsCatalog nothing_defined
+nothing_kept = record {
+  masters_differ = λ i j d lt within. absurd (omega arith);
+  keys_differ = λ i j d lt within. absurd (omega arith);
+  tables_differ = λ i j d lt within. absurd (omega arith);
+  ids_ascend = λ i j d lt within. absurd (omega arith);
+  ids_lie_below = λ k d lt. absurd (omega arith);
+  masters_there = λ k d lt. absurd (omega arith);
+  keys_there = λ k d lt. absurd (omega arith);
+  few_masters = omega arith;
+  few_keys = omega arith;
+  few_tables = omega arith;
+  next_id = (omega arith, omega arith);
+  version = omega arith;
+}
+
+pub empty_stands : (keys : KeyMap) → StandsFor keys [] empty_world []
+empty_stands keys = record {
+  known = record { told = λ id m e. absurd cc; below = λ id m e. absurd cc };
+  pairs = tt;
+  state = record { catalog = nothing_kept; shaped = tt; keys = λ k d lt. absurd (omega arith); tables = tt };
+}
