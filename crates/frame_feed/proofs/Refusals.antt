@@ -1,5 +1,5 @@
 -- What spells no request, or no reply, spells no message of its direction; what spells a message has a header.
-use Rattle.std.proofs.Common.{◌≡◌, ◌≤◌, ◌+◌, ℕ, List, Bool, take, length, length-append, ap, arith, inl, inr}
+use Rattle.std.proofs.Common.{◌≤◌, ℕ, List, take, length, length-append, ap, arith, inl, inr}
 use Rattle.std.proofs.lemmas.List.{length-take-le}
 use Rattle.wire_messages.specs.declared.replies.Reply.{Reply}
 use Rattle.wire_messages.specs.declared.requests.Request.{Request}

@@ -1,5 +1,5 @@
 -- The messages to the server are requests, those to the driver replies.
-use Rattle.std.proofs.Common.{◌≡◌, ◌<◌, ◌^◌, ◌+◌, ◌∙◌, ℕ, List, [], ◌∷◌, ◌++◌, length, map, refl, sym, ap, subst, inl, inr}
+use Rattle.std.proofs.Common.{◌≡◌, ◌<◌, ◌^◌, ◌+◌, ◌∙◌, ℕ, List, [], ◌∷◌, length, map, refl, sym, ap, subst, inl, inr}
 use Rattle.std.proofs.Common.{◌↔◌, flat_map}
 use Rattle.std.specs.List.{All}
 use Rattle.wire_messages.specs.Conditions.{IsRequest, IsReply}

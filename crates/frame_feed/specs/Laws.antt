@@ -1,5 +1,5 @@
 -- Laws of a feed.
-use Rattle.std.specs.Prelude.{◌≡◌, ◌<◌, ◌^◌, ◌↔◌, ℕ, List, ◌∷◌, length, map, Some, flat_map}
+use Rattle.std.specs.Prelude.{◌≡◌, ◌<◌, ◌^◌, ◌↔◌, ℕ, List, length, map, Some, flat_map}
 use Rattle.std.specs.List.{All}
 use Rattle.wire_messages.specs.Conditions.{IsRequest, IsReply}
 use Rattle.wire_messages.specs.declared.replies.Reply.{Reply}

@@ -1,8 +1,6 @@
-//! Tests of frames, by tables of bytes.
+//! Tests of frames and of streams of them, by tables of bytes.
 #![tactic(auto)]
 
-#[cfg(test)]
-mod frames;
 #[cfg(test)]
 mod streams;
 #[cfg(test)]

@@ -186,9 +186,7 @@ static NO_REPLIES: [&[u8]; 29] = [
     b"\x01\x85\x00\x00\x00\x05)\x00\x02@p",
 ];
 
-static CUT_REQUESTS: [&[u8]; 4] = [
-    // nothing
-    b"",
+static CUT_REQUESTS: [&[u8]; 3] = [
     // five bytes
     b"\x01\x01\x00\x00\x00",
     // a header
