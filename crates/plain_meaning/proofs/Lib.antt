@@ -10,3 +10,4 @@ mod Told
 mod Understood
 mod Used
 mod Versions
+mod Worked

@@ -1,9 +1,10 @@
--- The plaintext meaning of scripts, computed: a plain table; a table with a protected column, whose master key the vault lacks; a half batch that waits while a
--- definition comes; and what the driver refuses by itself.
-use Rattle.std.specs.Prelude.{◌≡◌, ℕ, pos, List, [], ◌∷◌, codes, refl}
+-- The plaintext meaning of scripts, computed: a plain table; a half batch that waits while a definition comes; a protected column whose
+-- master key the vault lacks; and what the driver refuses by itself.
+use Rattle.std.specs.Prelude.{◌≡◌, ℕ, pos, List, [], ◌∷◌, false, codes, refl}
 use lib.Utf8.{encode}
 use Rattle.ae_base.specs.declared.batches.Param.{Param}
 use Rattle.ae_base.specs.declared.faults.SqlFault.TheVariants.{Moved}
+use Rattle.ae_base.specs.declared.types.Enc.TheVariants as enc
 use Rattle.ae_base.specs.declared.types.Ty.{Ty}
 use Rattle.ae_base.specs.declared.types.Ty.TheVariants as ty
 use Rattle.ae_base.specs.declared.values.Datum.TheVariants.{Num}
@@ -14,7 +15,7 @@ use Rattle.bound_checks.specs.Checks.{checked}
 use Rattle.resolve.specs.Bind.{bind}
 use Rattle.enc_types.specs.Least.{inferred, least, has_typing, clash_behind}
 use Rattle.enc_types.specs.Rules.{rules}
-use Rattle.engine.specs.Worlds.{empty_world}
+use Rattle.engine.specs.Worlds.{World, empty_world}
 use Rattle.server_core.specs.Describing.{understood}
 use Rattle.conversation.specs.Sessions.{nobody}
 use Rattle.conversation.specs.declared.faults.DriverFault.TheVariants.{StillPending, NothingPending, DoesNotFit, NoMasterKey}
@@ -70,26 +71,37 @@ pub a_value_that_does_not_fit :
     meaning (whole 1 (codes "SELECT a FROM t WHERE a = @p") (number (codes "p") 2147483648 ∷ []) ∷ []) ≡ Failed (DoesNotFit (codes "p")) ∷ []
 a_value_that_does_not_fit = refl
 
--- the driver can't protect a value, nor show one; the names, the types and the encryptions are found all the same
-pub a_protected_column :
-    meaning (
-    whole 1 (codes "CREATE COLUMN MASTER KEY M WITH (KEY_STORE_PROVIDER_NAME = N'KEYFILE', KEY_PATH = N'main')") []
-    ∷ whole 1 (codes "CREATE COLUMN ENCRYPTION KEY K WITH VALUES (COLUMN_MASTER_KEY = M, ALGORITHM = 'AES_256_KW', ENCRYPTED_VALUE = 0x00)") []
-    ∷ whole 1 (codes "CREATE TABLE t (a INT ENCRYPTED WITH (COLUMN_ENCRYPTION_KEY = K, ENCRYPTION_TYPE = DETERMINISTIC, ALGORITHM = 'AEAD_AES_256_CBC_HMAC_SHA256'), b INT)") []
-    ∷ half 2 (codes "INSERT INTO t (a, b) VALUES (@p, 7)") (number (codes "p") 5 ∷ [])
+-- a world whose table t has a protected column a and a plain column b
+abbrev pub keyed : List ℕ → World
+keyed wrapped = record {
+  catalog = record {
+    masters = record { name = codes "M"; path = codes "main" } ∷ [];
+    keys = record { id = 1; name = codes "K"; master = codes "M"; wrapped = wrapped } ∷ [];
+    tables = record {
+      name = codes "t";
+      columns = record { name = codes "a"; ty = ty.Int; enc = enc.Det 1; not_null = false } ∷ record { name = codes "b"; ty = ty.Int; enc = enc.Plain; not_null = false } ∷ [];
+      uniques = [];
+    } ∷ [];
+    next_id = 2;
+    version = 3;
+  };
+  contents = [] ∷ [];
+}
+
+-- where the vault lacks the master key, no value is protected and none is shown
+pub a_protected_column : (wrapped : List ℕ) →
+    reference [] (
+    half 2 (codes "INSERT INTO t (a, b) VALUES (@p, 7)") (number (codes "p") 5 ∷ [])
     ∷ Execute 2
     ∷ whole 1 (codes "INSERT INTO t (a, b) VALUES (NULL, 7)") []
     ∷ whole 1 (codes "SELECT b FROM t") []
     ∷ whole 1 (codes "SELECT a FROM t") []
-    ∷ [])
-    ≡ Defined
-    ∷ Defined
-    ∷ Defined
-    ∷ Described (record { name = codes "p"; enc = named.Det (codes "K") } ∷ [])
+    ∷ []) nobody (keyed wrapped)
+    ≡ Described (record { name = codes "p"; enc = named.Det (codes "K") } ∷ [])
     ∷ Failed (NoMasterKey (codes "main"))
     ∷ Changed 1
     ∷ Rows (record { titles = codes "b" ∷ []; rows = (value.Is (Num (pos 7)) ∷ []) ∷ [] })
     ∷ Failed (NoMasterKey (codes "main"))
     ∷ []
 unfolding understood parsed tree_of operand_in inner_in bind checked inferred least has_typing clash_behind rules encode
-a_protected_column = refl
+a_protected_column wrapped = refl

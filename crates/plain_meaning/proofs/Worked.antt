@@ -1,0 +1,61 @@
+-- The plaintext meaning over a protected column whose key unwraps: what is inserted is found by its value, and shown.
+use Rattle.std.proofs.Common.{◌≡◌, ℕ, List, [], ◌∷◌, Some, refl, ap, ◌∙◌}
+use Rattle.std.specs.Prelude.{pos, codes}
+use lib.Utf8.{encode}
+use Rattle.ae_base.specs.declared.atoms.AtomOf.TheVariants as atom
+use Rattle.ae_base.specs.declared.values.Datum.TheVariants.{Num}
+use Rattle.ae_base.specs.declared.values.Value.TheVariants as value
+use Rattle.ae_edge.specs.Vaults.{KeyMap}
+use Rattle.key_store.specs.Opening.{opened}
+use Rattle.sql_grammar.specs.Parse.{operand_in, inner_in}
+use Rattle.sql_grammar.specs.Texts.{tree_of, parsed}
+use Rattle.bound_checks.specs.Checks.{checked}
+use Rattle.resolve.specs.Bind.{bind}
+use Rattle.enc_types.specs.Least.{inferred, least, has_typing, clash_behind}
+use Rattle.enc_types.specs.Rules.{rules}
+use Rattle.engine.specs.Worlds.{World}
+use Rattle.server_core.specs.Describing.{understood}
+use Rattle.conversation.specs.Sessions.{nobody, with_session}
+use Rattle.conversation.specs.declared.outcomes.Outcome.{Outcome}
+use Rattle.conversation.specs.declared.outcomes.Outcome.TheVariants.{Rows, Changed}
+use Rattle.conversation.specs.declared.sessions.Session.TheVariants as session
+use Rattle.script_lang.specs.declared.steps.Step.{Step}
+use Rattle.plain_meaning.specs.MeaningWorked.{number, whole, keyed}
+use Rattle.plain_meaning.specs.Reference.{Came, came, means, reference}
+
+abbrev pub vault : List ℕ → KeyMap
+vault master = (codes "main", master) ∷ []
+
+abbrev insertion : Step
+insertion = whole 1 (codes "INSERT INTO t (a, b) VALUES (@p, 7)") (number (codes "p") 5 ∷ [])
+
+abbrev selection : Step
+selection = whole 1 (codes "SELECT b FROM t WHERE a = @p") (number (codes "p") 5 ∷ [])
+
+abbrev listing : Step
+listing = whole 1 (codes "SELECT a FROM t") []
+
+abbrev filled : List ℕ → World
+filled wrapped = record (keyed wrapped) { contents = ((atom.Plain (Num (pos 5)) ∷ atom.Plain (Num (pos 7)) ∷ []) ∷ []) ∷ [] }
+
+abbrev one_number : List ℕ → ℕ → Outcome
+one_number title n = Rows (record { titles = title ∷ []; rows = (value.Is (Num (pos n)) ∷ []) ∷ [] })
+
+module _ (master wrapped key : List ℕ) (unwraps : opened (vault master) (codes "main") wrapped ≡ Some key) where
+  inserted : means (vault master) insertion session.Idle (keyed wrapped) ≡ came (Changed 1) session.Idle (filled wrapped)
+  unfolding understood parsed tree_of operand_in inner_in bind checked inferred least has_typing clash_behind rules encode
+  inserted = rw unwraps refl
+
+  found : means (vault master) selection session.Idle (filled wrapped) ≡ came (one_number (codes "b") 7) session.Idle (filled wrapped)
+  unfolding understood parsed tree_of operand_in inner_in bind checked inferred least has_typing clash_behind rules encode
+  found = rw unwraps refl
+
+  listed : means (vault master) listing session.Idle (filled wrapped) ≡ came (one_number (codes "a") 5) session.Idle (filled wrapped)
+  unfolding understood parsed tree_of operand_in inner_in bind checked inferred least has_typing clash_behind rules encode
+  listed = rw unwraps refl
+
+  pub an_opened_column : reference (vault master) (insertion ∷ selection ∷ listing ∷ []) nobody (keyed wrapped) ≡ Changed 1 ∷ one_number (codes "b") 7 ∷ one_number (codes "a") 5 ∷ []
+  an_opened_column =
+      ap (λ (c : Came). c.comes ∷ reference (vault master) (selection ∷ listing ∷ []) (with_session nobody 1 c.session) c.world) inserted
+      ∙ ap (λ (c : Came). Changed 1 ∷ c.comes ∷ reference (vault master) (listing ∷ []) (with_session nobody 1 c.session) c.world) found
+      ∙ ap (λ (c : Came). Changed 1 ∷ one_number (codes "b") 7 ∷ c.comes ∷ []) listed
