@@ -67,6 +67,7 @@ fn step(
     }
 }
 
+/// Executes what is ready, where there is room for one reply.
 #[tactic(auto, using(crate::proofs::ReplyKinds::defined_kinds, crate::proofs::ReplyKinds::changed_kinds, crate::proofs::ReplyKinds::rows_kinds, crate::proofs::Steps::answered_so, crate::proofs::Steps::answered_fault))]
 fn step_in(
     alloc: Global,
