@@ -1,5 +1,5 @@
 -- A statement leaves the catalog as it is, or a newer one.
-use Rattle.std.proofs.Common.{◌≡◌, ◌⊎◌, inl, inr, ℕ, ◌+◌, ◌<◌, List, [], ◌∷◌, ◌++◌, map, Option, Some, None, Result, Ok, Err, Bool, true, false, cond, refl, arith, is_some}
+use Rattle.std.proofs.Common.{◌≡◌, ◌⊎◌, inl, inr, ℕ, ◌+◌, ◌<◌, List, map, Option, Some, None, Result, Ok, Err, Bool, true, false, cond, refl, arith, is_some}
 use Rattle.std.specs.List.{remove}
 use Rattle.ae_base.specs.Atoms.{Atom}
 use Rattle.ae_base.specs.Results.{◌>>=◌, each, or_fault}
