@@ -1,11 +1,12 @@
 -- Rows that differ on a key, place by place; and rows of which some were changed.
-use Rattle.std.proofs.Common.{◌≡◌, ◌≢◌, ℕ, zero, suc, ◌+◌, ◌-◌, ◌<◌, ◌≤◌, List, [], ◌∷◌, length, get_or, take, drop, map, refl, ap, sym, subst, ◌∙◌, arith, Bool, true, false, inl, inr, Option, Some, None}
-use Rattle.std.specs.Prelude.{◌⊎◌, ◌&&◌, ◌||◌}
+use Rattle.std.proofs.Common.{◌≡◌, ◌≢◌, ℕ, zero, suc, ◌+◌, ◌-◌, ◌<◌, ◌≤◌, List, [], ◌∷◌, length, get_or, take, drop, map, refl, ap, sym, subst, ◌∙◌, arith, length-drop, Bool, true, false, inl, inr, Option, Some, None}
+use Rattle.std.specs.Prelude.{◌&&◌, ◌||◌}
 use Rattle.std.specs.Bool.{Decides, one_answer}
-use Rattle.std.specs.List.{list_any, list_all, slice_get}
+use Rattle.std.specs.List.{All, list_any, list_all, slice_get}
 use Rattle.std.proofs.lemmas.Bool.{cases_lt}
+use Rattle.std.proofs.lemmas.List.{take_all}
 use Rattle.std.proofs.lemmas.Slice.Eq.{bytes_eq-Decides}
-use Rattle.std.proofs.lemmas.Option.{slice_get_read, slice_get_within, get_or_from_slice_get}
+use Rattle.std.proofs.lemmas.Option.{slice_get-get_or, slice_get_read, slice_get_within, get_or_from_slice_get}
 use Rattle.std.specs.Str.{bytes_eq}
 use Rattle.ae_base.specs.Atoms.{Atom, atom_eq, alike}
 use Rattle.ae_base.specs.Values.{datum_eq}
@@ -78,6 +79,9 @@ behind_at (y ∷ xs) zero i m e = let same : i ≡ m = omega arith in ap (slice_
 behind_at (y ∷ xs) (suc n) i zero e = absurd (omega arith)
 behind_at (y ∷ xs) (suc n) i (suc m) e = behind_at xs n i m (omega arith)
 
+pub all_at : {A : Type 0} (P : A → Type 0) (xs : List A) (i : ℕ) (x : A) → All P xs → slice_get xs i ≡ Some x → P x
+all_at P xs i x h e = subst P (get_or_from_slice_get xs i x x e) (h i x (slice_get_within xs i x e))
+
 -- ---- rows that differ on a key, each two of them
 
 abbrev pub Differ : List ℕ → List (List Atom) → Type 0
@@ -102,7 +106,7 @@ differ_twins key (row ∷ rows) d =
 
 -- one is alike to one before it, or behind it
 pub twins_beside : (key : List ℕ) (rows : List (List Atom)) (i : ℕ) (row : List Atom) → slice_get rows i ≡ Some row
-    → (list_any (alike_on key row) (take i rows) ≡ true) ⊎ (list_any (alike_on key row) (drop (i + 1) rows) ≡ true) → has_twins key rows ≡ true
+    → (list_any (alike_on key row) (take i rows) || list_any (alike_on key row) (drop (i + 1) rows)) ≡ true → has_twins key rows ≡ true
 twins_beside key rows i row here h = by_test (has_twins key rows) refl
   where
     by_test : (b : Bool) → has_twins key rows ≡ b → b ≡ true
@@ -111,19 +115,20 @@ twins_beside key rows i row here h = by_test (has_twins key rows) refl
         let d = twins_differ key rows t in
         let front = none_any (alike_on key row) (take i rows) (λ j y e. let r = in_front rows i j y e in key_turned key row y ∙ d j i y row r.0 r.1 here) in
         let rest = none_any (alike_on key row) (drop (i + 1) rows) (λ j y e. d i (i + 1 + j) row y (omega arith) here (sym (behind_at rows (i + 1) j (i + 1 + j) refl) ∙ e)) in
-        elim h [ inl e ↦ absurd cc | inr e ↦ absurd cc ]
+        sym (neither (list_any (alike_on key row) (take i rows)) (list_any (alike_on key row) (drop (i + 1) rows)) front rest) ∙ h
 
 -- a row is alike to no other
 abbrev pub IsAlone : List ℕ → List (List Atom) → ℕ → List Atom → Type 0
 IsAlone key rows i row = (j : ℕ) (y : List Atom) → j ≢ i → slice_get rows j ≡ Some y → alike_on key row y ≡ false
 
-pub alone_beside : (key : List ℕ) (rows : List (List Atom)) (i : ℕ) (row : List Atom) → list_any (alike_on key row) (take i rows) ≡ false → list_any (alike_on key row) (drop (i + 1) rows) ≡ false → IsAlone key rows i row
-alone_beside key rows i row front rest j y ne e =
+pub alone_beside : (key : List ℕ) (rows : List (List Atom)) (i : ℕ) (row : List Atom) → (list_any (alike_on key row) (take i rows) || list_any (alike_on key row) (drop (i + 1) rows)) ≡ false → IsAlone key rows i row
+alone_beside key rows i row h j y ne e =
+    let o = or_false (list_any (alike_on key row) (take i rows)) (list_any (alike_on key row) (drop (i + 1) rows)) h in
     elim (cases_lt j i) [
-      | inl lt ↦ any_none (alike_on key row) (take i rows) j y front (front_at rows i j lt ∙ e)
+      | inl lt ↦ any_none (alike_on key row) (take i rows) j y o.0 (front_at rows i j lt ∙ e)
       | inr le ↦
           let n : j ≡ i + 1 + (j - (i + 1)) = omega arith in
-          any_none (alike_on key row) (drop (i + 1) rows) (j - (i + 1)) y rest (behind_at rows (i + 1) (j - (i + 1)) j n ∙ e)
+          any_none (alike_on key row) (drop (i + 1) rows) (j - (i + 1)) y o.1 (behind_at rows (i + 1) (j - (i + 1)) j n ∙ e)
     ]
 
 -- ---- rows of which some were changed
@@ -197,11 +202,19 @@ standing_nothing : (rows : List (List Atom)) → standing rows [] ≡ []
 standing_nothing [] = refl
 standing_nothing (row ∷ rows) = refl
 
-pub standing_rest : (n : ℕ) (rows : List (List Atom)) (changes : List (Option (List Atom))) → standing (drop n rows) (drop n changes) ≡ drop n (standing rows changes)
+standing_rest : (n : ℕ) (rows : List (List Atom)) (changes : List (Option (List Atom))) → standing (drop n rows) (drop n changes) ≡ drop n (standing rows changes)
 standing_rest zero rows changes = refl
 standing_rest (suc n) [] changes = refl
 standing_rest (suc n) (row ∷ rows) [] = standing_nothing (drop n rows)
 standing_rest (suc n) (row ∷ rows) (change ∷ changes) = standing_rest n rows changes
+
+rest_whole : {A : Type 0} (n : ℕ) (xs : List A) → take (length xs - n) (drop n xs) ≡ drop n xs
+rest_whole n xs = take_all (length xs - n) (drop n xs) (omega (arith, length-drop n xs))
+
+-- as they are read from behind a place on
+pub standing_behind : (n : ℕ) (rows : List (List Atom)) (changes : List (Option (List Atom))) → standing (take (length rows - n) (drop n rows)) (take (length changes - n) (drop n changes)) ≡ drop n (standing rows changes)
+standing_behind n rows changes =
+    ap (λ rs. standing rs (take (length changes - n) (drop n changes))) (rest_whole n rows) ∙ ap (standing (drop n rows)) (rest_whole n changes) ∙ standing_rest n rows changes
 
 pub standing_at : (rows : List (List Atom)) (changes : List (Option (List Atom))) (i : ℕ) (old : List Atom) (change : Option (List Atom)) → slice_get rows i ≡ Some old → slice_get changes i ≡ Some change
     → slice_get (standing rows changes) i ≡ Some (changed old change).row
@@ -225,3 +238,6 @@ standing_read rows changes i old now change lr lc r c n =
     let here = standing_at rows changes i old change (slice_get_read rows (length rows) i old refl lr r) (slice_get_read changes (length changes) i change refl lc c) in
     let there : slice_get (standing rows changes) i ≡ Some now = here ∙ ap (λ x. Some x) (sym n) in
     (slice_get_within (standing rows changes) i now there, sym (get_or_from_slice_get (standing rows changes) i now now there))
+
+pub new_stands : (rows : List (List Atom)) (changes : List (Option (List Atom))) (i : ℕ) (new : List Atom) → i < length rows → slice_get changes i ≡ Some (Some new) → slice_get (standing rows changes) i ≡ Some new
+new_stands rows changes i new lt e = standing_at rows changes i (get_or rows i []) (Some new) (slice_get-get_or rows i [] lt) e

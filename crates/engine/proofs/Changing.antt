@@ -129,12 +129,12 @@ written_all rows whole place changes le w = sym (w ∙ ap (λ rs. take place row
 
 -- ---- what DELETE leaves: those that stay so far stand in front, and the rest is as it was
 
-pub dropped_hit : (rows whole : List (List Atom)) (hits : List Bool) (kept place : ℕ) → place < length rows → place < length hits → get_or hits place true ≡ true → whole ≡ take kept rows ++ staying (drop place rows) (drop place hits)
+pub dropped_hit : (rows whole : List (List Atom)) (hits : List Bool) (kept place : ℕ) → place < length rows → place < length hits → get_or hits place false ≡ true → whole ≡ take kept rows ++ staying (drop place rows) (drop place hits)
     → whole ≡ take kept rows ++ staying (drop (place + 1) rows) (drop (place + 1) hits)
 dropped_hit rows whole hits kept place lt lh t w =
     let d : List Atom = [] in
     w ∙ ap (λ rs. take kept rows ++ staying rs (drop place hits)) (drop_more rows place d lt)
-    ∙ ap (λ hs. take kept rows ++ staying (get_or rows place d ∷ drop (place + 1) rows) hs) (drop_more hits place true lh ∙ ap (λ h. h ∷ drop (place + 1) hits) t)
+    ∙ ap (λ hs. take kept rows ++ staying (get_or rows place d ∷ drop (place + 1) rows) hs) (drop_more hits place false lh ∙ ap (λ h. h ∷ drop (place + 1) hits) t)
 
 swapped_front : (rows moved : List (List Atom)) (kept place : ℕ) (d : List Atom) → place < length rows → kept ≤ place → SwappedAt rows moved kept place → take (kept + 1) moved ≡ take kept rows ++ get_or rows place d ∷ []
 swapped_front rows moved kept place d lt le s =
@@ -150,13 +150,13 @@ swapped_front rows moved kept place d lt le s =
           ∙ ap (λ p. take kept rows ++ get_or rows p d ∷ []) (sym same)
     ]
 
-pub dropped_kept : (rows moved whole : List (List Atom)) (hits : List Bool) (kept place : ℕ) → place < length rows → place < length hits → kept ≤ place → get_or hits place true ≡ false → SwappedAt rows moved kept place
+pub dropped_kept : (rows moved whole : List (List Atom)) (hits : List Bool) (kept place : ℕ) → place < length rows → place < length hits → kept ≤ place → get_or hits place false ≡ false → SwappedAt rows moved kept place
     → whole ≡ take kept rows ++ staying (drop place rows) (drop place hits) → whole ≡ take (kept + 1) moved ++ staying (drop (place + 1) moved) (drop (place + 1) hits)
 dropped_kept rows moved whole hits kept place lt lh le t s w =
     let d : List Atom = [] in
     let u = get_or rows place d in
     w ∙ ap (λ rs. take kept rows ++ staying rs (drop place hits)) (drop_more rows place d lt)
-    ∙ ap (λ hs. take kept rows ++ staying (u ∷ drop (place + 1) rows) hs) (drop_more hits place true lh ∙ ap (λ h. h ∷ drop (place + 1) hits) t)
+    ∙ ap (λ hs. take kept rows ++ staying (u ∷ drop (place + 1) rows) hs) (drop_more hits place false lh ∙ ap (λ h. h ∷ drop (place + 1) hits) t)
     ∙ sym (append_assoc (take kept rows) (u ∷ []) (staying (drop (place + 1) rows) (drop (place + 1) hits)))
     ∙ ap (λ front. front ++ staying (drop (place + 1) rows) (drop (place + 1) hits)) (sym (swapped_front rows moved kept place d lt le s))
     ∙ ap (λ rs. take (kept + 1) moved ++ staying rs (drop (place + 1) hits))

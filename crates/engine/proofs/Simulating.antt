@@ -46,6 +46,7 @@ use Rattle.engine.specs.Step as step
 use Rattle.engine.specs.Step.{Done, Tested, outcome, columns_of, uniques_of, rows_to_insert, selects, updated_row, row_to_update, rows_to_update, rows_to_delete, done_by}
 use Rattle.engine.specs.Typed.{classes_of, param_classes, IsValueFor, AreValuesFor, IsTypedFilter, IsTypedItem, IsTypedStatement, IsTypedBy}
 use Rattle.engine.specs.Worlds.{World, place_of, rows_of, with_rows}
+use Rattle.engine.proofs.Apart.{all_at}
 use Rattle.engine.proofs.Contents.{table_place_there, master_made, key_made, master_dropped, key_dropped, table_made, table_dropped}
 use Rattle.engine.proofs.Kept.{created_done, dropped_done, done_ok, classes_same}
 use Rattle.engine.proofs.Suited.{class_placed}
@@ -94,11 +95,6 @@ zip_length P [] [] h = refl
 zip_length P [] (y ∷ ys) h = absurd h
 zip_length P (x ∷ xs) [] h = absurd h
 zip_length P (x ∷ xs) (y ∷ ys) h = ap suc (zip_length P xs ys h.1)
-
-all_at : {A : Type 0} (P : A → Type 0) (xs : List A) (i : ℕ) (x : A) → All P xs → slice_get xs i ≡ Some x → P x
-all_at P [] i x h e = absurd cc
-all_at P (y ∷ xs) zero x h e = let f : y ≡ x = cc in subst P f (All-head P y xs h)
-all_at P (y ∷ xs) (suc i) x h e = all_at P xs i x (All-tail P y xs h) e
 
 -- the same key refuses both, or none does
 twins_apart : {A : Type 0} (P : A → A → Type 0) (x y : List A) (o p : Option ℕ) → AllZip P x y → o ≡ p → BothAnswer {E = SqlFault} (AllZip P) (unless_twins o x) (unless_twins p y)

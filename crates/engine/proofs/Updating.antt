@@ -116,11 +116,12 @@ module _ (R : Pairing) where
   passing_alike cs p [] (u ∷ us) h = absurd h
   passing_alike cs p (t ∷ ts) [] h = absurd h
   passing_alike cs p (t ∷ ts) (u ∷ us) h =
-      subst (λ b. AllZip (TestedAlike cs) (filter (λ (t : Tested). p t.hit) (t ∷ ts)) (cond (p b) (u ∷ filter (λ (t : Tested). p t.hit) us) (filter (λ (t : Tested). p t.hit) us))) (sym h.0.0) (by_test (p t.hit))
+      subst (λ b. AllZip (TestedAlike cs) (filter (λ (t : Tested). p t.hit) (t ∷ ts)) (cond (p b) (u ∷ filter (λ (t : Tested). p t.hit) us) (filter (λ (t : Tested). p t.hit) us))) (sym h.0.0) (by_test (p t.hit) (passing_alike cs p ts us h.1))
     where
-      by_test : (b : Bool) → AllZip (TestedAlike cs) (cond b (t ∷ filter (λ (t : Tested). p t.hit) ts) (filter (λ (t : Tested). p t.hit) ts)) (cond b (u ∷ filter (λ (t : Tested). p t.hit) us) (filter (λ (t : Tested). p t.hit) us))
-      by_test true = (h.0, passing_alike cs p ts us h.1)
-      by_test false = passing_alike cs p ts us h.1
+      by_test : (b : Bool) → AllZip (TestedAlike cs) (filter (λ (t : Tested). p t.hit) ts) (filter (λ (t : Tested). p t.hit) us)
+          → AllZip (TestedAlike cs) (cond b (t ∷ filter (λ (t : Tested). p t.hit) ts) (filter (λ (t : Tested). p t.hit) ts)) (cond b (u ∷ filter (λ (t : Tested). p t.hit) us) (filter (λ (t : Tested). p t.hit) us))
+      by_test true rest = (h.0, rest)
+      by_test false rest = rest
 
   module _ (r : IsOneToOne R) (ps : List Class) (values others : List Atom) (given : PlacesCorrespond R ps values others) where
     pub selects_alike : (cs : List Class) (filter : Option BoundCondition) (row other : List Atom) → IsTypedFilter cs ps filter → RowsCorrespond R cs row other → selects others filter other ≡ selects values filter row

@@ -1,5 +1,5 @@
 -- The rows that stand after UPDATE and DELETE.
-use Rattle.std.proofs.Common.{◌≡◌, ℕ, List, [], ◌∷◌, length, map, refl, ap, sym, subst, ◌∙◌, arith, get_or, inl, inr, unwrap_or, Option, Some, None, Result, Ok, Err, Bool, true, false, not, cond}
+use Rattle.std.proofs.Common.{◌≡◌, ℕ, suc, List, [], ◌∷◌, length, map, refl, ap, sym, subst, ◌∙◌, arith, get_or, inl, inr, unwrap_or, Option, Some, None, Result, Ok, Err, Bool, true, false, not, cond}
 use Rattle.std.specs.Prelude.{◌<◌, ◌≤◌, ◌⊎◌, ◌||◌, filter, count_by, is_some, slice_set, IsSome}
 use Rattle.std.specs.List.{All, AllZip, list_any}
 use Rattle.std.proofs.lemmas.List.Elements.{All-head, All-tail, All-cons, All-nil}
@@ -57,37 +57,37 @@ rows_long (t ∷ tested) = ap suc (rows_long tested)
 module _ (p : Tested → Bool) where
   pub rows_passing : (P : List Atom → Type 0) (tested : List Tested) → All P (rows_in tested) → All P (rows_in (filter p tested))
   rows_passing P [] h = All-nil P
-  rows_passing P (t ∷ tested) h = by_test (p t)
+  rows_passing P (t ∷ tested) h = by_test (p t) (rows_passing P tested (All-tail P t.row (rows_in tested) h))
     where
-      by_test : (b : Bool) → All P (rows_in (cond b (t ∷ filter p tested) (filter p tested)))
-      by_test true = All-cons P t.row (rows_in (filter p tested)) (All-head P t.row (rows_in tested) h) (rows_passing P tested (All-tail P t.row (rows_in tested) h))
-      by_test false = rows_passing P tested (All-tail P t.row (rows_in tested) h)
+      by_test : (b : Bool) → All P (rows_in (filter p tested)) → All P (rows_in (cond b (t ∷ filter p tested) (filter p tested)))
+      by_test true rest = All-cons P t.row (rows_in (filter p tested)) (All-head P t.row (rows_in tested) h) rest
+      by_test false rest = rest
 
   any_passing : (f : List Atom → Bool) (tested : List Tested) → list_any f (rows_in tested) ≡ false → list_any f (rows_in (filter p tested)) ≡ false
   any_passing f [] h = refl
-  any_passing f (t ∷ tested) h = by_test (p t)
+  any_passing f (t ∷ tested) h = let o = or_false (f t.row) (list_any f (rows_in tested)) h in by_test (p t) o.0 (any_passing f tested o.1)
     where
-      by_test : (b : Bool) → list_any f (rows_in (cond b (t ∷ filter p tested) (filter p tested))) ≡ false
-      by_test true = let o = or_false (f t.row) (list_any f (rows_in tested)) h in neither (f t.row) (list_any f (rows_in (filter p tested))) o.0 (any_passing f tested o.1)
-      by_test false = any_passing f tested (or_false (f t.row) (list_any f (rows_in tested)) h).1
+      by_test : (b : Bool) → f t.row ≡ false → list_any f (rows_in (filter p tested)) ≡ false → list_any f (rows_in (cond b (t ∷ filter p tested) (filter p tested))) ≡ false
+      by_test true first rest = neither (f t.row) (list_any f (rows_in (filter p tested))) first rest
+      by_test false first rest = rest
 
   twins_passing : (key : List ℕ) (tested : List Tested) → has_twins key (rows_in tested) ≡ false → has_twins key (rows_in (filter p tested)) ≡ false
   twins_passing key [] h = refl
-  twins_passing key (t ∷ tested) h = by_test (p t)
+  twins_passing key (t ∷ tested) h =
+      let o = or_false (list_any (alike_on key t.row) (rows_in tested)) (has_twins key (rows_in tested)) h in
+      by_test (p t) (any_passing (alike_on key t.row) tested o.0) (twins_passing key tested o.1)
     where
-      by_test : (b : Bool) → has_twins key (rows_in (cond b (t ∷ filter p tested) (filter p tested))) ≡ false
-      by_test true =
-          let o = or_false (list_any (alike_on key t.row) (rows_in tested)) (has_twins key (rows_in tested)) h in
-          neither (list_any (alike_on key t.row) (rows_in (filter p tested))) (has_twins key (rows_in (filter p tested))) (any_passing (alike_on key t.row) tested o.0) (twins_passing key tested o.1)
-      by_test false = twins_passing key tested (or_false (list_any (alike_on key t.row) (rows_in tested)) (has_twins key (rows_in tested)) h).1
+      by_test : (b : Bool) → list_any (alike_on key t.row) (rows_in (filter p tested)) ≡ false → has_twins key (rows_in (filter p tested)) ≡ false → has_twins key (rows_in (cond b (t ∷ filter p tested) (filter p tested))) ≡ false
+      by_test true first rest = neither (list_any (alike_on key t.row) (rows_in (filter p tested))) (has_twins key (rows_in (filter p tested))) first rest
+      by_test false first rest = rest
 
   passing_most : (tested : List Tested) → length (filter p tested) ≤ length tested
   passing_most [] = omega arith
-  passing_most (t ∷ tested) = by_test (p t)
+  passing_most (t ∷ tested) = by_test (p t) (passing_most tested)
     where
-      by_test : (b : Bool) → length (cond b (t ∷ filter p tested) (filter p tested)) ≤ length (t ∷ tested)
-      by_test true = let le = passing_most tested in omega arith
-      by_test false = let le = passing_most tested in omega arith
+      by_test : (b : Bool) → length (filter p tested) ≤ length tested → length (cond b (t ∷ filter p tested) (filter p tested)) ≤ length (t ∷ tested)
+      by_test true rest = omega arith
+      by_test false rest = omega arith
 
 -- ---- UPDATE
 

@@ -66,9 +66,10 @@ fn has_twins<K: Same>(key: &[usize], rows: &[Row<K>], changes: &[Option<Row<K>>]
     ensures { result ≡ has_twins key.now (standing rows.now changes.now) }
 {
     for (place, change) in changes.iter().enumerate() {
-        if let Some(row) = change
-            && has_twin_beside(key, row, place, rows, changes)
-        {
+        let Some(row) = change else {
+            continue;
+        };
+        if has_twin_beside(key, row, place, rows, changes) {
             return true;
         }
     }
