@@ -16,6 +16,7 @@ use Rattle.ae_base.specs.declared.values.Datum.{Datum}
 use Rattle.scalar.specs.Eval.{atom_at}
 use Rattle.engine.specs.Changes.{changed, standing}
 use Rattle.engine.specs.Keys.{alike_on, has_twins}
+use Rattle.engine.proofs.Twins.{any_next, any_found, any_over}
 
 -- ---- either way round
 
@@ -104,9 +105,12 @@ differ_twins key (row ∷ rows) d =
     neither (list_any (alike_on key row) rows) (has_twins key rows) (none_any (alike_on key row) rows (λ i y e. d 0 (suc i) row y (omega arith) refl e))
     (differ_twins key rows (λ a b x y lt e f. d (suc a) (suc b) x y (omega arith) e f))
 
--- one is alike to one before it, or behind it
-pub twins_beside : (key : List ℕ) (rows : List (List Atom)) (i : ℕ) (row : List Atom) → slice_get rows i ≡ Some row
-    → (list_any (alike_on key row) (take i rows) || list_any (alike_on key row) (drop (i + 1) rows)) ≡ true → has_twins key rows ≡ true
+-- a row is alike to one before its place, or behind it
+abbrev pub has_twin_beside : List ℕ → List (List Atom) → ℕ → List Atom → Bool
+has_twin_beside key rows i row = list_any (alike_on key row) (take i rows) || list_any (alike_on key row) (drop (i + 1) rows)
+
+twins_beside : (key : List ℕ) (rows : List (List Atom)) (i : ℕ) (row : List Atom) → slice_get rows i ≡ Some row
+    → has_twin_beside key rows i row ≡ true → has_twins key rows ≡ true
 twins_beside key rows i row here h = by_test (has_twins key rows) refl
   where
     by_test : (b : Bool) → has_twins key rows ≡ b → b ≡ true
@@ -121,7 +125,7 @@ twins_beside key rows i row here h = by_test (has_twins key rows) refl
 abbrev pub IsAlone : List ℕ → List (List Atom) → ℕ → List Atom → Type 0
 IsAlone key rows i row = (j : ℕ) (y : List Atom) → j ≢ i → slice_get rows j ≡ Some y → alike_on key row y ≡ false
 
-pub alone_beside : (key : List ℕ) (rows : List (List Atom)) (i : ℕ) (row : List Atom) → (list_any (alike_on key row) (take i rows) || list_any (alike_on key row) (drop (i + 1) rows)) ≡ false → IsAlone key rows i row
+alone_beside : (key : List ℕ) (rows : List (List Atom)) (i : ℕ) (row : List Atom) → has_twin_beside key rows i row ≡ false → IsAlone key rows i row
 alone_beside key rows i row h j y ne e =
     let o = or_false (list_any (alike_on key row) (take i rows)) (list_any (alike_on key row) (drop (i + 1) rows)) h in
     elim (cases_lt j i) [
@@ -154,17 +158,7 @@ module _ (key : List ℕ) (rows : List (List Atom)) (changes : List (Option (Lis
   abbrev pub AreSettled : ℕ → Type 0
   AreSettled i = (k : ℕ) (new : List Atom) → k < i → slice_get changes k ≡ Some (Some new) → IsAlone key (standing rows changes) k new
 
-  pub settled_none : AreSettled 0
-  settled_none k new lt e = absurd (omega arith)
-
-  pub settled_kept : (i : ℕ) → AreSettled i → slice_get changes i ≡ Some None → AreSettled (i + 1)
-  settled_kept i h e k new lt f =
-      elim (cases_lt k i) [
-        | inl lt ↦ h k new lt f
-        | inr le ↦ let same : k ≡ i = omega arith in let clash : Some (Some new) ≡ Some None = sym f ∙ ap (slice_get changes) same ∙ e in absurd cc
-      ]
-
-  pub settled_new : (i : ℕ) (row : List Atom) → AreSettled i → slice_get changes i ≡ Some (Some row) → IsAlone key (standing rows changes) i row → AreSettled (i + 1)
+  settled_new : (i : ℕ) (row : List Atom) → AreSettled i → slice_get changes i ≡ Some (Some row) → IsAlone key (standing rows changes) i row → AreSettled (i + 1)
   settled_new i row h e alone k new lt f =
       elim (cases_lt k i) [
         | inl lt ↦ h k new lt f
@@ -216,7 +210,7 @@ pub standing_behind : (n : ℕ) (rows : List (List Atom)) (changes : List (Optio
 standing_behind n rows changes =
     ap (λ rs. standing rs (take (length changes - n) (drop n changes))) (rest_whole n rows) ∙ ap (standing (drop n rows)) (rest_whole n changes) ∙ standing_rest n rows changes
 
-pub standing_at : (rows : List (List Atom)) (changes : List (Option (List Atom))) (i : ℕ) (old : List Atom) (change : Option (List Atom)) → slice_get rows i ≡ Some old → slice_get changes i ≡ Some change
+standing_at : (rows : List (List Atom)) (changes : List (Option (List Atom))) (i : ℕ) (old : List Atom) (change : Option (List Atom)) → slice_get rows i ≡ Some old → slice_get changes i ≡ Some change
     → slice_get (standing rows changes) i ≡ Some (changed old change).row
 standing_at [] changes i old change e f = absurd cc
 standing_at (row ∷ rows) [] i old change e f = absurd cc
@@ -226,18 +220,50 @@ standing_at (row ∷ rows) (c ∷ changes) zero old change e f =
     ap (λ x. Some (changed x c).row) r ∙ ap (λ x. Some (changed old x).row) d
 standing_at (row ∷ rows) (c ∷ changes) (suc i) old change e f = standing_at rows changes i old change e f
 
-pub standing_long : (rows : List (List Atom)) (changes : List (Option (List Atom))) → length changes ≡ length rows → length (standing rows changes) ≡ length rows
+standing_long : (rows : List (List Atom)) (changes : List (Option (List Atom))) → length changes ≡ length rows → length (standing rows changes) ≡ length rows
 standing_long [] changes n = refl
 standing_long (row ∷ rows) [] n = absurd (omega arith)
 standing_long (row ∷ rows) (change ∷ changes) n = ap suc (standing_long rows changes (omega arith))
 
--- a row that was read with its change
-pub standing_read : (rows : List (List Atom)) (changes : List (Option (List Atom))) (i : ℕ) (old now : List Atom) (change : Option (List Atom)) → i < length rows → i < length changes → old ≡ get_or rows i old → change ≡ get_or changes i change
-    → now ≡ (changed old change).row → (i < length (standing rows changes)) × (now ≡ get_or (standing rows changes) i now)
-standing_read rows changes i old now change lr lc r c n =
-    let here = standing_at rows changes i old change (slice_get_read rows (length rows) i old refl lr r) (slice_get_read changes (length changes) i change refl lc c) in
-    let there : slice_get (standing rows changes) i ≡ Some now = here ∙ ap (λ x. Some x) (sym n) in
-    (slice_get_within (standing rows changes) i now there, sym (get_or_from_slice_get (standing rows changes) i now now there))
+-- ---- in a loop: a row that was read with its change
 
-pub new_stands : (rows : List (List Atom)) (changes : List (Option (List Atom))) (i : ℕ) (new : List Atom) → i < length rows → slice_get changes i ≡ Some (Some new) → slice_get (standing rows changes) i ≡ Some new
-new_stands rows changes i new lt e = standing_at rows changes i (get_or rows i []) (Some new) (slice_get-get_or rows i [] lt) e
+module _ (rows : List (List Atom)) (changes : List (Option (List Atom))) (long : length changes ≡ length rows) (i : ℕ) (old now : List Atom) (change : Option (List Atom))
+    (lt : i < length changes) (r : old ≡ get_or rows i old) (c : change ≡ get_or changes i change) (n : now ≡ (changed old change).row) where
+  now_stands : slice_get (standing rows changes) i ≡ Some now
+  now_stands =
+      standing_at rows changes i old change (slice_get_read rows (length rows) i old refl (omega arith) r) (slice_get_read changes (length changes) i change refl lt c) ∙ ap (λ x. Some x) (sym n)
+
+  now_read : now ≡ get_or (standing rows changes) i now
+  now_read = sym (get_or_from_slice_get (standing rows changes) i now now now_stands)
+
+  pub now_placed : (P : List Atom → Type 0) → All P (standing rows changes) → P now
+  now_placed P h = all_at P (standing rows changes) i now h now_stands
+
+  pub now_next : (p : List Atom → Bool) → list_any p (standing rows changes) ≡ list_any p (drop i (standing rows changes)) → p now ≡ false → list_any p (standing rows changes) ≡ list_any p (drop (i + 1) (standing rows changes))
+  now_next p w t = any_next p (standing rows changes) i now (slice_get_within (standing rows changes) i now now_stands) now_read (list_any p (standing rows changes)) w t
+
+  pub now_found : (p : List Atom → Bool) → list_any p (standing rows changes) ≡ list_any p (drop i (standing rows changes)) → p now ≡ true → list_any p (standing rows changes) ≡ true
+  now_found p w t = any_found p (standing rows changes) i now (slice_get_within (standing rows changes) i now now_stands) now_read (list_any p (standing rows changes)) w t
+
+pub none_stands : (rows : List (List Atom)) (changes : List (Option (List Atom))) (i : ℕ) (p : List Atom → Bool) → length changes ≡ length rows → length changes ≤ i → list_any p (standing rows changes) ≡ list_any p (drop i (standing rows changes))
+    → list_any p (standing rows changes) ≡ false
+none_stands rows changes i p long le w = any_over p (standing rows changes) i (list_any p (standing rows changes)) (omega (arith, standing_long rows changes long)) w
+
+-- ---- in a loop: a new row that was read
+
+module _ (key : List ℕ) (rows : List (List Atom)) (changes : List (Option (List Atom))) (long : length changes ≡ length rows) (i : ℕ) (change : Option (List Atom)) (new : List Atom)
+    (lt : i < length changes) (c : change ≡ get_or changes i change) (is : change ≡ Some new) where
+  new_is : slice_get changes i ≡ Some (Some new)
+  new_is = slice_get_read changes (length changes) i change refl lt c ∙ ap (λ x. Some x) is
+
+  new_stands : slice_get (standing rows changes) i ≡ Some new
+  new_stands = standing_at rows changes i (get_or rows i []) (Some new) (slice_get-get_or rows i [] (omega arith)) new_is
+
+  pub new_placed : (P : List Atom → Type 0) → All P (standing rows changes) → P new
+  new_placed P h = all_at P (standing rows changes) i new h new_stands
+
+  pub new_found : has_twin_beside key (standing rows changes) i new ≡ true → has_twins key (standing rows changes) ≡ true
+  new_found t = twins_beside key (standing rows changes) i new new_stands t
+
+  pub new_settled : AreSettled key rows changes i → has_twin_beside key (standing rows changes) i new ≡ false → AreSettled key rows changes (i + 1)
+  new_settled h t = settled_new key rows changes i new h new_is (alone_beside key (standing rows changes) i new t)

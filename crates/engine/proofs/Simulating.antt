@@ -43,7 +43,7 @@ use Rattle.engine.specs.Queries as queries
 use Rattle.engine.specs.Queries.{item_of, items_of, joined_all, where_true, found_in, results}
 use Rattle.engine.specs.Rows.{admitted, column_at, value_into, values_into, value_at, value_or_null, completed, new_row, new_rows, replaced}
 use Rattle.engine.specs.Step as step
-use Rattle.engine.specs.Step.{Done, Tested, outcome, columns_of, uniques_of, rows_to_insert, selects, updated_row, row_to_update, rows_to_update, rows_to_delete, done_by}
+use Rattle.engine.specs.Step.{Done, Tested, outcome, columns_of, uniques_of, rows_to_insert, selects, assigned, updated_row, row_to_update, rows_to_update, rows_to_delete, done_by}
 use Rattle.engine.specs.Typed.{classes_of, param_classes, IsValueFor, AreValuesFor, IsTypedFilter, IsTypedItem, IsTypedStatement, IsTypedBy}
 use Rattle.engine.specs.Worlds.{World, place_of, rows_of, with_rows}
 use Rattle.engine.proofs.Apart.{all_at}
@@ -285,7 +285,7 @@ module _ (R : Pairing) (r : IsOneToOne R) (within : ArePairsWithin R) where
           by_hit false = (refl, h)
           by_hit true =
               let cs = classes_of (map site_of columns) in
-              both_then (AllZip (GivenAlike cs)) (TestedAlike R cs) (values_into columns row values (places_of u.assignments) (values_of u.assignments)) (values_into columns other others (places_of u.assignments) (values_of u.assignments))
+              both_then (AllZip (GivenAlike cs)) (TestedAlike R cs) (assigned columns row values u.assignments) (assigned columns other others u.assignments)
               (λ given. tested_ok (hit_row row given)) (λ given. tested_ok (hit_row other given))
               (values_alike cs row other (corresponds_at R r cs row other h) columns (places_of u.assignments) (values_of u.assignments) (values_for cs cs ps u.assignments sets))
               (λ x y m. (refl, replaced_alike 0 x y cs row other (λ p. let z : p ≡ 0 + p = omega arith in subst (λ k. BothHave (class_at cs p) (value_at x k) (value_at y k)) z (at_alike cs x y p m)) h))

@@ -16,7 +16,7 @@ use Rattle.engine.specs.Changes.{changed, all_changed, standing, all_tested, sta
 use Rattle.engine.specs.Keys.{alike_on, has_twins, first_twins, unless_twins}
 use Rattle.engine.specs.Rows.{values_into, replaced}
 use Rattle.engine.specs.Step as step
-use Rattle.engine.specs.Step.{Tested, outcome, columns_of, uniques_in, uniques_of, selects, updated_row, row_to_update, rows_to_update, tested_row, row_to_delete, rows_to_delete}
+use Rattle.engine.specs.Step.{Tested, outcome, columns_of, uniques_in, uniques_of, selects, assigned, updated_row, row_to_update, rows_to_update, tested_row, row_to_delete, rows_to_delete}
 use Rattle.engine.specs.Worlds.{World, rows_of, with_rows, HoldsRows, IsShaped}
 use Rattle.engine.proofs.Apart.{or_false, neither}
 use Rattle.engine.proofs.Changing.{replaced_width, changes_counted, hits_counted}
@@ -49,7 +49,7 @@ pub rows_mapped : (P : List Atom → Type 0) (tested : List Tested) → All (λ 
 rows_mapped P [] h = All-nil P
 rows_mapped P (t ∷ tested) h = All-cons P t.row (rows_in tested) (All-head (λ (t : Tested). P t.row) t tested h) (rows_mapped P tested (All-tail (λ (t : Tested). P t.row) t tested h))
 
-pub rows_long : (tested : List Tested) → length (rows_in tested) ≡ length tested
+rows_long : (tested : List Tested) → length (rows_in tested) ≡ length tested
 rows_long [] = refl
 rows_long (t ∷ tested) = ap suc (rows_long tested)
 
@@ -106,7 +106,7 @@ kept_row row hit = record { hit = hit; row = row }
 -- a row that was changed was given values, and the others are as they were
 pub record WasUpdated (columns : List ColumnDef) (u : BoundUpdate) (params row : List Atom) (t : Tested) : Type 0 where
   pub given : List (ℕ × Atom)
-  pub given_is : values_into columns row params (map (λ (a : BoundAssignment). a.place) u.assignments) (map (λ (a : BoundAssignment). a.value) u.assignments) ≡ Ok given
+  pub given_is : assigned columns row params u.assignments ≡ Ok given
   pub row_is : replaced 0 given row ≡ t.row
 
 pub updated : (columns : List ColumnDef) (u : BoundUpdate) (params row : List Atom) (t : Tested) → row_to_update columns u params row ≡ Ok t → (t.row ≡ row) ⊎ WasUpdated columns u params row t
@@ -115,7 +115,7 @@ updated columns u params row t e = let c = came (selects params u.filter row) (u
     by_hit : (hit : Bool) → updated_row columns u params row hit ≡ Ok t → (t.row ≡ row) ⊎ WasUpdated columns u params row t
     by_hit false f = inl (ap (λ (x : Tested). x.row) (sym (same_tested (kept_row row false) t f)))
     by_hit true f =
-        let g = came (values_into columns row params (map (λ (a : BoundAssignment). a.place) u.assignments) (map (λ (a : BoundAssignment). a.value) u.assignments)) (λ given. tested_ok (hit_row row given)) t f in
+        let g = came (assigned columns row params u.assignments) (λ given. tested_ok (hit_row row given)) t f in
         inr (record { given = g.value; given_is = g.is; row_is = ap (λ (x : Tested). x.row) (same_tested (hit_row row g.value) t g.then) })
 
 updated_width : (columns : List ColumnDef) (u : BoundUpdate) (params row : List Atom) (t : Tested) → row_to_update columns u params row ≡ Ok t → length t.row ≡ length row
@@ -187,7 +187,7 @@ module _ (world : World) (u : BoundUpdate) (params : List Atom) (place : ℕ) (o
 
 -- ---- DELETE
 
-pub tested_same : (params row : List Atom) (filter : Option BoundCondition) (t : Tested) → row_to_delete filter params row ≡ Ok t → t.row ≡ row
+tested_same : (params row : List Atom) (filter : Option BoundCondition) (t : Tested) → row_to_delete filter params row ≡ Ok t → t.row ≡ row
 tested_same params row filter t e =
     let c = came (selects params filter row) (tested_row row) t e in
     ap (λ (x : Tested). x.row) (sym (same_tested (kept_row row c.value) t c.then))

@@ -1,8 +1,14 @@
 -- What UPDATE and DELETE found of the rows of a table, as it is kept until they are written.
-use Rattle.std.specs.Prelude.{List, map, filter, Option, Some, None, Bool, true, false, not}
-use Rattle.std.specs.List.{zip}
+use Rattle.std.specs.Prelude.{◌<◌, ℕ, List, map, filter, Option, Some, None, Bool, true, false, not}
+use Rattle.std.specs.List.{All, zip}
 use Rattle.ae_base.specs.Atoms.{Atom}
+use Rattle.sql_tree.specs.Bound.{BoundAssignment}
+use Rattle.sql_tree.specs.Placed.{IsPlaced}
 use Rattle.engine.specs.Step.{Tested}
+
+-- each assignment sets one of so many columns, and reads a row of these and so many parameters
+abbrev pub ArePlacedSets : (columns params : ℕ) → List BoundAssignment → Type 0
+ArePlacedSets columns params sets = All (λ a. (a.place < columns) × IsPlaced columns params a.value) sets
 
 -- a row with the new one that is to stand in its place, where the filter was true of it
 abbrev pub changed : List Atom → Option (List Atom) → Tested

@@ -9,7 +9,7 @@ use Rattle.ae_base.specs.declared.tables.TableDef.{TableDef}
 use Rattle.ae_base.specs.declared.types.Enc.{Enc}
 use Rattle.ae_base.specs.declared.types.Ty.{Ty}
 use Rattle.sql_tree.specs.declared.bound.ColumnSite.{ColumnSite}
-use Rattle.sql_tree.specs.Bound.{BoundCondition, BoundInsert, BoundUpdate, BoundDelete, BoundQuery, BoundStatement, Bound}
+use Rattle.sql_tree.specs.Bound.{BoundCondition, BoundInsert, BoundAssignment, BoundUpdate, BoundDelete, BoundQuery, BoundStatement, Bound}
 use Rattle.sql_tree.specs.Bound as bound
 use Rattle.sql_tree.specs.OnTables.{columns_among, table_among}
 use Rattle.catalog.specs.Catalogs.{Catalog, with_master, with_key, with_table, without_master, without_key, without_table}
@@ -88,11 +88,12 @@ abbrev pub selects : List Atom → Option BoundCondition → List Atom → Resul
 selects params None row = Ok true
 selects params (Some condition) row = asks params condition row
 
--- the SET values are those of the old row
+-- the values that SET gives, over the old row
+abbrev pub assigned : List ColumnDef → (row params : List Atom) → List BoundAssignment → Result (List (ℕ × Atom)) SqlFault
+assigned columns row params sets = values_into columns row params (map (λ a. a.place) sets) (map (λ a. a.value) sets)
+
 abbrev pub updated_row : List ColumnDef → BoundUpdate → List Atom → List Atom → Bool → Result Tested SqlFault
-updated_row columns u params row true =
-    values_into columns row params (map (λ a. a.place) u.assignments) (map (λ a. a.value) u.assignments) >>= λ given.
-    Ok (record { hit = true; row = replaced 0 given row })
+updated_row columns u params row true = assigned columns row params u.assignments >>= λ given. Ok (record { hit = true; row = replaced 0 given row })
 updated_row columns u params row false = Ok (record { hit = false; row = row })
 
 abbrev pub row_to_update : List ColumnDef → BoundUpdate → List Atom → List Atom → Result Tested SqlFault

@@ -5,9 +5,9 @@ ghost use Rattle.ae_base.specs.Results.{Answers, AnswersAs, each};
 ghost use Rattle.sql_tree.specs.Bound.{assignment_of, update_of};
 ghost use Rattle.sql_tree.specs.Conditions.{condition_of};
 ghost use Rattle.sql_tree.specs.Placed.{IsPlaced, IsPlacedFilter};
-ghost use Rattle.engine.specs.Changes.{changed, all_changed, standing};
+ghost use Rattle.engine.specs.Changes.{ArePlacedSets, changed, all_changed, standing};
 ghost use Rattle.engine.specs.Rows as rows;
-ghost use Rattle.engine.specs.Step.{row_to_update};
+ghost use Rattle.engine.specs.Step.{assigned, row_to_update};
 
 use crate::filters::selects;
 use crate::inserts::{value_at, value_into};
@@ -29,7 +29,7 @@ pub(crate) fn changes<K: Same>(
     update: &BoundUpdate,
     params: &[Atom<K>],
 ) -> Result<Seq<Option<Row<K>>>, Refusal>
-    requires sets { All (λ a. (a.place < length columns.now) × IsPlaced (length columns.now) (length params.now) a.value) (map assignment_of update.now.assignments) }
+    requires sets { ArePlacedSets (length columns.now) (length params.now) (map assignment_of update.now.assignments) }
     requires filter { IsPlacedFilter (length columns.now) (length params.now) (option_map condition_of update.now.filter) }
     requires wide { All (λ row. length row ≡ length columns.now) rows.now }
     ensures changes { AnswersAs (all_changed rows.now) result (each (row_to_update columns.now (update_of update.now) params.now) rows.now) }
@@ -50,7 +50,7 @@ fn change<K: Same>(
     update: &BoundUpdate,
     params: &[Atom<K>],
 ) -> Result<Option<Row<K>>, Refusal>
-    requires sets { All (λ a. (a.place < length columns.now) × IsPlaced (length columns.now) (length params.now) a.value) (map assignment_of update.now.assignments) }
+    requires sets { ArePlacedSets (length columns.now) (length params.now) (map assignment_of update.now.assignments) }
     requires filter { IsPlacedFilter (length columns.now) (length params.now) (option_map condition_of update.now.filter) }
     requires wide { length row.now ≡ length columns.now }
     ensures { AnswersAs (changed row.now) result (row_to_update columns.now (update_of update.now) params.now row.now) }
@@ -72,7 +72,7 @@ fn assigned<'a, K: Same>(
     params: &'a [Atom<K>],
 ) -> Result<Seq<(usize, Atom<K>)>, Refusal>
     requires { All (λ a. (a.place < length columns.now) × IsPlaced (length row.now) (length params.now) a.value) (map assignment_of assignments.now) }
-    ensures { Answers result (rows.values_into columns.now row.now params.now (map (λ a. a.place) (map assignment_of assignments.now)) (map (λ a. a.value) (map assignment_of assignments.now))) }
+    ensures { Answers result (assigned columns.now row.now params.now (map assignment_of assignments.now)) }
 {
     let mut given = Seq::new(alloc);
     for assignment in assignments {
