@@ -1,5 +1,5 @@
 -- Rows that differ on a key, place by place; and rows of which some were changed.
-use Rattle.std.proofs.Common.{◌≡◌, ◌≢◌, ℕ, zero, suc, ◌+◌, ◌-◌, ◌<◌, ◌≤◌, List, [], ◌∷◌, length, get_or, take, drop, map, refl, ap, sym, subst, ◌∙◌, arith, length-drop, Bool, true, false, inl, inr, Option, Some, None}
+use Rattle.std.proofs.Common.{◌≡◌, ◌≢◌, ℕ, zero, suc, ◌+◌, ◌-◌, ◌<◌, ◌≤◌, List, [], ◌∷◌, length, get_or, take, drop, refl, ap, sym, subst, ◌∙◌, arith, length-drop, Bool, true, false, inl, inr, Option, Some, None}
 use Rattle.std.specs.Prelude.{◌&&◌, ◌||◌}
 use Rattle.std.specs.Bool.{Decides, one_answer}
 use Rattle.std.specs.List.{All, list_any, list_all, slice_get}
@@ -8,11 +8,10 @@ use Rattle.std.proofs.lemmas.List.{take_all}
 use Rattle.std.proofs.lemmas.Slice.Eq.{bytes_eq-Decides}
 use Rattle.std.proofs.lemmas.Option.{slice_get-get_or, slice_get_read, slice_get_within, get_or_from_slice_get}
 use Rattle.std.specs.Str.{bytes_eq}
-use Rattle.ae_base.specs.Atoms.{Atom, atom_eq, alike}
+use Rattle.ae_base.specs.Atoms.{Atom, alike}
 use Rattle.ae_base.specs.Values.{datum_eq}
 use Rattle.ae_base.specs.ValueLaws.{datum_eq-Decides}
 use Rattle.ae_base.specs.declared.atoms.AtomOf.TheVariants.{Null, Plain, Sealed}
-use Rattle.ae_base.specs.declared.values.Datum.{Datum}
 use Rattle.scalar.specs.Eval.{atom_at}
 use Rattle.engine.specs.Changes.{changed, standing}
 use Rattle.engine.specs.Keys.{alike_on, has_twins}

@@ -1,23 +1,18 @@
 -- What UPDATE and DELETE find of each row of a table, and what they write.
-use Rattle.std.proofs.Common.{◌≡◌, ℕ, zero, suc, ◌+◌, ◌<◌, ◌≤◌, List, [], ◌∷◌, ◌++◌, length, get_or, take, drop, map, refl, ap, sym, subst, ◌∙◌, arith, append_assoc, length-take, inl, inr, Bool, true, false, cond, Option, Some, None, Result, Ok, Err, unwrap_or}
-use Rattle.std.specs.Prelude.{slice_set, is_some, count_by, filter, not}
+use Rattle.std.proofs.Common.{◌≡◌, ℕ, suc, ◌+◌, ◌<◌, ◌≤◌, List, [], ◌∷◌, ◌++◌, length, get_or, take, drop, map, refl, ap, sym, ◌∙◌, arith, append_assoc, length-take, inl, inr, Bool, true, false, cond, Option, Some, None, Result, Ok}
+use Rattle.std.specs.Prelude.{slice_set, is_some, count_by}
 use Rattle.std.specs.List.{zip, SwappedAt}
-use Rattle.std.proofs.lemmas.List.{take_more, take_all, drop_more, drop_all, take_more_set, take-set, take-set-le, drop-set-lt, length-set, append-nil}
+use Rattle.std.proofs.lemmas.List.{take_more, drop_more, take_more_set, take-set, take-set-le, drop-set-lt, length-set}
 use Rattle.std.proofs.lemmas.Bool.{cases_lt}
 use Rattle.std.proofs.lemmas.List.Sums.{sum_by-cons}
 use Rattle.ae_base.specs.Atoms.{Atom}
-use Rattle.ae_base.specs.Results.{◌>>=◌, each, Answers, AnswersAs}
+use Rattle.ae_base.specs.Results.{each}
 use Rattle.ae_base.specs.declared.faults.SqlFault.{SqlFault}
-use Rattle.ae_base.specs.declared.refusals.Refusal.{Refusal}
-use Rattle.ae_base.specs.declared.refusals.Refusal.TheVariants.{Fault, OutOfMemory}
-use Rattle.ae_base.specs.declared.tables.ColumnDef.{ColumnDef}
-use Rattle.sql_tree.specs.declared.bound.BoundAssignment as code
-use Rattle.sql_tree.specs.Bound.{BoundAssignment, assignment_of}
 use Rattle.engine.specs.Changes.{changed, all_changed, standing, all_tested, staying}
-use Rattle.engine.specs.Rows.{value_at, value_into, values_into, replaced}
+use Rattle.engine.specs.Rows.{replaced}
 use Rattle.engine.specs.Step.{Tested}
-use Rattle.engine.proofs.Collected.{collected, before, collected_more, collected_fault, collected_all}
-use Rattle.engine.proofs.Values.{drop_there, map_there}
+use Rattle.engine.proofs.Collected.{collected, collected_more}
+use Rattle.engine.proofs.Values.{drop_there}
 
 -- ---- each in turn
 

@@ -1,5 +1,5 @@
 -- UPDATE and DELETE over well typed worlds, and over worlds that correspond.
-use Rattle.std.proofs.Common.{◌≡◌, ℕ, zero, suc, ◌+◌, List, [], ◌∷◌, length, map, refl, ap, sym, subst, ◌∙◌, arith, inl, inr, Option, Some, None, Result, Ok, Err, unwrap_or, Bool, true, false, cond}
+use Rattle.std.proofs.Common.{◌≡◌, ℕ, zero, suc, ◌+◌, List, [], ◌∷◌, map, refl, ap, sym, subst, ◌∙◌, arith, inl, inr, Option, Some, None, Result, Ok, Err, unwrap_or, Bool, true, false, cond}
 use Rattle.std.specs.Prelude.{count_by, filter}
 use Rattle.std.specs.List.{All, AllZip}
 use Rattle.std.proofs.lemmas.List.Elements.{All-head, All-tail}
@@ -10,16 +10,16 @@ use Rattle.ae_base.specs.declared.faults.SqlFault.{SqlFault}
 use Rattle.ae_base.specs.declared.tables.ColumnDef.{ColumnDef}
 use Rattle.sql_tree.specs.Bound.{BoundOperand, BoundCondition, BoundAssignment, BoundUpdate}
 use Rattle.sql_tree.specs.Placed.{site_of}
-use Rattle.scalar.specs.Classes.{Class, Pairing, class_of, class_at, IsOneToOne, PlacesCorrespond, RowsCorrespond, BothAnswer}
+use Rattle.scalar.specs.Classes.{Class, Pairing, class_at, IsOneToOne, PlacesCorrespond, RowsCorrespond, BothAnswer}
 use Rattle.scalar.specs.Eval.{atom_at}
 use Rattle.scalar.proofs.Correspondence.{corresponds_at}
-use Rattle.engine.specs.Rows.{column_at, values_into, value_at, replaced}
+use Rattle.engine.specs.Rows.{column_at, value_at, replaced}
 use Rattle.engine.specs.Step.{Tested, columns_of, selects, row_to_update, rows_to_update, tested_row, row_to_delete}
 use Rattle.engine.specs.Typed.{classes_of, IsValueFor, AreValuesFor, IsTypedFilter}
 use Rattle.engine.specs.WellTyped.{IsOf}
 use Rattle.engine.specs.Worlds.{World, rows_of}
-use Rattle.engine.proofs.Pairs.{both_then, both_before, asks_alike}
-use Rattle.engine.proofs.Suited.{IsSealedIn, AreGiven, sealed_of, values_are, given_there}
+use Rattle.engine.proofs.Pairs.{both_before, asks_alike}
+use Rattle.engine.proofs.Suited.{IsSealedIn, sealed_of, values_are, given_there}
 use Rattle.engine.proofs.Written.{rows_in, made_all, rows_mapped, updated, were_updated}
 
 -- ---- the assignments of SET as places and values

@@ -1,6 +1,6 @@
 -- The rows that stand after UPDATE and DELETE.
-use Rattle.std.proofs.Common.{◌≡◌, ℕ, suc, List, [], ◌∷◌, length, map, refl, ap, sym, subst, ◌∙◌, arith, get_or, inl, inr, unwrap_or, Option, Some, None, Result, Ok, Err, Bool, true, false, not, cond}
-use Rattle.std.specs.Prelude.{◌<◌, ◌≤◌, ◌⊎◌, ◌||◌, filter, count_by, is_some, slice_set, IsSome}
+use Rattle.std.proofs.Common.{◌≡◌, ℕ, suc, List, [], ◌∷◌, length, map, refl, ap, sym, subst, ◌∙◌, arith, get_or, inl, inr, unwrap_or, Option, Some, None, Result, Ok, Bool, true, false, not, cond}
+use Rattle.std.specs.Prelude.{◌<◌, ◌≤◌, ◌⊎◌, filter, count_by, is_some, slice_set, IsSome}
 use Rattle.std.specs.List.{All, AllZip, list_any}
 use Rattle.std.proofs.lemmas.List.Elements.{All-head, All-tail, All-cons, All-nil}
 use Rattle.ae_base.specs.Atoms.{Atom}
@@ -8,13 +8,13 @@ use Rattle.ae_base.specs.Results.{◌>>=◌, each}
 use Rattle.ae_base.specs.declared.faults.SqlFault.{SqlFault}
 use Rattle.ae_base.specs.declared.tables.ColumnDef.{ColumnDef}
 use Rattle.ae_base.specs.declared.tables.TableDef.{TableDef}
-use Rattle.sql_tree.specs.Bound.{BoundCondition, BoundAssignment, BoundUpdate, BoundDelete}
+use Rattle.sql_tree.specs.Bound.{BoundCondition, BoundUpdate, BoundDelete}
 use Rattle.sql_tree.specs.OnTables.{table_among}
 use Rattle.sql_tree.specs.Placed.{IsPlacedFilter}
 use Rattle.catalog.specs.Catalogs.{table_place}
-use Rattle.engine.specs.Changes.{changed, all_changed, standing, all_tested, staying}
+use Rattle.engine.specs.Changes.{all_changed, standing, all_tested, staying}
 use Rattle.engine.specs.Keys.{alike_on, has_twins, first_twins, unless_twins}
-use Rattle.engine.specs.Rows.{values_into, replaced}
+use Rattle.engine.specs.Rows.{replaced}
 use Rattle.engine.specs.Step as step
 use Rattle.engine.specs.Step.{Tested, outcome, columns_of, uniques_in, uniques_of, selects, assigned, updated_row, row_to_update, rows_to_update, tested_row, row_to_delete, rows_to_delete}
 use Rattle.engine.specs.Worlds.{World, rows_of, with_rows, HoldsRows, IsShaped}

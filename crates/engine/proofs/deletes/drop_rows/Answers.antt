@@ -1,5 +1,5 @@
 -- The next row is dropped, or moves up.
-use Rattle.std.proofs.Common.{◌≡◌, ◌<◌, ◌+◌, get_or, length, true, false, arith}
+use Rattle.std.proofs.Common.{◌<◌, length, arith}
 use Rattle.engine.specs.Changes.{staying}
 use Rattle.engine.proofs.Changing.{dropped_hit, dropped_kept}
 use Rattle.engine.proofs.deletes.drop_rows.Goals as goal

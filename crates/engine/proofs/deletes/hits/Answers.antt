@@ -1,5 +1,5 @@
 -- The next row.
-use Rattle.std.proofs.Common.{◌≡◌, ◌∷◌, [], List, length, length-append, map, Ok, sym, ap, ◌∙◌, arith}
+use Rattle.std.proofs.Common.{◌∷◌, [], List, length, length-append, sym, ap, ◌∙◌, arith}
 use Rattle.std.specs.Option.{option_map}
 use Rattle.ae_base.specs.Atoms.{Atom}
 use Rattle.ae_base.specs.Results.{◌>>=◌, each}
