@@ -18,7 +18,7 @@ use Rattle.catalog.specs.declared.keys.MasterKey.{MasterKey}
 use Rattle.engine.specs.BoundOn.{HasMaster}
 use Rattle.engine.specs.Keys.{first_twins, unless_twins}
 use Rattle.engine.specs.Queries.{found_in}
-use Rattle.engine.specs.Step.{Done, Tested, outcome, done_by, rows_to_insert, selects, updated_row, tested_row, uniques_of, step}
+use Rattle.engine.specs.Step.{Done, Tested, outcome, done_by, rows_to_insert, rows_to_update, rows_to_delete, selects, updated_row, tested_row, uniques_of, step}
 use Rattle.engine.specs.Worlds.{World, rows_of}
 use Rattle.plain_meaning.proofs.History.{Known, Grows, master_made, table_changed, master_dropped, key_dropped, key_made}
 
@@ -117,10 +117,8 @@ module _ (reused : IdsAreNotReused) (followed : DefinitionsAreFollowed) (history
   statement_leads b encs (bound.DropMaster name) params m = defined_leads (without_master w.catalog name) _ (no_master_leads reused followed history w.catalog k n name) (λ next h. h)
   statement_leads b encs (bound.DropKey name) params m = defined_leads (without_key w.catalog name) _ (no_key_leads reused followed history w.catalog k n name) (λ next h. h)
   statement_leads b encs (bound.Insert i) params m = found_leads (rows_to_insert w i params) _ (λ rows is. stays)
-  statement_leads b encs (bound.Update u) params m =
-      found_leads (each (λ row. selects params u.filter row >>= updated_row w u params row) (rows_of w u.table)) _
-      (λ tested. found_leads (unless_twins (first_twins 1 (uniques_of w u.table) (map (λ (t : Tested). t.row) tested)) tested) _ (λ kept is. stays))
-  statement_leads b encs (bound.Delete d) params m = found_leads (each (λ row. selects params d.filter row >>= tested_row row) (rows_of w d.table)) _ (λ tested is. stays)
+  statement_leads b encs (bound.Update u) params m = found_leads (rows_to_update w u params) _ (λ kept is. stays)
+  statement_leads b encs (bound.Delete d) params m = found_leads (rows_to_delete w d params) _ (λ kept is. stays)
   statement_leads b encs (bound.Select q) params m = found_leads (found_in w q params) _ (λ rows is. stays)
 
   pub step_grows : (b : Bound) (encs : List Enc) (params : List Atom) → HasMaster w.catalog b.statement → IsCatalog (step w b encs params).world.catalog → Grows history (step w b encs params).world.catalog

@@ -12,7 +12,7 @@ use Rattle.sql_tree.specs.Bound as bound
 use Rattle.catalog.specs.Catalogs.{Catalog, with_master, with_key, with_table, without_master, without_key, without_table, master_named, key_named, table_named, master_place, key_place, table_place, is_full_of_masters, is_full_of_keys, is_full_of_tables, is_at_last_version, is_master_used, is_key_used}
 use Rattle.engine.specs.Keys.{first_twins, unless_twins}
 use Rattle.engine.specs.Queries.{found_in}
-use Rattle.engine.specs.Step.{Done, Tested, outcome, done_by, rows_to_insert, selects, updated_row, tested_row, uniques_of, step}
+use Rattle.engine.specs.Step.{Done, Tested, outcome, done_by, rows_to_insert, rows_to_update, rows_to_delete, selects, updated_row, tested_row, uniques_of, step}
 use Rattle.engine.specs.Worlds.{World, rows_of}
 
 -- the catalog is the same, or a newer one
@@ -97,10 +97,8 @@ module _ (w : World) where
   done_leaves b encs (bound.DropMaster name) params = defined_leaves (without_master w.catalog name) _ (no_master_newer w.catalog name) (λ c lt. inr lt)
   done_leaves b encs (bound.DropKey name) params = defined_leaves (without_key w.catalog name) _ (no_key_newer w.catalog name) (λ c lt. inr lt)
   done_leaves b encs (bound.Insert i) params = found_leaves (rows_to_insert w i params) _ (λ rows. inl refl)
-  done_leaves b encs (bound.Update u) params =
-      found_leaves (each (λ row. selects params u.filter row >>= updated_row w u params row) (rows_of w u.table)) _
-      (λ tested. found_leaves (unless_twins (first_twins 1 (uniques_of w u.table) (map (λ (t : Tested). t.row) tested)) tested) _ (λ kept. inl refl))
-  done_leaves b encs (bound.Delete d) params = found_leaves (each (λ row. selects params d.filter row >>= tested_row row) (rows_of w d.table)) _ (λ tested. inl refl)
+  done_leaves b encs (bound.Update u) params = found_leaves (rows_to_update w u params) _ (λ kept. inl refl)
+  done_leaves b encs (bound.Delete d) params = found_leaves (rows_to_delete w d params) _ (λ kept. inl refl)
   done_leaves b encs (bound.Select q) params = found_leaves (found_in w q params) _ (λ rows. inl refl)
 
   pub step_leaves : (b : Bound) (encs : List Enc) (params : List Atom) → Newer w.catalog (step w b encs params).world.catalog
