@@ -1,0 +1,5 @@
+//! Runs over devices that fail.
+#![tactic(auto)]
+
+#[cfg(test)]
+mod failing;
