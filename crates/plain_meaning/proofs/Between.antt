@@ -1,81 +1,21 @@
 -- The worlds and the sessions between steps.
-use Rattle.std.proofs.Common.{◌≡◌, inl, inr, ℕ, zero, suc, ◌+◌, ◌-◌, ◌≤◌, List, [], ◌∷◌, ◌++◌, map, length, replicate, Option, Some, None, Result, Ok, Err, Bool, true, false, cond, refl, sym, ap, ◌∙◌, subst, arith, add-one, ◌⊎◌}
-use Rattle.std.specs.Prelude.{IsSome, nat_lt, encode_utf8_all, slice_index_or, slice_set, ◌==◌}
-use Rattle.std.specs.List.{All, AllZip, Contains}
-use Rattle.std.proofs.lemmas.Bool.{eqb-true}
-use Rattle.std.proofs.lemmas.List.{length-map}
-use Rattle.std.proofs.lemmas.List.Elements.{All-head, All-tail, All-nil, All-cons, All-map, All-contains}
-use Rattle.ae_base.specs.Atoms.{Atom, plain_atom}
-use Rattle.ae_base.specs.Batches.{first_unfit}
-use Rattle.ae_base.specs.Results.{◌>>=◌}
-use Rattle.ae_base.specs.declared.batches.Batch.{Batch}
+use Rattle.std.proofs.Common.{◌≡◌, inl, inr, ℕ, zero, suc, ◌≤◌, List, [], ◌∷◌, length, replicate, Ok, sym, subst, arith}
+use Rattle.std.specs.Prelude.{slice_index_or, slice_set}
+use Rattle.ae_base.specs.Atoms.{Atom}
 use Rattle.ae_base.specs.declared.batches.Param.{Param}
-use Rattle.ae_base.specs.declared.faults.SqlFault.{SqlFault}
-use Rattle.ae_base.specs.declared.faults.SqlFault.TheVariants.{Moved}
 use Rattle.ae_edge.specs.Vaults.{KeyMap}
-use Rattle.sql_tree.specs.Bound.{BoundStatement, Bound}
-use Rattle.catalog.specs.Catalogs.{Catalog, nothing_defined, master_named}
-use Rattle.catalog.specs.WellFormed.{IsCatalog, IsKeyThere}
-use Rattle.enc_types.specs.Laws.{TypedStatements, TypingsAreOfColumns, IsOfColumn}
-use Rattle.enc_types.specs.UsedAlone.{used_among, place_among, is_used, alone}
-use Rattle.resolve.specs.Bind.{type_of}
-use Rattle.resolve.specs.Laws.{BoundStatementsAre, PreparedAlone}
-use Rattle.engine.specs.BoundOn.{HasMaster, IsBoundOn}
-use Rattle.engine.specs.Laws.{StepRenamed, StepKeepsWorlds, RowsAreShown, TypedStatementsAreAdmitted, StepSimulates, IsShownBy}
-use Rattle.engine.specs.Step.{Answer, Rows, Changed, Defined, Outcome, done_by, step}
-use Rattle.engine.specs.WellTyped.{AreValuesOf, IsAnswerOf, AreResults}
+use Rattle.catalog.specs.Catalogs.{Catalog, nothing_defined}
+use Rattle.catalog.specs.WellFormed.{IsCatalog}
+use Rattle.enc_types.specs.UsedAlone.{used_among, is_used}
 use Rattle.engine.specs.Worlds.{World, empty_world}
-use Rattle.engine.specs.declared.answers.ResultColumn.{ResultColumn}
-use Rattle.wire_messages.specs.Messages.{Header}
-use Rattle.wire_messages.specs.declared.columns.SentColumn.{SentColumn}
-use Rattle.wire_messages.specs.declared.replies.Done.TheVariants.{Answered}
-use Rattle.wire_messages.specs.declared.replies.Reply.TheVariants.{Row, Ended}
-use Rattle.server_core.specs.Describing.{Meant, understood, description, keys_of, used_from}
-use Rattle.server_core.specs.Params.{declaration_of, suited_atom, suited}
-use Rattle.server_core.specs.Serve.{refused, described, answered, executed, sent_column, header, serve}
-use Rattle.server_core.specs.States.{is_short, IsState}
-use Rattle.conversation.specs.Batches.{unfit_by, why_unfit, unless}
-use Rattle.conversation.specs.Drive.{End, Done, Dry, BadReply, Listened, Caught, listen, passed_on, over}
-use Rattle.conversation.specs.Pending.{Pending, Use, uses_in, uses_of}
-use Rattle.conversation.specs.Sessions.{nobody, session_at, with_session, begun, described_params, titles_of}
-use Rattle.conversation.specs.Talk.{Talk, Asks, Hears, Prints, nothing_shown, Said}
-use Rattle.conversation.specs.Turns.{opening, answered_on, described_on, describing, executing, asked, rows_on, rested, reading, sent_param, over_on}
-use Rattle.conversation.specs.declared.faults.DriverFault.{DriverFault}
-use Rattle.conversation.specs.declared.faults.DriverFault.TheVariants.{StillPending, NothingPending}
-use Rattle.conversation.specs.declared.sessions.ColumnType.{ColumnType}
+use Rattle.server_core.specs.Describing.{Meant, understood, keys_of}
+use Rattle.server_core.specs.States.{IsState}
+use Rattle.conversation.specs.Pending.{Pending}
 use Rattle.conversation.specs.declared.sessions.Session.{Session}
-use Rattle.script_lang.specs.Limits.{IsWithinLimits, HasParams, HasProperParams, IsProperStep}
-use Rattle.script_lang.specs.declared.steps.Step.{Step}
-use Rattle.ae_base.specs.Types.{IsType}
-use Rattle.ae_base.specs.Values.{IsProper}
 use Rattle.ae_base.specs.declared.batches.KeyMeta.{KeyMeta}
-use Rattle.ae_base.specs.declared.batches.ParamDecl.{ParamDecl}
-use Rattle.ae_base.specs.declared.types.Enc.{Enc}
-use Rattle.ae_base.specs.declared.types.Ty.{Ty}
-use Rattle.aes_block.specs.Bytes.{AreBytes}
-use Rattle.catalog.specs.Laws.{DefinitionsAreFollowed, IdsAreNotReused, KeysAreTold}
-use Rattle.sql_tree.specs.declared.bound.ColumnSite.{ColumnSite}
-use Rattle.sql_tree.specs.Uses.{uses}
-use Rattle.scalar.specs.Classes.{BothAnswer, RowsCorrespond}
-use Rattle.engine.specs.Correspond.{WorldsCorrespond, ContentsCorrespond, AnswersCorrespond, OutcomesCorrespond, class_of_result}
-use Rattle.engine.specs.Executes.{executes}
-use Rattle.engine.specs.Typed.{param_classes}
-use Rattle.wire_messages.specs.declared.params.SentParam.{SentParam}
-use Rattle.wire_messages.specs.declared.params.UsedParam.{UsedParam}
-use Rattle.wire_messages.specs.declared.replies.Reply.{Reply}
-use Rattle.hmac_kdf.specs.Keys.{Keys}
-use Rattle.plain_meaning.specs.Laws.{Agrees, EndsWith, ServedIsPlain}
-use Rattle.plain_meaning.specs.Reference.{Came, came, declared, pending, means, reference}
-use Rattle.plain_meaning.specs.Steps.{number_of, turn, talk}
-use Rattle.sql_tree.specs.Bound as bound
-use Rattle.engine.specs.Step as engine
-use Rattle.wire_messages.specs.declared.requests.Request.TheVariants as request
-use Rattle.conversation.specs.declared.outcomes.Outcome as outcomes
-use Rattle.conversation.specs.declared.outcomes.Outcome.TheVariants as outcome
+use Rattle.engine.specs.Correspond.{ContentsCorrespond}
+use Rattle.plain_meaning.specs.Reference.{declared}
 use Rattle.conversation.specs.declared.sessions.Session.TheVariants as session
-use Rattle.script_lang.specs.declared.steps.Step.TheVariants as steps_of
-use Rattle.ae_base.specs.declared.types.Enc.TheVariants as enc
-use Rattle.plain_meaning.specs.Reference as plain
 use Rattle.plain_meaning.proofs.History.{Known}
 use Rattle.plain_meaning.proofs.Pairs.{Standing}
 use Rattle.plain_meaning.proofs.Sealed.{IsSendable}

@@ -1,5 +1,5 @@
 -- All column keys that were ever made: a definition only adds to them, and what a catalog tells of a key is what the history has.
-use Rattle.std.proofs.Common.{◌≡◌, ◌⊎◌, inl, inr, ℕ, zero, suc, ◌+◌, ◌<◌, ◌≤◌, List, [], ◌∷◌, ◌++◌, map, length, take, drop, Option, Some, None, Result, Ok, Err, Bool, true, false, cond, ◌||◌, ◌&&◌, refl, sym, ap, ◌∙◌, subst, arith, is_some}
+use Rattle.std.proofs.Common.{◌≡◌, ℕ, zero, suc, ◌+◌, ◌<◌, ◌≤◌, List, [], ◌∷◌, ◌++◌, length, Option, Some, None, Ok, Bool, true, false, cond, ◌||◌, refl, sym, ap, ◌∙◌, subst, arith}
 use Rattle.std.specs.Prelude.{IsSome, ◌==◌, nat_lt, get_or}
 use Rattle.std.specs.List.{All, list_any, find, remove, slice_get, position, position_or_len}
 use Rattle.std.specs.Option.{option_map, option_and_then}
@@ -10,12 +10,9 @@ use Rattle.std.proofs.lemmas.List.Elements.{All-head, All-tail}
 use Rattle.std.proofs.lemmas.List.Sums.{passes_at_first}
 use Rattle.std.proofs.lemmas.Option.{get_or_from_slice_get}
 use Rattle.std.proofs.lemmas.Slice.Eq.{bytes_eq-Decides}
-use Rattle.ae_base.specs.Results.{◌>>=◌, or_fault}
 use Rattle.ae_base.specs.declared.batches.KeyMeta.{KeyMeta}
-use Rattle.ae_base.specs.declared.faults.SqlFault.{SqlFault}
-use Rattle.ae_base.specs.declared.faults.SqlFault.TheVariants as fault
 use Rattle.ae_base.specs.declared.tables.TableDef.{TableDef}
-use Rattle.catalog.specs.Catalogs.{Catalog, master_named, key_named, table_named, key_of, key_meta, meta_of, with_master, with_key, with_table, without_master, without_key, without_table, master_place, key_place, table_place, is_full_of_masters, is_full_of_keys, is_full_of_tables, is_at_last_version, is_master_used, is_key_used}
+use Rattle.catalog.specs.Catalogs.{Catalog, master_named, key_of, key_meta, meta_of, without_key, master_place, is_master_used}
 use Rattle.catalog.specs.Laws.{DefinitionsAreFollowed, IdsAreNotReused}
 use Rattle.catalog.specs.WellFormed.{IsCatalog}
 use Rattle.catalog.specs.declared.keys.ColumnKey.{ColumnKey}

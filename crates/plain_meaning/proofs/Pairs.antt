@@ -1,7 +1,7 @@
 -- A sealed cell stands for the value that it opens to under its class's key, of all keys that were ever made; in a deterministic class it is that
 -- value's seal.
-use Rattle.std.proofs.Common.{◌≡◌, ◌⊎◌, inl, inr, ℕ, List, [], ◌∷◌, ◌++◌, map, Option, Some, None, Result, Ok, Err, Bool, true, false, cond, ◌&&◌, refl, sym, ap, ◌∙◌, subst}
-use Rattle.std.specs.Prelude.{IsTrue, ◌==◌}
+use Rattle.std.proofs.Common.{◌≡◌, inl, inr, ℕ, List, [], ◌∷◌, map, Option, Some, None, Result, Ok, Err, Bool, true, false, cond, ◌&&◌, refl, sym, ap, ◌∙◌, subst}
+use Rattle.std.specs.Prelude.{◌==◌}
 use Rattle.std.specs.List.{AllZip}
 use Rattle.std.specs.Str.{bytes_eq}
 use Rattle.std.proofs.lemmas.Bool.{and_parts}
@@ -21,7 +21,7 @@ use Rattle.hmac_kdf.specs.Keys.{Keys}
 use Rattle.value_norm.specs.Norm.{norm}
 use Rattle.cell_codec.specs.Cells.{sealed_det, unsealed}
 use Rattle.scalar.specs.Classes.{Class, Open, Det, Rnd, Pairing, IsNotNull, IsOneToOne, Correspond, RowsCorrespond}
-use Rattle.engine.specs.Correspond.{Related, IsWithinClass, ArePairsWithin, TablesCorrespond, ContentsCorrespond, class_of_column}
+use Rattle.engine.specs.Correspond.{Related, IsWithinClass, ArePairsWithin, ContentsCorrespond, class_of_column}
 use Rattle.conversation.specs.Cells.{value_in}
 use Rattle.conversation.specs.Keys.{open_key}
 use Rattle.conversation.specs.declared.faults.CellFailure.{CellFailure}

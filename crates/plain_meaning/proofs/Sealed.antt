@@ -1,13 +1,9 @@
 -- What is sealed stands for its value, has the shape of its type's cells, and is let in.
-use Rattle.std.proofs.Common.{◌≡◌, ◌⊎◌, inl, inr, ℕ, ℤ, zero, suc, ◌+◌, ◌*◌, ◌<◌, ◌≤◌, List, [], ◌∷◌, ◌++◌, map, length, take, drop, Option, Some, None, Result, Ok, Err, Bool, true, false, cond, ◌||◌, ◌&&◌, refl, sym, ap, ◌∙◌, subst, arith, eq-eqb}
-use Rattle.std.specs.Prelude.{IsTrue, IsSome, ◌==◌, ◌/◌, ◌%◌, ◌-◌, nat_lt, nat_le, int_le, pos, negsuc, FitsSigned, flat_map, slice_index}
+use Rattle.std.proofs.Common.{◌≡◌, inl, inr, ℕ, ℤ, ◌+◌, ◌*◌, ◌≤◌, List, length, Some, Result, Ok, Err, Bool, true, ◌&&◌, refl, ap, ◌∙◌, subst, arith, eq-eqb}
+use Rattle.std.specs.Prelude.{◌==◌, ◌/◌, ◌%◌, ◌-◌, nat_le, int_le, pos, negsuc, FitsSigned, slice_index}
 use Rattle.std.specs.Int.{w32, w64}
-use Rattle.std.specs.List.{All, list_any}
 use Rattle.std.specs.Str.{bytes_eq}
-use Rattle.std.proofs.lemmas.Bool.{eqb-true, and_parts}
 use Rattle.std.proofs.lemmas.Bool.Decides.{nat_tests}
-use Rattle.std.proofs.lemmas.List.{length-take-le}
-use Rattle.std.proofs.lemmas.List.Elements.{All-take, All-drop}
 use Rattle.std.proofs.lemmas.Slice.Eq.{bytes_eq-Decides}
 use Rattle.ae_base.specs.Atoms.{Atom, plain_atom}
 use Rattle.ae_base.specs.Results.{◌>>=◌}
@@ -25,7 +21,6 @@ use Rattle.ae_base.specs.declared.values.Value.{Value}
 use Rattle.ae_base.specs.declared.values.Value.TheVariants as value
 use Rattle.ae_edge.specs.Vaults.{KeyMap}
 use Rattle.aes_block.specs.Aes.{IsKey, IsBlock}
-use Rattle.aes_block.specs.Bytes.{AreBytes}
 use Rattle.hmac_kdf.specs.Keys.{Keys, keys_of}
 use Rattle.key_store.specs.Opening.{column_key}
 use Rattle.key_store.specs.declared.faults.KeyFault.{KeyFault}
@@ -35,15 +30,13 @@ use Rattle.value_norm.specs.Reading as reading
 use Rattle.value_norm.specs.Reading.{ValueIsTheOne}
 use Rattle.cell_codec.specs.Cells.{sealed, sealed_det, iv_of, unsealed, is_shape, IsShape, most_blocks}
 use Rattle.cell_codec.specs.Laws.{SealedIsReadBack, SealedIsCell, SealedHasShape, DerivedAreKeys, IvIsBlock}
-use Rattle.scalar.specs.Classes.{Class, Det, Rnd, IsNotSealed, Correspond, class_of}
+use Rattle.scalar.specs.Classes.{Det, Rnd, IsNotSealed, Correspond, class_of}
 use Rattle.engine.specs.WellTyped.{IsOfType, IsAtomOf}
-use Rattle.wire_messages.specs.declared.params.SentParam.{SentParam}
 use Rattle.server_core.specs.Params.{suited_atom}
 use Rattle.server_core.specs.States.{is_short}
 use Rattle.conversation.specs.Cells.{det_atom, rnd_atom, value_in, normal}
 use Rattle.conversation.specs.Keys.{seen, open_key, meta_of}
-use Rattle.conversation.specs.declared.faults.DriverFault.{DriverFault}
-use Rattle.plain_meaning.proofs.Pairs.{found, opened, keys_in, key_in, read_so, reads, det_reads, stands, Standing}
+use Rattle.plain_meaning.proofs.Pairs.{found, opened, keys_in, key_in, read_so, reads, det_reads, Standing}
 use Rattle.plain_meaning.proofs.Told.{IsMetaOf}
 
 pub record SealLaws : Type 0 where

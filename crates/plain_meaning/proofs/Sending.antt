@@ -1,35 +1,22 @@
 -- The parameters that a driver sends: those that the statement uses, in the order of their declarations, each with its value.
-use Rattle.std.proofs.Common.{◌≡◌, ℕ, zero, suc, ◌+◌, List, [], ◌∷◌, map, length, Option, Some, None, Ok, Bool, true, false, cond, not, ◌||◌, refl, sym, ap, ◌∙◌, subst, arith, add-one}
+use Rattle.std.proofs.Common.{◌≡◌, ℕ, zero, suc, ◌+◌, List, [], ◌∷◌, map, length, Option, Some, None, Bool, true, false, cond, not, ◌||◌, refl, sym, ap, ◌∙◌, arith, add-one}
 use Rattle.std.specs.List.{slice_get, list_any}
 use Rattle.std.specs.Str.{bytes_eq}
 use Rattle.std.proofs.lemmas.Bool.{and_parts}
 use Rattle.std.proofs.lemmas.Slice.Eq.{bytes_eq-Decides}
-use Rattle.ae_base.specs.Atoms.{plain_atom}
 use Rattle.ae_base.specs.Batches.{first_unfit}
 use Rattle.ae_base.specs.Names.{all_differ}
 use Rattle.ae_base.specs.Values.{value_is_within}
-use Rattle.ae_base.specs.declared.batches.KeyMeta.{KeyMeta}
 use Rattle.ae_base.specs.declared.batches.Param.{Param}
 use Rattle.ae_base.specs.declared.batches.ParamDecl.{ParamDecl}
 use Rattle.ae_base.specs.declared.types.Enc.{Enc}
-use Rattle.ae_base.specs.declared.types.Enc.TheVariants as enc
-use Rattle.ae_base.specs.declared.types.Ty.{Ty}
-use Rattle.ae_base.specs.declared.values.Value.{Value}
-use Rattle.ae_base.specs.declared.values.Value.TheVariants as value
-use Rattle.ae_edge.specs.Vaults.{KeyMap}
 use Rattle.sql_tree.specs.Bound.{Bound}
 use Rattle.sql_tree.specs.Uses.{uses}
 use Rattle.enc_types.specs.UsedAlone.{used_among, place_among, is_used}
-use Rattle.wire_messages.specs.declared.params.SentParam.{SentParam}
 use Rattle.wire_messages.specs.declared.params.UsedParam.{UsedParam}
 use Rattle.server_core.specs.Describing.{used_from}
-use Rattle.server_core.specs.Params.{declaration_of, suited_atom, suited}
 use Rattle.conversation.specs.Pending.{Use, uses_in}
 use Rattle.conversation.specs.Sessions.{with_enc, encs_of}
-use Rattle.conversation.specs.Talk.{Talk}
-use Rattle.conversation.specs.Turns.{sent_param, sealing_value, sealing}
-use Rattle.conversation.specs.declared.faults.DriverFault.{DriverFault}
-use Rattle.plain_meaning.specs.Reference.{why_unopened}
 
 -- each has the property
 abbrev pub Each : {A : Type 0} → (A → Type 0) → List A → Type 0

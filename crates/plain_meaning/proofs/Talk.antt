@@ -1,12 +1,11 @@
 -- Parameters that are sealed and answers that are opened, over a server: each key is opened, or its fault ends it; a draw that is short is dry.
-use Rattle.std.proofs.Common.{◌≡◌, ◌⊎◌, inl, inr, ℕ, suc, ◌+◌, ◌<◌, ◌≤◌, List, [], ◌∷◌, ◌++◌, map, length, take, drop, Option, Some, None, Result, Ok, Err, Bool, true, false, cond, ◌&&◌, refl, sym, ap, ◌∙◌, subst, arith, append_assoc, append-nil, eq-eqb}
-use Rattle.std.specs.Prelude.{IsTrue, nat_lt}
+use Rattle.std.proofs.Common.{◌≡◌, inl, inr, ℕ, suc, ◌+◌, ◌<◌, ◌≤◌, List, [], ◌∷◌, ◌++◌, map, length, take, drop, Option, Some, None, Result, Ok, Err, Bool, true, false, refl, sym, ap, ◌∙◌, subst, arith, append_assoc, append-nil, eq-eqb}
+use Rattle.std.specs.Prelude.{nat_lt}
 use Rattle.std.specs.List.{All, AllZip}
 use Rattle.std.proofs.lemmas.Bool.Decides.{nat_tests}
 use Rattle.std.proofs.lemmas.List.{length-take-le}
 use Rattle.std.proofs.lemmas.List.Elements.{All-head, All-tail, All-take, All-drop}
 use Rattle.ae_base.specs.Atoms.{Atom, plain_atom}
-use Rattle.ae_base.specs.Results.{◌>>=◌}
 use Rattle.ae_base.specs.declared.atoms.AtomOf.TheVariants as atom
 use Rattle.ae_base.specs.declared.batches.KeyMeta.{KeyMeta}
 use Rattle.ae_base.specs.declared.types.Enc.{Enc}
@@ -17,13 +16,12 @@ use Rattle.ae_base.specs.declared.values.Datum.{Datum}
 use Rattle.ae_base.specs.declared.values.Datum.TheVariants as datum
 use Rattle.ae_base.specs.declared.values.Value.{Value}
 use Rattle.ae_base.specs.declared.values.Value.TheVariants as value
-use Rattle.ae_edge.specs.Devices.{IsFront}
 use Rattle.ae_edge.specs.Vaults.{KeyMap}
 use Rattle.aes_block.specs.Aes.{IsBlock}
 use Rattle.aes_block.specs.Bytes.{AreBytes}
 use Rattle.hmac_kdf.specs.Keys.{Keys}
 use Rattle.cell_codec.specs.Cells.{unsealed}
-use Rattle.scalar.specs.Classes.{Class, Open, Det, Rnd, Correspond, RowsCorrespond, class_of}
+use Rattle.scalar.specs.Classes.{Correspond, RowsCorrespond, class_of}
 use Rattle.engine.specs.Correspond.{class_of_result}
 use Rattle.engine.specs.WellTyped.{IsOfType, IsAtomOf}
 use Rattle.engine.specs.declared.answers.ResultColumn.{ResultColumn}
@@ -33,10 +31,10 @@ use Rattle.wire_messages.specs.declared.replies.Reply.{Reply}
 use Rattle.wire_messages.specs.declared.replies.Reply.TheVariants.{Row, Ended}
 use Rattle.server_core.specs.Serve.{State, serve}
 use Rattle.conversation.specs.Cells.{det_atom, rnd_atom, is_of_kind, is_atom_of, is_row_of, read_atom, read_atoms, value_in}
-use Rattle.conversation.specs.Drive.{Listened, Caught, listen, over, passed_by}
+use Rattle.conversation.specs.Drive.{Caught, listen, over, passed_by}
 use Rattle.conversation.specs.Keys.{open_key, meta_of}
 use Rattle.conversation.specs.Pending.{Use}
-use Rattle.conversation.specs.Talk.{Talk, Said, with_row}
+use Rattle.conversation.specs.Talk.{Talk, Said}
 use Rattle.conversation.specs.Turns.{on, drawing, opening_one, opening, sent_param, sealing_value, sealing}
 use Rattle.conversation.specs.declared.faults.DriverFault.{DriverFault}
 use Rattle.conversation.specs.declared.outcomes.Listing.{Listing}
@@ -46,7 +44,7 @@ use Rattle.conversation.specs.declared.sessions.ColumnType.{ColumnType}
 use Rattle.conversation.specs.declared.sessions.Session.TheVariants.{Idle, Reading, Skipping}
 use Rattle.plain_meaning.specs.Laws.{Agrees}
 use Rattle.plain_meaning.specs.Reference.{unopened_or, why_unopened, value_of}
-use Rattle.plain_meaning.proofs.Pairs.{found, opened, keys_in, key_in, stands, Standing, Opens, rnd_opens, det_opens}
+use Rattle.plain_meaning.proofs.Pairs.{found, opened, keys_in, key_in, Standing, Opens, rnd_opens, det_opens}
 use Rattle.plain_meaning.proofs.Sealed.{IsRndSeal, IsSealed}
 use Rattle.plain_meaning.proofs.Sending.{Each}
 use Rattle.plain_meaning.proofs.Told.{IsMetaOf}
