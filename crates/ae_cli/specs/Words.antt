@@ -1,5 +1,5 @@
 -- The words of the command line.
-use Rattle.std.specs.Prelude.{◌≡◌, ℕ, List, [], ◌∷◌, ◌++◌, codes, encode_utf8_all, Bool, true, false}
+use Rattle.std.specs.Prelude.{◌≡◌, ℕ, List, [], ◌∷◌, ◌++◌, codes, encode_utf8_all, Option, Some, None, Bool, true, false, if◌then◌else◌}
 use Rattle.std.specs.Str.{bytes_eq}
 use Rattle.script_run.specs.declared.status.Status.{Status}
 use Rattle.script_run.specs.declared.status.Status.TheVariants as status
@@ -11,13 +11,25 @@ is_run (name ∷ []) = false
 is_run (name ∷ word ∷ []) = bytes_eq (encode_utf8_all word) (codes "run")
 is_run (name ∷ word ∷ more ∷ others) = false
 
+-- the path, behind the program's name and `wrap`
+abbrev pub wrap_path : List (List ℕ) → Option (List ℕ)
+wrap_path [] = None
+wrap_path (name ∷ []) = None
+wrap_path (name ∷ word ∷ []) = None
+wrap_path (name ∷ word ∷ path ∷ []) = if bytes_eq (encode_utf8_all word) (codes "wrap") then Some path else None
+wrap_path (name ∷ word ∷ path ∷ more ∷ others) = None
+
+-- the words are those of no command
+abbrev pub AreNoCommand : List (List ℕ) → Type 0
+AreNoCommand words = (is_run words ≡ false) × (wrap_path words ≡ None)
+
 -- how the program is called
-abbrev pub usage_line : List ℕ
-usage_line = codes "usage: ae run < SCRIPT" ++ 10 ∷ []
+abbrev pub usage_lines : List ℕ
+usage_lines = codes "usage: ae run < SCRIPT" ++ 10 ∷ codes "       ae wrap PATH < KEY" ++ 10 ∷ []
 
 -- the words are no command, and it is said how they are written, or there was no memory to say so
 abbrev pub IsRefusedUsage : Status → Type 0
-IsRefusedUsage (status.Usage text) = encode_utf8_all text ≡ usage_line
+IsRefusedUsage (status.Usage text) = encode_utf8_all text ≡ usage_lines
 IsRefusedUsage status.OutOfMemory = Unit {0}
 IsRefusedUsage status.Done = ⊥
 IsRefusedUsage status.Refusals = ⊥

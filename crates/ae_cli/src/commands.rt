@@ -1,7 +1,10 @@
 //! The top call: the words of a command line, and what the command does.
 
 ghost use Rattle.std.specs.Prelude.{◌≡◌, ◌⊎◌, ℕ, List, IfSome, Some, true, false};
-ghost use Rattle.ae_cli.specs.Words.{IsOfRun, IsRefusedUsage, is_run};
+ghost use Rattle.ae_cli.specs.Words.{AreNoCommand, IsOfRun, IsRefusedUsage, is_run, wrap_path};
+ghost use Rattle.ae_cli.specs.Wraps.{status_of_wrapping};
+ghost use Rattle.wrap_command.specs.Wrapping.{Takes, Wraps};
+ghost use Rattle.wrap_command.specs.declared.commands.Wrapped.{Wrapped};
 ghost use Rattle.ae_edge.specs.Devices.{Rose, WhereTold};
 ghost use Rattle.ae_edge.specs.Vaults.{KeyMap};
 ghost use Rattle.script_lang.specs.declared.steps.Step.{Step};
@@ -12,7 +15,8 @@ ghost use Rattle.script_run.specs.Plain.{IsDoneOrFault, PrintsPlain};
 ghost use Rattle.script_run.specs.Statuses.{status_of};
 ghost use Rattle.script_run.specs.Transcript.{TapsTranscript};
 
-use crate::words::{is_run, usage};
+use crate::words::{is_run, usage, wrap_path};
+use crate::wrapping::wrap_key;
 use ae_base::texts::Txt;
 use ae_edge::entropies::Entropy;
 use ae_edge::sinks::Sink;
@@ -25,11 +29,13 @@ use std::alloc::Global;
 
 /// Does what the words ask for, of which the first is the program's name, and says how it ended.
 ///
-/// So far there is one command, `run`: it reads a script from `script`, runs its steps through a
+/// `run` reads a script from `script`, runs its steps through a
 /// driver and the peer, puts the text to `out` and every frame to `tap`. The values of protected
 /// columns pass as cells: the driver opens their keys through the vault, draws from the random
-/// source for randomized ones, and prints what the cells hold. A run touches no replies. Other
-/// words are `Usage`, and touch nothing.
+/// source for randomized ones, and prints what the cells hold. `wrap PATH` reads a column key from
+/// `script`, wraps it under the vault's master key at the path, and puts its digits to `out`;
+/// nothing else is touched. No command touches the replies. Other words are `Usage`, and touch
+/// nothing.
 pub fn ae_main<S: Source, V: Vault, E: Entropy, L: Source, W: Sink, T: Sink, P: Peer>(
     alloc: Global,
     words: &[Txt],
@@ -42,7 +48,7 @@ pub fn ae_main<S: Source, V: Vault, E: Entropy, L: Source, W: Sink, T: Sink, P: 
     peer: &mut P,
 ) -> Status
     // Words that are no command are refused, and nothing is touched; there may be no memory to say so.
-    ensures usage { is_run words.now ≡ false → IsRefusedUsage result × (script.new ≡ script.old) × (vault.new ≡ vault.old) × (entropy.new ≡ entropy.old) × (out.new ≡ out.old) × (tap.new ≡ tap.old) × (peer.new ≡ peer.old) }
+    ensures usage { AreNoCommand words.now → IsRefusedUsage result × (script.new ≡ script.old) × (vault.new ≡ vault.old) × (entropy.new ≡ entropy.old) × (out.new ≡ out.old) × (tap.new ≡ tap.old) × (peer.new ≡ peer.old) }
     // A run has no other status than these.
     ensures named { is_run words.now ≡ true → IsOfRun result }
     // A run over any peer: there are bytes, the script's where it tells them, of which this is a run: how far its conversation was
@@ -62,6 +68,10 @@ pub fn ae_main<S: Source, V: Vault, E: Entropy, L: Source, W: Sink, T: Sink, P: 
         → (ran : Ran) × (result ≡ status_of ran) × IsDoneOrFault ran }
     // What was taken of the script, by how the run ended.
     ensures taken { is_run words.now ≡ true → (ran : Ran) × (result ≡ status_of ran) × WhereTold (TakesScript ran) (S.left script.old) (S.left script.new) }
+    // A wrapping: there are bytes, the script's where it tells them, of which it is what the command makes; nothing else is touched.
+    ensures wrapped { IfSome (wrap_path words.now) (λ path. (wrapped : Wrapped) × (result ≡ status_of_wrapping path wrapped) × (bytes : List ℕ) × IfSome (S.left script.old) (λ left. bytes ≡ left) × Wraps wrapped path bytes (record { keys = V.keys vault.old; out = W.held out.old }) (record { keys = V.keys vault.new; out = W.held out.new })) }
+    ensures wrapped_taken { IfSome (wrap_path words.now) (λ path. (wrapped : Wrapped) × (result ≡ status_of_wrapping path wrapped) × WhereTold (Takes wrapped) (S.left script.old) (S.left script.new)) }
+    ensures wrapped_alone { IfSome (wrap_path words.now) (λ path. (entropy.new ≡ entropy.old) × (tap.new ≡ tap.old) × (peer.new ≡ peer.old)) }
     // The faults of the outside come only where a count rose.
     ensures read { result ≡ Status.ReadFault → Rose (S.faults script.old) (S.faults script.new) }
     ensures write { result ≡ Status.WriteFault → Rose (W.faults out.old) (W.faults out.new) ⊎ Rose (T.faults tap.old) (T.faults tap.new) }
@@ -70,8 +80,10 @@ pub fn ae_main<S: Source, V: Vault, E: Entropy, L: Source, W: Sink, T: Sink, P: 
     ensures replies { replies.new ≡ replies.old }
 {
     if is_run(words) {
-        Status::from(run(alloc, script, vault, entropy, out, tap, peer))
-    } else {
-        usage(alloc)
+        return Status::from(run(alloc, script, vault, entropy, out, tap, peer));
+    }
+    match wrap_path(words) {
+        Some(path) => wrap_key(alloc, path, script, vault, out),
+        None => usage(alloc),
     }
 }

@@ -6,9 +6,10 @@ mod files;
 #[cfg(test)]
 mod tests;
 mod words;
+mod wrapping;
 
-ghost use Rattle.std.specs.Prelude.{◌≡◌, true, false};
-ghost use Rattle.ae_cli.specs.Words.{IsOfRun, IsRefusedUsage, is_run};
+ghost use Rattle.std.specs.Prelude.{◌≡◌, true};
+ghost use Rattle.ae_cli.specs.Words.{AreNoCommand, IsOfRun, IsRefusedUsage, is_run};
 
 use ae_base::lists::Seq;
 use ae_base::texts::Txt;
@@ -46,7 +47,7 @@ fn words_of(rt: &HostRuntime) -> io::Result<Seq<Txt>> {
 }
 
 fn status_of(rt: &HostRuntime, words: &[Txt]) -> Status
-    ensures usage { is_run words.now ≡ false → IsRefusedUsage result }
+    ensures usage { AreNoCommand words.now → IsRefusedUsage result }
     ensures run { is_run words.now ≡ true → IsOfRun result }
 {
     let alloc = rt.alloc();

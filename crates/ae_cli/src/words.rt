@@ -1,14 +1,15 @@
 //! The words of the command line.
 
 ghost use Rattle.std.specs.Prelude.{◌≡◌};
-ghost use Rattle.ae_cli.specs.Words.{IsRefusedUsage, is_run};
+ghost use Rattle.std.specs.Option.{option_map};
+ghost use Rattle.ae_cli.specs.Words.{IsRefusedUsage, is_run, wrap_path};
 
 use ae_base::texts::Txt;
 use script_run::status::Status;
 use std::alloc::Global;
 
 /// How the program is called.
-const USAGE: &str = "usage: ae run < SCRIPT\n";
+const USAGE: &str = "usage: ae run < SCRIPT\n       ae wrap PATH < KEY\n";
 
 /// Whether the words, of which the first is the program's name, ask to run a script.
 pub fn is_run(words: &[Txt]) -> bool
@@ -17,6 +18,23 @@ pub fn is_run(words: &[Txt]) -> bool
     match words {
         [_, word] => word.as_str() == "run",
         _ => false,
+    }
+}
+
+/// The path under whose master key the words, of which the first is the program's name, ask to wrap
+/// a key, if they ask for that.
+pub fn wrap_path(words: &[Txt]) -> Option<&Txt>
+    ensures { option_map (λ path. path.now) result ≡ wrap_path words.now }
+{
+    match words {
+        [_, word, path] => {
+            if word.as_str() == "wrap" {
+                Some(path)
+            } else {
+                None
+            }
+        }
+        _ => None,
     }
 }
 

@@ -1,6 +1,6 @@
 -- A step leaves a well typed world, and answers what is typed as it is shown.
 use Rattle.std.proofs.Common.{◌≡◌, ℕ, List, [], ◌∷◌, ◌++◌, length, map, refl, ap, sym, subst, ◌∙◌, Option, Some, None, Result, Ok, Err, unwrap_or, Bool, true}
-use Rattle.std.specs.Prelude.{IsSome}
+use Rattle.std.specs.Prelude.{filter, not, IsSome}
 use Rattle.std.specs.List.{All, AllZip, remove}
 use Rattle.std.proofs.lemmas.List.Elements.{All-head, All-tail, All-cons, All-nil, All-push, All-append}
 use Rattle.ae_base.specs.Atoms.{Atom}
@@ -11,7 +11,7 @@ use Rattle.ae_base.specs.declared.types.Enc.{Enc}
 use Rattle.ae_base.specs.declared.types.Ty.{Ty}
 use Rattle.sql_tree.specs.declared.bound.BoundTable.{BoundTable}
 use Rattle.sql_tree.specs.declared.bound.ColumnSite.{ColumnSite}
-use Rattle.sql_tree.specs.Bound.{BoundInsert, BoundRow, BoundItem, BoundQuery, BoundStatement, Bound}
+use Rattle.sql_tree.specs.Bound.{BoundInsert, BoundRow, BoundAssignment, BoundUpdate, BoundDelete, BoundItem, BoundQuery, BoundStatement, Bound}
 use Rattle.sql_tree.specs.Bound as bound
 use Rattle.sql_tree.specs.OnTables.{IsStatementOn, table_among, columns_in, sites_among}
 use Rattle.sql_tree.specs.Placed.{IsPlacedStatement, IsPlacedTable, IsPlacedQuery, site_of}
@@ -28,18 +28,20 @@ use Rattle.engine.specs.Executes.{executes_query, executes_statement, executes}
 use Rattle.engine.specs.Queries as queries
 use Rattle.engine.specs.Queries.{items_of, found_in}
 use Rattle.engine.specs.Step as step
-use Rattle.engine.specs.Step.{Done, outcome, columns_of, uniques_of, rows_to_insert, done_by}
+use Rattle.engine.specs.Step.{Done, Tested, outcome, columns_of, uniques_of, rows_to_insert, rows_to_update, rows_to_delete, done_by}
 use Rattle.engine.specs.Keys.{first_twins, unless_twins}
 use Rattle.engine.specs.Rows.{new_rows}
-use Rattle.engine.specs.Typed.{classes_of, param_classes, AreValuesFor, IsTypedStatement, IsTypedBy}
+use Rattle.engine.specs.Typed.{classes_of, param_classes, IsValueFor, AreValuesFor, IsTypedStatement, IsTypedBy}
 use Rattle.engine.specs.WellTyped.{IsOf, IsTableOf, IsWellTyped, AreValuesOf, IsAnswerOf}
 use Rattle.engine.specs.Worlds.{World, place_of, rows_of, with_rows, HoldsRows, IsShaped}
 use Rattle.engine.proofs.Collected.{came}
 use Rattle.engine.proofs.Contents.{zip_push, zip_remove, related_there, related_set, placed_of, table_holds, set_shape, holds_more, no_twins, kept_shape, created_shape, dropped_shape, master_made, key_made, master_dropped, key_dropped, table_made, table_dropped}
 use Rattle.engine.proofs.Suited.{IsAt, IsShown, row_places, param_places, param_sealed, items_shown, new_rows_are}
-use Rattle.engine.proofs.Moving.{inserted_done, selected_done}
+use Rattle.engine.proofs.Moving.{inserted_done, updated_done, deleted_done, selected_done}
 use Rattle.engine.proofs.Rowwise.{AllRows, events_typed, results_all}
+use Rattle.engine.proofs.Updating.{updated_are}
 use Rattle.engine.proofs.Walks.{found_bare, keys_placed}
+use Rattle.engine.proofs.Written.{rows_in, rows_passing, holds_updated, holds_passing, were_tested}
 
 -- ---- records, made of their parts
 
@@ -181,6 +183,38 @@ module _ (cell : List ℕ → Bool) (world : World) (w : IsWellTyped cell world)
         table_is (Some table) t h =
             subst (λ (o : Option TableDef). All (AllZip (IsAt cell) (map site_of (columns_in o))) (rows_of world name)) (sym t) (all_sites cell table.columns (rows_of world name) (related_there (IsTableOf cell) world name table w.tables t))
 
+    updated_kept : (columns : List ColumnSite) (u : BoundUpdate) (done : Done) → IsSome (table_among world.catalog.tables u.table) → columns ≡ sites_among world.catalog.tables u.table
+        → All (λ (a : BoundAssignment). IsValueFor (classes_of columns) (classes_of columns) (param_classes tys encs) a.place a.value) u.assignments → step.update world u params ≡ Ok done → Keeps cell done
+    updated_kept columns u done there same typed e = table_is (table_among world.catalog.tables u.table) refl there
+      where
+        table_is : (o : Option TableDef) → table_among world.catalog.tables u.table ≡ o → IsSome o → Keeps cell done
+        table_is None t h = absurd cc
+        table_is (Some table) t h =
+            let c = came (rows_to_update world u params) (λ tested. done_ok (updated_done world u.table tested)) done e in
+            let for = subst (λ cs. All (λ (a : BoundAssignment). IsValueFor (classes_of cs) (classes_of cs) (param_classes tys encs) a.place a.value) u.assignments) same typed in
+            let columns : columns_of world u.table ≡ table.columns = ap columns_in t in
+            let old = subst (λ cs. All (AllZip (IsOf cell) cs) (rows_of world u.table)) (sym columns) (related_there (IsTableOf cell) world u.table table w.tables t) in
+            let new = updated_are cell world u (param_classes tys encs) params c.value (param_sealed cell tys encs params m n values) for old c.is in
+            subst (Keeps cell) (same_done (updated_done world u.table c.value) done c.then) (
+              rows_kept u.table table (rows_in c.value) t (holds_updated world u params table c.value (table_holds world u.table table w.shaped t) t c.is) (subst (λ cs. All (AllZip (IsOf cell) cs) (rows_in c.value)) columns new),
+              tt,
+            )
+
+    deleted_kept : (d : BoundDelete) (done : Done) → IsSome (table_among world.catalog.tables d.table) → step.delete world d params ≡ Ok done → Keeps cell done
+    deleted_kept d done there e = table_is (table_among world.catalog.tables d.table) refl there
+      where
+        table_is : (o : Option TableDef) → table_among world.catalog.tables d.table ≡ o → IsSome o → Keeps cell done
+        table_is None t h = absurd cc
+        table_is (Some table) t h =
+            let stays : Tested → Bool = λ (t : Tested). not t.hit in
+            let c = came (rows_to_delete world d params) (λ tested. done_ok (deleted_done world d.table tested)) done e in
+            let same = were_tested world d params c.value c.is in
+            let rows = subst (All (AllZip (IsOf cell) table.columns)) (sym same) (related_there (IsTableOf cell) world d.table table w.tables t) in
+            subst (Keeps cell) (same_done (deleted_done world d.table c.value) done c.then) (
+              rows_kept d.table table (rows_in (filter stays c.value)) t (holds_passing stays table (rows_of world d.table) c.value (table_holds world d.table table w.shaped t) same) (rows_passing stays (AllZip (IsOf cell) table.columns) c.value rows),
+              tt,
+            )
+
     selected_kept : (columns : List ColumnSite) (q : BoundQuery) (done : Done) → IsPlacedQuery (length columns) (length tys) q → IsStatementOn world.catalog.tables columns (bound.Select q) → executes_query q ≡ true
         → step.select world columns tys encs q params ≡ Ok done → Keeps cell done
     selected_kept columns q done p on x e =
@@ -205,8 +239,8 @@ module _ (cell : List ℕ → Bool) (world : World) (w : IsWellTyped cell world)
     done_kept b same (bound.DropKey name) done p on master keys typed x e =
         definition_kept (without_key world.catalog name) done (λ new f. (without_key-kept world.catalog new name f w.catalog, key_dropped world.catalog new name f)) e
     done_kept b same (bound.Insert i) done p on master keys typed x e = inserted_kept b.columns i done on.0 on.1 typed e
-    done_kept b same (bound.Update u) done p on master keys typed x e = absurd cc
-    done_kept b same (bound.Delete d) done p on master keys typed x e = absurd cc
+    done_kept b same (bound.Update u) done p on master keys typed x e = updated_kept b.columns u done on.0 on.1 typed.0 e
+    done_kept b same (bound.Delete d) done p on master keys typed x e = deleted_kept d done on.0 e
     done_kept b same (bound.Select q) done p on master keys typed x e = selected_kept b.columns q done p on x (ap (λ ts. step.select world b.columns ts encs q params) (sym same) ∙ e)
 
 outcome_kept : (cell : List ℕ → Bool) (world : World) (r : Result Done SqlFault) → IsWellTyped cell world → ((done : Done) → r ≡ Ok done → Keeps cell done) → IsWellTyped cell (outcome world r).world × IsAnswerOf cell (outcome world r).answer

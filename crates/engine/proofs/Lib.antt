@@ -1,4 +1,6 @@
 pub mod Admitted
+pub mod Apart
+pub mod Changing
 pub mod Collected
 pub mod Contents
 pub mod Kept
@@ -9,5 +11,7 @@ pub mod Shown
 pub mod Simulating
 pub mod Suited
 pub mod Twins
+pub mod Updating
 pub mod Values
 pub mod Walks
+pub mod Written

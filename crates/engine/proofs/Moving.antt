@@ -23,7 +23,7 @@ use Rattle.engine.specs.Queries as queries
 use Rattle.engine.specs.Queries.{Found, Group, item_of, items_of, found_of, results, joined_all, where_true, is_count, is_grouped, groups_of, all_found, answered, found_in}
 use Rattle.engine.specs.Rows.{admitted, column_at, value_into, values_into, completed, new_row, new_rows, replaced}
 use Rattle.engine.specs.Step as step
-use Rattle.engine.specs.Step.{Done, Tested, Changed, Rows, outcome, columns_of, uniques_of, selects, updated_row, tested_row, done_by}
+use Rattle.engine.specs.Step.{Done, Tested, Changed, Rows, outcome, columns_of, uniques_of, selects, updated_row, row_to_update, tested_row, row_to_delete, done_by}
 use Rattle.engine.specs.Worlds.{World, rows_of, with_rows}
 use Rattle.engine.specs.declared.answers.ResultColumn.{ResultColumn}
 use Rattle.std.proofs.lemmas.Bool.{eq-eqb}
@@ -40,7 +40,7 @@ grouped_found q params es = results (λ row. Ok row) 0 es >>= λ rows. each (λ 
 abbrev renamed_sets : (ℕ → ℕ) → BoundUpdate → BoundUpdate
 renamed_sets f u = record { table = u.table; assignments = map (renamed_assignment f) u.assignments; filter = renamed_filter f u.filter }
 
-abbrev hit_row : List Atom → List (ℕ × Atom) → Tested
+abbrev pub hit_row : List Atom → List (ℕ × Atom) → Tested
 hit_row row given = record { hit = true; row = replaced 0 given row }
 
 abbrev site : Ty → Enc → ColumnSite
@@ -208,12 +208,12 @@ module _ (f : ℕ → ℕ) (params moved : List Atom) where
       (value_moved columns row place a.value (λ p u. m p (or_left (uses_in_assignment p a) (list_any (uses_in_assignment p) sets) u)))
       (λ given. ap (λ r. r >>= λ rest. Ok (given ∷ rest)) (sets_moved columns row places sets (λ p u. m p (or_right (uses_in_assignment p a) (list_any (uses_in_assignment p) sets) u))))
 
-  updated_moved : (world : World) (u : BoundUpdate) (row : List Atom) (hit : Bool) → AreMoved (λ p. list_any (uses_in_assignment p) u.assignments) f params moved
-      → updated_row world (renamed_sets f u) moved row hit ≡ updated_row world u params row hit
-  updated_moved world u row false m = refl
-  updated_moved world u row true m =
-      ap (λ ps. values_into (columns_of world u.table) row moved ps (map (λ (a : BoundAssignment). a.value) (map (renamed_assignment f) u.assignments)) >>= λ given. Ok (hit_row row given)) (places_moved u.assignments)
-      ∙ ap (λ (r : Result (List (ℕ × Atom)) SqlFault). r >>= λ given. Ok (hit_row row given)) (sets_moved (columns_of world u.table) row (map (λ (a : BoundAssignment). a.place) u.assignments) u.assignments m)
+  updated_moved : (columns : List ColumnDef) (u : BoundUpdate) (row : List Atom) (hit : Bool) → AreMoved (λ p. list_any (uses_in_assignment p) u.assignments) f params moved
+      → updated_row columns (renamed_sets f u) moved row hit ≡ updated_row columns u params row hit
+  updated_moved columns u row false m = refl
+  updated_moved columns u row true m =
+      ap (λ ps. values_into columns row moved ps (map (λ (a : BoundAssignment). a.value) (map (renamed_assignment f) u.assignments)) >>= λ given. Ok (hit_row row given)) (places_moved u.assignments)
+      ∙ ap (λ (r : Result (List (ℕ × Atom)) SqlFault). r >>= λ given. Ok (hit_row row given)) (sets_moved columns row (map (λ (a : BoundAssignment). a.place) u.assignments) u.assignments m)
 
 -- ---- the columns of the result
 
@@ -255,13 +255,14 @@ module _ (world : World) (b : Bound) (f : ℕ → ℕ) (tys : List Ty) (encs oth
   done_moved (bound.Update u) m t e =
       let assignments : AreMoved (λ p. list_any (uses_in_assignment p) u.assignments) f params moved = λ p v. m p (or_left (list_any (uses_in_assignment p) u.assignments) (uses_in_filter p u.filter) v) in
       let filter : AreMoved (λ p. uses_in_filter p u.filter) f params moved = λ p v. m p (or_right (list_any (uses_in_assignment p) u.assignments) (uses_in_filter p u.filter) v) in
-      ap (λ (r : Result (List Tested) SqlFault). r >>= λ tested. unless_twins (first_twins 1 (uniques_of world u.table) (map (λ (t : Tested). t.row) tested)) tested >>= λ tested. Ok (updated_done world u.table tested))
-      (each_same (λ row. selects moved (renamed_filter f u.filter) row >>= updated_row world (renamed_sets f u) moved row) (λ row. selects params u.filter row >>= updated_row world u params row) (rows_of world u.table)
-      (λ row. both_same (selects moved (renamed_filter f u.filter) row) (selects params u.filter row) (updated_row world (renamed_sets f u) moved row) (updated_row world u params row)
-      (selects_moved f params moved u.filter row filter) (λ hit. updated_moved f params moved world u row hit assignments)))
+      ap (λ (r : Result (List Tested) SqlFault). (r >>= λ tested. unless_twins (first_twins 1 (uniques_of world u.table) (map (λ (t : Tested). t.row) tested)) tested) >>= λ tested. Ok (updated_done world u.table tested))
+      (each_same (row_to_update (columns_of world u.table) (renamed_sets f u) moved)
+      (row_to_update (columns_of world u.table) u params) (rows_of world u.table)
+      (λ row. both_same (selects moved (renamed_filter f u.filter) row) (selects params u.filter row) (updated_row (columns_of world u.table) (renamed_sets f u) moved row) (updated_row (columns_of world u.table) u params row)
+      (selects_moved f params moved u.filter row filter) (λ hit. updated_moved f params moved (columns_of world u.table) u row hit assignments)))
   done_moved (bound.Delete d) m t e =
       ap (λ (r : Result (List Tested) SqlFault). r >>= λ tested. Ok (deleted_done world d.table tested))
-      (each_same (λ row. selects moved (renamed_filter f d.filter) row >>= tested_row row) (λ row. selects params d.filter row >>= tested_row row) (rows_of world d.table)
+      (each_same (row_to_delete (renamed_filter f d.filter) moved) (row_to_delete d.filter params) (rows_of world d.table)
       (λ row. ap (λ r. r >>= tested_row row) (selects_moved f params moved d.filter row m)))
   done_moved (bound.Select q) m t e =
       ap (λ (r : Result (List (List Atom)) SqlFault). r >>= λ rows. Ok (selected_done world (map (result_column b.columns tys others) (map (renamed_item f) q.items)) rows)) (query_moved f params moved world q m)

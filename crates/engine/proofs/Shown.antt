@@ -4,7 +4,7 @@ use Rattle.std.specs.List.{All, Contains}
 use Rattle.std.proofs.lemmas.List.{length-map}
 use Rattle.std.proofs.lemmas.List.Elements.{All-head, All-tail, All-cons, All-nil}
 use Rattle.ae_base.specs.Atoms.{Atom}
-use Rattle.ae_base.specs.Results.{◌>>=◌, each}
+use Rattle.ae_base.specs.Results.{◌>>=◌}
 use Rattle.ae_base.specs.declared.faults.SqlFault.{SqlFault}
 use Rattle.ae_base.specs.declared.types.Enc.{Enc}
 use Rattle.sql_tree.specs.declared.bound.ColumnSite.{ColumnSite}
@@ -15,12 +15,11 @@ use Rattle.sql_tree.specs.Placed.{IsPlaced, IsPlacedValue, IsPlacedQuery, IsPlac
 use Rattle.catalog.specs.Catalogs.{with_master, with_key, with_table, without_master, without_key, without_table}
 use Rattle.engine.specs.BoundOn.{IsBoundOn}
 use Rattle.engine.specs.Columns.{site_at, enc_at, shown_by, shown_of, result_column}
-use Rattle.engine.specs.Keys.{first_twins, unless_twins}
 use Rattle.engine.specs.Laws.{IsShownBy, AreShown}
 use Rattle.engine.specs.Queries.{found_in}
 use Rattle.engine.specs.Step as step
-use Rattle.engine.specs.Step.{Done, Tested, Answer, Rows, outcome, uniques_of, rows_to_insert, selects, updated_row, tested_row, done_by}
-use Rattle.engine.specs.Worlds.{World, rows_of}
+use Rattle.engine.specs.Step.{Done, Answer, Rows, outcome, rows_to_insert, rows_to_update, rows_to_delete, done_by}
+use Rattle.engine.specs.Worlds.{World}
 use Rattle.engine.specs.declared.answers.ResultColumn.{ResultColumn}
 use Rattle.engine.proofs.Collected.{came}
 use Rattle.engine.proofs.Kept.{defined_done, created_done, dropped_done, done_ok, same_done}
@@ -88,12 +87,8 @@ module _ (world : World) (b : Bound) (encs : List Enc) (params : List Atom) (m :
   shown_is (bound.DropMaster name) done p e a = absurd (not_rows (without_master world.catalog name) (defined_done world) done columns rows (λ x k. cc) e a)
   shown_is (bound.DropKey name) done p e a = absurd (not_rows (without_key world.catalog name) (defined_done world) done columns rows (λ x k. cc) e a)
   shown_is (bound.Insert i) done p e a = absurd (not_rows (rows_to_insert world i params) (inserted_done world i.table) done columns rows (λ x k. cc) e a)
-  shown_is (bound.Update u) done p e a =
-      let c = came (each (λ row. selects params u.filter row >>= updated_row world u params row) (rows_of world u.table))
-      (λ tested. unless_twins (first_twins 1 (uniques_of world u.table) (map (λ (t : Tested). t.row) tested)) tested >>= λ tested. done_ok (updated_done world u.table tested)) done e in
-      absurd (not_rows (unless_twins (first_twins 1 (uniques_of world u.table) (map (λ (t : Tested). t.row) c.value)) c.value) (updated_done world u.table) done columns rows (λ x k. cc) c.then a)
-  shown_is (bound.Delete d) done p e a =
-      absurd (not_rows (each (λ row. selects params d.filter row >>= tested_row row) (rows_of world d.table)) (deleted_done world d.table) done columns rows (λ x k. cc) e a)
+  shown_is (bound.Update u) done p e a = absurd (not_rows (rows_to_update world u params) (updated_done world u.table) done columns rows (λ x k. cc) e a)
+  shown_is (bound.Delete d) done p e a = absurd (not_rows (rows_to_delete world d params) (deleted_done world d.table) done columns rows (λ x k. cc) e a)
   shown_is (bound.Select q) done p e a =
       let shown = map (result_column b.columns b.params encs) q.items in
       let c = came (found_in world q params) (λ rows. done_ok (selected_done world shown rows)) done e in

@@ -1,6 +1,6 @@
 -- A step over worlds and parameters that correspond.
 use Rattle.std.proofs.Common.{◌≡◌, ℕ, zero, suc, ◌+◌, List, [], ◌∷◌, ◌++◌, length, map, refl, ap, sym, subst, ◌∙◌, arith, append_assoc, inl, inr, Option, Some, None, Result, Ok, Err, unwrap_or, Bool, true, false, cond}
-use Rattle.std.specs.Prelude.{◌==◌, nat_le, if◌then◌else◌, IsSome}
+use Rattle.std.specs.Prelude.{◌==◌, nat_le, filter, not, if◌then◌else◌, IsSome}
 use Rattle.std.specs.List.{All, AllZip, find, flat_map, remove, slice_get}
 use Rattle.std.specs.Option.{option_map}
 use Rattle.std.specs.Str.{bytes_eq}
@@ -9,7 +9,7 @@ use Rattle.std.proofs.lemmas.List.{append-nil}
 use Rattle.std.proofs.lemmas.List.Elements.{All-head, All-tail}
 use Rattle.std.proofs.lemmas.List.Folds.{find_at}
 use Rattle.ae_base.specs.Atoms.{Atom}
-use Rattle.ae_base.specs.Results.{◌>>=◌}
+use Rattle.ae_base.specs.Results.{◌>>=◌, each}
 use Rattle.ae_base.specs.Values.{is_within}
 use Rattle.ae_base.specs.declared.atoms.AtomOf.TheVariants.{Null, Plain, Sealed}
 use Rattle.ae_base.specs.declared.faults.SqlFault.{SqlFault}
@@ -23,7 +23,7 @@ use Rattle.ae_base.specs.declared.values.Value.TheVariants as value
 use Rattle.sql_tree.specs.declared.bound.BoundSource.{BoundSource}
 use Rattle.sql_tree.specs.declared.bound.ColumnSite.{ColumnSite}
 use Rattle.sql_tree.specs.Operands as operands
-use Rattle.sql_tree.specs.Bound.{BoundOperand, BoundCondition, BoundRow, BoundInsert, BoundJoin, BoundItemValue, BoundItem, BoundQuery, BoundStatement, Bound}
+use Rattle.sql_tree.specs.Bound.{BoundOperand, BoundCondition, BoundRow, BoundInsert, BoundAssignment, BoundUpdate, BoundDelete, BoundJoin, BoundItemValue, BoundItem, BoundQuery, BoundStatement, Bound}
 use Rattle.sql_tree.specs.Bound as bound
 use Rattle.sql_tree.specs.OnTables.{IsSourceOn, IsStatementOn, columns_in, sites_among, table_among}
 use Rattle.sql_tree.specs.Placed.{site_of}
@@ -41,18 +41,21 @@ use Rattle.engine.specs.Executes.{executes_query, executes_statement, executes}
 use Rattle.engine.specs.Keys.{first_twins, unless_twins}
 use Rattle.engine.specs.Queries as queries
 use Rattle.engine.specs.Queries.{item_of, items_of, joined_all, where_true, found_in, results}
-use Rattle.engine.specs.Rows.{admitted, column_at, value_into, values_into, value_at, value_or_null, completed, new_row, new_rows}
+use Rattle.engine.specs.Rows.{admitted, column_at, value_into, values_into, value_at, value_or_null, completed, new_row, new_rows, replaced}
 use Rattle.engine.specs.Step as step
-use Rattle.engine.specs.Step.{Done, outcome, columns_of, uniques_of, rows_to_insert, done_by}
+use Rattle.engine.specs.Step.{Done, Tested, outcome, columns_of, uniques_of, rows_to_insert, selects, assigned, updated_row, row_to_update, rows_to_update, rows_to_delete, done_by}
 use Rattle.engine.specs.Typed.{classes_of, param_classes, IsValueFor, AreValuesFor, IsTypedFilter, IsTypedItem, IsTypedStatement, IsTypedBy}
-use Rattle.engine.specs.Worlds.{World, place_of, rows_of}
+use Rattle.engine.specs.Worlds.{World, place_of, rows_of, with_rows}
+use Rattle.engine.proofs.Apart.{all_at}
 use Rattle.engine.proofs.Contents.{table_place_there, master_made, key_made, master_dropped, key_dropped, table_made, table_dropped}
 use Rattle.engine.proofs.Kept.{created_done, dropped_done, done_ok, classes_same}
 use Rattle.engine.proofs.Suited.{class_placed}
-use Rattle.engine.proofs.Moving.{inserted_done, selected_done}
+use Rattle.engine.proofs.Moving.{hit_row, inserted_done, updated_done, deleted_done, selected_done}
 use Rattle.engine.proofs.Pairs.{both_then, both_before, both_within, EventsCorrespond, contents_at, contents_set, contents_push, contents_remove, scanned_alike, results_alike, first_alike, filtered_alike, joined_alike}
 use Rattle.engine.proofs.Pairs as pairs
+use Rattle.engine.proofs.Updating.{places_of, values_of, values_for, TestedAlike, each_alike, rows_alike, counts_alike, passing_alike, selects_alike, all_tested_alike}
 use Rattle.engine.proofs.Walks.{found_bare}
+use Rattle.engine.proofs.Written.{rows_in, tested_ok}
 
 -- ---- classes of places
 
@@ -92,11 +95,6 @@ zip_length P [] [] h = refl
 zip_length P [] (y ∷ ys) h = absurd h
 zip_length P (x ∷ xs) [] h = absurd h
 zip_length P (x ∷ xs) (y ∷ ys) h = ap suc (zip_length P xs ys h.1)
-
-all_at : {A : Type 0} (P : A → Type 0) (xs : List A) (i : ℕ) (x : A) → All P xs → slice_get xs i ≡ Some x → P x
-all_at P [] i x h e = absurd cc
-all_at P (y ∷ xs) zero x h e = let f : y ≡ x = cc in subst P f (All-head P y xs h)
-all_at P (y ∷ xs) (suc i) x h e = all_at P xs i x (All-tail P y xs h) e
 
 -- the same key refuses both, or none does
 twins_apart : {A : Type 0} (P : A → A → Type 0) (x y : List A) (o p : Option ℕ) → AllZip P x y → o ≡ p → BothAnswer {E = SqlFault} (AllZip P) (unless_twins o x) (unless_twins p y)
@@ -215,34 +213,54 @@ module _ (R : Pairing) (r : IsOneToOne R) (within : ArePairsWithin R) where
       (completed_alike (place + 1) given other columns
       (λ p. let n : place + suc p ≡ (place + 1) + p = omega arith in subst (λ k. BothHave (class_at cs p) (value_at given k) (value_at other k)) n (h (suc p)))) (λ us vs q. (m, q)))
 
+  replaced_alike : (place : ℕ) (given more : List (ℕ × Atom)) (cs : List Class) (row other : List Atom) → ((p : ℕ) → BothHave (class_at cs p) (value_at given (place + p)) (value_at more (place + p))) → RowsCorrespond R cs row other
+      → RowsCorrespond R cs (replaced place given row) (replaced place more other)
+  replaced_alike place given more [] [] [] h k = tt
+  replaced_alike place given more [] [] (b ∷ other) h k = absurd k
+  replaced_alike place given more [] (a ∷ row) other h k = absurd k
+  replaced_alike place given more (c ∷ cs) [] other h k = absurd k
+  replaced_alike place given more (c ∷ cs) (a ∷ row) [] h k = absurd k
+  replaced_alike place given more (c ∷ cs) (a ∷ row) (b ∷ other) h k =
+      let z : place + 0 ≡ place = omega arith in (
+        stand (value_at given place) (value_at more place) (subst (λ n. BothHave c (value_at given n) (value_at more n)) z (h 0)),
+        replaced_alike (place + 1) given more cs row other (λ p. let n : place + suc p ≡ (place + 1) + p = omega arith in subst (λ m. BothHave (class_at cs p) (value_at given m) (value_at more m)) n (h (suc p))) k.1,
+      )
+    where
+      stand : (o p : Option Atom) → BothHave c o p → Correspond R c (unwrap_or o a) (unwrap_or p b)
+      stand None None m = k.0
+      stand None (Some y) m = absurd m
+      stand (Some x) None m = absurd m
+      stand (Some x) (Some y) m = m
+
   module _ (ps : List Class) (values others : List Atom) (given : PlacesCorrespond R ps values others) where
-    module _ (columns : List ColumnDef) where
-      value_alike : (place : ℕ) (v : BoundOperand) → IsValueFor (classes_of (map site_of columns)) [] ps place v
-          → BothAnswer (GivenAlike (classes_of (map site_of columns))) (value_into columns [] values place v) (value_into columns [] others place v)
+    module _ (own : List Class) (row other : List Atom) (here : PlacesCorrespond R own row other) (columns : List ColumnDef) where
+      value_alike : (place : ℕ) (v : BoundOperand) → IsValueFor (classes_of (map site_of columns)) own ps place v
+          → BothAnswer (GivenAlike (classes_of (map site_of columns))) (value_into columns row values place v) (value_into columns other others place v)
       value_alike place v h =
           let cs = classes_of (map site_of columns) in
           let column = column_at columns place in
           let c = class_at cs place in
           let same = class_placed columns place in
-          both_then (Correspond R c) (GivenAlike cs) (or_overflow (eval [] values v)) (or_overflow (eval [] others v)) (λ atom. admitted column atom >>= pair_ok place) (λ atom. admitted column atom >>= pair_ok place)
-          (overflow_alike (Correspond R c) (eval [] values v) (eval [] others v) (eval_places R [] ps [] [] values others v c r (λ p. nulls_correspond R r Open) given h.1 h.0))
+          both_then (Correspond R c) (GivenAlike cs) (or_overflow (eval row values v)) (or_overflow (eval other others v)) (λ atom. admitted column atom >>= pair_ok place) (λ atom. admitted column atom >>= pair_ok place)
+          (overflow_alike (Correspond R c) (eval row values v) (eval other others v) (eval_places R own ps row other values others v c r here given h.1 h.0))
           (λ a b m. both_then (Correspond R c) (GivenAlike cs) (admitted column a) (admitted column b) (pair_ok place) (pair_ok place)
           (subst (λ x. BothAnswer (Correspond R x) (admitted column a) (admitted column b)) (sym same) (admitted_by column column.enc a b (subst (λ x. Correspond R x a b) same m))) (λ x y k. (refl, k)))
 
-      values_alike : (places : List ℕ) (vs : List BoundOperand) → AreValuesFor (classes_of (map site_of columns)) [] ps places vs
-          → BothAnswer (AllZip (GivenAlike (classes_of (map site_of columns)))) (values_into columns [] values places vs) (values_into columns [] others places vs)
+      values_alike : (places : List ℕ) (vs : List BoundOperand) → AreValuesFor (classes_of (map site_of columns)) own ps places vs
+          → BothAnswer (AllZip (GivenAlike (classes_of (map site_of columns)))) (values_into columns row values places vs) (values_into columns other others places vs)
       values_alike [] vs h = tt
       values_alike (place ∷ places) [] h = tt
       values_alike (place ∷ places) (v ∷ vs) h =
-          both_before (GivenAlike (classes_of (map site_of columns))) (value_into columns [] values place v) (value_into columns [] others place v) (values_into columns [] values places vs) (values_into columns [] others places vs)
+          both_before (GivenAlike (classes_of (map site_of columns))) (value_into columns row values place v) (value_into columns other others place v) (values_into columns row values places vs) (values_into columns other others places vs)
           (value_alike place v h.0) (values_alike places vs h.1)
 
+    module _ (columns : List ColumnDef) where
       new_row_alike : (named : List ℕ) (vs : List BoundOperand) → AreValuesFor (classes_of (map site_of columns)) [] ps named vs
           → BothAnswer (RowsCorrespond R (classes_of (map site_of columns))) (new_row columns named values vs) (new_row columns named others vs)
       new_row_alike named vs h =
           let cs = classes_of (map site_of columns) in
           both_then (AllZip (GivenAlike cs)) (RowsCorrespond R cs) (values_into columns [] values named vs) (values_into columns [] others named vs) (λ given. completed 0 given columns) (λ given. completed 0 given columns)
-          (values_alike named vs h) (λ x y m. completed_alike 0 x y columns (λ p. let z : p ≡ 0 + p = omega arith in subst (λ k. BothHave (class_at cs p) (value_at x k) (value_at y k)) z (at_alike cs x y p m)))
+          (values_alike [] [] [] (λ p. nulls_correspond R r Open) columns named vs h) (λ x y m. completed_alike 0 x y columns (λ p. let z : p ≡ 0 + p = omega arith in subst (λ k. BothHave (class_at cs p) (value_at x k) (value_at y k)) z (at_alike cs x y p m)))
 
       new_rows_alike : (named : List ℕ) (count : ℕ) (rows : List BoundRow) → All (λ (row : BoundRow). AreValuesFor (classes_of (map site_of columns)) [] ps named row.values) rows
           → BothAnswer (AllZip (RowsCorrespond R (classes_of (map site_of columns)))) (new_rows columns named values count rows) (new_rows columns named others count rows)
@@ -254,6 +272,27 @@ module _ (R : Pairing) (r : IsOneToOne R) (within : ArePairsWithin R) where
           (both_within P (nat_le 100000 count) fault.TableFull (new_row columns named values row.values) (new_row columns named others row.values)
           (new_row_alike named row.values (All-head (λ (row : BoundRow). AreValuesFor (classes_of (map site_of columns)) [] ps named row.values) row rows h)))
           (new_rows_alike named (count + 1) rows (All-tail (λ (row : BoundRow). AreValuesFor (classes_of (map site_of columns)) [] ps named row.values) row rows h))
+
+      updated_alike : (u : BoundUpdate) (row other : List Atom) → All (λ (a : BoundAssignment). IsValueFor (classes_of (map site_of columns)) (classes_of (map site_of columns)) ps a.place a.value) u.assignments
+          → IsTypedFilter (classes_of (map site_of columns)) ps u.filter → RowsCorrespond R (classes_of (map site_of columns)) row other
+          → BothAnswer (TestedAlike R (classes_of (map site_of columns))) (row_to_update columns u values row) (row_to_update columns u others other)
+      updated_alike u row other sets filter h =
+          let cs = classes_of (map site_of columns) in
+          subst (λ s. BothAnswer (TestedAlike R cs) (row_to_update columns u values row) (s >>= updated_row columns u others other)) (sym (selects_alike R r ps values others given cs u.filter row other filter h))
+          (by_result (selects values u.filter row))
+        where
+          by_hit : (hit : Bool) → BothAnswer (TestedAlike R (classes_of (map site_of columns))) (updated_row columns u values row hit) (updated_row columns u others other hit)
+          by_hit false = (refl, h)
+          by_hit true =
+              let cs = classes_of (map site_of columns) in
+              both_then (AllZip (GivenAlike cs)) (TestedAlike R cs) (assigned columns row values u.assignments) (assigned columns other others u.assignments)
+              (λ given. tested_ok (hit_row row given)) (λ given. tested_ok (hit_row other given))
+              (values_alike cs row other (corresponds_at R r cs row other h) columns (places_of u.assignments) (values_of u.assignments) (values_for cs cs ps u.assignments sets))
+              (λ x y m. (refl, replaced_alike 0 x y cs row other (λ p. let z : p ≡ 0 + p = omega arith in subst (λ k. BothHave (class_at cs p) (value_at x k) (value_at y k)) z (at_alike cs x y p m)) h))
+
+          by_result : (s : Result Bool SqlFault) → BothAnswer (TestedAlike R (classes_of (map site_of columns))) (s >>= updated_row columns u values row) (s >>= updated_row columns u others other)
+          by_result (Ok hit) = by_hit hit
+          by_result (Err f) = refl
 
   -- ---- what is shown
 
@@ -303,6 +342,38 @@ module _ (R : Pairing) (r : IsOneToOne R) (within : ArePairsWithin R) where
             subst (λ (o : Option TableDef). AllZip (RowsCorrespond R (classes_of (map site_of (columns_in o)))) (rows_of world name) (rows_of other_world name)) (sym t)
             (subst (λ cs. AllZip (RowsCorrespond R cs) (rows_of world name) (rows_of other_world name)) (sym (classes_same table.columns)) (table_alike name table t))
 
+    -- other rows of a table
+    rows_written : (name : List ℕ) (rows others : List (List Atom)) → IsSome (table_among world.catalog.tables name) → AllZip (RowsCorrespond R (classes_of (sites_among world.catalog.tables name))) rows others
+        → WorldsCorrespond R (with_rows world name rows) (with_rows other_world name others)
+    rows_written name rows others there zipped = table_is (table_among world.catalog.tables name) refl there
+      where
+        same_table : (a b : TableDef) → some_table a ≡ some_table b → a ≡ b
+        same_table a b e = cc
+
+        table_is : (o : Option TableDef) → table_among world.catalog.tables name ≡ o → IsSome o → WorldsCorrespond R (with_rows world name rows) (with_rows other_world name others)
+        table_is None t h = absurd cc
+        table_is (Some table) t h =
+            let class : classes_of (sites_among world.catalog.tables name) ≡ map class_of_column table.columns = classes_same (columns_of world name) ∙ ap (λ (o : Option TableDef). map class_of_column (columns_in o)) t in
+            record {
+              catalog = refl;
+              contents = contents_set R world.catalog.tables world.contents more (place_of world name) rows others corr
+                  (λ def e. subst (λ cs. AllZip (RowsCorrespond R cs) rows others) (class ∙ ap (λ (d : TableDef). map class_of_column d.columns) (same_table table def (sym (place_there name table t) ∙ e))) zipped);
+            }
+
+    -- the unique keys of a table are of columns that aren't randomized
+    keys_typed : (name : List ℕ) → AreKeysTyped world.catalog.tables → IsSome (table_among world.catalog.tables name)
+        → All (λ key. All (λ place. IsNotRandomized (class_at (classes_of (sites_among world.catalog.tables name)) place)) key) (uniques_of world name)
+    keys_typed name keys there = table_is (table_among world.catalog.tables name) refl there
+      where
+        table_is : (o : Option TableDef) → table_among world.catalog.tables name ≡ o → IsSome o → All (λ key. All (λ place. IsNotRandomized (class_at (classes_of (sites_among world.catalog.tables name)) place)) key) (uniques_of world name)
+        table_is None t h = absurd cc
+        table_is (Some table) t h =
+            let class : classes_of (sites_among world.catalog.tables name) ≡ map class_of_column table.columns = classes_same (columns_of world name) ∙ ap (λ (o : Option TableDef). map class_of_column (columns_in o)) t in
+            let uniques : uniques_of world name ≡ table.uniques = ap step.uniques_in t in
+            subst (λ ks. All (λ key. All (λ place. IsNotRandomized (class_at (classes_of (sites_among world.catalog.tables name)) place)) key) ks) (sym uniques)
+            (subst (λ cs. All (λ key. All (λ place. IsNotRandomized (class_at cs place)) key) table.uniques) (sym class)
+            (all_at (λ (def : TableDef). All (λ key. All (λ place. IsNotRandomized (class_at (map class_of_column def.columns) place)) key) def.uniques) world.catalog.tables (place_of world name) table keys (place_there name table t)))
+
     -- ---- definitions
 
     defined_alike : (d : Result Catalog SqlFault) → ((new : Catalog) → d ≡ Ok new → new.tables ≡ world.catalog.tables) → BothAnswer DoneAlike (step.defined world d) (step.defined other_world d)
@@ -339,44 +410,52 @@ module _ (R : Pairing) (r : IsOneToOne R) (within : ArePairsWithin R) where
     module _ (tys : List Ty) (encs : List Enc) (n : length encs ≡ length tys) (values others : List Atom) (given : PlacesCorrespond R (param_classes tys encs) values others) where
       inserted_alike : (columns : List ColumnSite) (i : BoundInsert) → AreKeysTyped world.catalog.tables → IsSome (table_among world.catalog.tables i.table) → columns ≡ sites_among world.catalog.tables i.table
           → All (λ (row : BoundRow). AreValuesFor (classes_of columns) [] (param_classes tys encs) i.named row.values) i.rows → BothAnswer DoneAlike (step.insert world i values) (step.insert other_world i others)
-      inserted_alike columns i keys there same typed = table_is (table_among world.catalog.tables i.table) refl there
-        where
-          table_is : (o : Option TableDef) → table_among world.catalog.tables i.table ≡ o → IsSome o → BothAnswer DoneAlike (step.insert world i values) (step.insert other_world i others)
-          table_is None t h = absurd cc
-          table_is (Some table) t h =
-              let own = columns_of world i.table in
-              let cs = classes_of (map site_of own) in
-              let P = RowsCorrespond R cs in
-              let old = rows_of world i.table in
-              let old_other = rows_of other_world i.table in
-              let count : length old_other ≡ length old = sym (zip_length P old old_other (sites_alike i.table there)) in
-              let for = subst (λ sites. All (λ (row : BoundRow). AreValuesFor (classes_of sites) [] (param_classes tys encs) i.named row.values) i.rows) same typed in
-              let class : cs ≡ map class_of_column table.columns = classes_same own ∙ ap (λ (o : Option TableDef). map class_of_column (columns_in o)) t in
-              let uniques : uniques_of world i.table ≡ table.uniques = ap step.uniques_in t in
-              let typed_keys : All (λ key. All (λ place. IsNotRandomized (class_at cs place)) key) (uniques_of world i.table) =
-              subst (λ ks. All (λ key. All (λ place. IsNotRandomized (class_at cs place)) key) ks) (sym uniques)
-              (subst (λ x. All (λ key. All (λ place. IsNotRandomized (class_at x place)) key) table.uniques) (sym class) (key_of table (place_there i.table table t))) in
-              both_then (AllZip P) DoneAlike (rows_to_insert world i values) (rows_to_insert other_world i others) (λ rows. done_ok (inserted_done world i.table rows)) (λ rows. done_ok (inserted_done other_world i.table rows))
-              (both_then (AllZip P) (AllZip P) (new_rows own i.named values (length old) i.rows) (new_rows own i.named others (length old_other) i.rows)
-              (λ rows. unless_twins (first_twins 1 (uniques_of world i.table) (old ++ rows)) rows) (λ rows. unless_twins (first_twins 1 (uniques_of world i.table) (old_other ++ rows)) rows)
-              (subst (λ m. BothAnswer (AllZip P) (new_rows own i.named values (length old) i.rows) (new_rows own i.named others m i.rows)) (sym count) (new_rows_alike (param_classes tys encs) values others given own i.named (length old) i.rows for))
-              (λ x y m. twins_apart P x y (first_twins 1 (uniques_of world i.table) (old ++ x)) (first_twins 1 (uniques_of world i.table) (old_other ++ y)) m
-              (first_alike R r cs 1 (uniques_of world i.table) (old ++ x) (old_other ++ y) typed_keys (pairs.zip_append P old x old_other y (sites_alike i.table there) m))))
-              (λ x y m. (
-                sym (zip_length P x y m),
-                record {
-                  catalog = refl;
-                  contents = contents_set R world.catalog.tables world.contents more (place_of world i.table) (old ++ x) (old_other ++ y) corr
-                      (λ def e. subst (λ z. AllZip (RowsCorrespond R z) (old ++ x) (old_other ++ y)) (class ∙ ap (λ (d : TableDef). map class_of_column d.columns) (same_table table def (sym (place_there i.table table t) ∙ e)))
-                      (pairs.zip_append P old x old_other y (sites_alike i.table there) m));
-                },
-              ))
-            where
-              same_table : (a b : TableDef) → some_table a ≡ some_table b → a ≡ b
-              same_table a b e = cc
+      inserted_alike columns i keys there same typed =
+          let own = columns_of world i.table in
+          let cs = classes_of (map site_of own) in
+          let P = RowsCorrespond R cs in
+          let old = rows_of world i.table in
+          let old_other = rows_of other_world i.table in
+          let uniques = uniques_of world i.table in
+          let count : length old_other ≡ length old = sym (zip_length P old old_other (sites_alike i.table there)) in
+          let for = subst (λ sites. All (λ (row : BoundRow). AreValuesFor (classes_of sites) [] (param_classes tys encs) i.named row.values) i.rows) same typed in
+          both_then (AllZip P) DoneAlike (rows_to_insert world i values) (rows_to_insert other_world i others) (λ rows. done_ok (inserted_done world i.table rows)) (λ rows. done_ok (inserted_done other_world i.table rows))
+          (both_then (AllZip P) (AllZip P) (new_rows own i.named values (length old) i.rows) (new_rows own i.named others (length old_other) i.rows)
+          (λ rows. unless_twins (first_twins 1 uniques (old ++ rows)) rows) (λ rows. unless_twins (first_twins 1 uniques (old_other ++ rows)) rows)
+          (subst (λ m. BothAnswer (AllZip P) (new_rows own i.named values (length old) i.rows) (new_rows own i.named others m i.rows)) (sym count) (new_rows_alike (param_classes tys encs) values others given own i.named (length old) i.rows for))
+          (λ x y m. twins_apart P x y (first_twins 1 uniques (old ++ x)) (first_twins 1 uniques (old_other ++ y)) m
+          (first_alike R r cs 1 uniques (old ++ x) (old_other ++ y) (keys_typed i.table keys there) (pairs.zip_append P old x old_other y (sites_alike i.table there) m))))
+          (λ x y m. (sym (zip_length P x y m), rows_written i.table (old ++ x) (old_other ++ y) there (pairs.zip_append P old x old_other y (sites_alike i.table there) m)))
 
-              key_of : (table : TableDef) → slice_get world.catalog.tables (place_of world i.table) ≡ Some table → All (λ key. All (λ place. IsNotRandomized (class_at (map class_of_column table.columns) place)) key) table.uniques
-              key_of table e = all_at (λ (def : TableDef). All (λ key. All (λ place. IsNotRandomized (class_at (map class_of_column def.columns) place)) key) def.uniques) world.catalog.tables (place_of world i.table) table keys e
+      updated_rows_alike : (columns : List ColumnSite) (u : BoundUpdate) → AreKeysTyped world.catalog.tables → IsSome (table_among world.catalog.tables u.table) → columns ≡ sites_among world.catalog.tables u.table
+          → IsTypedStatement (classes_of columns) (param_classes tys encs) (bound.Update u) → BothAnswer DoneAlike (step.update world u values) (step.update other_world u others)
+      updated_rows_alike columns u keys there same typed =
+          let own = columns_of world u.table in
+          let cs = classes_of (map site_of own) in
+          let T = TestedAlike R cs in
+          let uniques = uniques_of world u.table in
+          let for = subst (λ sites. IsTypedStatement (classes_of sites) (param_classes tys encs) (bound.Update u)) same typed in
+          both_then (AllZip T) DoneAlike (rows_to_update world u values) (rows_to_update other_world u others) (λ tested. done_ok (updated_done world u.table tested)) (λ tested. done_ok (updated_done other_world u.table tested))
+          (both_then (AllZip T) (AllZip T) (each (row_to_update own u values) (rows_of world u.table)) (each (row_to_update own u others) (rows_of other_world u.table))
+          (λ tested. unless_twins (first_twins 1 uniques (rows_in tested)) tested) (λ tested. unless_twins (first_twins 1 uniques (rows_in tested)) tested)
+          (each_alike (RowsCorrespond R cs) T (row_to_update own u values) (row_to_update own u others) (rows_of world u.table) (rows_of other_world u.table)
+          (λ row other k. updated_alike (param_classes tys encs) values others given own u row other for.0 for.1 k) (sites_alike u.table there))
+          (λ x y m. twins_apart T x y (first_twins 1 uniques (rows_in x)) (first_twins 1 uniques (rows_in y)) m
+          (first_alike R r cs 1 uniques (rows_in x) (rows_in y) (keys_typed u.table keys there) (rows_alike R cs x y m))))
+          (λ x y m. (counts_alike R cs x y m, rows_written u.table (rows_in x) (rows_in y) there (rows_alike R cs x y m)))
+
+      deleted_rows_alike : (columns : List ColumnSite) (d : BoundDelete) → IsSome (table_among world.catalog.tables d.table) → columns ≡ sites_among world.catalog.tables d.table → IsTypedFilter (classes_of columns) (param_classes tys encs) d.filter
+          → BothAnswer DoneAlike (step.delete world d values) (step.delete other_world d others)
+      deleted_rows_alike columns d there same typed =
+          let cs = classes_of (map site_of (columns_of world d.table)) in
+          let for = subst (λ sites. IsTypedFilter (classes_of sites) (param_classes tys encs) d.filter) same typed in
+          both_then (AllZip (TestedAlike R cs)) DoneAlike (rows_to_delete world d values) (rows_to_delete other_world d others) (λ tested. done_ok (deleted_done world d.table tested)) (λ tested. done_ok (deleted_done other_world d.table tested))
+          (all_tested_alike R r (param_classes tys encs) values others given cs d.filter (rows_of world d.table) (rows_of other_world d.table) for (sites_alike d.table there))
+          (λ x y m. (
+            counts_alike R cs x y m,
+            rows_written d.table (rows_in (filter (λ (t : Tested). not t.hit) x)) (rows_in (filter (λ (t : Tested). not t.hit) y)) there
+                (rows_alike R cs (filter (λ (t : Tested). not t.hit) x) (filter (λ (t : Tested). not t.hit) y) (passing_alike R cs not x y m)),
+          ))
 
       joins_alike : (all : List Class) (joins : List BoundJoin) (sites : List ColumnSite) (es fs : List Event) → All (IsSourceOn world.catalog.tables) (map (λ (j : BoundJoin). j.source) joins)
           → All (λ (j : BoundJoin). IsTypedCondition all (param_classes tys encs) j.on) joins
@@ -429,8 +508,8 @@ module _ (R : Pairing) (r : IsOneToOne R) (within : ArePairsWithin R) where
       done_alike b same (bound.DropMaster name) keys on t x = defined_alike (without_master world.catalog name) (λ new e. master_dropped world.catalog new name e)
       done_alike b same (bound.DropKey name) keys on t x = defined_alike (without_key world.catalog name) (λ new e. key_dropped world.catalog new name e)
       done_alike b same (bound.Insert i) keys on t x = inserted_alike b.columns i keys on.0 on.1 t
-      done_alike b same (bound.Update u) keys on t x = absurd cc
-      done_alike b same (bound.Delete d) keys on t x = absurd cc
+      done_alike b same (bound.Update u) keys on t x = updated_rows_alike b.columns u keys on.0 on.1 t
+      done_alike b same (bound.Delete d) keys on t x = deleted_rows_alike b.columns d on.0 on.1 t
       done_alike b same (bound.Select q) keys on t x =
           subst (λ ts. BothAnswer DoneAlike (step.select world b.columns ts encs q values) (step.select other_world b.columns ts encs q others)) (sym same) (selected_alike b.columns q on t x)
 

@@ -62,7 +62,7 @@ IsSealedIn cell c (Sealed bytes) = IsNotOpen c × IsTrue (cell bytes)
 abbrev IsNumber : (List ℕ → Bool) → Atom → Type 0
 IsNumber cell atom = IsAtomOf cell ty.BigInt enc.Plain atom
 
-sealed_of : (cell : List ℕ → Bool) (t : Ty) (e : Enc) (a : Atom) → IsAtomOf cell t e a → IsSealedIn cell (class_of t e) a
+pub sealed_of : (cell : List ℕ → Bool) (t : Ty) (e : Enc) (a : Atom) → IsAtomOf cell t e a → IsSealedIn cell (class_of t e) a
 sealed_of cell t e Null h = tt
 sealed_of cell t e (Plain d) h = tt
 sealed_of cell t enc.Plain (Sealed b) h = absurd h.0

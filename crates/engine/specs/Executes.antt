@@ -1,5 +1,5 @@
 -- Which statements are executed; the others are not yet.
-use Rattle.std.specs.Prelude.{◌==◌, ◌&&◌, not, length, Bool, true, false, is_none}
+use Rattle.std.specs.Prelude.{◌==◌, ◌&&◌, not, length, Bool, true, is_none}
 use Rattle.sql_tree.specs.Bound.{BoundQuery, BoundStatement, Bound}
 use Rattle.sql_tree.specs.Bound as bound
 use Rattle.engine.specs.Queries.{is_grouped}
@@ -15,8 +15,8 @@ executes_statement (bound.DropTable name) = true
 executes_statement (bound.DropMaster name) = true
 executes_statement (bound.DropKey name) = true
 executes_statement (bound.Insert insert) = true
-executes_statement (bound.Update update) = false
-executes_statement (bound.Delete delete) = false
+executes_statement (bound.Update update) = true
+executes_statement (bound.Delete delete) = true
 executes_statement (bound.Select query) = executes_query query
 
 abbrev pub executes : Bound → Bool

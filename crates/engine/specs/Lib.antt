@@ -1,5 +1,6 @@
 pub mod Answers
 pub mod BoundOn
+pub mod Changes
 pub mod Columns
 pub mod Correspond
 pub mod Executes

@@ -9,7 +9,7 @@ use Rattle.ae_base.specs.declared.tables.TableDef.{TableDef}
 use Rattle.ae_base.specs.declared.types.Enc.{Enc}
 use Rattle.ae_base.specs.declared.types.Ty.{Ty}
 use Rattle.sql_tree.specs.declared.bound.ColumnSite.{ColumnSite}
-use Rattle.sql_tree.specs.Bound.{BoundCondition, BoundInsert, BoundUpdate, BoundDelete, BoundQuery, BoundStatement, Bound}
+use Rattle.sql_tree.specs.Bound.{BoundCondition, BoundInsert, BoundAssignment, BoundUpdate, BoundDelete, BoundQuery, BoundStatement, Bound}
 use Rattle.sql_tree.specs.Bound as bound
 use Rattle.sql_tree.specs.OnTables.{columns_among, table_among}
 use Rattle.catalog.specs.Catalogs.{Catalog, with_master, with_key, with_table, without_master, without_key, without_table}
@@ -88,25 +88,39 @@ abbrev pub selects : List Atom → Option BoundCondition → List Atom → Resul
 selects params None row = Ok true
 selects params (Some condition) row = asks params condition row
 
--- the SET values are those of the old row
-abbrev pub updated_row : World → BoundUpdate → List Atom → List Atom → Bool → Result Tested SqlFault
-updated_row world u params row true =
-    values_into (columns_of world u.table) row params (map (λ a. a.place) u.assignments) (map (λ a. a.value) u.assignments) >>= λ given.
-    Ok (record { hit = true; row = replaced 0 given row })
-updated_row world u params row false = Ok (record { hit = false; row = row })
+-- the values that SET gives, over the old row
+abbrev pub assigned : List ColumnDef → (row params : List Atom) → List BoundAssignment → Result (List (ℕ × Atom)) SqlFault
+assigned columns row params sets = values_into columns row params (map (λ a. a.place) sets) (map (λ a. a.value) sets)
+
+abbrev pub updated_row : List ColumnDef → BoundUpdate → List Atom → List Atom → Bool → Result Tested SqlFault
+updated_row columns u params row true = assigned columns row params u.assignments >>= λ given. Ok (record { hit = true; row = replaced 0 given row })
+updated_row columns u params row false = Ok (record { hit = false; row = row })
+
+abbrev pub row_to_update : List ColumnDef → BoundUpdate → List Atom → List Atom → Result Tested SqlFault
+row_to_update columns u params row = selects params u.filter row >>= updated_row columns u params row
+
+-- the rows as they will stand, if the unique keys admit them
+abbrev pub rows_to_update : World → BoundUpdate → List Atom → Result (List Tested) SqlFault
+rows_to_update world u params =
+    each (row_to_update (columns_of world u.table) u params) (rows_of world u.table) >>= λ tested.
+    unless_twins (first_twins 1 (uniques_of world u.table) (map (λ t. t.row) tested)) tested
 
 abbrev pub update : World → BoundUpdate → List Atom → Result Done SqlFault
 update world u params =
-    each (λ row. selects params u.filter row >>= updated_row world u params row) (rows_of world u.table) >>= λ tested.
-    unless_twins (first_twins 1 (uniques_of world u.table) (map (λ t. t.row) tested)) tested >>= λ tested.
-    Ok (record { answer = Changed (count_by (λ t. t.hit) tested); world = with_rows world u.table (map (λ t. t.row) tested) })
+    rows_to_update world u params >>= λ tested. Ok (record { answer = Changed (count_by (λ t. t.hit) tested); world = with_rows world u.table (map (λ t. t.row) tested) })
 
 abbrev pub tested_row : List Atom → Bool → Result Tested SqlFault
 tested_row row hit = Ok (record { hit = hit; row = row })
 
+abbrev pub row_to_delete : Option BoundCondition → List Atom → List Atom → Result Tested SqlFault
+row_to_delete filter params row = selects params filter row >>= tested_row row
+
+abbrev pub rows_to_delete : World → BoundDelete → List Atom → Result (List Tested) SqlFault
+rows_to_delete world d params = each (row_to_delete d.filter params) (rows_of world d.table)
+
 abbrev pub delete : World → BoundDelete → List Atom → Result Done SqlFault
 delete world d params =
-    each (λ row. selects params d.filter row >>= tested_row row) (rows_of world d.table) >>= λ tested.
+    rows_to_delete world d params >>= λ tested.
     Ok (record { answer = Changed (count_by (λ t. t.hit) tested); world = with_rows world d.table (map (λ t. t.row) (filter (λ t. not t.hit) tested)) })
 
 abbrev pub select : World → List ColumnSite → List Ty → List Enc → BoundQuery → List Atom → Result Done SqlFault

@@ -12,14 +12,15 @@ pub fn executes(bound: &Bound) -> bool
 {
     match &bound.statement {
         BoundStatement::Select(query) => executes_query(query),
-        BoundStatement::Update(_) | BoundStatement::Delete(_) => false,
         BoundStatement::CreateMaster { .. }
         | BoundStatement::CreateKey { .. }
         | BoundStatement::CreateTable(_)
         | BoundStatement::DropTable(_)
         | BoundStatement::DropMaster(_)
         | BoundStatement::DropKey(_)
-        | BoundStatement::Insert(_) => true,
+        | BoundStatement::Insert(_)
+        | BoundStatement::Update(_)
+        | BoundStatement::Delete(_) => true,
     }
 }
 

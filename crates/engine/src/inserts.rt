@@ -136,7 +136,7 @@ fn value_or_null<K: Same>(column: &ColumnDef, given: Option<&Atom<K>>) -> Result
 }
 
 /// The value that was given for the column of a place.
-fn value_at<K: Same>(given: &[(usize, Atom<K>)], place: usize) -> Option<&Atom<K>>
+pub(crate) fn value_at<K: Same>(given: &[(usize, Atom<K>)], place: usize) -> Option<&Atom<K>>
     ensures { option_copied result ≡ rows.value_at given.now place }
 {
     given

@@ -8,7 +8,7 @@ use ae_base::sameness::Same;
 use ae_base::tables::UniqueKey;
 
 /// Whether two rows are alike on the columns of these places.
-fn alike_on<K: Same>(places: &[usize], row: &Row<K>, other: &Row<K>) -> bool
+pub(crate) fn alike_on<K: Same>(places: &[usize], row: &Row<K>, other: &Row<K>) -> bool
     requires row { All (λ place. place < length row.now) places.now }
     requires other { All (λ place. place < length other.now) places.now }
     ensures { result ≡ alike_on places.now row.now other.now }

@@ -1,6 +1,10 @@
-ghost use Rattle.std.specs.Prelude.{◌≡◌, ◌++◌, [], OnOk, OnErr};
+ghost use Rattle.std.specs.Prelude.{◌≡◌, ◌++◌, [], length, OnOk, OnErr};
+ghost use Rattle.engine.specs.Changes.{standing, staying};
 
+use crate::deletes::drop_rows;
+use crate::updates::replace_rows;
 use ae_base::atoms::{Row, Rows};
+use ae_base::lists::Seq;
 use ae_base::sameness::Same;
 use std::alloc::{AllocError, Global};
 use std::marker::Model;
@@ -45,5 +49,20 @@ impl<K: Same> Table<K> {
         let mut rows = rows.into_vec();
         self.rows.append(&mut rows)?;
         Ok(())
+    }
+    /// Puts the new rows in the places of the old ones. It takes no memory.
+    pub fn replace(&mut self, changes: Seq<Option<Row<K>>>)
+        requires { length changes ≡ length self.old }
+        ensures { self.new ≡ standing self.old changes }
+    {
+        replace_rows(&mut self.rows, changes);
+    }
+
+    /// Drops the rows that were hit; the others move up. It takes no memory.
+    pub fn drop_hit(&mut self, hits: &[bool])
+        requires { length hits.now ≡ length self.old }
+        ensures { self.new ≡ staying self.old hits.now }
+    {
+        drop_rows(&mut self.rows, hits);
     }
 }

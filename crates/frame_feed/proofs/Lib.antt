@@ -1,1 +1,4 @@
 mod Refusals
+mod Streams
+mod Histories
+mod Ways

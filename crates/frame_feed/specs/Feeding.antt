@@ -1,16 +1,10 @@
 -- What a feed holds, and the messages of either direction.
-use Rattle.std.specs.Prelude.{ℕ, List}
+use Rattle.std.specs.Prelude.{ℕ, ◌+◌, ◌-◌, ◌^◌, List, [], ◌++◌, length, drop, min, Bool, true, false, Option, Some, None, ◌==◌, if◌then◌else◌}
 use Rattle.wire_spelling.specs.Spelling.{SpellsRequest, SpellsReply}
 use Rattle.wire_frames.specs.declared.decoding.Way.{Way}
 use Rattle.wire_frames.specs.declared.decoding.Way.TheVariants.{ToServer, ToDriver}
 use Rattle.frame_feed.specs.declared.messages.Message.{Message}
 use Rattle.frame_feed.specs.declared.messages.Message.TheVariants.{Asks, Tells}
-
--- the direction, the place of the first byte that is held, and the bytes held
-pub record Feeding : Type 0 where
-  pub way : Way
-  pub at : ℕ
-  pub held : List ℕ
 
 -- the frame of a message of the direction
 abbrev pub SpellsMessage : Way → Message → List ℕ → Type 0
@@ -18,3 +12,30 @@ SpellsMessage ToServer (Asks request) bytes = SpellsRequest request bytes
 SpellsMessage ToServer (Tells reply) bytes = ⊥
 SpellsMessage ToDriver (Asks request) bytes = ⊥
 SpellsMessage ToDriver (Tells reply) bytes = SpellsReply reply bytes
+
+-- the direction, the place of the first byte that is held, the bytes held, and whether a frame was refused
+pub record Feeding : Type 0 where
+  pub way : Way
+  pub at : ℕ
+  pub held : List ℕ
+  pub failed : Bool
+
+-- before anything is fed
+abbrev pub unfed : Way → Feeding
+unfed way = record { way = way; at = 0; held = []; failed = false }
+
+-- with a piece at the end; after a fault nothing is taken
+abbrev pub fed : Feeding → List ℕ → Feeding
+fed f piece = record { way = f.way; at = f.at; held = if f.failed then f.held else f.held ++ piece; failed = f.failed }
+
+-- behind a frame of so many bytes; a place past 2 ^ 64 - 1 is told as that
+abbrev pub behind : Feeding → ℕ → Feeding
+behind f used = record { way = f.way; at = min (f.at + used) (2 ^ 64 - 1); held = drop used f.held; failed = f.failed }
+
+-- after a fault
+abbrev pub refused : Feeding → Feeding
+refused f = record { way = f.way; at = f.at; held = f.held; failed = true }
+
+-- the place of what is held, where something is
+abbrev pub rest_of : Feeding → Option ℕ
+rest_of f = if length f.held == 0 then None else Some f.at

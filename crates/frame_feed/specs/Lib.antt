@@ -1,2 +1,4 @@
+pub mod Calls
 pub mod Feeding
+pub mod Laws
 pub mod Steps

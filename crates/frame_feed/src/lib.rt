@@ -2,7 +2,9 @@
 #![tactic(auto)]
 
 mod feeds;
+mod laws;
 mod messages;
 
 pub use feeds::{FrameFeed, Next};
+pub use laws::{faults_stay, feeds_give_frames, frames_of_each_way};
 pub use messages::Message;

@@ -1,7 +1,36 @@
 //! Frames, byte by byte, with what each of them is.
 
 /// Requests, each whole.
-pub const REQUESTS: [&[u8]; 5] = [
+pub fn worked_requests() -> &'static [&'static [u8]] {
+    &REQUESTS
+}
+
+/// Replies, each whole.
+pub fn worked_replies() -> &'static [&'static [u8]] {
+    &REPLIES
+}
+
+/// What is no request, each by one change.
+pub fn no_requests() -> &'static [&'static [u8]] {
+    &NO_REQUESTS
+}
+
+/// What is no reply, each by one change.
+pub fn no_replies() -> &'static [&'static [u8]] {
+    &NO_REPLIES
+}
+
+/// Less than a request.
+pub fn cut_requests() -> &'static [&'static [u8]] {
+    &CUT_REQUESTS
+}
+
+/// Less than a reply.
+pub fn cut_replies() -> &'static [&'static [u8]] {
+    &CUT_REPLIES
+}
+
+static REQUESTS: [&[u8]; 5] = [
     // the question of a table that is made
     b"\x01\x01\x00\x00\x00\x1d\x00\x01\x00\x00\x00\x16CREATE TABLE t (a INT)\x00",
     // its execution
@@ -14,8 +43,7 @@ pub const REQUESTS: [&[u8]; 5] = [
     b"\x01\x02\x00\x00\x00\x9a\x00\x02\x00\x00\x00\x00\x00\x00\x00\x07\x00\x00\x00\x0fSELECT a FROM t\x05\x00\x01n\x01\x00\x00\x00\x01i\x02\x00\x01\xff\xff\xff\xff\xff\xff\xff\xfb\x00\x01t\x03\x00\x08\x00\x02\x00\x05caf\xc3\xa9\x00\x01b\x04\x00\x02\x00\x03\x00\x02\x00\xff\x00\x01s\x01\x01\x00\x00\x00\x03\x04\x00A\x01\x01\x01\x01\x01\x01\x01\x01\x01\x01\x01\x01\x01\x01\x01\x01\x01\x01\x01\x01\x01\x01\x01\x01\x01\x01\x01\x01\x01\x01\x01\x01\x01\x01\x01\x01\x01\x01\x01\x01\x01\x01\x01\x01\x01\x01\x01\x01\x01\x01\x01\x01\x01\x01\x01\x01\x01\x01\x01\x01\x01\x01\x01\x01\x01",
 ];
 
-/// Replies, each whole.
-pub const REPLIES: [&[u8]; 13] = [
+static REPLIES: [&[u8]; 13] = [
     // the answer to a statement without parameters
     b"\x01\x81\x00\x00\x00\x0a\x00\x00\x00\x00\x00\x00\x00\x00\x00\x00",
     // a definition is done
@@ -44,8 +72,7 @@ pub const REPLIES: [&[u8]; 13] = [
     b"\x01\x85\x00\x00\x00\x012",
 ];
 
-/// What is no request, each by one change.
-pub const NO_REQUESTS: [&[u8]; 25] = [
+static NO_REQUESTS: [&[u8]; 25] = [
     // version 2
     b"\x02\x01\x00\x00\x00\x16\x00\x01\x00\x00\x00\x0fSELECT a FROM t\x00",
     // a reply's kind
@@ -98,8 +125,7 @@ pub const NO_REQUESTS: [&[u8]; 25] = [
     b"\x01\x02\x00\x00\x00)\x00\x01\x00\x00\x00\x00\x00\x00\x00\x00\x00\x00\x00\x0fSELECT a FROM t\x01\x00\x01a\x03\x00\x08\x00\x02\x00\x01\xc3",
 ];
 
-/// What is no reply, each by one change.
-pub const NO_REPLIES: [&[u8]; 29] = [
+static NO_REPLIES: [&[u8]; 29] = [
     // a request's kind
     b"\x01\x01\x00\x00\x00\x00",
     // kind 0x86
@@ -160,10 +186,7 @@ pub const NO_REPLIES: [&[u8]; 29] = [
     b"\x01\x85\x00\x00\x00\x05)\x00\x02@p",
 ];
 
-/// Less than a request.
-pub const CUT_REQUESTS: [&[u8]; 4] = [
-    // nothing
-    b"",
+static CUT_REQUESTS: [&[u8]; 3] = [
     // five bytes
     b"\x01\x01\x00\x00\x00",
     // a header
@@ -172,8 +195,7 @@ pub const CUT_REQUESTS: [&[u8]; 4] = [
     b"\x01\x01\x00\x00\x00\x16\x00\x01\x00\x00\x00\x0fSELECT a FROM t",
 ];
 
-/// Less than a reply.
-pub const CUT_REPLIES: [&[u8]; 2] = [
+static CUT_REPLIES: [&[u8]; 2] = [
     // five bytes
     b"\x01\x85\x00\x00\x00",
     // all but the last byte

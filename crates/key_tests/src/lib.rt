@@ -1,10 +1,9 @@
-//! The opening of column keys and the catalog's calls, against values from outside, and each public call once with
-//! ample memory.
+//! The opening and the wrapping of column keys, against values from outside.
 #![tactic(auto)]
 
-#[cfg(test)]
-mod definitions;
 #[cfg(test)]
 mod makers;
 #[cfg(test)]
 mod opening;
+#[cfg(test)]
+mod wrapping;

@@ -1,5 +1,4 @@
 -- The state in which nothing is defined.
-use Rattle.std.proofs.Common.{◌≡◌, refl}
 use Rattle.std.proofs.lemmas.List.Elements.{All-nil}
 use Rattle.catalog.specs.Laws.{DefinitionsKeepCatalogs}
 use Rattle.server_core.specs.Serve.{empty_state}

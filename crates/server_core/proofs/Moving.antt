@@ -1,5 +1,5 @@
 -- An item that leaves a list for the end of another.
-use Rattle.std.proofs.Common.{◌≡◌, List, [], ◌∷◌, ◌++◌, map, refl, sym, ap, ◌∙◌, append_assoc}
+use Rattle.std.proofs.Common.{◌≡◌, List, [], ◌∷◌, ◌++◌, map, sym, ap, ◌∙◌, append_assoc}
 
 pub moved : {A : Type 0} (front whole : List A) (x : A) (before after : List A) → front ++ before ≡ whole → before ≡ x ∷ after → (front ++ x ∷ []) ++ after ≡ whole
 moved front whole x before after w e = append_assoc front (x ∷ []) after ∙ ap (λ rest. front ++ rest) (sym e) ∙ w

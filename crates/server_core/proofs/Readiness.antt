@@ -25,7 +25,7 @@ use Rattle.engine.specs.BoundOn.{HasMaster, IsBoundOn}
 use Rattle.engine.specs.Laws.{AreShown, IsShownBy, StepKeepsWorlds, RowsAreShown, TypedStatementsAreAdmitted}
 use Rattle.engine.specs.Executes.{executes}
 use Rattle.enc_types.specs.declared.typed.Typed.{Typed}
-use Rattle.engine.specs.Step.{Answer, Outcome, Rows}
+use Rattle.engine.specs.Step.{Outcome, Rows}
 use Rattle.engine.specs.Step.{step}
 use Rattle.engine.specs.WellTyped.{AreValuesOf, IsAnswerOf}
 use Rattle.resolve.specs.Bind.{type_of}

@@ -1,5 +1,5 @@
 -- What an outcome is served as.
-use Rattle.std.proofs.Common.{◌≡◌, List, Ok, Err, ap}
+use Rattle.std.proofs.Common.{◌≡◌, Ok, Err, ap}
 use Rattle.ae_base.specs.declared.faults.SqlFault.{SqlFault}
 use Rattle.engine.specs.Step.{Answer, Outcome}
 use Rattle.engine.specs.Worlds.{World}

@@ -1,5 +1,5 @@
 -- The values of parameters, each tested in turn: those so far, and what is known of them all.
-use Rattle.std.proofs.Common.{◌≡◌, ℕ, suc, ◌+◌, ◌<◌, ◌≤◌, Bool, true, false, List, [], ◌∷◌, ◌++◌, length, map, drop, get_or, Result, Ok, Err, refl, sym, ap, ◌∙◌, subst, arith, if◌then◌else◌}
+use Rattle.std.proofs.Common.{◌≡◌, ℕ, suc, ◌+◌, ◌<◌, Bool, true, false, List, [], ◌∷◌, ◌++◌, length, map, drop, get_or, Result, Ok, Err, refl, sym, ap, ◌∙◌, subst, arith, if◌then◌else◌}
 use Rattle.std.specs.Prelude.{IsTrue, int_le, pos, negsuc}
 use Rattle.std.specs.List.{All}
 use Rattle.std.proofs.lemmas.Bool.{and_parts, false≢true, le-leb, leb-true}
@@ -18,12 +18,12 @@ use Rattle.ae_base.specs.declared.types.Ty.TheVariants as ty
 use Rattle.ae_base.specs.declared.values.Datum.{Datum}
 use Rattle.ae_base.specs.declared.values.Datum.TheVariants as datum
 use Rattle.enc_types.specs.Typing.{enc_eq}
-use Rattle.engine.proofs.Collected.{collected, before, collected_more, collected_fault, collected_all, came_before}
+use Rattle.engine.proofs.Collected.{collected, before, collected_more, collected_fault, came_before}
 use Rattle.engine.specs.WellTyped.{IsAtomOf, IsOfType, AreValuesOf}
 use Rattle.resolve.specs.Bind.{type_of}
 use Rattle.wire_messages.specs.AtomBounds.{IsSendable}
 use Rattle.wire_messages.specs.declared.params.SentParam.{SentParam}
-use Rattle.server_core.specs.Params.{declaration_of, is_of, is_shaped, is_encrypted_so, suited_atom, suited}
+use Rattle.server_core.specs.Params.{declaration_of, is_of, is_shaped, suited_atom, suited}
 use Rattle.server_core.specs.States.{is_short}
 
 -- ---- the next value

@@ -1,5 +1,5 @@
 -- The parameters that a description tells, and their keys.
-use Rattle.std.proofs.Common.{◌≡◌, ◌≤◌, ℕ, List, refl, length, map, sym, subst, arith}
+use Rattle.std.proofs.Common.{◌≡◌, ◌≤◌, ℕ, List, refl, length, sym, subst, arith}
 use Rattle.std.specs.Prelude.{IsTrue}
 use Rattle.ae_base.specs.Names.{all_differ}
 use Rattle.ae_base.specs.declared.batches.KeyMeta.{KeyMeta}

@@ -1,13 +1,9 @@
 -- Laws of what a server answers.
-use Rattle.std.specs.Prelude.{◌≡◌, ◌⊎◌, ◌+◌, ℕ, List, Ok}
+use Rattle.std.specs.Prelude.{◌≡◌, ℕ, List, Ok}
 use Rattle.ae_base.specs.declared.batches.ParamDecl.{ParamDecl}
-use Rattle.wire_messages.specs.declared.requests.Request.{Request}
-use Rattle.wire_messages.specs.Exchanges.{HasKinds}
 use Rattle.wire_messages.specs.Messages.{Description}
 use Rattle.catalog.specs.Catalogs.{Catalog}
 use Rattle.server_core.specs.Describing.{describe}
-use Rattle.server_core.specs.Serve.{State, serve}
-use Rattle.server_core.specs.States.{IsState}
 
 -- a description tells the version of the catalog that it is of
 abbrev pub DescriptionsTellTheVersion : Type 0

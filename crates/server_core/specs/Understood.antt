@@ -1,5 +1,5 @@
 -- What each statement meets that a text means, and what each meets that is ready to be executed.
-use Rattle.std.specs.Prelude.{◌≡◌, ℕ, List, length, Ok, IsTrue}
+use Rattle.std.specs.Prelude.{◌≡◌, List, length, Ok, IsTrue}
 use Rattle.std.specs.List.{All}
 use Rattle.ae_base.specs.Atoms.{Atom}
 use Rattle.ae_base.specs.declared.batches.ParamDecl.{ParamDecl}

@@ -67,12 +67,9 @@ fn of_typed(
     ensures { IfOk result (λ d. d ≡ spec.description catalog.now declarations.now (meant_of typed)) }
 {
     let made = description(alloc, catalog, declarations, &typed);
-    let_go(typed);
+    drop(typed);
     made
 }
-
-/// Lets a statement go: its tree is taken apart here alone.
-fn let_go(_typed: Typed) {}
 
 fn description(
     alloc: Global,

@@ -1,6 +1,6 @@
 //! A request to execute, over a world.
 
-ghost use Rattle.std.specs.Prelude.{◌≡◌, ℕ, IfOk, List};
+ghost use Rattle.std.specs.Prelude.{◌≡◌, ◌<◌, [], ℕ, IfOk, List, vec_capacity, vec_len};
 ghost use Rattle.ae_base.specs.declared.batches.ParamDecl.{ParamDecl};
 ghost use Rattle.sql_tree.specs.Bound.{bound_of};
 ghost use Rattle.engine.specs.Answers.{Gives, answer_of};
@@ -22,7 +22,7 @@ use enc_types::laws::typings_are_of_columns;
 use engine::answers::Answer;
 use engine::laws::{rows_are_shown, step_keeps_worlds, typed_statements_are_admitted};
 use engine::worlds::World;
-use std::alloc::Global;
+use std::alloc::{AllocError, Global};
 use wire_messages::params::SentParam;
 use wire_messages::replies::{Done, Reply};
 use wire_messages::texts::StatementPart;
@@ -47,7 +47,6 @@ pub fn execute(
 
 /// Executes what is ready. Memory for the one reply to a definition or a change is taken before
 /// anything is changed; a query changes nothing.
-#[tactic(auto, using(crate::proofs::ReplyKinds::defined_kinds, crate::proofs::ReplyKinds::changed_kinds, crate::proofs::ReplyKinds::rows_kinds, crate::proofs::Steps::answered_so, crate::proofs::Steps::answered_fault))]
 fn step(
     alloc: Global,
     world: &mut World<Cell>,
@@ -59,11 +58,43 @@ fn step(
     ensures state { IsState world.new }
     ensures kinds { IfOk result AreExecuteKinds }
 {
-    let room = Vec::with_capacity(alloc, 1)?;
-    match done(alloc, world, ready)? {
-        Answer::Rows { columns, rows } => Ok(rows_replies(alloc, world.catalog(), columns, rows)?),
-        Answer::Changed(count) => Ok(one_reply_in(room, Reply::Ended(Done::Changed(count)))),
-        Answer::Defined => Ok(one_reply_in(room, Reply::Ended(Done::Defined))),
+    match Vec::with_capacity(alloc, 1) {
+        Ok(room) => step_in(alloc, world, room, ready),
+        Err(AllocError) => {
+            drop(ready);
+            Err(Refusal::OutOfMemory)
+        }
+    }
+}
+
+#[tactic(auto, using(crate::proofs::ReplyKinds::defined_kinds, crate::proofs::ReplyKinds::changed_kinds, crate::proofs::ReplyKinds::rows_kinds, crate::proofs::Steps::answered_so, crate::proofs::Steps::answered_fault))]
+fn step_in(
+    alloc: Global,
+    world: &mut World<Cell>,
+    room: Vec<Reply<'static>>,
+    ready: Ready,
+) -> Result<Seq<Reply<'static>>, Refusal>
+    requires empty { room.items ≡ [] }
+    requires room { vec_len room < vec_capacity room }
+    requires state { IsState world.old }
+    requires ready { (declarations : List ParamDecl) × IsReady world.old.catalog declarations (meant_of ready.typed) ready.atoms }
+    ensures served { ServesOrFails result (spec.stepped world.old (ready_of ready)) world.old world.new }
+    ensures state { IsState world.new }
+    ensures kinds { IfOk result AreExecuteKinds }
+{
+    match done(alloc, world, ready) {
+        Ok(answer) => match answer {
+            Answer::Rows { columns, rows } => {
+                drop(room);
+                Ok(rows_replies(alloc, world.catalog(), columns, rows)?)
+            }
+            Answer::Changed(count) => Ok(one_reply_in(room, Reply::Ended(Done::Changed(count)))),
+            Answer::Defined => Ok(one_reply_in(room, Reply::Ended(Done::Defined))),
+        },
+        Err(refusal) => {
+            drop(room);
+            Err(refusal)
+        }
     }
 }
 

@@ -30,7 +30,10 @@ pub fn explain(
 {
     match named(alloc, catalog, text, declarations) {
         Ok(bound) => chain_of(alloc, bound),
-        Err(Refusal::Fault(_)) => Ok(Seq::new(alloc)),
+        Err(Refusal::Fault(fault)) => {
+            drop(fault);
+            Ok(Seq::new(alloc))
+        }
         Err(Refusal::OutOfMemory) => Err(AllocError),
     }
 }
@@ -40,7 +43,10 @@ fn chain_of(alloc: Global, bound: Bound) -> Result<Seq<u32>, AllocError>
     ensures { IfOk result (Shows (bound_of bound) (inferred (bound_of bound))) }
 {
     match infer(alloc, bound) {
-        Ok(_) => Ok(Seq::new(alloc)),
+        Ok(typed) => {
+            drop(typed);
+            Ok(Seq::new(alloc))
+        }
         Err(Refusal::Fault(clash)) => places_of(alloc, clash.chain.as_slice()),
         Err(Refusal::OutOfMemory) => Err(AllocError),
     }

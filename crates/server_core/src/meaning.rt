@@ -78,6 +78,7 @@ fn executed_so_far(typed: Typed) -> Result<Typed, Refusal>
     if executes(typed.bound()) {
         Ok(typed)
     } else {
+        drop(typed);
         Err(Refusal::Fault(SqlFault::Syntax))
     }
 }

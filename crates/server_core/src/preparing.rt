@@ -45,8 +45,13 @@ pub fn prepared(
 {
     typings_are_of_columns();
     let typed = understood_at(alloc, catalog, version, text, params)?;
-    let atoms = suited(alloc, typed.encs(), params)?;
-    Ok(Ready { typed, atoms })
+    match suited(alloc, typed.encs(), params) {
+        Ok(atoms) => Ok(Ready { typed, atoms }),
+        Err(refusal) => {
+            drop(typed);
+            Err(refusal)
+        }
+    }
 }
 
 /// What a text means with the declarations that come with values, or Moved.

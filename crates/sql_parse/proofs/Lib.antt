@@ -1,3 +1,4 @@
+pub mod Behind
 pub mod Chosen
 pub mod Counts
 pub mod Joined

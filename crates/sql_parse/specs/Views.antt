@@ -1,14 +1,17 @@
 -- The parts of the code as trees without where they lie in memory.
-use Rattle.std.specs.Prelude.{ℕ, List, [], ◌∷◌, true, false, map}
+use Rattle.std.specs.Prelude.{ℕ, List, [], ◌∷◌, Option, Some, true, false, map}
 use Rattle.sql_tree.specs.declared.operands.ColumnRef.{ColumnRef}
 use Rattle.sql_tree.specs.declared.operands.Term as code_term
 use Rattle.sql_tree.specs.declared.lexemes.Symbol.TheVariants as symbol
 use Rattle.sql_tree.specs.Operands.{operand_of}
 use Rattle.sql_tree.specs.Conditions.{condition_of}
-use Rattle.sql_grammar.specs.Readers.{Terminal}
+use Rattle.sql_tree.specs.declared.lexemes.Token.{Token}
+use Rattle.sql_tree.specs.Statements.{Operand, Condition}
+use Rattle.sql_grammar.specs.Readers.{Terminal, Reading, made}
 use Rattle.sql_grammar.specs.Readers as terminal
 use Rattle.sql_grammar.specs.Making as make
-use Rattle.sql_grammar.specs.Making.{Signed}
+use Rattle.sql_grammar.specs.Making.{Signed, Inner, Asks}
+use Rattle.sql_grammar.specs.Parse.{and_literals, or_conjunctions}
 use Rattle.sql_parse.specs.declared.conditions.Test as code_test
 use Rattle.sql_parse.specs.declared.conditions.Inner as code_inner
 use Rattle.sql_parse.specs.declared.definitions.Parts as code_parts
@@ -39,3 +42,15 @@ parts_of parts = (parts.columns, parts.uniques)
 
 abbrev pub tail_of : code_tail.Tail → make.Tail
 tail_of tail = (tail.from, (map join_of tail.joins, (option_map condition_of tail.filter, (tail.group_by, tail.order_by))))
+
+-- a token is somewhere
+abbrev pub at_place : Token → Option ℕ
+at_place t = Some t.at
+
+-- a literal with those behind it
+abbrev pub all_from : Reading Operand → Reading Inner → Condition → Reading Condition
+all_from r q first = made (λ more. Some (make.all_with first more)) (and_literals r q)
+
+-- a conjunction with those behind it
+abbrev pub any_from : Reading Operand → Reading Inner → Condition → Reading Inner
+any_from r q first = made (λ more. Some (Asks (make.any_with first more))) (or_conjunctions r q)

@@ -6,7 +6,7 @@ ghost use Rattle.sql_grammar.specs.Readers.{next_among, one, optional};
 ghost use Rattle.sql_grammar.specs.Making as make;
 ghost use Rattle.sql_grammar.specs.Parse as parse;
 ghost use Rattle.sql_parse.specs.Reads.{Gives, Reads};
-ghost use Rattle.sql_parse.specs.Views.{inner_of, test_of};
+ghost use Rattle.sql_parse.specs.Views.{all_from, any_from, inner_of, test_of};
 
 use crate::cursor::{Cursor, syntax};
 use crate::operands::{MOST_OPEN, OperandTree, bare_term, boxed, operand_in, sum_from};
@@ -199,8 +199,13 @@ fn rest_of_sum(
         (parse.rest_of_sum (parse.operand_parens depth) (operand_of first) tokens.old) }
 {
     let left = sum_from(alloc, tokens, depth, first)?;
-    let test = optional_test(alloc, tokens)?;
-    Ok(with_rest(left, test))
+    match optional_test(alloc, tokens) {
+        Ok(test) => Ok(with_rest(left, test)),
+        Err(fault) => {
+            drop(left);
+            Err(fault)
+        }
+    }
 }
 
 /// The condition that something asks; an operand alone asks nothing.
@@ -241,8 +246,13 @@ fn parenthesised(alloc: Global, tokens: &mut Cursor, depth: usize) -> Result<Inn
     }
     tokens.sign(Symbol::Open)?;
     let inner = inner_in(alloc, tokens, depth - 1)?;
-    tokens.sign(Symbol::Close)?;
-    Ok(inner)
+    match tokens.sign(Symbol::Close) {
+        Ok(_) => Ok(inner),
+        Err(fault) => {
+            drop(inner);
+            Err(fault)
+        }
+    }
 }
 
 /// What a predicate begins with: something in parentheses, or a term.
@@ -373,14 +383,33 @@ fn all_of(first: ConditionTree, more: Seq<ConditionTree>) -> Result<ConditionTre
     Ok(Condition::AllOf(before(first, more)?))
 }
 
+/// A literal with those behind it.
+#[cycle(condition)]
+fn all_from(
+    alloc: Global,
+    tokens: &mut Cursor,
+    depth: usize,
+    first: ConditionTree,
+) -> Result<ConditionTree, Refusal>
+    ensures { Gives condition_of result tokens.new
+        (all_from (parse.operand_parens depth) (parse.inner_parens depth) (condition_of first) tokens.old) }
+{
+    match and_literals(alloc, tokens, depth) {
+        Ok(more) => Ok(all_of(first, more)?),
+        Err(fault) => {
+            drop(first);
+            Err(fault)
+        }
+    }
+}
+
 #[cycle(condition)]
 fn conjunction(alloc: Global, tokens: &mut Cursor, depth: usize) -> Result<ConditionTree, Refusal>
     ensures { Gives condition_of result tokens.new
         (parse.conjunction (parse.operand_parens depth) (parse.inner_parens depth) tokens.old) }
 {
     let first = literal(alloc, tokens, depth)?;
-    let more = and_literals(alloc, tokens, depth)?;
-    Ok(all_of(first, more)?)
+    all_from(alloc, tokens, depth, first)
 }
 
 #[cycle(condition)]
@@ -423,8 +452,29 @@ fn any_of(first: ConditionTree, more: Seq<ConditionTree>) -> Result<ConditionTre
     Ok(Condition::AnyOf(before(first, more)?))
 }
 
+/// A conjunction with those behind it.
+#[cycle(condition)]
+fn any_from(
+    alloc: Global,
+    tokens: &mut Cursor,
+    depth: usize,
+    first: ConditionTree,
+) -> Result<ConditionTree, Refusal>
+    ensures { Gives (λ whole. make.Asks (condition_of whole)) result tokens.new
+        (any_from (parse.operand_parens depth) (parse.inner_parens depth) (condition_of first) tokens.old) }
+{
+    match or_conjunctions(alloc, tokens, depth) {
+        Ok(more) => Ok(any_of(first, more)?),
+        Err(fault) => {
+            drop(first);
+            Err(fault)
+        }
+    }
+}
+
 /// The rest of a condition behind its first literal.
 #[cycle(condition)]
+#[tactic(auto, using(crate::proofs::Behind::with_more_fails))]
 fn with_more(
     alloc: Global,
     tokens: &mut Cursor,
@@ -434,9 +484,8 @@ fn with_more(
     ensures { Gives (λ whole. make.Asks (condition_of whole)) result tokens.new
         (parse.after_literal (parse.operand_parens depth) (parse.inner_parens depth) (make.Asks (condition_of first)) tokens.old) }
 {
-    let literals = and_literals(alloc, tokens, depth)?;
-    let conjunctions = or_conjunctions(alloc, tokens, depth)?;
-    Ok(any_of(all_of(first, literals)?, conjunctions)?)
+    let all = all_from(alloc, tokens, depth, first)?;
+    any_from(alloc, tokens, depth, all)
 }
 
 #[cycle(condition)]

@@ -6,10 +6,11 @@ ghost use Rattle.ae_base.specs.declared.refusals.Refusal.TheVariants.{Fault};
 ghost use Rattle.sql_tree.specs.Reading.{is_capital};
 ghost use Rattle.sql_tree.specs.Tokens.{first_wide, wide};
 ghost use Rattle.sql_grammar.specs.Readers as terminal;
-ghost use Rattle.sql_grammar.specs.Readers.{is_keyword, is_symbol, member, next_among, optional};
+ghost use Rattle.sql_grammar.specs.Readers.{is_keyword, is_symbol, member, next_among, one, optional};
 ghost use Rattle.sql_grammar.specs.Making as make;
 ghost use Rattle.sql_grammar.specs.Parse as parse;
 ghost use Rattle.sql_parse.specs.Reads.{Gives};
+ghost use Rattle.sql_parse.specs.Views.{at_place};
 
 use ae_base::blobs::Blob;
 use ae_base::faults::SqlFault;
@@ -187,58 +188,78 @@ impl Cursor {
             }
     }
 
+    /// The place of the next token, which is passed.
+    fn place(&mut self) -> Option<u32>
+        ensures { MatchOption result (self.old ≡ []) (λ at. one at_place self.old ≡ Some (at, self.new)) }
+    {
+        let token = self.next()?;
+        let at = token.at;
+        drop(token);
+        Some(at)
+    }
+
     /// A keyword, and its place.
+    #[tactic(auto, using(crate::proofs::There::word_there, crate::proofs::There::word_away))]
     pub(crate) fn word(&mut self, keyword: Keyword) -> Result<u32, Refusal>
         ensures { Gives (λ at. at) result self.new (parse.word keyword self.old) }
     {
-        match self.next() {
-            Some(token) if is_keyword(keyword, &token.lexeme) => Ok(token.at),
-            _ => Err(syntax()),
+        if !self.next_is(keyword) {
+            return Err(syntax());
+        }
+        match self.place() {
+            Some(at) => Ok(at),
+            None => Err(syntax()),
         }
     }
 
     /// A symbol, and its place.
+    #[tactic(auto, using(crate::proofs::There::sign_there, crate::proofs::There::sign_away))]
     pub(crate) fn sign(&mut self, symbol: Symbol) -> Result<u32, Refusal>
         ensures { Gives (λ at. at) result self.new (parse.sign symbol self.old) }
     {
-        match self.next() {
-            Some(token) if is_symbol(symbol, &token.lexeme) => Ok(token.at),
-            _ => Err(syntax()),
+        if !self.next_is_sign(symbol) {
+            return Err(syntax());
+        }
+        match self.place() {
+            Some(at) => Ok(at),
+            None => Err(syntax()),
         }
     }
 
     /// The place of a keyword, where it is next.
-    #[tactic(auto, using(crate::proofs::There::word_there, crate::proofs::There::word_away))]
+    #[tactic(auto, using(crate::proofs::There::no_word, crate::proofs::There::one_word))]
     pub(crate) fn optional_word(&mut self, keyword: Keyword) -> Option<u32>
         ensures { optional (terminal.Word keyword ∷ []) (parse.word keyword) self.old ≡ Some (result, self.new) }
     {
         if !self.next_is(keyword) {
             return None;
         }
-        let token = self.next()?;
-        Some(token.at)
+        Some(self.place()?)
     }
 
     /// The place of a symbol, where it is next.
-    #[tactic(auto, using(crate::proofs::There::sign_there, crate::proofs::There::sign_away))]
+    #[tactic(auto, using(crate::proofs::There::no_sign, crate::proofs::There::one_sign))]
     pub(crate) fn optional_sign(&mut self, symbol: Symbol) -> Option<u32>
         ensures { optional (terminal.Sign symbol ∷ []) (parse.sign symbol) self.old ≡ Some (result, self.new) }
     {
         if !self.next_is_sign(symbol) {
             return None;
         }
-        let token = self.next()?;
-        Some(token.at)
+        Some(self.place()?)
     }
 
     /// An identifier that reads as a word in capitals, and its place.
+    #[tactic(auto, using(crate::proofs::There::reads_there, crate::proofs::There::reads_away))]
     pub(crate) fn reads(&mut self, capitals: &str) -> Result<u32, Refusal>
         requires { IsTrue (list_all is_capital capitals.now) }
         ensures { Gives (λ at. at) result self.new (parse.reads capitals.now self.old) }
     {
-        match self.next() {
-            Some(token) if reads_word(&token.lexeme, capitals) => Ok(token.at),
-            _ => Err(syntax()),
+        if !self.next_reads(capitals) {
+            return Err(syntax());
+        }
+        match self.place() {
+            Some(at) => Ok(at),
+            None => Err(syntax()),
         }
     }
 

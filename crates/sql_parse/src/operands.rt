@@ -123,8 +123,13 @@ fn parenthesised(alloc: Global, tokens: &mut Cursor, depth: usize) -> Result<Ope
     }
     tokens.sign(Symbol::Open)?;
     let operand = operand_in(alloc, tokens, depth - 1)?;
-    tokens.sign(Symbol::Close)?;
-    Ok(operand)
+    match tokens.sign(Symbol::Close) {
+        Ok(_) => Ok(operand),
+        Err(fault) => {
+            drop(operand);
+            Err(fault)
+        }
+    }
 }
 
 #[cycle(operand)]
@@ -249,8 +254,13 @@ pub(crate) fn sum_from(
     ensures { Gives operand_of result tokens.new
         (parse.sum_from (parse.operand_parens depth) (operand_of first) tokens.old) }
 {
-    let terms = terms(alloc, tokens, depth)?;
-    Ok(sum_of(alloc, first, terms)?)
+    match terms(alloc, tokens, depth) {
+        Ok(terms) => Ok(sum_of(alloc, first, terms)?),
+        Err(fault) => {
+            drop(first);
+            Err(fault)
+        }
+    }
 }
 
 /// A first term with others, or alone.

@@ -54,6 +54,7 @@ fn parse_tokens(alloc: Global, tokens: Seq<Token>) -> Result<Statement, Refusal>
     let has_long = has_long(tokens.as_slice());
     let statement = statement(alloc, Cursor::new(tokens))?;
     if has_long || passes_a_limit(&statement) {
+        drop(statement);
         return Err(Refusal::Fault(SqlFault::TooLong));
     }
     Ok(statement)
@@ -61,5 +62,5 @@ fn parse_tokens(alloc: Global, tokens: Seq<Token>) -> Result<Statement, Refusal>
 
 /// Lets a statement go.
 pub fn discard(statement: Statement) {
-    let _statement = statement;
+    drop(statement);
 }

@@ -5,7 +5,7 @@ ghost use Rattle.sql_tree.specs.Statements.{value_of, item_of, items_of, join_of
 ghost use Rattle.sql_tree.specs.declared.lexemes.Keyword.TheVariants as keyword;
 ghost use Rattle.sql_tree.specs.declared.lexemes.Symbol.TheVariants as symbol;
 ghost use Rattle.sql_grammar.specs.Readers as terminal;
-ghost use Rattle.sql_grammar.specs.Readers.{many, optional};
+ghost use Rattle.sql_grammar.specs.Readers.{both, many, optional};
 ghost use Rattle.sql_grammar.specs.Making as make;
 ghost use Rattle.sql_grammar.specs.Parse as parse;
 ghost use Rattle.sql_parse.specs.Reads.{Gives, Reads};
@@ -242,6 +242,18 @@ pub(crate) struct Tail {
     order_by: Seq<OrderKey>,
 }
 
+/// The columns of GROUP BY and the keys of ORDER BY.
+fn group_and_order(
+    alloc: Global,
+    tokens: &mut Cursor,
+) -> Result<(Seq<ColumnAt>, Seq<OrderKey>), Refusal>
+    ensures { Gives (λ lists. lists) result tokens.new (both parse.group parse.order tokens.old) }
+{
+    let group_by = group(alloc, tokens)?;
+    let order_by = order(alloc, tokens)?;
+    Ok((group_by, order_by))
+}
+
 fn read_tail(alloc: Global, tokens: &mut Cursor) -> Result<Tail, Refusal>
     ensures { Gives tail_of result tokens.new (parse.tail tokens.old) }
 {
@@ -249,15 +261,19 @@ fn read_tail(alloc: Global, tokens: &mut Cursor) -> Result<Tail, Refusal>
     let from = source(tokens)?;
     let joins = joins(alloc, tokens)?;
     let filter = filter(alloc, tokens)?;
-    let group_by = group(alloc, tokens)?;
-    let order_by = order(alloc, tokens)?;
-    Ok(Tail {
-        from,
-        joins,
-        filter,
-        group_by,
-        order_by,
-    })
+    match group_and_order(alloc, tokens) {
+        Ok((group_by, order_by)) => Ok(Tail {
+            from,
+            joins,
+            filter,
+            group_by,
+            order_by,
+        }),
+        Err(fault) => {
+            drop(filter);
+            Err(fault)
+        }
+    }
 }
 
 #[tactic(auto, using(crate::proofs::Counts::counts_seen))]
@@ -312,6 +328,7 @@ fn select_of(query: Query) -> Result<Statement, Refusal>
     ensures { Reads statement_of result (make.select_of (query_of query)) }
 {
     if !is_plain_group(&query) {
+        drop(query);
         return Err(syntax());
     }
     Ok(Statement::Select(query))

@@ -257,6 +257,9 @@ pub(crate) fn statement(alloc: Global, mut tokens: Cursor) -> Result<Statement, 
     let statement = ended(alloc, &mut tokens)?;
     match tokens.next() {
         None => Ok(statement),
-        Some(_) => Err(syntax()),
+        Some(_) => {
+            drop(statement);
+            Err(syntax())
+        }
     }
 }

@@ -1,5 +1,5 @@
 -- Parts that are read one after another, as a loop does.
-use Rattle.std.proofs.Common.{◌≡◌, ◌<◌, ℕ, zero, suc, List, [], ◌∷◌, ◌++◌, length, Option, Some, None, refl, sym, ap, subst, arith}
+use Rattle.std.proofs.Common.{◌≡◌, ◌<◌, ℕ, zero, suc, List, [], ◌∷◌, ◌++◌, length, Some, None, refl, sym, ap, subst, arith}
 use Rattle.wire_frames.specs.Reading.{Reader, parts_at}
 
 -- the parts stand at the front of some bytes, one after another, before the rest

@@ -1,5 +1,5 @@
 -- A value where it meets its conditions, and the same as a test.
-use Rattle.std.proofs.Common.{◌≡◌, ◌↔◌, Bool, true, false, cond, ◌&&◌, Option, Some, None, IfSome, IsSome, refl, sym, ap, ◌∙◌}
+use Rattle.std.proofs.Common.{◌≡◌, ◌↔◌, Bool, true, false, cond, ◌&&◌, Option, Some, None, IfSome, IsSome, refl, ap}
 use Rattle.wire_frames.specs.Reading.{◌>>=◌, when, made_when}
 use Rattle.wire_frames.proofs.Takes.{some}
 

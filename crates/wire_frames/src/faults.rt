@@ -12,6 +12,17 @@ use ae_base::faults::{SqlFault, UniqueNumber, Versions};
 use ae_base::names::{Name, ParamName};
 use std::alloc::Global;
 
+/// A fault without fields.
+macro_rules! bare {
+    ($fault:ident, $rest:expr) => {
+        if $rest.is_empty() {
+            Body::One(SqlFault::$fault)
+        } else {
+            Body::Bad
+        }
+    };
+}
+
 /// A fault with its only field.
 macro_rules! with {
     ($fault:path, $field:expr) => {
@@ -32,16 +43,6 @@ macro_rules! at {
             Body::OutOfMemory => Body::OutOfMemory,
         }
     };
-}
-
-/// A fault without fields.
-fn bare(fault: SqlFault, rest: &[u8]) -> Body<SqlFault>
-    ensures { GivesBody result (read.bare fault rest.now) }
-{
-    if !rest.is_empty() {
-        return Body::Bad;
-    }
-    Body::One(fault)
 }
 
 fn name(alloc: Global, bytes: &[u8]) -> Body<Name>
@@ -104,10 +105,10 @@ fn fields_of(alloc: Global, code: u8, rest: &[u8]) -> Body<SqlFault>
     ensures { GivesBody result (read.pick read.faults code rest.now) }
 {
     match code {
-        10 => bare(SqlFault::Syntax, rest),
+        10 => bare!(Syntax, rest),
         11 => at!(NumberTooWide, place(rest)),
-        12 => bare(SqlFault::TooDeep, rest),
-        13 => bare(SqlFault::TooLong, rest),
+        12 => bare!(TooDeep, rest),
+        13 => bare!(TooLong, rest),
         20 => with!(SqlFault::NoTable, name(alloc, rest)),
         21 => with!(SqlFault::NoColumn, name(alloc, rest)),
         22 => with!(SqlFault::Ambiguous, name(alloc, rest)),
@@ -119,16 +120,16 @@ fn fields_of(alloc: Global, code: u8, rest: &[u8]) -> Body<SqlFault>
         40 => with!(SqlFault::Moved, versions(rest)),
         41 => with!(SqlFault::ParamClash, param_name(alloc, rest)),
         42 => with!(SqlFault::BadCell, param_name(alloc, rest)),
-        50 => bare(SqlFault::Overflow, rest),
+        50 => bare!(Overflow, rest),
         51 => with!(SqlFault::NullNotAllowed, name(alloc, rest)),
         52 => with!(SqlFault::Truncated, name(alloc, rest)),
-        53 => bare(SqlFault::TooManyRows, rest),
-        54 => bare(SqlFault::TableFull, rest),
+        53 => bare!(TooManyRows, rest),
+        54 => bare!(TableFull, rest),
         55 => with!(SqlFault::DuplicateKey, unique_number(rest)),
         60 => with!(SqlFault::Exists, name(alloc, rest)),
         61 => with!(SqlFault::NoSuch, name(alloc, rest)),
         62 => with!(SqlFault::KeyInUse, name(alloc, rest)),
-        63 => bare(SqlFault::Full, rest),
+        63 => bare!(Full, rest),
         _ => Body::Bad,
     }
 }

@@ -231,8 +231,10 @@ pub fn enc_of(bytes: &[u8]) -> Option<(Enc, &[u8])>
 fn number_atom_of(bytes: &[u8]) -> Option<(AtomPart<'_>, &[u8])>
     ensures { Gives (λ x. (x.0, x.1.now)) result (read.mapped read.integer (read.number_at w64) bytes.now) }
 {
-    let (number, rest) = u64_of(bytes)?;
-    Some((AtomPart::number(number.cast_signed()), rest))
+    match u64_of(bytes) {
+        Some((number, rest)) => Some((AtomPart::number(number.cast_signed()), rest)),
+        None => None,
+    }
 }
 
 #[tactic(auto, unfolding(crate::specs::Reading::short_text_at))]

@@ -10,7 +10,7 @@ pub suited-requires : goal.suited-requires
 suited-requires c =
     ap length c.encs.ensures ∙ sent_count c.args.catalog.now c.args.params.now (meant_of c.in_ok-typed.typed) c.typings_are_of_columns.ensures c.in_ok-typed.ensures.meant
 
-pub returns-clause-ready : goal.returns-clause-ready
-returns-clause-ready c =
-    is_ready c.args.catalog.now c.args.params.now (meant_of c.in_ok-typed.typed) c.in_ok-atoms.atoms c.typings_are_of_columns.ensures c.in_ok-typed.ensures.meant
-    (ap (λ (es : List Enc). suited es c.args.params.now) (sym c.encs.ensures) ∙ c.in_ok-atoms.ensures.exact) c.in_ok-atoms.ensures.short
+pub returns-in-Ok-clause-ready : goal.returns-in-Ok-clause-ready
+returns-in-Ok-clause-ready c =
+    is_ready c.args.catalog.now c.args.params.now (meant_of c.in_ok-typed.typed) c.in-Ok.atoms c.typings_are_of_columns.ensures c.in_ok-typed.ensures.meant
+    (ap (λ (es : List Enc). suited es c.args.params.now) (sym c.encs.ensures) ∙ c.in-Ok.ensures.exact) c.in-Ok.ensures.short

@@ -30,23 +30,29 @@ decreases-and_literal l = 20 * l.depth + 6
 abbrev pub decreases-and_literals : goal.decreases-and_literals
 decreases-and_literals l = 20 * l.depth + 7
 
+abbrev pub decreases-all_from : goal.decreases-all_from
+decreases-all_from l = 20 * l.depth + 8
+
+abbrev pub decreases-any_from : goal.decreases-any_from
+decreases-any_from l = 20 * l.depth + 12
+
 abbrev pub decreases-conjunction : goal.decreases-conjunction
-decreases-conjunction l = 20 * l.depth + 8
+decreases-conjunction l = 20 * l.depth + 9
 
 abbrev pub decreases-or_conjunction : goal.decreases-or_conjunction
-decreases-or_conjunction l = 20 * l.depth + 9
+decreases-or_conjunction l = 20 * l.depth + 10
 
 abbrev pub decreases-or_conjunctions : goal.decreases-or_conjunctions
-decreases-or_conjunctions l = 20 * l.depth + 10
+decreases-or_conjunctions l = 20 * l.depth + 11
 
 abbrev pub decreases-with_more : goal.decreases-with_more
-decreases-with_more l = 20 * l.depth + 11
+decreases-with_more l = 20 * l.depth + 13
 
 abbrev pub decreases-after_literal : goal.decreases-after_literal
-decreases-after_literal l = 20 * l.depth + 12
+decreases-after_literal l = 20 * l.depth + 14
 
 abbrev pub decreases-inner_in : goal.decreases-inner_in
-decreases-inner_in l = 20 * l.depth + 13
+decreases-inner_in l = 20 * l.depth + 15
 
 abbrev pub invariant-and_literals-literals : goal.invariant-and_literals-literals
 invariant-and_literals-literals l =

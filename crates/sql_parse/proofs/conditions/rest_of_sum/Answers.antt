@@ -5,6 +5,6 @@ use Rattle.sql_parse.specs.Views.{inner_of, test_of}
 use Rattle.sql_parse.proofs.Tested.{sum_then_test}
 use Rattle.sql_parse.proofs.conditions.rest_of_sum.Goals as goal
 
-pub returns : goal.returns
-returns c =
-    sum_then_test (operand_parens c.args.depth) (operand_of c.args.first) (operand_of c.in_ok-left.left) c.args.tokens.now c.sum_from.new.tokens c.optional_test.new.tokens (option_map test_of c.in_ok-test.test) (inner_of c.with_rest.result) c.in_ok-left.ensures c.in_ok-test.ensures c.with_rest.ensures
+pub returns-in-Ok : goal.returns-in-Ok
+returns-in-Ok c =
+    sum_then_test (operand_parens c.args.depth) (operand_of c.args.first) (operand_of c.in_ok-left.left) c.args.tokens.now c.sum_from.new.tokens c.optional_test.new.tokens (option_map test_of c.in-Ok.test) (inner_of c.with_rest.result) c.in_ok-left.ensures c.in-Ok.ensures c.with_rest.ensures

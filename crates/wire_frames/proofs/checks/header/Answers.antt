@@ -1,5 +1,4 @@
 -- The keys are those of the columns.
-use Rattle.std.proofs.Common.{map}
 use Rattle.wire_messages.specs.Messages.{Header, IsHeader}
 use Rattle.wire_frames.specs.Reading.{is_header}
 use Rattle.wire_frames.proofs.MessageLaws.{is_header_from, is_header_to}

@@ -1,7 +1,6 @@
 -- A wrapped key of 1 to 1,024 bytes.
-use Rattle.std.proofs.Common.{List, ℕ, length}
+use Rattle.std.proofs.Common.{length}
 use Rattle.ae_base.specs.Keys.{IsWrappedKey}
-use Rattle.ae_base.specs.declared.batches.KeyMeta.{KeyMeta}
 use Rattle.wire_frames.specs.Reading.{is_wrapped, key_of}
 use Rattle.wire_frames.proofs.FieldLaws.{within_from, within_to}
 use Rattle.wire_frames.proofs.Tested.{made}

@@ -1,6 +1,5 @@
 -- As the definition of the text says.
-use Rattle.std.proofs.Common.{length, encode_utf8_all}
-use Rattle.std.proofs.lemmas.Bool.{leb-true, le-leb}
+use Rattle.std.proofs.Common.{length}
 use Rattle.std.specs.Str.{chars}
 use Rattle.ae_base.specs.Names.{IsName}
 use Rattle.wire_frames.specs.Reading.{is_word}

@@ -1,5 +1,5 @@
 -- At most 128, whose names differ.
-use Rattle.std.proofs.Common.{◌≤◌, List, length, map, IsTrue}
+use Rattle.std.proofs.Common.{◌≤◌, length, map, IsTrue}
 use Rattle.ae_base.specs.Names.{all_differ}
 use Rattle.wire_frames.specs.Reading.{are_params}
 use Rattle.wire_frames.proofs.PartLaws.{params_from, params_to}

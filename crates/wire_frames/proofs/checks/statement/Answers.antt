@@ -4,7 +4,6 @@ use Rattle.std.proofs.lemmas.Bool.{leb-true, le-leb}
 use Rattle.std.specs.Str.{chars}
 use Rattle.wire_messages.specs.Texts.{IsStatementText}
 use Rattle.wire_frames.specs.Reading.{is_text_within}
-use Rattle.wire_frames.proofs.FieldLaws.{within_from, within_to}
 use Rattle.wire_frames.proofs.Tested.{tested}
 use Rattle.wire_frames.proofs.checks.statement.Goals as goal
 

@@ -1,10 +1,9 @@
 -- As the definition of the text says.
-use Rattle.std.proofs.Common.{length, encode_utf8_all}
+use Rattle.std.proofs.Common.{length}
 use Rattle.std.proofs.lemmas.Bool.{leb-true, le-leb}
 use Rattle.std.specs.Str.{chars}
 use Rattle.ae_base.specs.Names.{IsTitle}
 use Rattle.wire_frames.specs.Reading.{is_title}
-use Rattle.wire_frames.proofs.FieldLaws.{within_from, within_to}
 use Rattle.wire_frames.proofs.Tested.{tested}
 use Rattle.wire_frames.proofs.checks.title.Goals as goal
 

@@ -1,0 +1,61 @@
+-- Laws of a feed.
+use Rattle.std.specs.Prelude.{◌≡◌, ◌<◌, ◌^◌, ◌↔◌, ℕ, List, length, map, Some, flat_map}
+use Rattle.std.specs.List.{All}
+use Rattle.wire_messages.specs.Conditions.{IsRequest, IsReply}
+use Rattle.wire_messages.specs.declared.replies.Reply.{Reply}
+use Rattle.wire_messages.specs.declared.requests.Request.{Request}
+use Rattle.wire_spelling.specs.Spelling.{request_frame, reply_frame}
+use Rattle.wire_frames.specs.Frames.{Placed, End, Whole, RequestFrames, ReplyFrames}
+use Rattle.wire_frames.specs.Laws.{placed_from}
+use Rattle.wire_frames.specs.declared.decoding.Way.{Way}
+use Rattle.wire_frames.specs.declared.decoding.Way.TheVariants.{ToServer, ToDriver}
+use Rattle.frame_feed.specs.Calls.{Call, Lead, Frames, bytes_of, messages_of, ToldAfter}
+use Rattle.frame_feed.specs.Feeding.{Feeding, rest_of}
+use Rattle.frame_feed.specs.Steps.{Steps}
+use Rattle.frame_feed.specs.declared.feeds.Next.{Next}
+use Rattle.frame_feed.specs.declared.feeds.Next.TheVariants as next
+use Rattle.frame_feed.specs.declared.messages.Message.{Message}
+use Rattle.frame_feed.specs.declared.messages.Message.TheVariants.{Asks, Tells}
+
+-- whatever was fed, in whatever pieces, and whenever the next message was asked for: the messages given and the end
+-- told are the frames of all that was fed
+abbrev pub GivesFrames : Type 0
+GivesFrames = (way : Way) (calls : List Call) (end : End) → length (bytes_of calls) < 2 ^ 64 → ToldAfter way calls end → Frames way (bytes_of calls) (messages_of calls) end
+
+-- the same bytes give the same messages, and the same end, however they were cut
+abbrev pub GivesTheSameHoweverCut : Type 0
+GivesTheSameHoweverCut =
+    (way : Way) (calls others : List Call) (end other : End) → length (bytes_of calls) < 2 ^ 64 → bytes_of calls ≡ bytes_of others
+    → ToldAfter way calls end → ToldAfter way others other → (messages_of calls ≡ messages_of others) × (end ≡ other)
+
+-- once a frame was refused, whatever is fed, the same fault is given, and told at the end
+abbrev pub KeepsFault : Type 0
+KeepsFault =
+    (old failed now after : Feeding) (place : ℕ) (calls : List Call) (answer : Next)
+    → Steps (next.Bad place) old failed → Lead calls failed now → Steps answer now after → (answer ≡ next.Bad place) × (rest_of now ≡ Some place)
+
+-- ---- each direction
+
+abbrev pub asked : Placed Request → Placed Message
+asked request = record { at = request.at; message = Asks request.message }
+
+abbrev pub told : Placed Reply → Placed Message
+told reply = record { at = reply.at; message = Tells reply.message }
+
+-- the frames to the server are requests, those to the driver replies
+abbrev pub AreRequests : Type 0
+AreRequests =
+    (bytes : List ℕ) (messages : List (Placed Message)) (end : End)
+    → Frames ToServer bytes messages end ↔ ((requests : List (Placed Request)) × (messages ≡ map asked requests) × RequestFrames bytes requests end)
+
+abbrev pub AreReplies : Type 0
+AreReplies =
+    (bytes : List ℕ) (messages : List (Placed Message)) (end : End)
+    → Frames ToDriver bytes messages end ↔ ((replies : List (Placed Reply)) × (messages ≡ map told replies) × ReplyFrames bytes replies end)
+
+-- what was written, one after another, is given back
+abbrev pub GivesRequestsBack : Type 0
+GivesRequestsBack = (requests : List Request) → All IsRequest requests → Frames ToServer (flat_map request_frame requests) (map asked (placed_from request_frame 0 requests)) Whole
+
+abbrev pub GivesRepliesBack : Type 0
+GivesRepliesBack = (replies : List Reply) → All IsReply replies → Frames ToDriver (flat_map reply_frame replies) (map told (placed_from reply_frame 0 replies)) Whole

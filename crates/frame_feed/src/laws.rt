@@ -1,0 +1,28 @@
+//! Laws of a feed.
+
+ghost use Rattle.frame_feed.specs.Laws.{GivesFrames, GivesTheSameHoweverCut, KeepsFault, AreRequests, AreReplies, GivesRequestsBack, GivesRepliesBack};
+
+use wire_frames::{frames_are_read_back, streams_are_read_once};
+
+/// A feed gives the frames of all that it was fed, however that was cut into pieces, up to 2^64 bytes.
+pub fn feeds_give_frames()
+    ensures frames { GivesFrames }
+    ensures cut { GivesTheSameHoweverCut }
+{
+    streams_are_read_once();
+}
+
+/// A feed that met what is no frame answers so from then on.
+pub fn faults_stay()
+    ensures { KeepsFault }
+{}
+
+/// The frames to the server are requests, those to the driver replies; what was written is given back.
+pub fn frames_of_each_way()
+    ensures requests { AreRequests }
+    ensures replies { AreReplies }
+    ensures requests_back { GivesRequestsBack }
+    ensures replies_back { GivesRepliesBack }
+{
+    frames_are_read_back();
+}

@@ -1,0 +1,165 @@
+//! Frames, and streams of them, in pieces.
+
+use crate::tables::{
+    cut_replies, cut_requests, no_replies, no_requests, worked_replies, worked_requests,
+};
+use frame_feed::{FrameFeed, Message, Next};
+use std::alloc::{AllocError, Global};
+use std::test::Fail;
+use wire_frames::Way;
+use wire_spelling::{encode_reply, encode_request};
+
+// How a stream ends: after a frame, at what is no frame, or inside a frame.
+#[derive(Clone, Copy, PartialEq, Eq, Debug)]
+enum End {
+    Whole,
+    Refused(u64),
+    Rest(u64),
+    OutOfMemory,
+}
+
+fn frame_of(alloc: Global, message: &Message<'_>) -> Result<Vec<u8>, AllocError> {
+    match message {
+        Message::Asks(request) => encode_request(alloc, request),
+        Message::Tells(reply) => encode_reply(alloc, reply),
+    }
+}
+
+// Writes the message that is given. Where none is, how the stream ends if no byte follows.
+fn end_at(
+    alloc: Global,
+    next: &Next<'_>,
+    rest: Option<u64>,
+    out: &mut Vec<u8>,
+) -> Result<Option<End>, AllocError> {
+    match next {
+        Next::One {
+            place: _,
+            used: _,
+            message,
+        } => {
+            out.extend_from_slice(&frame_of(alloc, message)?)?;
+            Ok(None)
+        }
+        Next::NotYet => match rest {
+            None => Ok(Some(End::Whole)),
+            Some(place) => Ok(Some(End::Rest(place))),
+        },
+        Next::Bad { place } => Ok(Some(End::Refused(*place))),
+        Next::OutOfMemory => Ok(Some(End::OutOfMemory)),
+    }
+}
+
+fn step(alloc: Global, feed: &mut FrameFeed, out: &mut Vec<u8>) -> Result<Option<End>, AllocError> {
+    let next = feed.next(alloc);
+    end_at(alloc, &next, feed.finish(), out)
+}
+
+// What a stream in pieces of so many bytes is: the messages that are given, written again, and the end
+// that is told.
+fn read(alloc: Global, way: Way, stream: &[u8], size: usize) -> Result<(Vec<u8>, End), AllocError> {
+    let mut feed = FrameFeed::new(alloc, way);
+    let mut out = Vec::new(alloc);
+    let mut end = End::Whole;
+    for piece in stream.chunks(size.max(1)) {
+        feed.feed(piece)?;
+        for _ in 0..=piece.len() {
+            if let Some(told) = step(alloc, &mut feed, &mut out)? {
+                end = told;
+                break;
+            }
+        }
+    }
+    Ok((out, end))
+}
+
+// Whether a stream is read so, whole and in pieces of 1, 2 and 7 bytes: the frames in front, and the end.
+fn is_read(
+    alloc: Global,
+    way: Way,
+    stream: &[u8],
+    front: &[u8],
+    want: End,
+) -> Result<bool, AllocError> {
+    for size in [1, 2, 7, stream.len()] {
+        let (out, end) = read(alloc, way, stream, size)?;
+        if out.as_slice() != front || end != want {
+            return Ok(false);
+        }
+    }
+    Ok(true)
+}
+
+// Some frames, one after another.
+fn joined(alloc: Global, frames: &[&[u8]]) -> Result<Vec<u8>, AllocError> {
+    let mut stream = Vec::new(alloc);
+    for frame in frames {
+        stream.extend_from_slice(frame)?;
+    }
+    Ok(stream)
+}
+
+// Whether frames are read as they are, each alone and all in a row.
+fn are_read(alloc: Global, way: Way, frames: &[&[u8]]) -> Result<bool, AllocError> {
+    for frame in frames {
+        if !is_read(alloc, way, frame, frame, End::Whole)? {
+            return Ok(false);
+        }
+    }
+    let all = joined(alloc, frames)?;
+    Ok(is_read(alloc, way, &all, &all, End::Whole)? && is_read(alloc, way, &[], &[], End::Whole)?)
+}
+
+// The same end, so many bytes on.
+fn moved(end: End, by: u64) -> End {
+    match end {
+        End::Refused(place) => End::Refused(place.saturating_add(by)),
+        End::Rest(place) => End::Rest(place.saturating_add(by)),
+        End::Whole | End::OutOfMemory => end,
+    }
+}
+
+// Whether each of these ends a stream so, alone and behind frames.
+fn end_so(
+    alloc: Global,
+    way: Way,
+    frames: &[&[u8]],
+    rests: &[&[u8]],
+    end: End,
+) -> Result<bool, AllocError> {
+    let front = joined(alloc, frames)?;
+    let later = moved(end, front.len() as u64);
+    for rest in rests {
+        let behind = joined(alloc, &[&front, rest])?;
+        if !is_read(alloc, way, rest, &[], end)? || !is_read(alloc, way, &behind, &front, later)? {
+            return Ok(false);
+        }
+    }
+    Ok(true)
+}
+
+#[test]
+fn reads_and_writes_each_frame(rt: HostRuntime) -> Result<(), Fail> {
+    let alloc = rt.alloc();
+    assert!(rt; are_read(alloc, Way::ToServer, worked_requests())?);
+    assert!(rt; are_read(alloc, Way::ToDriver, worked_replies())?);
+    Ok(())
+}
+
+#[test]
+fn refuses_each_broken_condition(rt: HostRuntime) -> Result<(), Fail> {
+    let alloc = rt.alloc();
+    let end = End::Refused(0);
+    assert!(rt; end_so(alloc, Way::ToServer, worked_requests(), no_requests(), end)?);
+    assert!(rt; end_so(alloc, Way::ToDriver, worked_replies(), no_replies(), end)?);
+    Ok(())
+}
+
+#[test]
+fn waits_for_the_rest(rt: HostRuntime) -> Result<(), Fail> {
+    let alloc = rt.alloc();
+    let end = End::Rest(0);
+    assert!(rt; end_so(alloc, Way::ToServer, worked_requests(), cut_requests(), end)?);
+    assert!(rt; end_so(alloc, Way::ToDriver, worked_replies(), cut_replies(), end)?);
+    Ok(())
+}

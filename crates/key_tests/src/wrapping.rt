@@ -1,0 +1,84 @@
+// The command that wraps a key.
+
+use crate::opening::MASTER;
+use ae_base::texts::Txt;
+use ae_edge::memory::sink::MemSink;
+use ae_edge::memory::source::MemSource;
+use ae_edge::memory::vault::MemVault;
+use std::alloc::Global;
+use std::test::Fail;
+use wrap_command::commands::{Wrapped, wrap};
+
+// A path, an input, how wrapping ends, and what is put. The digits are the vector of RFC 3394, section 4.6.
+const CASES: [(&str, &str, Wrapped, &str); 8] = [
+    (
+        "main",
+        "00112233445566778899AABBCCDDEEFF000102030405060708090A0B0C0D0E0F",
+        Wrapped::Done,
+        "28c9f404c4b810f4cbccb35cfb87f8263f5786e2d80ed326cbc7f0e71a99f43bfb988b9b7a02dd21\n",
+    ),
+    (
+        "main",
+        "00112233445566778899aabbccddeeff000102030405060708090a0b0c0d0e0f\r\n",
+        Wrapped::Done,
+        "28c9f404c4b810f4cbccb35cfb87f8263f5786e2d80ed326cbc7f0e71a99f43bfb988b9b7a02dd21\n",
+    ),
+    (
+        "other",
+        "00112233445566778899AABBCCDDEEFF000102030405060708090A0B0C0D0E0F\n",
+        Wrapped::NoMasterKey,
+        "",
+    ),
+    (
+        "main",
+        "00112233445566778899AABBCCDDEEFF000102030405060708090A0B0C0D0E0",
+        Wrapped::BadLine,
+        "",
+    ),
+    (
+        "main",
+        "00112233445566778899AABBCCDDEEFF000102030405060708090A0B0C0D0E0F\n\n",
+        Wrapped::BadLine,
+        "",
+    ),
+    (
+        "main",
+        "00112233445566778899AABBCCDDEEFF000102030405060708090A0B0C0D0E0F\r",
+        Wrapped::BadLine,
+        "",
+    ),
+    (
+        "other",
+        "00112233445566778899AABBCCDDEEFF000102030405060708090A0B0C0D0E0G",
+        Wrapped::BadLine,
+        "",
+    ),
+    ("main", "", Wrapped::BadLine, ""),
+];
+
+// Whether an input is wrapped so, over a vault with the key of the vectors at main. There is none of either without memory.
+fn comes_to(alloc: Global, path: &str, input: &str, ended: Wrapped, text: &str) -> bool {
+    let mut keys = Vec::new(alloc);
+    let mut out = MemSink::new(alloc, Vec::new(alloc));
+    let (Ok(main), Ok(path)) = (Txt::copied(alloc, "main"), Txt::copied(alloc, path)) else {
+        return false;
+    };
+    let Ok(bytes) = Vec::from_slice(alloc, input.as_bytes()) else {
+        return false;
+    };
+    if keys.push((main, MASTER)).is_err() {
+        return false;
+    }
+    let mut vault = MemVault::new(keys, Vec::new(alloc));
+    let mut source = MemSource::new(bytes, 10, Vec::new(alloc));
+    wrap(alloc, &path, &mut source, &mut vault, &mut out) == ended && out.bytes() == text.as_bytes()
+}
+
+#[test]
+fn wraps_keys(rt: HostRuntime) -> Result<(), Fail> {
+    let alloc = rt.alloc();
+    for (path, input, ended, text) in CASES {
+        assert!(rt; comes_to(alloc, path, input, ended, text));
+    }
+    Ok(())
+}
