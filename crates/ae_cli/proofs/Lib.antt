@@ -1,1 +1,2 @@
 pub mod TwoWords
+pub mod Unread

@@ -1,8 +1,7 @@
 -- How the command `wrap` ends the program.
-use Rattle.std.specs.Prelude.{◌≡◌, ℕ, List, Option}
+use Rattle.std.specs.Prelude.{ℕ, List}
 use Rattle.script_run.specs.declared.status.Status.{Status}
 use Rattle.script_run.specs.declared.status.Status.TheVariants as status
-use Rattle.wrap_command.specs.Wrapping.{Lent, Wraps}
 use Rattle.wrap_command.specs.declared.commands.Wrapped.{Wrapped}
 use Rattle.wrap_command.specs.declared.commands.Wrapped.TheVariants as ended
 

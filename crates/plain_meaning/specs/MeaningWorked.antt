@@ -5,7 +5,6 @@ use lib.Utf8.{encode}
 use Rattle.ae_base.specs.declared.batches.Param.{Param}
 use Rattle.ae_base.specs.declared.faults.SqlFault.TheVariants.{Moved}
 use Rattle.ae_base.specs.declared.types.Enc.TheVariants as enc
-use Rattle.ae_base.specs.declared.types.Ty.{Ty}
 use Rattle.ae_base.specs.declared.types.Ty.TheVariants as ty
 use Rattle.ae_base.specs.declared.values.Datum.TheVariants.{Num}
 use Rattle.ae_base.specs.declared.values.Value.TheVariants as value
