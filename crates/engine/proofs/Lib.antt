@@ -1,8 +1,11 @@
 pub mod Admitted
+pub mod Answering
 pub mod Collected
 pub mod Contents
+pub mod Grouped
 pub mod Kept
 pub mod Moving
+pub mod Nulls
 pub mod Pairs
 pub mod Rowwise
 pub mod Shown

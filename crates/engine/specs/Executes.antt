@@ -1,11 +1,7 @@
 -- Which statements are executed; the others are not yet.
-use Rattle.std.specs.Prelude.{◌==◌, ◌&&◌, not, length, Bool, true, false, is_none}
-use Rattle.sql_tree.specs.Bound.{BoundQuery, BoundStatement, Bound}
+use Rattle.std.specs.Prelude.{Bool, true, false}
+use Rattle.sql_tree.specs.Bound.{BoundStatement, Bound}
 use Rattle.sql_tree.specs.Bound as bound
-use Rattle.engine.specs.Queries.{is_grouped}
-
-abbrev pub executes_query : BoundQuery → Bool
-executes_query q = is_none q.distinct && is_none q.top && not (is_grouped q) && (length q.order_by == 0)
 
 abbrev pub executes_statement : BoundStatement → Bool
 executes_statement (bound.CreateMaster name path) = true
@@ -17,7 +13,7 @@ executes_statement (bound.DropKey name) = true
 executes_statement (bound.Insert insert) = true
 executes_statement (bound.Update update) = false
 executes_statement (bound.Delete delete) = false
-executes_statement (bound.Select query) = executes_query query
+executes_statement (bound.Select query) = true
 
 abbrev pub executes : Bound → Bool
 executes b = executes_statement b.statement
