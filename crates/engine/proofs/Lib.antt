@@ -2,6 +2,7 @@ pub mod Admitted
 pub mod Answering
 pub mod Collected
 pub mod Contents
+pub mod Finding
 pub mod Grouped
 pub mod Kept
 pub mod Moving

@@ -1,7 +1,7 @@
 -- The order of rows by keys is total.
 use Rattle.std.proofs.Common.{◌≡◌, ℕ, ℤ, List, [], ◌∷◌, map, refl, ap, sym, subst, ◌∙◌, Bool, true, false, Ordering, Less, Equal, Greater, unwrap_or}
 use Rattle.std.specs.Prelude.{pos}
-use Rattle.std.specs.Cmp.{IsTotalOrder, then_total, on_total, back_total, then_cmp, nat_cmp_total, int_cmp_total}
+use Rattle.std.specs.Cmp.{IsTotalOrder, then_total, on_total, back_total, nat_cmp_total, int_cmp_total}
 use Rattle.std.specs.Cmp.Derive.{point_total}
 use Rattle.std.specs.Cmp.Lexicographic.{slice_cmp}
 use Rattle.std.specs.List.Sorted.{IsSortedBy, IsStableBy}
@@ -98,9 +98,9 @@ rows_total (key ∷ keys) = then_total (on_total (λ (row : List Atom). atom_at 
 abbrev pub found_cmp : {K : Type 0} → List BoundOrderKey → code.Found K → code.Found K → Ordering
 found_cmp keys a b = rows_cmp keys a.row.now b.row.now
 
-pub found_total : {K : Type 0} (keys : List BoundOrderKey) → IsTotalOrder (found_cmp {K} keys)
+pub found_total : {K : Type 0} (keys : List BoundOrderKey) → IsTotalOrder (found_cmp {K = K} keys)
 found_total {K} keys = on_total (λ (f : code.Found K). f.row.now) (rows_total keys)
 
-pub ordered_by : {K : Type 0} (keys : List BoundOrderKey) (xs ys : List (code.Found K)) → IsSortedBy (before (found_cmp {K} keys)) ys → IsStableBy (before (found_cmp {K} keys)) xs ys
+pub ordered_by : {K : Type 0} (keys : List BoundOrderKey) (xs ys : List (code.Found K)) → IsSortedBy (before (found_cmp {K = K} keys)) ys → IsStableBy (before (found_cmp {K = K} keys)) xs ys
     → map (found_by keys) ys ≡ ordered keys (map (found_by keys) xs)
-ordered_by {K} keys xs ys h s = ap (map (found_by keys)) (stable_sort (found_cmp {K} keys) (found_total keys) xs ys h s) ∙ sym (sorted_by-map (λ (a b : Found). keys_cmp keys a.keys b.keys) (found_by {K} keys) xs)
+ordered_by {K} keys xs ys h s = ap (map (found_by keys)) (stable_sort (found_cmp {K = K} keys) (found_total keys) xs ys h s) ∙ sym (sorted_by-map (λ (a b : Found). keys_cmp keys a.keys b.keys) (found_by {K = K} keys) xs)
