@@ -42,6 +42,10 @@ pub fault_seen : {A B C D E : Type 0} (v : A → B) (w : C → D) (e : Refusal E
 fault_seen v w (Fault f) part whole h pass = pass f h
 fault_seen v w OutOfMemory part whole h pass = tt
 
+pub fault_handed : {A B C E : Type 0} (v : A → B) (e : Refusal E) (part : Result B E) (whole : Result C E) → AnswersAs v (Err e) part → ((f : E) → part ≡ Err f → whole ≡ Err f) → Answers {A = C} (Err e) whole
+fault_handed v (Fault f) part whole h pass = pass f h
+fault_handed v OutOfMemory part whole h pass = tt
+
 -- what was made of a value that came
 pub record Came {A B E : Type 0} (o : Result A E) (f : A → Result B E) (y : B) : Type 0 where
   pub value : A

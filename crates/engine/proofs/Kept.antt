@@ -219,14 +219,14 @@ module _ (cell : List ℕ → Bool) (world : World) (w : IsWellTyped cell world)
         let same : answered q f.value ≡ c.value = same_rows (answered q f.value) c.value f.then in
         subst (Keeps cell) (same_done (selected_done world shown c.value) done c.then) (w, subst (All (AllZip (IsShown cell) shown)) same rows)
       where
-        abbrev es : List Event
+        es : List Event
         es = queries.events_of world q params
 
         -- a row whose atoms are of the columns
-        abbrev IsOwn : List Atom → Type 0
+        IsOwn : List Atom → Type 0
         IsOwn row = (place : ℕ) → IsAt cell (site_at columns place) (atom_at row place)
 
-        abbrev IsFound : Found → Type 0
+        IsFound : Found → Type 0
         IsFound found = AllZip (IsShown cell) (map (result_column columns tys encs) q.items) found.shown
 
         walk : AllRows (AllZip (IsAt cell) columns) es

@@ -454,10 +454,10 @@ module _ (R : Pairing) (r : IsOneToOne R) (within : ArePairsWithin R) where
           → BothAnswer (AllZip (FoundCorresponds R (shown_classes columns q))) (all_found q values es) (all_found q others fs)
       all_alike columns q es fs t m = by_groups (is_grouped q)
         where
-          abbrev P : Found → Found → Type 0
+          P : Found → Found → Type 0
           P = FoundCorresponds R (shown_classes columns q)
 
-          abbrev Rows : List (List Atom) → List (List Atom) → Type 0
+          Rows : List (List Atom) → List (List Atom) → Type 0
           Rows = AllZip (RowsCorrespond R (classes_of columns))
 
           by_groups : (b : Bool)

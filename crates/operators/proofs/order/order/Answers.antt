@@ -11,6 +11,6 @@ returns g c =
     let keys = c.args.keys.now in
     let order = is_order (found_cmp keys) (found_total keys) in
     on_ok_weaker c.sort_by.result
-    (λ sorted. ordered_by keys _ _ (sorted (before (found_cmp keys)) order (always_returns_same _ _ _ (λ a r f k. search rules)))
+    (λ sorted. ordered_by keys c.args.found.now.items c.sort_by.new.self.items (sorted (before (found_cmp keys)) order (always_returns_same _ _ _ (λ a r f k. search rules)))
     (c.sort_by.ensures.stable (before (found_cmp keys)) order (always_returns_same _ _ _ (λ a r f k. search rules))))
     c.sort_by.ensures.sorted
