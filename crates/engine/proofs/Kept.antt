@@ -31,7 +31,7 @@ use Rattle.engine.specs.Columns.{site_at, result_column}
 use Rattle.engine.specs.Correspond.{class_of_column, AreKeysTyped}
 use Rattle.engine.specs.Executes.{executes_statement, executes}
 use Rattle.engine.specs.Queries as queries
-use Rattle.engine.specs.Queries.{items_of, found_of, results, groups_of, is_grouped, all_found, answered, found_in}
+use Rattle.engine.specs.Queries.{items_of, found_of, results, groups_of, is_grouped, found_of_groups, all_found, answered, found_in}
 use Rattle.engine.specs.Step as step
 use Rattle.engine.specs.Step.{Done, outcome, columns_of, uniques_of, rows_to_insert, done_by}
 use Rattle.engine.specs.Keys.{first_twins, unless_twins}
@@ -239,9 +239,9 @@ module _ (cell : List ℕ → Bool) (world : World) (w : IsWellTyped cell world)
             subst IsFound (same_found (found_parts q row c.value) found c.then) typed
 
         by_groups : (found : List Found) (b : Bool)
-            → (if b then (results row_ok 0 es >>= λ rows. each (λ (group : Group). found_of q params group.count group.first) (groups_of q.group_by rows)) else results (found_of q params 0) 0 es) ≡ Ok found → All IsFound found
+            → (if b then (results row_ok 0 es >>= found_of_groups q params) else results (found_of q params 0) 0 es) ≡ Ok found → All IsFound found
         by_groups found true e =
-            let c = came (results row_ok 0 es) (λ rows. each (λ (group : Group). found_of q params group.count group.first) (groups_of q.group_by rows)) found e in
+            let c = came (results row_ok 0 es) (found_of_groups q params) found e in
             let rows = results_all (AllZip (IsAt cell) columns) IsOwn row_ok 0 es c.value (λ row x r e. subst IsOwn (same_row row x e) (row_places cell columns row r)) walk c.is in
             each_all (OfFirst IsOwn) IsFound (λ (group : Group). found_of q params group.count group.first) (groups_of q.group_by c.value) found (λ group x own e. one_found group.count group.first x own e)
             (groups_all IsOwn q.group_by c.value (λ place. tt) rows) c.then

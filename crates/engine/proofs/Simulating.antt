@@ -43,7 +43,7 @@ use Rattle.engine.specs.Correspond.{IsWithinClass, ArePairsWithin, class_of_colu
 use Rattle.engine.specs.Executes.{executes_statement, executes}
 use Rattle.engine.specs.Keys.{first_twins, unless_twins}
 use Rattle.engine.specs.Queries as queries
-use Rattle.engine.specs.Queries.{item_of, items_of, found_of, joined_all, where_true, results, groups_of, is_grouped, all_found, answered, found_in}
+use Rattle.engine.specs.Queries.{item_of, items_of, found_of, joined_all, where_true, results, groups_of, is_grouped, found_of_groups, all_found, answered, found_in}
 use Rattle.engine.specs.Rows.{admitted, column_at, value_into, values_into, value_at, value_or_null, completed, new_row, new_rows}
 use Rattle.engine.specs.Step as step
 use Rattle.engine.specs.Step.{Done, outcome, columns_of, uniques_of, rows_to_insert, done_by}
@@ -461,11 +461,11 @@ module _ (R : Pairing) (r : IsOneToOne R) (within : ArePairsWithin R) where
           Rows = AllZip (RowsCorrespond R (classes_of columns))
 
           by_groups : (b : Bool)
-              → BothAnswer (AllZip P) (if b then (results whole_row 0 es >>= λ rows. each (λ (group : Group). found_of q values group.count group.first) (groups_of q.group_by rows)) else results (found_of q values 0) 0 es)
-              (if b then (results whole_row 0 fs >>= λ rows. each (λ (group : Group). found_of q others group.count group.first) (groups_of q.group_by rows)) else results (found_of q others 0) 0 fs)
+              → BothAnswer (AllZip P) (if b then (results whole_row 0 es >>= found_of_groups q values) else results (found_of q values 0) 0 es)
+              (if b then (results whole_row 0 fs >>= found_of_groups q others) else results (found_of q others 0) 0 fs)
           by_groups true =
-              both_then Rows (AllZip P) (results whole_row 0 es) (results whole_row 0 fs) (λ rows. each (λ (group : Group). found_of q values group.count group.first) (groups_of q.group_by rows))
-              (λ rows. each (λ (group : Group). found_of q others group.count group.first) (groups_of q.group_by rows))
+              both_then Rows (AllZip P) (results whole_row 0 es) (results whole_row 0 fs) (found_of_groups q values)
+              (found_of_groups q others)
               (results_alike R (classes_of columns) (RowsCorrespond R (classes_of columns)) whole_row whole_row 0 es fs (λ row other p. p) m)
               (λ rows more k. each_alike (GroupCorresponds R r (classes_of columns)) P (λ (group : Group). found_of q values group.count group.first) (λ (group : Group). found_of q others group.count group.first) (groups_of q.group_by rows) (groups_of q.group_by more)
               (λ g h c. subst (λ count. BothAnswer P (found_of q values g.count g.first) (found_of q others count h.first)) (sym c.count) (found_alike columns q g.count g.first h.first t c.first))

@@ -19,7 +19,7 @@ pub(crate) fn answered<'a, K: Same>(
     query: &BoundQuery,
     found: Seq<Found<'a, K>>,
 ) -> Result<Rows<K>, AllocError>
-    ensures { IfOk result (λ rows. rows ≡ answered (query_of query.now) (map (found_by query.now.order_by) found)) }
+    ensures { IfOk result (λ rows. rows ≡ answered (query_of query.now) (map (found_by query.now.order_by) found.entry)) }
 {
     let mut found = distinct_if(alloc, query, found.into_vec())?;
     order(&mut found, query.order_by.as_slice())?;
@@ -32,7 +32,7 @@ fn distinct_if<'a, K: Same>(
     query: &BoundQuery,
     found: Vec<Found<'a, K>>,
 ) -> Result<Vec<Found<'a, K>>, AllocError>
-    ensures { IfOk result (λ kept. map (found_by query.now.order_by) kept.items ≡ distinct_if query.now.distinct (map (found_by query.now.order_by) found.items)) }
+    ensures { IfOk result (λ kept. map (found_by query.now.order_by) kept.items ≡ distinct_if query.now.distinct (map (found_by query.now.order_by) found.entry.items)) }
 {
     if query.distinct.is_some() {
         distinct(alloc, found)
@@ -52,11 +52,11 @@ fn top<K: Same>(found: &mut Vec<Found<'_, K>>, most: Option<u64>)
 
 /// What is shown of each.
 fn shown<K: Same>(alloc: Global, found: Vec<Found<'_, K>>) -> Result<Rows<K>, AllocError>
-    ensures { IfOk result (λ rows. rows ≡ map (λ f. f.shown) found.items) }
+    ensures { IfOk result (λ rows. rows ≡ map (λ f. f.shown) found.entry.items) }
 {
     let mut rows = Rows::new(alloc);
-    for found in found {
-        rows.push(found.shown)?;
+    for row in found {
+        rows.push(row.shown)?;
     }
     Ok(rows)
 }
