@@ -20,7 +20,7 @@ returns-in_err-found g c =
     let params = c.args.params.now in
     let p = err_from_is_err_and c.from_residual.result c.from_residual.ensures.1 in
     rw (p.1, p.2)
-    (fault_handed (map (found_by q.order_by)) c.in_err-found.field-0.0 (results (found_of q params 0) 0 (scanned c.rows.result.now)) (answer_of q (all_found q params c.args.events)) c.in_err-found.ensures
+    (fault_handed (map (found_by {K = g.row.K.Denot} q.order_by)) c.in_err-found.field-0.0 (results (found_of q params 0) 0 (scanned c.rows.result.now)) (answer_of q (all_found q params c.args.events)) c.in_err-found.ensures
     (row_fault q params c.args.events c.rows.result.now c.requires.alone (fault_in c.args.events) c.rows.ensures))
 
 pub returns-in-Some : goal.returns-in-Some
