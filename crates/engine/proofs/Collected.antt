@@ -1,7 +1,7 @@
 -- Lists of results that are made item by item, up to the first fault.
 use Rattle.std.proofs.Common.{◌≡◌, List, [], ◌∷◌, ◌++◌, Result, Ok, Err, refl, ap, sym, ◌∙◌, append_assoc}
 use Rattle.std.proofs.lemmas.List.{append-nil}
-use Rattle.ae_base.specs.Results.{◌>>=◌, Answers}
+use Rattle.ae_base.specs.Results.{◌>>=◌, Answers, AnswersAs}
 use Rattle.ae_base.specs.declared.refusals.Refusal.{Refusal}
 use Rattle.ae_base.specs.declared.refusals.Refusal.TheVariants.{Fault, OutOfMemory}
 
@@ -36,6 +36,15 @@ collected_all whole done rest w e = w ∙ ap (collected done) e ∙ ap Ok (appen
 pub fault_passed : {A B E : Type 0} (e : Refusal E) (part : Result A E) (whole : Result B E) → Answers {A = A} (Err e) part → ((f : E) → part ≡ Err f → whole ≡ Err f) → Answers {A = B} (Err e) whole
 fault_passed (Fault f) part whole h pass = pass f h
 fault_passed OutOfMemory part whole h pass = tt
+
+-- the same where the values are seen through views
+pub fault_seen : {A B C D E : Type 0} (v : A → B) (w : C → D) (e : Refusal E) (part : Result B E) (whole : Result D E) → AnswersAs v (Err e) part → ((f : E) → part ≡ Err f → whole ≡ Err f) → AnswersAs w (Err e) whole
+fault_seen v w (Fault f) part whole h pass = pass f h
+fault_seen v w OutOfMemory part whole h pass = tt
+
+pub fault_handed : {A B C E : Type 0} (v : A → B) (e : Refusal E) (part : Result B E) (whole : Result C E) → AnswersAs v (Err e) part → ((f : E) → part ≡ Err f → whole ≡ Err f) → Answers {A = C} (Err e) whole
+fault_handed v (Fault f) part whole h pass = pass f h
+fault_handed v OutOfMemory part whole h pass = tt
 
 -- what was made of a value that came
 pub record Came {A B E : Type 0} (o : Result A E) (f : A → Result B E) (y : B) : Type 0 where

@@ -1,9 +1,10 @@
 -- A step leaves a well typed world, and answers what is typed as it is shown.
-use Rattle.std.proofs.Common.{◌≡◌, ℕ, List, [], ◌∷◌, ◌++◌, length, map, refl, ap, sym, subst, ◌∙◌, Option, Some, None, Result, Ok, Err, unwrap_or, Bool, true}
-use Rattle.std.specs.Prelude.{filter, not, IsSome}
+use Rattle.std.proofs.Common.{◌≡◌, ℕ, List, [], ◌∷◌, ◌++◌, length, map, refl, ap, sym, subst, ◌∙◌, Option, Some, None, Result, Ok, Err, unwrap_or, Bool, true, false}
+use Rattle.std.specs.Prelude.{filter, not, IsSome, if◌then◌else◌}
 use Rattle.std.specs.List.{All, AllZip, remove}
 use Rattle.std.proofs.lemmas.List.Elements.{All-head, All-tail, All-cons, All-nil, All-push, All-append}
 use Rattle.ae_base.specs.Atoms.{Atom}
+use Rattle.ae_base.specs.Results.{◌>>=◌, each}
 use Rattle.ae_base.specs.declared.faults.SqlFault.{SqlFault}
 use Rattle.ae_base.specs.declared.tables.ColumnDef.{ColumnDef}
 use Rattle.ae_base.specs.declared.tables.TableDef.{TableDef}
@@ -20,13 +21,16 @@ use Rattle.catalog.specs.WellFormed.{IsCatalog, IsKeyThere, AreKeysThere}
 use Rattle.catalog.proofs.Found.{All-remove}
 use Rattle.catalog.proofs.Kept.{with_master-kept, with_key-kept, with_table-kept, without_master-kept, without_key-kept, without_table-kept}
 use Rattle.scalar.specs.Classes.{class_at}
+use Rattle.scalar.specs.Eval.{atom_at}
 use Rattle.scalar.specs.Typed.{IsNotRandomized}
+use Rattle.operators.specs.Events.{Event}
+use Rattle.operators.specs.Found.{Found, keys_of}
+use Rattle.operators.specs.Groups.{Group}
 use Rattle.engine.specs.BoundOn.{HasMaster, IsBoundOn}
-use Rattle.engine.specs.Columns.{result_column}
+use Rattle.engine.specs.Columns.{site_at, result_column}
 use Rattle.engine.specs.Correspond.{class_of_column, AreKeysTyped}
-use Rattle.engine.specs.Executes.{executes_query, executes_statement, executes}
 use Rattle.engine.specs.Queries as queries
-use Rattle.engine.specs.Queries.{items_of, found_in}
+use Rattle.engine.specs.Queries.{items_of, found_of, results, groups_of, is_grouped, found_of_groups, all_found, answered, found_in}
 use Rattle.engine.specs.Step as step
 use Rattle.engine.specs.Step.{Done, Tested, outcome, columns_of, uniques_of, rows_to_insert, rows_to_update, rows_to_delete, done_by}
 use Rattle.engine.specs.Keys.{first_twins, unless_twins}
@@ -34,8 +38,10 @@ use Rattle.engine.specs.Rows.{new_rows}
 use Rattle.engine.specs.Typed.{classes_of, param_classes, IsValueFor, AreValuesFor, IsTypedStatement, IsTypedBy}
 use Rattle.engine.specs.WellTyped.{IsOf, IsTableOf, IsWellTyped, AreValuesOf, IsAnswerOf}
 use Rattle.engine.specs.Worlds.{World, place_of, rows_of, with_rows, HoldsRows, IsShaped}
+use Rattle.engine.proofs.Answering.{all_answered}
 use Rattle.engine.proofs.Collected.{came}
 use Rattle.engine.proofs.Contents.{zip_push, zip_remove, related_there, related_set, placed_of, table_holds, set_shape, holds_more, no_twins, kept_shape, created_shape, dropped_shape, master_made, key_made, master_dropped, key_dropped, table_made, table_dropped}
+use Rattle.engine.proofs.Grouped.{OfFirst, groups_all, each_all}
 use Rattle.engine.proofs.Suited.{IsAt, IsShown, row_places, param_places, param_sealed, items_shown, new_rows_are}
 use Rattle.engine.proofs.Moving.{inserted_done, updated_done, deleted_done, selected_done}
 use Rattle.engine.proofs.Rowwise.{AllRows, events_typed, results_all}
@@ -59,6 +65,27 @@ done_ok done = Ok done
 
 pub same_done : (x y : Done) → done_ok x ≡ done_ok y → x ≡ y
 same_done x y e = cc
+
+abbrev pub row_ok : List Atom → Result (List Atom) SqlFault
+row_ok row = Ok row
+
+same_row : (x y : List Atom) → row_ok x ≡ row_ok y → x ≡ y
+same_row x y e = cc
+
+abbrev pub rows_ok : List (List Atom) → Result (List (List Atom)) SqlFault
+rows_ok rows = Ok rows
+
+same_rows : (x y : List (List Atom)) → rows_ok x ≡ rows_ok y → x ≡ y
+same_rows x y e = cc
+
+abbrev pub found_parts : BoundQuery → List Atom → List Atom → Found
+found_parts q row shown = record { keys = keys_of q.order_by row; shown = shown }
+
+abbrev pub found_ok : Found → Result Found SqlFault
+found_ok found = Ok found
+
+same_found : (x y : Found) → found_ok x ≡ found_ok y → x ≡ y
+same_found x y e = cc
 
 -- what a step keeps
 abbrev pub Keeps : (List ℕ → Bool) → Done → Type 0
@@ -215,40 +242,68 @@ module _ (cell : List ℕ → Bool) (world : World) (w : IsWellTyped cell world)
               tt,
             )
 
-    selected_kept : (columns : List ColumnSite) (q : BoundQuery) (done : Done) → IsPlacedQuery (length columns) (length tys) q → IsStatementOn world.catalog.tables columns (bound.Select q) → executes_query q ≡ true
+    selected_kept : (columns : List ColumnSite) (q : BoundQuery) (done : Done) → IsPlacedQuery (length columns) (length tys) q → IsStatementOn world.catalog.tables columns (bound.Select q)
         → step.select world columns tys encs q params ≡ Ok done → Keeps cell done
-    selected_kept columns q done p on x e =
+    selected_kept columns q done p on e =
         let shown = map (result_column columns tys encs) q.items in
         let c = came (found_in world q params) (λ rows. done_ok (selected_done world shown rows)) done e in
-        let walk = subst (λ sites. AllRows (AllZip (IsAt cell) sites) (queries.events_of world q params)) (sym on.1) (events_typed (IsAt cell) world params table_sites q on.0) in
-        let rows = results_all (AllZip (IsAt cell) columns) (AllZip (IsShown cell) shown) (λ row. items_of params 0 row q.items) 0 (queries.events_of world q params) c.value
-        (λ row atoms r f. items_shown cell columns tys encs row params (length columns) (length tys) (row_places cell columns row r) (param_places cell tys encs params m n values) 0 q.items atoms p.items f)
-        walk (sym (found_bare world q params x) ∙ c.is) in
-        subst (Keeps cell) (same_done (selected_done world shown c.value) done c.then) (w, rows)
+        let f = came (all_found q params es) (λ found. rows_ok (answered q found)) c.value c.is in
+        let rows = all_answered (AllZip (IsShown cell) shown) q f.value (by_groups f.value (is_grouped q) f.is) in
+        let same : answered q f.value ≡ c.value = same_rows (answered q f.value) c.value f.then in
+        subst (Keeps cell) (same_done (selected_done world shown c.value) done c.then) (w, subst (All (AllZip (IsShown cell) shown)) same rows)
+      where
+        es : List Event
+        es = queries.events_of world q params
+
+        -- a row whose atoms are of the columns
+        IsOwn : List Atom → Type 0
+        IsOwn row = (place : ℕ) → IsAt cell (site_at columns place) (atom_at row place)
+
+        IsFound : Found → Type 0
+        IsFound found = AllZip (IsShown cell) (map (result_column columns tys encs) q.items) found.shown
+
+        walk : AllRows (AllZip (IsAt cell) columns) es
+        walk = subst (λ sites. AllRows (AllZip (IsAt cell) sites) es) (sym on.1) (events_typed (IsAt cell) world params table_sites q on.0)
+
+        one_found : (count : ℕ) (row : List Atom) (found : Found) → IsOwn row → found_of q params count row ≡ Ok found → IsFound found
+        one_found count row found own e =
+            let c = came (items_of params count row q.items) (λ shown. found_ok (found_parts q row shown)) found e in
+            let typed = items_shown cell columns tys encs row params (length columns) (length tys) own (param_places cell tys encs params m n values) count q.items c.value p.items c.is in
+            subst IsFound (same_found (found_parts q row c.value) found c.then) typed
+
+        by_groups : (found : List Found) (b : Bool)
+            → (if b then (results row_ok 0 es >>= found_of_groups q params) else results (found_of q params 0) 0 es) ≡ Ok found → All IsFound found
+        by_groups found true e =
+            let c = came (results row_ok 0 es) (found_of_groups q params) found e in
+            let rows = results_all (AllZip (IsAt cell) columns) IsOwn row_ok 0 es c.value (λ row x r e. subst IsOwn (same_row row x e) (row_places cell columns row r)) walk c.is in
+            each_all (OfFirst IsOwn) IsFound (λ (group : Group). found_of q params group.count group.first) (groups_of q.group_by c.value) found (λ group x own e. one_found group.count group.first x own e)
+            (groups_all IsOwn q.group_by c.value (λ place. tt) rows) c.then
+        by_groups found false e =
+            results_all (AllZip (IsAt cell) columns) IsFound (found_of q params 0) 0 es found (λ row x r e. one_found 0 row x (row_places cell columns row r) e) walk e
 
     done_kept : (b : Bound) → b.params ≡ tys → (s : BoundStatement) (done : Done) → IsPlacedStatement b.columns (length tys) s → IsStatementOn world.catalog.tables b.columns s → HasMaster world.catalog s
-        → All (λ (site : ColumnSite). IsKeyThere world.catalog site.enc) b.columns → IsTypedStatement (classes_of b.columns) (param_classes tys encs) s → executes_statement s ≡ true → done_by world b encs s params ≡ Ok done → Keeps cell done
-    done_kept b same (bound.CreateMaster name path) done p on master keys typed x e =
+        → All (λ (site : ColumnSite). IsKeyThere world.catalog site.enc) b.columns → IsTypedStatement (classes_of b.columns) (param_classes tys encs) s → done_by world b encs s params ≡ Ok done → Keeps cell done
+    done_kept b same (bound.CreateMaster name path) done p on master keys typed e =
         definition_kept (with_master world.catalog name path) done (λ new f. (with_master-kept world.catalog new name path f w.catalog, master_made world.catalog new name path f)) e
-    done_kept b same (bound.CreateKey name key wrapped) done p on master keys typed x e =
+    done_kept b same (bound.CreateKey name key wrapped) done p on master keys typed e =
         definition_kept (with_key world.catalog name key wrapped) done (λ new f. (with_key-kept world.catalog new name key wrapped master f w.catalog, key_made world.catalog new name key wrapped f)) e
-    done_kept b same (bound.CreateTable table) done p on master keys typed x e = table_kept b.columns table done p keys typed e
-    done_kept b same (bound.DropTable name) done p on master keys typed x e = drop_kept name done e
-    done_kept b same (bound.DropMaster name) done p on master keys typed x e =
+    done_kept b same (bound.CreateTable table) done p on master keys typed e = table_kept b.columns table done p keys typed e
+    done_kept b same (bound.DropTable name) done p on master keys typed e = drop_kept name done e
+    done_kept b same (bound.DropMaster name) done p on master keys typed e =
         definition_kept (without_master world.catalog name) done (λ new f. (without_master-kept world.catalog new name f w.catalog, master_dropped world.catalog new name f)) e
-    done_kept b same (bound.DropKey name) done p on master keys typed x e =
+    done_kept b same (bound.DropKey name) done p on master keys typed e =
         definition_kept (without_key world.catalog name) done (λ new f. (without_key-kept world.catalog new name f w.catalog, key_dropped world.catalog new name f)) e
-    done_kept b same (bound.Insert i) done p on master keys typed x e = inserted_kept b.columns i done on.0 on.1 typed e
-    done_kept b same (bound.Update u) done p on master keys typed x e = updated_kept b.columns u done on.0 on.1 typed.0 e
-    done_kept b same (bound.Delete d) done p on master keys typed x e = deleted_kept d done on.0 e
-    done_kept b same (bound.Select q) done p on master keys typed x e = selected_kept b.columns q done p on x (ap (λ ts. step.select world b.columns ts encs q params) (sym same) ∙ e)
+    done_kept b same (bound.Insert i) done p on master keys typed e = inserted_kept b.columns i done on.0 on.1 typed e
+    done_kept b same (bound.Update u) done p on master keys typed e = updated_kept b.columns u done on.0 on.1 typed.0 e
+    done_kept b same (bound.Delete d) done p on master keys typed e = deleted_kept d done on.0 e
+    done_kept b same (bound.Select q) done p on master keys typed e = selected_kept b.columns q done p on (ap (λ ts. step.select world b.columns ts encs q params) (sym same) ∙ e)
 
 outcome_kept : (cell : List ℕ → Bool) (world : World) (r : Result Done SqlFault) → IsWellTyped cell world → ((done : Done) → r ≡ Ok done → Keeps cell done) → IsWellTyped cell (outcome world r).world × IsAnswerOf cell (outcome world r).answer
 outcome_kept cell world (Ok done) w h = h done refl
 outcome_kept cell world (Err f) w h = (w, tt)
 
-pub step_kept : (cell : List ℕ → Bool) (world : World) (b : Bound) (encs : List Enc) (params : List Atom) → IsWellTyped cell world → IsBoundOn world.catalog b encs params → executes b ≡ true → IsTypedBy encs b → AreValuesOf cell b.params encs params
+pub step_kept : (cell : List ℕ → Bool) (world : World) (b : Bound) (encs : List Enc) (params : List Atom) → IsWellTyped cell world → IsBoundOn world.catalog b encs params → IsTypedBy encs b → AreValuesOf cell b.params encs params
     → IsWellTyped cell (step.step world b encs params).world × IsAnswerOf cell (step.step world b encs params).answer
-step_kept cell world b encs params w o x typed values =
+step_kept cell world b encs params w o typed values =
     outcome_kept cell world (done_by world b encs b.statement params) w
-    (λ done e. done_kept cell world w b.params encs params o.encs o.values values b refl b.statement done o.placed o.tables o.master (o.keys w.catalog) typed x e)
+    (λ done e. done_kept cell world w b.params encs params o.encs o.values values b refl b.statement done o.placed o.tables o.master (o.keys w.catalog) typed e)

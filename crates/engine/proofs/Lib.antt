@@ -1,10 +1,14 @@
 pub mod Admitted
 pub mod Apart
 pub mod Changing
+pub mod Answering
 pub mod Collected
 pub mod Contents
+pub mod Finding
+pub mod Grouped
 pub mod Kept
 pub mod Moving
+pub mod Nulls
 pub mod Pairs
 pub mod Rowwise
 pub mod Shown

@@ -20,7 +20,9 @@ use Rattle.operators.specs.Events.{Event, or_overflow, is_true, asks, row_where,
 use Rattle.engine.specs.Columns.{ty_at, enc_at, shown_of, result_column}
 use Rattle.engine.specs.Keys.{first_twins, unless_twins}
 use Rattle.engine.specs.Queries as queries
-use Rattle.engine.specs.Queries.{Found, Group, item_of, items_of, found_of, results, joined_all, where_true, is_count, is_grouped, groups_of, all_found, answered, found_in}
+use Rattle.operators.specs.Found.{Found, keys_of}
+use Rattle.operators.specs.Groups.{Group}
+use Rattle.engine.specs.Queries.{item_of, items_of, found_of, results, joined_all, where_true, is_count, is_grouped, groups_of, all_found, answered, found_in}
 use Rattle.engine.specs.Rows.{admitted, column_at, value_into, values_into, completed, new_row, new_rows, replaced}
 use Rattle.engine.specs.Step as step
 use Rattle.engine.specs.Step.{Done, Tested, Changed, Rows, outcome, columns_of, uniques_of, selects, updated_row, row_to_update, tested_row, row_to_delete, done_by}
@@ -32,7 +34,7 @@ use Rattle.engine.specs.Laws.{AreTypesMoved}
 -- ---- records, made of their parts
 
 abbrev found : BoundQuery → List Atom → List Atom → Found
-found q row shown = record { keys = queries.keys_of q.order_by row; shown = shown }
+found q row shown = record { keys = keys_of q.order_by row; shown = shown }
 
 abbrev grouped_found : BoundQuery → List Atom → List Event → Result (List Found) SqlFault
 grouped_found q params es = results (λ row. Ok row) 0 es >>= λ rows. each (λ (group : Group). found_of q params group.count group.first) (groups_of q.group_by rows)

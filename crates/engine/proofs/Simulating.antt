@@ -6,7 +6,7 @@ use Rattle.std.specs.Option.{option_map}
 use Rattle.std.specs.Str.{bytes_eq}
 use Rattle.std.proofs.lemmas.Bool.{eqb-true}
 use Rattle.std.proofs.lemmas.List.{append-nil}
-use Rattle.std.proofs.lemmas.List.Elements.{All-head, All-tail}
+use Rattle.std.proofs.lemmas.List.Elements.{All-head, All-tail, All-cons, All-nil}
 use Rattle.std.proofs.lemmas.List.Folds.{find_at}
 use Rattle.ae_base.specs.Atoms.{Atom}
 use Rattle.ae_base.specs.Results.{◌>>=◌, each}
@@ -20,6 +20,7 @@ use Rattle.ae_base.specs.declared.types.Enc.{Enc}
 use Rattle.ae_base.specs.declared.types.Enc.TheVariants as enc
 use Rattle.ae_base.specs.declared.types.Ty.{Ty}
 use Rattle.ae_base.specs.declared.values.Value.TheVariants as value
+use Rattle.sql_tree.specs.declared.bound.BoundOrderKey.{BoundOrderKey}
 use Rattle.sql_tree.specs.declared.bound.BoundSource.{BoundSource}
 use Rattle.sql_tree.specs.declared.bound.ColumnSite.{ColumnSite}
 use Rattle.sql_tree.specs.Operands as operands
@@ -29,26 +30,29 @@ use Rattle.sql_tree.specs.OnTables.{IsSourceOn, IsStatementOn, columns_in, sites
 use Rattle.sql_tree.specs.Placed.{site_of}
 use Rattle.catalog.specs.Catalogs.{Catalog, with_master, with_key, with_table, without_master, without_key, without_table}
 use Rattle.scalar.specs.Classes.{Class, Open, Det, Rnd, Pairing, class_of, class_at, IsNotNull, IsNotSealed, IsOneToOne, Correspond, PlacesCorrespond, RowsCorrespond, BothAnswer}
-use Rattle.scalar.specs.Eval.{eval}
+use Rattle.scalar.specs.Eval.{atom_at, eval}
 use Rattle.scalar.specs.Typed.{StandsAt, IsNotRandomized, IsTypedCondition}
 use Rattle.scalar.specs.declared.faults.Overflow.{Overflow}
 use Rattle.scalar.proofs.Correspondence.{nulls_correspond, corresponds_at, eval_places}
 use Rattle.operators.specs.Events.{Event, or_overflow, scanned, joined}
+use Rattle.operators.specs.Found.{Found, keys_of}
+use Rattle.operators.specs.Groups.{Group}
 use Rattle.engine.specs.BoundOn.{IsBoundOn}
 use Rattle.engine.specs.Columns.{site_at, ty_at, enc_at, shown_by, shown_of, result_column}
 use Rattle.engine.specs.Correspond.{IsWithinClass, ArePairsWithin, class_of_column, class_of_result, TablesCorrespond, ContentsCorrespond, AreKeysTyped, WorldsCorrespond, AnswersCorrespond, OutcomesCorrespond}
-use Rattle.engine.specs.Executes.{executes_query, executes_statement, executes}
 use Rattle.engine.specs.Keys.{first_twins, unless_twins}
 use Rattle.engine.specs.Queries as queries
-use Rattle.engine.specs.Queries.{item_of, items_of, joined_all, where_true, found_in, results}
+use Rattle.engine.specs.Queries.{item_of, items_of, joined_all, where_true, found_in, results, found_of, groups_of, is_grouped, found_of_groups, all_found, answered}
 use Rattle.engine.specs.Rows.{admitted, column_at, value_into, values_into, value_at, value_or_null, completed, new_row, new_rows, replaced}
 use Rattle.engine.specs.Step as step
 use Rattle.engine.specs.Step.{Done, Tested, outcome, columns_of, uniques_of, rows_to_insert, selects, assigned, updated_row, row_to_update, rows_to_update, rows_to_delete, done_by}
-use Rattle.engine.specs.Typed.{classes_of, param_classes, IsValueFor, AreValuesFor, IsTypedFilter, IsTypedItem, IsTypedStatement, IsTypedBy}
+use Rattle.engine.specs.Typed.{classes_of, param_classes, IsValueFor, AreValuesFor, IsTypedFilter, IsTypedItem, IsTypedStatement, IsTypedBy, IsTypedDistinct, class_of_item}
 use Rattle.engine.specs.Worlds.{World, place_of, rows_of, with_rows}
 use Rattle.engine.proofs.Apart.{all_at}
 use Rattle.engine.proofs.Contents.{table_place_there, master_made, key_made, master_dropped, key_dropped, table_made, table_dropped}
-use Rattle.engine.proofs.Kept.{created_done, dropped_done, done_ok, classes_same}
+use Rattle.engine.proofs.Answering.{FoundCorresponds, answered_alike}
+use Rattle.engine.proofs.Grouped.{GroupCorresponds, groups_alike, each_alike}
+use Rattle.engine.proofs.Kept.{created_done, dropped_done, done_ok, rows_ok, found_parts, found_ok, row_ok as whole_row, classes_same}
 use Rattle.engine.proofs.Suited.{class_placed}
 use Rattle.engine.proofs.Moving.{hit_row, inserted_done, updated_done, deleted_done, selected_done}
 use Rattle.engine.proofs.Pairs.{both_then, both_before, both_within, EventsCorrespond, contents_at, contents_set, contents_push, contents_remove, scanned_alike, results_alike, first_alike, filtered_alike, joined_alike}
@@ -112,6 +116,30 @@ stands_shown columns tys encs (operands.Param at p) n = class_param tys encs p n
 stands_shown columns tys encs (operands.Column at p) n = class_site columns p
 stands_shown columns tys encs (operands.Minus at x) n = refl
 stands_shown columns tys encs (operands.Sum first terms) n = refl
+
+-- the class of an item is that of its column in the result
+class_shown : (columns : List ColumnSite) (tys : List Ty) (encs : List Enc) (v : BoundItemValue) → length encs ≡ length tys
+    → class_of_item (classes_of columns) (param_classes tys encs) v ≡ class_of (shown_of columns tys encs v).ty (shown_of columns tys encs v).enc
+class_shown columns tys encs (bound.Value (operands.Literal at v)) n = refl
+class_shown columns tys encs (bound.Value (operands.Param at p)) n = sym (class_param tys encs p n)
+class_shown columns tys encs (bound.Value (operands.Column at p)) n = sym (class_site columns p)
+class_shown columns tys encs (bound.Value (operands.Minus at x)) n = refl
+class_shown columns tys encs (bound.Value (operands.Sum first terms)) n = refl
+class_shown columns tys encs (bound.Count at) n = refl
+
+items_typed : (columns : List ColumnSite) (tys : List Ty) (encs : List Enc) → length encs ≡ length tys → (items : List BoundItem) → All (λ (item : BoundItem). IsNotRandomized (class_of_item (classes_of columns) (param_classes tys encs) item.value)) items
+    → All IsNotRandomized (map class_of_result (map (result_column columns tys encs) items))
+items_typed columns tys encs n [] h = All-nil IsNotRandomized
+items_typed columns tys encs n (item ∷ items) h =
+    let P : BoundItem → Type 0 = λ (item : BoundItem). IsNotRandomized (class_of_item (classes_of columns) (param_classes tys encs) item.value) in
+    All-cons IsNotRandomized (class_of_result (result_column columns tys encs item)) (map class_of_result (map (result_column columns tys encs) items))
+    (subst IsNotRandomized (class_shown columns tys encs item.value n) (All-head P item items h)) (items_typed columns tys encs n items (All-tail P item items h))
+
+-- under DISTINCT no column of the result is randomized
+shown_typed : (columns : List ColumnSite) (tys : List Ty) (encs : List Enc) → length encs ≡ length tys → (distinct : Option ℕ) (items : List BoundItem) → IsSome distinct → IsTypedDistinct (classes_of columns) (param_classes tys encs) distinct items
+    → All IsNotRandomized (map class_of_result (map (result_column columns tys encs) items))
+shown_typed columns tys encs n None items there t = absurd cc
+shown_typed columns tys encs n (Some at) items there t = items_typed columns tys encs n items t
 
 overflow_alike : {A B : Type 0} (P : A → B → Type 0) (s : Result A Overflow) (t : Result B Overflow) → BothAnswer P s t → BothAnswer P (or_overflow s) (or_overflow t)
 overflow_alike P (Ok x) (Ok y) m = m
@@ -296,24 +324,35 @@ module _ (R : Pairing) (r : IsOneToOne R) (within : ArePairsWithin R) where
 
   -- ---- what is shown
 
+  key_alike : (c : Class) (a b : Atom) → c ≡ Open → Correspond R c a b → b ≡ a
+  key_alike c a b e m = (subst (λ x. Correspond R x a b) e m).0
+
+  -- values that rows are ordered by are open, so equal
+  keys_alike : (cs : List Class) (keys : List BoundOrderKey) (row other : List Atom) → All (λ (key : BoundOrderKey). class_at cs key.place ≡ Open) keys → PlacesCorrespond R cs row other → keys_of keys other ≡ keys_of keys row
+  keys_alike cs [] row other t m = refl
+  keys_alike cs (key ∷ keys) row other t m =
+      let P : BoundOrderKey → Type 0 = λ (key : BoundOrderKey). class_at cs key.place ≡ Open in
+      ap (λ a. a ∷ keys_of keys other) (key_alike (class_at cs key.place) (atom_at row key.place) (atom_at other key.place) (All-head P key keys t) (m key.place))
+      ∙ ap (λ ks. atom_at row key.place ∷ ks) (keys_alike cs keys row other (All-tail P key keys t) m)
+
   module _ (columns : List ColumnSite) (tys : List Ty) (encs : List Enc) (n : length encs ≡ length tys) (values others : List Atom) (given : PlacesCorrespond R (param_classes tys encs) values others) where
-    item_alike : (row other : List Atom) (v : BoundItemValue) → PlacesCorrespond R (classes_of columns) row other → IsTypedItem (classes_of columns) (param_classes tys encs) v
-        → BothAnswer (Correspond R (class_of (shown_of columns tys encs v).ty (shown_of columns tys encs v).enc)) (item_of values 0 row v) (item_of others 0 other v)
-    item_alike row other (bound.Value x) h t =
+    item_alike : (count : ℕ) (row other : List Atom) (v : BoundItemValue) → PlacesCorrespond R (classes_of columns) row other → IsTypedItem (classes_of columns) (param_classes tys encs) v
+        → BothAnswer (Correspond R (class_of (shown_of columns tys encs v).ty (shown_of columns tys encs v).enc)) (item_of values count row v) (item_of others count other v)
+    item_alike count row other (bound.Value x) h t =
         let c = class_of (shown_by columns tys encs x).ty (shown_by columns tys encs x).enc in
         overflow_alike (Correspond R c) (eval row values x) (eval other others x) (eval_places R (classes_of columns) (param_classes tys encs) row other values others x c r h given t (stands_shown columns tys encs x n))
-    item_alike row other (bound.Count at) h t = (refl, tt)
+    item_alike count row other (bound.Count at) h t = (refl, tt)
 
-    items_alike : (row other : List Atom) (items : List BoundItem) → PlacesCorrespond R (classes_of columns) row other → All (λ (item : BoundItem). IsTypedItem (classes_of columns) (param_classes tys encs) item.value) items
-        → BothAnswer (RowsCorrespond R (map class_of_result (map (result_column columns tys encs) items))) (items_of values 0 row items) (items_of others 0 other items)
-    items_alike row other [] h t = tt
-    items_alike row other (item ∷ items) h t =
+    items_alike : (count : ℕ) (row other : List Atom) (items : List BoundItem) → PlacesCorrespond R (classes_of columns) row other → All (λ (item : BoundItem). IsTypedItem (classes_of columns) (param_classes tys encs) item.value) items
+        → BothAnswer (RowsCorrespond R (map class_of_result (map (result_column columns tys encs) items))) (items_of values count row items) (items_of others count other items)
+    items_alike count row other [] h t = tt
+    items_alike count row other (item ∷ items) h t =
         let c = class_of (shown_of columns tys encs item.value).ty (shown_of columns tys encs item.value).enc in
         let cs = map class_of_result (map (result_column columns tys encs) items) in
         let P : BoundItem → Type 0 = λ (item : BoundItem). IsTypedItem (classes_of columns) (param_classes tys encs) item.value in
-        both_then (Correspond R c) (RowsCorrespond R (c ∷ cs)) (item_of values 0 row item.value) (item_of others 0 other item.value) (λ atom. items_of values 0 row items >>= row_ok atom) (λ atom. items_of others 0 other items >>= row_ok atom)
-        (item_alike row other item.value h (All-head P item items t))
-        (λ a b m. both_then (RowsCorrespond R cs) (RowsCorrespond R (c ∷ cs)) (items_of values 0 row items) (items_of others 0 other items) (row_ok a) (row_ok b) (items_alike row other items h (All-tail P item items t)) (λ us vs q. (m, q)))
+        both_then (Correspond R c) (RowsCorrespond R (c ∷ cs)) (item_of values count row item.value) (item_of others count other item.value) (λ atom. items_of values count row items >>= row_ok atom) (λ atom. items_of others count other items >>= row_ok atom)
+        (item_alike count row other item.value h (All-head P item items t))
+        (λ a b m. both_then (RowsCorrespond R cs) (RowsCorrespond R (c ∷ cs)) (items_of values count row items) (items_of others count other items) (row_ok a) (row_ok b) (items_alike count row other items h (All-tail P item items t)) (λ us vs q. (m, q)))
 
   -- ---- two worlds over one catalog
 
@@ -479,9 +518,42 @@ module _ (R : Pairing) (r : IsOneToOne R) (within : ArePairsWithin R) where
       where_alike cs None es fs t k = k
       where_alike cs (Some condition) es fs t k = filtered_alike R r (param_classes tys encs) values others given cs condition es fs t k
 
-      selected_alike : (columns : List ColumnSite) (q : BoundQuery) → IsStatementOn world.catalog.tables columns (bound.Select q) → IsTypedStatement (classes_of columns) (param_classes tys encs) (bound.Select q) → executes_query q ≡ true
+      abbrev shown_classes : List ColumnSite → BoundQuery → List Class
+      shown_classes columns q = map class_of_result (map (result_column columns tys encs) q.items)
+
+      -- what is found of rows that correspond
+      found_alike : (columns : List ColumnSite) (q : BoundQuery) (count : ℕ) (row other : List Atom) → IsTypedStatement (classes_of columns) (param_classes tys encs) (bound.Select q) → PlacesCorrespond R (classes_of columns) row other
+          → BothAnswer (FoundCorresponds R (shown_classes columns q)) (found_of q values count row) (found_of q others count other)
+      found_alike columns q count row other t m =
+          both_then (RowsCorrespond R (shown_classes columns q)) (FoundCorresponds R (shown_classes columns q)) (items_of values count row q.items) (items_of others count other q.items)
+          (λ shown. found_ok (found_parts q row shown)) (λ shown. found_ok (found_parts q other shown)) (items_alike columns tys encs n values others given count row other q.items m t.items)
+          (λ x y k. record { keys = keys_alike (classes_of columns) q.order_by row other t.order_by m; shown = k })
+
+      all_alike : (columns : List ColumnSite) (q : BoundQuery) (es fs : List Event) → IsTypedStatement (classes_of columns) (param_classes tys encs) (bound.Select q) → EventsCorrespond R (classes_of columns) es fs
+          → BothAnswer (AllZip (FoundCorresponds R (shown_classes columns q))) (all_found q values es) (all_found q others fs)
+      all_alike columns q es fs t m = by_groups (is_grouped q)
+        where
+          P : Found → Found → Type 0
+          P = FoundCorresponds R (shown_classes columns q)
+
+          Rows : List (List Atom) → List (List Atom) → Type 0
+          Rows = AllZip (RowsCorrespond R (classes_of columns))
+
+          by_groups : (b : Bool)
+              → BothAnswer (AllZip P) (if b then (results whole_row 0 es >>= found_of_groups q values) else results (found_of q values 0) 0 es)
+              (if b then (results whole_row 0 fs >>= found_of_groups q others) else results (found_of q others 0) 0 fs)
+          by_groups true =
+              both_then Rows (AllZip P) (results whole_row 0 es) (results whole_row 0 fs) (found_of_groups q values)
+              (found_of_groups q others)
+              (results_alike R (classes_of columns) (RowsCorrespond R (classes_of columns)) whole_row whole_row 0 es fs (λ row other p. p) m)
+              (λ rows more k. each_alike (GroupCorresponds R r (classes_of columns)) P (λ (group : Group). found_of q values group.count group.first) (λ (group : Group). found_of q others group.count group.first) (groups_of q.group_by rows) (groups_of q.group_by more)
+              (λ g h c. subst (λ count. BothAnswer P (found_of q values g.count g.first) (found_of q others count h.first)) (sym c.count) (found_alike columns q g.count g.first h.first t c.first))
+              (groups_alike R r (classes_of columns) q.group_by rows more t.group_by k))
+          by_groups false = results_alike R (classes_of columns) P (found_of q values 0) (found_of q others 0) 0 es fs (λ row other p. found_alike columns q 0 row other t (corresponds_at R r (classes_of columns) row other p)) m
+
+      selected_alike : (columns : List ColumnSite) (q : BoundQuery) → IsStatementOn world.catalog.tables columns (bound.Select q) → IsTypedStatement (classes_of columns) (param_classes tys encs) (bound.Select q)
           → BothAnswer DoneAlike (step.select world columns tys encs q values) (step.select other_world columns tys encs q others)
-      selected_alike columns q on t x =
+      selected_alike columns q on t =
           let all = classes_of columns in
           let shown = map (result_column columns tys encs) q.items in
           let P = RowsCorrespond R (map class_of_result shown) in
@@ -491,27 +563,26 @@ module _ (R : Pairing) (r : IsOneToOne R) (within : ArePairsWithin R) where
           let start = scanned_alike R (classes_of own) (rows_of world q.from.table) (rows_of other_world q.from.table) (sites_alike q.from.table first.0) in
           let walk = joins_alike all q.joins own (scanned (rows_of world q.from.table)) (scanned (rows_of other_world q.from.table)) (All-tail (IsSourceOn world.catalog.tables) q.from sources on.0) t.joins (ap classes_of on.1) start in
           let met = where_alike all q.filter (joined_all world values q.joins (scanned (rows_of world q.from.table))) (joined_all other_world others q.joins (scanned (rows_of other_world q.from.table))) t.filter walk in
-          let rows : BothAnswer (AllZip P) (results (λ row. items_of values 0 row q.items) 0 (queries.events_of world q values)) (results (λ row. items_of others 0 row q.items) 0 (queries.events_of other_world q others)) =
-          results_alike R all P (λ row. items_of values 0 row q.items) (λ row. items_of others 0 row q.items) 0 (queries.events_of world q values) (queries.events_of other_world q others)
-          (λ row other p. items_alike columns tys encs n values others given row other q.items (corresponds_at R r all row other p) t.items) met in
+          let found = all_alike columns q (queries.events_of world q values) (queries.events_of other_world q others) t met in
           both_then (AllZip P) DoneAlike (found_in world q values) (found_in other_world q others) (λ rows. done_ok (selected_done world shown rows)) (λ rows. done_ok (selected_done other_world shown rows))
-          (subst (λ x. BothAnswer (AllZip P) x (found_in other_world q others)) (sym (found_bare world q values x))
-          (subst (λ y. BothAnswer (AllZip P) (results (λ row. items_of values 0 row q.items) 0 (queries.events_of world q values)) y) (sym (found_bare other_world q others x)) rows))
+          (both_then (AllZip (FoundCorresponds R (shown_classes columns q))) (AllZip P) (all_found q values (queries.events_of world q values)) (all_found q others (queries.events_of other_world q others))
+          (λ found. rows_ok (answered q found)) (λ found. rows_ok (answered q found)) found
+          (λ fs gs k. answered_alike R r (shown_classes columns q) q fs gs (λ there. shown_typed columns tys encs n q.distinct q.items there t.distinct) k))
           (λ x y m. ((refl, m), record { catalog = refl; contents = corr }))
 
-      done_alike : (b : Bound) → b.params ≡ tys → (s : BoundStatement) → AreKeysTyped world.catalog.tables → IsStatementOn world.catalog.tables b.columns s → IsTypedStatement (classes_of b.columns) (param_classes tys encs) s → executes_statement s ≡ true
+      done_alike : (b : Bound) → b.params ≡ tys → (s : BoundStatement) → AreKeysTyped world.catalog.tables → IsStatementOn world.catalog.tables b.columns s → IsTypedStatement (classes_of b.columns) (param_classes tys encs) s
           → BothAnswer DoneAlike (done_by world b encs s values) (done_by other_world b encs s others)
-      done_alike b same (bound.CreateMaster name path) keys on t x = defined_alike (with_master world.catalog name path) (λ new e. master_made world.catalog new name path e)
-      done_alike b same (bound.CreateKey name key wrapped) keys on t x = defined_alike (with_key world.catalog name key wrapped) (λ new e. key_made world.catalog new name key wrapped e)
-      done_alike b same (bound.CreateTable table) keys on t x = created_alike table.def
-      done_alike b same (bound.DropTable name) keys on t x = dropped_alike name
-      done_alike b same (bound.DropMaster name) keys on t x = defined_alike (without_master world.catalog name) (λ new e. master_dropped world.catalog new name e)
-      done_alike b same (bound.DropKey name) keys on t x = defined_alike (without_key world.catalog name) (λ new e. key_dropped world.catalog new name e)
-      done_alike b same (bound.Insert i) keys on t x = inserted_alike b.columns i keys on.0 on.1 t
-      done_alike b same (bound.Update u) keys on t x = updated_rows_alike b.columns u keys on.0 on.1 t
-      done_alike b same (bound.Delete d) keys on t x = deleted_rows_alike b.columns d on.0 on.1 t
-      done_alike b same (bound.Select q) keys on t x =
-          subst (λ ts. BothAnswer DoneAlike (step.select world b.columns ts encs q values) (step.select other_world b.columns ts encs q others)) (sym same) (selected_alike b.columns q on t x)
+      done_alike b same (bound.CreateMaster name path) keys on t = defined_alike (with_master world.catalog name path) (λ new e. master_made world.catalog new name path e)
+      done_alike b same (bound.CreateKey name key wrapped) keys on t = defined_alike (with_key world.catalog name key wrapped) (λ new e. key_made world.catalog new name key wrapped e)
+      done_alike b same (bound.CreateTable table) keys on t = created_alike table.def
+      done_alike b same (bound.DropTable name) keys on t = dropped_alike name
+      done_alike b same (bound.DropMaster name) keys on t = defined_alike (without_master world.catalog name) (λ new e. master_dropped world.catalog new name e)
+      done_alike b same (bound.DropKey name) keys on t = defined_alike (without_key world.catalog name) (λ new e. key_dropped world.catalog new name e)
+      done_alike b same (bound.Insert i) keys on t = inserted_alike b.columns i keys on.0 on.1 t
+      done_alike b same (bound.Update u) keys on t = updated_rows_alike b.columns u keys on.0 on.1 t
+      done_alike b same (bound.Delete d) keys on t = deleted_rows_alike b.columns d on.0 on.1 t
+      done_alike b same (bound.Select q) keys on t =
+          subst (λ ts. BothAnswer DoneAlike (step.select world b.columns ts encs q values) (step.select other_world b.columns ts encs q others)) (sym same) (selected_alike b.columns q on t)
 
     outcomes_alike : (s u : Result Done SqlFault) → BothAnswer DoneAlike s u → OutcomesCorrespond R (outcome world s) (outcome other_world u)
     outcomes_alike (Ok x) (Ok y) m = record { answers = m.0; worlds = m.1 }
@@ -520,10 +591,10 @@ module _ (R : Pairing) (r : IsOneToOne R) (within : ArePairsWithin R) where
     outcomes_alike (Err e) (Err f) m = record { answers = m; worlds = record { catalog = refl; contents = corr } }
 
   pub step_alike : (world other : World) (b : Bound) (encs : List Enc) (params others : List Atom) → AreKeysTyped world.catalog.tables → WorldsCorrespond R world other → RowsCorrespond R (param_classes b.params encs) params others
-      → IsBoundOn world.catalog b encs params → executes b ≡ true → IsTypedBy encs b → OutcomesCorrespond R (step.step world b encs params) (step.step other b encs others)
-  step_alike world other b encs params others keys w given o x t =
+      → IsBoundOn world.catalog b encs params → IsTypedBy encs b → OutcomesCorrespond R (step.step world b encs params) (step.step other b encs others)
+  step_alike world other b encs params others keys w given o t =
       let more = other.contents in
       let same : other_of world.catalog more ≡ other = ap (λ c. other_of c more) (sym w.catalog) in
       subst (λ (u : World). OutcomesCorrespond R (step.step world b encs params) (step.step u b encs others)) same
       (outcomes_alike world more w.contents (done_by world b encs b.statement params) (done_by (other_of world.catalog more) b encs b.statement others)
-      (done_alike world more w.contents b.params encs o.encs params others (corresponds_at R r (param_classes b.params encs) params others given) b refl b.statement keys o.tables t x))
+      (done_alike world more w.contents b.params encs o.encs params others (corresponds_at R r (param_classes b.params encs) params others given) b refl b.statement keys o.tables t))

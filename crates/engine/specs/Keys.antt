@@ -1,14 +1,10 @@
 -- Unique keys: no two rows are alike on one.
 use Rattle.std.specs.Prelude.{ℕ, ◌+◌, List, [], ◌∷◌, Option, Some, None, Result, Ok, Err, Bool, false, ◌||◌, if◌then◌else◌}
-use Rattle.std.specs.List.{list_all, list_any}
-use Rattle.ae_base.specs.Atoms.{Atom, alike}
+use Rattle.std.specs.List.{list_any}
+use Rattle.ae_base.specs.Atoms.{Atom}
 use Rattle.ae_base.specs.declared.faults.SqlFault.{SqlFault}
 use Rattle.ae_base.specs.declared.faults.SqlFault.TheVariants as fault
-use Rattle.scalar.specs.Eval.{atom_at}
-
--- two rows are alike on the columns of these places
-abbrev pub alike_on : List ℕ → List Atom → List Atom → Bool
-alike_on places row other = list_all (λ place. alike (atom_at row place) (atom_at other place)) places
+pub use Rattle.operators.specs.Alike.{alike_on}
 
 -- two of the rows are
 abbrev pub has_twins : List ℕ → List (List Atom) → Bool

@@ -14,7 +14,6 @@ use Rattle.scalar.specs.Laws.{AreMoved}
 use Rattle.engine.specs.Columns.{ty_at, enc_at}
 use Rattle.engine.specs.BoundOn.{IsBoundOn}
 use Rattle.engine.specs.Correspond.{Related, ArePairsWithin, AreKeysTyped, WorldsCorrespond, OutcomesCorrespond}
-use Rattle.engine.specs.Executes.{executes}
 use Rattle.engine.specs.Step.{Rows, step}
 use Rattle.engine.specs.Typed.{param_classes, IsTypedBy}
 use Rattle.engine.specs.WellTyped.{IsWellTyped, AreValuesOf, IsAnswerOf}
@@ -35,10 +34,10 @@ StepRenamed = (world : World) (b : Bound) (f : ℕ → ℕ) (tys : List Ty) (enc
 abbrev pub TypedStatementsAreAdmitted : Type 0
 TypedStatementsAreAdmitted = (b : Bound) (encs : List Enc) → IsWellPlaced b → inferred b ≡ Ok encs → IsTypedBy encs b
 
--- a statement that is executed and that the rules admit, over values of its parameters' types and encryptions, leaves a well
+-- a statement that the rules admit, over values of its parameters' types and encryptions, leaves a well
 -- typed world, and answers rows of its columns
 abbrev pub StepKeepsWorlds : Type 0
-StepKeepsWorlds = (cell : List ℕ → Bool) (world : World) (b : Bound) (encs : List Enc) (params : List Atom) → IsWellTyped cell world → IsBoundOn world.catalog b encs params → IsTrue (executes b) → IsTypedBy encs b
+StepKeepsWorlds = (cell : List ℕ → Bool) (world : World) (b : Bound) (encs : List Enc) (params : List Atom) → IsWellTyped cell world → IsBoundOn world.catalog b encs params → IsTypedBy encs b
     → AreValuesOf cell b.params encs params → IsWellTyped cell (step world b encs params).world × IsAnswerOf cell (step world b encs params).answer
 
 -- what is shown is plain, or encrypted as a column or a parameter of the statement
@@ -56,10 +55,10 @@ abbrev pub RowsAreShown : Type 0
 RowsAreShown = (world : World) (b : Bound) (encs : List Enc) (params : List Atom) (columns : List ResultColumn) (rows : List (List Atom)) → IsBoundOn world.catalog b encs params
     → (step world b encs params).answer ≡ Ok (Rows columns rows) → AreShown world (step world b encs params).world b encs columns
 
--- over any pairing that is one-to-one in deterministic classes, of values within their types: a statement that is executed and
--- that the rules admit leads from worlds that correspond, over parameters that do, to worlds and answers that correspond,
+-- over any pairing that is one-to-one in deterministic classes, of values within their types: a statement that the rules
+-- admit leads from worlds that correspond, over parameters that do, to worlds and answers that correspond,
 -- fault for fault
 abbrev pub StepSimulates : Type 0
 StepSimulates = (related : Class → Atom → Atom → Bool) (world other : World) (b : Bound) (encs : List Enc) (params others : List Atom) → IsOneToOne (Related related) → ArePairsWithin (Related related)
     → AreKeysTyped world.catalog.tables → WorldsCorrespond (Related related) world other → RowsCorrespond (Related related) (param_classes b.params encs) params others
-    → IsBoundOn world.catalog b encs params → IsTrue (executes b) → IsTypedBy encs b → OutcomesCorrespond (Related related) (step world b encs params) (step other b encs others)
+    → IsBoundOn world.catalog b encs params → IsTypedBy encs b → OutcomesCorrespond (Related related) (step world b encs params) (step other b encs others)

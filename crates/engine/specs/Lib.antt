@@ -3,7 +3,6 @@ pub mod BoundOn
 pub mod Changes
 pub mod Columns
 pub mod Correspond
-pub mod Executes
 pub mod Keys
 pub mod Laws
 pub mod Queries

@@ -1,12 +1,13 @@
 //! The relational engine: worlds of tables, and what a statement does to them.
 #![tactic(auto)]
 
+mod answered;
 pub mod answers;
 mod changed_keys;
 mod columns;
 mod deletes;
-pub mod executing;
 mod filters;
+mod grouping;
 mod inserts;
 mod keys;
 pub mod laws;

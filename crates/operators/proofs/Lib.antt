@@ -1,1 +1,5 @@
+pub mod Firsts
+pub mod Grouping
+pub mod Orders
+pub mod Sorting
 pub mod Walking

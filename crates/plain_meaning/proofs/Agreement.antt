@@ -50,7 +50,6 @@ use Rattle.aes_block.specs.Bytes.{AreBytes}
 use Rattle.catalog.specs.Laws.{DefinitionsAreFollowed, IdsAreNotReused, KeysAreTold}
 use Rattle.scalar.specs.Classes.{BothAnswer, RowsCorrespond}
 use Rattle.engine.specs.Correspond.{WorldsCorrespond, AnswersCorrespond, class_of_result}
-use Rattle.engine.specs.Executes.{executes}
 use Rattle.engine.specs.Typed.{param_classes}
 use Rattle.wire_messages.specs.declared.params.SentParam.{SentParam}
 use Rattle.wire_messages.specs.declared.replies.Reply.{Reply}
@@ -73,7 +72,7 @@ use Rattle.plain_meaning.proofs.Sealed.{SealLaws}
 use Rattle.plain_meaning.proofs.Sending.{Each, each_over, told_among, params_used, encs_used, encs_found, all_fit}
 use Rattle.plain_meaning.proofs.Talk.{AreSealed, encs_in, types_shown, sealing_agrees, opening_agrees, rows_opened, rows_skipped}
 use Rattle.plain_meaning.proofs.Told.{IsMetaOf, are_told}
-use Rattle.plain_meaning.proofs.Understood.{parts_of, executes_same, understood_alone, step_alone}
+use Rattle.plain_meaning.proofs.Understood.{parts_of, understood_alone, step_alone}
 use Rattle.plain_meaning.proofs.Used.{tys_in, plain_in, atoms_in, uses_sendable, all_sendable, sent_declared, sent_suited, sent_typed, sent_stands, sent_long, encs_there, columns_there, used_encs, types_declared}
 use Rattle.plain_meaning.proofs.Versions.{Newer, step_leaves}
 
@@ -264,7 +263,6 @@ module _ (laws : Laws) (keys : KeyMap) where
           encs = typings.0;
           values = many;
         } in
-        let runs : executes (alone b) ≡ true = executes_same (place_among used 0) b.statement ∙ parts.runs in
         let admitted = laws.admitted (alone b) es over_alone.placed ready.is_inferred in
         let values : AreValuesOf is_short (alone b).params es atoms =
         subst (λ tys. AreValuesOf is_short tys es atoms) tys_are (subst (λ es. AreValuesOf is_short (tys_in us) es atoms) encs_are (sent_typed laws.seals keys p.keys us sent fit s)) in
@@ -278,8 +276,8 @@ module _ (laws : Laws) (keys : KeyMap) where
         (subst (λ tys. RowsCorrespond (Standing keys history) (param_classes tys es) atoms (plain_in us)) tys_are
         (subst (λ es. RowsCorrespond (Standing keys history) (param_classes (tys_in us) es) atoms (plain_in us)) encs_are (sent_stands laws.seals keys p.keys history us sent metas fit s))) in
         let worlds : WorldsCorrespond (Standing keys history) w plainly = record { catalog = refl; contents = st.pairs } in
-        let sim = laws.simulates (stands keys history) w plainly (alone b) es atoms (used_among used 0 plain_atoms) (standing_is_one_to_one keys history) (standing_is_within keys history) st.state.keys worlds pairs on runs admitted in
-        let kept = laws.keeps is_short w (alone b) es atoms st.state on runs admitted values in
+        let sim = laws.simulates (stands keys history) w plainly (alone b) es atoms (used_among used 0 plain_atoms) (standing_is_one_to_one keys history) (standing_is_within keys history) st.state.keys worlds pairs on admitted in
+        let kept = laws.keeps is_short w (alone b) es atoms st.state on admitted values in
         let follows = step_leaves w (alone b) es atoms in
         let grown = step_grows laws.reused laws.followed history w catalog st.known (alone b) es atoms on.master kept.0.catalog in
         let more = other.world.contents in

@@ -23,7 +23,6 @@ use Rattle.engine.specs.declared.answers.ResultColumn.{ResultColumn}
 use Rattle.engine.specs.Answers.{Gives, answer_of}
 use Rattle.engine.specs.BoundOn.{HasMaster, IsBoundOn}
 use Rattle.engine.specs.Laws.{AreShown, IsShownBy, StepKeepsWorlds, RowsAreShown, TypedStatementsAreAdmitted}
-use Rattle.engine.specs.Executes.{executes}
 use Rattle.enc_types.specs.declared.typed.Typed.{Typed}
 use Rattle.engine.specs.Step.{Outcome, Rows}
 use Rattle.engine.specs.Step.{step}
@@ -159,7 +158,7 @@ pub done_well : {K : Type 0} (laws : Laws) (old new : World) (declarations : Lis
 unfolding IsUnderstood IsReady
 done_well laws old new declarations meant atoms result s r g =
     let b = bound_on old.catalog declarations meant atoms laws.typings r in
-    let k = laws.keeps is_short old meant.bound meant.encs atoms s b r.understood.executes (laws.admitted meant.bound meant.encs b.placed r.understood.typed) r.values in
+    let k = laws.keeps is_short old meant.bound meant.encs atoms s b (laws.admitted meant.bound meant.encs b.placed r.understood.typed) r.values in
     record {
       state = keeps result old new (step old meant.bound meant.encs atoms) g s k.0;
       sent = sendable old.catalog declarations meant laws.typings r.understood result old new (step old meant.bound meant.encs atoms) refl s.catalog g k.1
@@ -172,10 +171,6 @@ module _ (old : World) (declarations : List ParamDecl) (typed : Typed) (atoms : 
     (b : parts.Bound) (encs : List Enc) (values : List Atom) (is_b : b ≡ typed.bound) (is_encs : encs ≡ typed.encs) (are_values : values ≡ atoms) where
   pub parts_bound : TypingsAreOfColumns → IsBoundOn old.catalog (bound_of b) encs values
   parts_bound law = rw (is_b, is_encs, are_values) (bound_on old.catalog declarations (meant_of typed) atoms law ready)
-
-  pub parts_executed : IsTrue (executes (bound_of b))
-  unfolding IsReady
-  parts_executed = rw is_b ready.understood.executes
 
   pub parts_given : {K : Type 0} (result : Result (code.Answer K) (Refusal SqlFault)) (new : World) → Gives result old new (step old (bound_of b) encs values)
       → Gives result old new (step old (bound_of typed.bound) typed.encs atoms)

@@ -1,7 +1,6 @@
 -- What is typed, or clashes.
 use Rattle.std.proofs.Common.{◌≡◌, ℕ, List, [], map, Ok, Err, refl, sym, ap, subst}
 use Rattle.std.proofs.Common.{Result, IfOk}
-use Rattle.std.specs.Prelude.{IsTrue}
 use Rattle.ae_base.specs.Results.{AnswersAs}
 use Rattle.ae_base.specs.declared.faults.SqlFault.{SqlFault}
 use Rattle.ae_base.specs.declared.refusals.Refusal.{Refusal}
@@ -14,7 +13,6 @@ use Rattle.catalog.specs.Catalogs.{Catalog}
 use Rattle.resolve.specs.Laws.{IsBoundOver, BoundStatementsAre}
 use Rattle.resolve.specs.Bind.{bind}
 use Rattle.sql_tree.specs.Statements.{Statement}
-use Rattle.engine.specs.Executes.{executes}
 use Rattle.enc_types.specs.declared.typed.Typed.{Typed}
 use Rattle.enc_types.specs.Least.{inferred}
 use Rattle.enc_types.specs.Rules.{at_of, rules}
@@ -49,16 +47,12 @@ unfolding IsNamed
 named_so law catalog statement declarations (Ok b) a = law catalog statement declarations (bound_of b) a
 named_so law catalog statement declarations (Err e) a = tt
 
--- what is named, typed and executed so far is understood
-pub understood_so : (catalog : Catalog) (declarations : List ParamDecl) (bound : code.Bound) (typed : Typed) (result : Result Typed (Refusal SqlFault)) → IsNamed catalog declarations (bound_of bound)
-    → typed.bound ≡ bound → IfOk result (λ kept. kept ≡ typed) → IfOk result (λ kept. IsTrue (executes (bound_of kept.bound))) → IfOk result (λ kept. IsUnderstood catalog declarations (meant_of kept))
+-- what is named and typed is understood
+pub understood_so : (catalog : Catalog) (declarations : List ParamDecl) (bound : code.Bound) (result : Result Typed (Refusal SqlFault)) → IsNamed catalog declarations (bound_of bound)
+    → IfOk result (λ typed. typed.bound ≡ bound) → IfOk result (λ typed. IsUnderstood catalog declarations (meant_of typed))
 unfolding IsNamed IsUnderstood
-understood_so catalog declarations bound typed (Ok kept) b e k x = record {
-  bound = subst (λ (t : Typed). IsBoundOver catalog declarations (bound_of t.bound)) (sym k) (subst (λ b. IsBoundOver catalog declarations (bound_of b)) (sym e) b);
-  typed = kept.typed;
-  executes = x;
-}
-understood_so catalog declarations bound typed (Err e) b f k x = tt
+understood_so catalog declarations bound (Ok typed) b e = record { bound = subst (λ b. IsBoundOver catalog declarations (bound_of b)) (sym e) b; typed = typed.typed }
+understood_so catalog declarations bound (Err f) b e = tt
 
 -- the places that are told of a clash
 pub shows_places : {E : Type 0} (b : Bound) (clash : EncryptionClash) (chain : List Rule) (result : Result (List ℕ) E) → IsClashOf b.params b.columns (rules b) clash → chain ≡ clash.chain

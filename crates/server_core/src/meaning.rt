@@ -1,9 +1,8 @@
 //! What a text means: its statement, bound and typed.
 
-ghost use Rattle.std.specs.Prelude.{◌≡◌, IfOk, IsTrue};
+ghost use Rattle.std.specs.Prelude.{◌≡◌, IfOk};
 ghost use Rattle.ae_base.specs.Results.{AnswersAs};
 ghost use Rattle.sql_tree.specs.Bound.{bound_of};
-ghost use Rattle.engine.specs.Executes.{executes};
 ghost use Rattle.server_core.specs.Calls.{meant_of};
 ghost use Rattle.server_core.specs.Describing as spec;
 ghost use Rattle.server_core.specs.Understood.{IsNamed, IsUnderstood};
@@ -13,7 +12,6 @@ use ae_base::faults::SqlFault;
 use ae_base::refusals::Refusal;
 use catalog::catalogs::Catalog;
 use enc_types::typed::Typed;
-use engine::executing::executes;
 use inference::infer::infer;
 use resolve::laws::bound_statements_are;
 use resolve::statements::bind;
@@ -23,7 +21,7 @@ use std::alloc::Global;
 use wire_messages::texts::StatementPart;
 
 /// What a text means with its parameters declared so, or its first fault: of parsing, binding,
-/// typing; then Syntax for what is not executed yet.
+/// typing.
 #[tactic(auto, unfolding(crate::specs::Describing::understood))]
 pub fn understood(
     alloc: Global,
@@ -35,8 +33,7 @@ pub fn understood(
     ensures meant { IfOk result (λ typed. IsUnderstood catalog.now declarations.now (meant_of typed)) }
 {
     let bound = named(alloc, catalog, text, declarations)?;
-    let typed = typed(alloc, bound)?;
-    executed_so_far(typed)
+    typed(alloc, bound)
 }
 
 /// The statement of a text, with a place for each name, or its first fault.
@@ -67,18 +64,5 @@ fn typed(alloc: Global, bound: Bound) -> Result<Typed, Refusal>
             at: clash.at,
         })),
         Err(Refusal::OutOfMemory) => Err(Refusal::OutOfMemory),
-    }
-}
-
-fn executed_so_far(typed: Typed) -> Result<Typed, Refusal>
-    ensures exact { AnswersAs meant_of result (spec.executed_so_far (meant_of typed)) }
-    ensures same { IfOk result (λ kept. kept ≡ typed) }
-    ensures executes { IfOk result (λ kept. IsTrue (executes (bound_of kept.bound))) }
-{
-    if executes(typed.bound()) {
-        Ok(typed)
-    } else {
-        drop(typed);
-        Err(Refusal::Fault(SqlFault::Syntax))
     }
 }

@@ -1,13 +1,13 @@
--- The rows so far, with those that are left, are the whole.
+-- What was found so far, with what is found in the rows that are left, is the whole.
 use Rattle.std.proofs.Common.{◌≡◌, drop, map, length}
-use Rattle.sql_tree.specs.Bound.{item_of}
+use Rattle.sql_tree.specs.Bound.{query_of}
 use Rattle.operators.specs.Events.{scanned}
-use Rattle.engine.specs.Queries as queries
-use Rattle.engine.specs.Queries.{results}
+use Rattle.operators.specs.Found.{found_by}
+use Rattle.engine.specs.Queries.{found_of, results}
 use Rattle.engine.proofs.Collected.{collected}
 use Rattle.engine.proofs.queries.results.Given as goal
 
 abbrev pub invariant-loop-row : goal.invariant-loop-row
 invariant-loop-row g l =
-    results (λ row. queries.items_of l.params 0 row (map item_of l.items)) 0 (scanned l.rows)
-    ≡ collected l.found (results (λ row. queries.items_of l.params 0 row (map item_of l.items)) (length l.found) (scanned (drop l.row-index l.rows)))
+    results (found_of (query_of l.query) l.params 0) 0 (scanned l.rows)
+    ≡ collected (map (found_by l.query.order_by) l.found) (results (found_of (query_of l.query) l.params 0) (length l.found) (scanned (drop l.row-index l.rows)))

@@ -1,20 +1,14 @@
 -- What is ready may be executed, and what is answered may be sent.
 use Rattle.std.proofs.Common.{◌∙◌}
 use Rattle.server_core.specs.Calls.{meant_of}
-use Rattle.server_core.proofs.Readiness.{Laws, parts_bound, parts_executed, parts_given, done_well}
+use Rattle.server_core.proofs.Readiness.{Laws, parts_bound, parts_given, done_well}
 use Rattle.server_core.proofs.executing.done.Goals as goal
 
-pub execute-requires-clause-bound : goal.execute-requires-clause-bound
-execute-requires-clause-bound c =
+pub execute-requires : goal.execute-requires
+execute-requires c =
     let r = c.requires.ready in
     parts_bound c.args.world.now r.0 c.args.ready.typed c.args.ready.atoms r.1 c.into_parts-bound.result.0 c.as_slice.result.now c.as_slice-2.result.now c.into_parts-bound.ensures.bound
     (c.as_slice.ensures ∙ c.into_parts-bound.ensures.encs) c.as_slice-2.ensures c.typings_are_of_columns.ensures
-
-pub execute-requires-clause-executes : goal.execute-requires-clause-executes
-execute-requires-clause-executes c =
-    let r = c.requires.ready in
-    parts_executed c.args.world.now r.0 c.args.ready.typed c.args.ready.atoms r.1 c.into_parts-bound.result.0 c.as_slice.result.now c.as_slice-2.result.now c.into_parts-bound.ensures.bound
-    (c.as_slice.ensures ∙ c.into_parts-bound.ensures.encs) c.as_slice-2.ensures
 
 pub returns-clause-state : goal.returns-clause-state
 returns-clause-state c =

@@ -1,0 +1,14 @@
+-- Rows that are alike: as unique keys, DISTINCT and GROUP BY ask, NULLs are, and otherwise equal values.
+use Rattle.std.specs.Prelude.{ℕ, List, Bool}
+use Rattle.std.specs.List.{list_all}
+use Rattle.std.specs.Cmp.Lexicographic.{pointwise}
+use Rattle.ae_base.specs.Atoms.{Atom, alike}
+use Rattle.scalar.specs.Eval.{atom_at}
+
+-- two rows are alike on the columns of these places
+abbrev pub alike_on : List ℕ → List Atom → List Atom → Bool
+alike_on places row other = list_all (λ place. alike (atom_at row place) (atom_at other place)) places
+
+-- two rows are alike in all their columns
+abbrev pub are_alike : List Atom → List Atom → Bool
+are_alike row other = pointwise alike row other
