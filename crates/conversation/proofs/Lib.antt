@@ -1,3 +1,4 @@
+pub mod Drawing
 pub mod Driven
 pub mod Fitting
 pub mod Going

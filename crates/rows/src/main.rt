@@ -14,7 +14,7 @@ use std::{fs, io};
 fn main(rt: HostRuntime) -> io::Result<()> {
     for name in &script_names(&rt)? {
         let script = fs::read(&rt, name.as_str())?;
-        let came = come_to(rt.alloc(), script);
+        let came = come_to(rt.alloc(), script)?;
         println!(rt; "== {name}")?;
         print_came(&rt, &came)?;
     }

@@ -1,3 +1,4 @@
+use ae_base::texts::Txt;
 use ae_edge::memory::entropy::MemEntropy;
 use ae_edge::memory::sink::MemSink;
 use ae_edge::memory::source::MemSource;
@@ -5,7 +6,7 @@ use ae_edge::memory::vault::MemVault;
 use script_run::programs::run;
 use script_run::status::Status;
 use server_core::server::Server;
-use std::alloc::Global;
+use std::alloc::{AllocError, Global};
 
 /// What a script came to: the status, the text, and the frames that passed.
 #[derive(Drop)]
@@ -15,11 +16,20 @@ pub(crate) struct Came {
     pub(crate) tap: MemSink,
 }
 
-/// Runs a script over an empty server, with no master key and no random bytes.
-pub(crate) fn come_to(alloc: Global, script: Vec<u8>) -> Came {
+/// The master key of the path `main`.
+const MAIN: [u8; 32] = [
+    0, 1, 2, 3, 4, 5, 6, 7, 8, 9, 10, 11, 12, 13, 14, 15, 16, 17, 18, 19, 20, 21, 22, 23, 24, 25,
+    26, 27, 28, 29, 30, 31,
+];
+
+/// The master key of the path `spare`.
+const SPARE: [u8; 32] = [0xff; 32];
+
+/// Runs a script over an empty server, with two master keys, and with random bytes for sixteen cells.
+pub(crate) fn come_to(alloc: Global, script: Vec<u8>) -> Result<Came, AllocError> {
     let mut script = MemSource::new(script, 4096, Vec::new(alloc));
-    let mut vault = MemVault::new(Vec::new(alloc), Vec::new(alloc));
-    let mut entropy = MemEntropy::new(Vec::new(alloc), Vec::new(alloc));
+    let mut vault = two_keys(alloc)?;
+    let mut entropy = each_byte_once(alloc)?;
     let mut text = MemSink::new(alloc, Vec::new(alloc));
     let mut tap = MemSink::new(alloc, Vec::new(alloc));
     let mut peer = Server::new(alloc);
@@ -32,9 +42,24 @@ pub(crate) fn come_to(alloc: Global, script: Vec<u8>) -> Came {
         &mut tap,
         &mut peer,
     );
-    Came {
+    Ok(Came {
         status: Status::from(ran),
         text,
         tap,
+    })
+}
+
+fn two_keys(alloc: Global) -> Result<MemVault, AllocError> {
+    let mut keys = Vec::new(alloc);
+    keys.push((Txt::copied(alloc, "main")?, MAIN))?;
+    keys.push((Txt::copied(alloc, "spare")?, SPARE))?;
+    Ok(MemVault::new(keys, Vec::new(alloc)))
+}
+
+fn each_byte_once(alloc: Global) -> Result<MemEntropy, AllocError> {
+    let mut bytes = Vec::new(alloc);
+    for byte in 0..=u8::MAX {
+        bytes.push(byte)?;
     }
+    Ok(MemEntropy::new(bytes, Vec::new(alloc)))
 }

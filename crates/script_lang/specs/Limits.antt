@@ -6,6 +6,7 @@ use Rattle.ae_base.specs.Sessions.{IsSession}
 use Rattle.ae_base.specs.Types.{IsType}
 use Rattle.ae_base.specs.Values.{IsProper}
 use Rattle.ae_base.specs.declared.batches.Batch.{Batch}
+use Rattle.ae_base.specs.declared.batches.Param.{Param}
 use Rattle.script_lang.specs.declared.steps.Step.{Step}
 use Rattle.script_lang.specs.declared.steps.Step.TheVariants.{Whole, Half, Execute}
 
@@ -19,9 +20,12 @@ IsWithinLimits (Whole session batch) = IsSession session × HasParams batch
 IsWithinLimits (Half session batch) = IsSession session × HasParams batch
 IsWithinLimits (Execute session) = IsSession session
 
--- each parameter's value is proper, and its type is one
+-- a parameter's value is proper, and its type is one
+abbrev pub IsProperParam : Param → Type 0
+IsProperParam p = IsProper p.value × IsType p.declaration.ty
+
 abbrev pub HasProperParams : Batch → Type 0
-HasProperParams batch = All (λ p. IsProper p.value × IsType p.declaration.ty) batch.params
+HasProperParams batch = All IsProperParam batch.params
 
 abbrev pub IsProperStep : Step → Type 0
 IsProperStep (Whole session batch) = HasProperParams batch

@@ -1,11 +1,17 @@
-ghost use Rattle.std.specs.Prelude.{◌≡◌, ◌<◌, ◌^◌, ◌∷◌, [], Some, None, IfOk, MatchOption, length, pos, neg_ℤ};
+ghost use Rattle.std.specs.Prelude.{All, ◌≡◌, ◌<◌, ◌^◌, ◌∷◌, [], Some, None, IfOk, IfSome, MatchOption, length, pos, neg_ℤ};
+ghost use Rattle.ae_base.specs.Types.{IsType};
+ghost use Rattle.ae_base.specs.Values.{IsProper, IsProperDatum};
+ghost use Rattle.ae_base.specs.declared.values.Datum.TheVariants.{Text, Bin};
+ghost use Rattle.script_lang.specs.Limits.{IsProperParam};
 ghost use Rattle.script_lang.specs.Script as spec;
 ghost use Rattle.script_lang.specs.Reading as reading;
 ghost use Rattle.script_lang.specs.Reading.{lexemes};
 
 use ae_base::batches::{Param, ParamDecl};
+use ae_base::blobs::Blob;
 use ae_base::lists::Duplicate;
 use ae_base::names::{Name, ParamName};
+use ae_base::texts::Txt;
 use ae_base::types::Ty;
 use ae_base::values::{Datum, Value};
 use sql_grammar::types::type_of;
@@ -19,7 +25,8 @@ const MOST_NUMBER: u64 = 9_223_372_036_854_775_808;
 /// The parameter that a line declares: `DECLARE @name [AS] type = literal [;]`.
 pub(crate) fn declaration_of(alloc: Global, line: &str) -> Result<Option<Param>, AllocError>
     requires { length line.now < 2 ^ 32 }
-    ensures { IfOk result (λ param. param ≡ spec.declaration_of line.now) }
+    ensures param { IfOk result (λ param. param ≡ spec.declaration_of line.now) }
+    ensures proper { IfOk result (λ param. IfSome param IsProperParam) }
 {
     match tokens(alloc, line, MOST_NUMBER) {
         Ok(tokens) => declared(tokens.as_slice()),
@@ -30,7 +37,8 @@ pub(crate) fn declaration_of(alloc: Global, line: &str) -> Result<Option<Param>,
 
 /// The parameter that tokens declare.
 fn declared(tokens: &[Token]) -> Result<Option<Param>, AllocError>
-    ensures { IfOk result (λ param. param ≡ spec.declared (lexemes tokens.now)) }
+    ensures param { IfOk result (λ param. param ≡ spec.declared (lexemes tokens.now)) }
+    ensures proper { IfOk result (λ param. IfSome param IsProperParam) }
 {
     let Some((name, rest)) = declared_name(tokens) else {
         return Ok(None);
@@ -148,8 +156,9 @@ fn first_ident(tokens: &[Token]) -> Option<(&Name, &[Token])>
 
 /// The type at the front, with `=` behind it, and the tokens behind that.
 fn declared_type(tokens: &[Token]) -> Option<(Ty, &[Token])>
-    ensures { MatchOption result (spec.type_front (lexemes tokens.now) ≡ None)
+    ensures front { MatchOption result (spec.type_front (lexemes tokens.now) ≡ None)
         (λ x. spec.type_front (lexemes tokens.now) ≡ Some (x.0, lexemes x.1.now)) }
+    ensures proper { IfSome result (λ x. IsType x.0) }
 {
     let Some((word, rest)) = first_ident(tokens) else {
         return None;
@@ -182,7 +191,8 @@ fn is_semicolon(token: &Token) -> bool
 
 /// The value that tokens are: NULL, a number with or without a minus, a text, or bytes.
 fn literal(tokens: &[Token]) -> Result<Option<Value>, AllocError>
-    ensures { IfOk result (λ value. value ≡ spec.literal (lexemes tokens.now)) }
+    ensures value { IfOk result (λ value. value ≡ spec.literal (lexemes tokens.now)) }
+    ensures proper { IfOk result (λ value. IfSome value IsProper) }
 {
     match tokens {
         [one] => literal_of(&one.lexeme),
@@ -202,27 +212,52 @@ fn literal(tokens: &[Token]) -> Result<Option<Value>, AllocError>
 
 /// The value that one token is.
 fn literal_of(lexeme: &Lexeme) -> Result<Option<Value>, AllocError>
-    ensures { IfOk result (λ value. value ≡ spec.literal (lexeme.now ∷ [])) }
+    ensures value { IfOk result (λ value. value ≡ spec.literal (lexeme.now ∷ [])) }
+    ensures proper { IfOk result (λ value. IfSome value IsProper) }
 {
     Ok(match lexeme {
         Lexeme::Keyword(Keyword::Null) => Some(Value::Null),
         Lexeme::Number(n) => positive(*n),
-        Lexeme::Text(text) => Some(Value::Is(Datum::Text(text.copy()?))),
-        Lexeme::Binary(bytes) => Some(Value::Is(Datum::Bin(bytes.copy()?))),
+        Lexeme::Text(text) => Some(Value::Is(text_datum(text)?)),
+        Lexeme::Binary(bytes) => Some(Value::Is(bytes_datum(bytes)?)),
         Lexeme::Keyword(_) | Lexeme::Ident(_) | Lexeme::Param(_) | Lexeme::Symbol(_) => None,
     })
 }
 
+fn text_datum(text: &Txt) -> Result<Datum, AllocError>
+    ensures datum { IfOk result (λ datum. datum ≡ Text text.now) }
+    ensures proper { IfOk result IsProperDatum }
+{
+    // A proof learns from this call that the characters are Unicode scalar values.
+    let _ = text.as_str();
+    Ok(Datum::Text(text.copy()?))
+}
+
+fn bytes_datum(bytes: &Blob) -> Result<Datum, AllocError>
+    ensures datum { IfOk result (λ datum. datum ≡ Bin bytes.now) }
+    ensures proper { IfOk result IsProperDatum }
+{
+    look_at(bytes.as_slice());
+    Ok(Datum::Bin(bytes.copy()?))
+}
+
+/// A proof learns from this call that bytes are below 256.
+fn look_at(bytes: &[u8])
+    ensures { All (λ byte. byte < 256) bytes.now }
+{}
+
 /// A number, where 64 bits hold it.
 fn positive(n: u64) -> Option<Value>
-    ensures { result ≡ spec.integer (pos n) }
+    ensures value { result ≡ spec.integer (pos n) }
+    ensures proper { IfSome result IsProper }
 {
     Some(Value::Is(Datum::Num(i64::try_from(n).ok()?)))
 }
 
 /// A number below zero, where 64 bits hold it.
 fn negative(n: u64) -> Option<Value>
-    ensures { result ≡ spec.integer (neg_ℤ (pos n)) }
+    ensures value { result ≡ spec.integer (neg_ℤ (pos n)) }
+    ensures proper { IfSome result IsProper }
 {
     Some(Value::Is(Datum::Num(i64::try_from(-i128::from(n)).ok()?)))
 }

@@ -30,7 +30,7 @@ impl From<AllocError> for ScriptFault {
 
 /// The steps of a script. BadLine comes exactly where a line is refused, with the number of the
 /// first such line. Every step is one of a session from 1 to 64, and has at most 128 parameters,
-/// whose names differ.
+/// whose names differ and whose values and types are proper.
 pub fn read_script(alloc: Global, bytes: &[u8]) -> Result<Seq<Step>, ScriptFault>
     requires { length bytes.now < 2 ^ 32 }
     ensures exact { Reads bytes.now result }

@@ -1,5 +1,7 @@
 ghost use Rattle.std.specs.Prelude.{◌≡◌, ◌<◌, ◌||◌, ◌^◌, ◌∷◌, ◌++◌, [], true, Some, IfOk, OnOk, length, take, codes, string_bytes};
 ghost use Rattle.std.specs.Str.{bytes_eq};
+ghost use Rattle.std.specs.List.{All};
+ghost use Rattle.script_lang.specs.Limits.{HasProperParams, IsProperParam, IsProperStep};
 ghost use Rattle.script_lang.specs.Script as spec;
 ghost use Rattle.script_lang.specs.Reading.{Takes, behind_line};
 
@@ -19,7 +21,8 @@ use std::marker::Model;
 use std::mem;
 
 /// A script read so far: the steps that its lines have made, the session, and the batch that is
-/// begun. Its statement is there once a line of it has come.
+/// begun. Its statement is there once a line of it has come. The values and types of all parameters
+/// are proper.
 #[derive(Drop)]
 pub(crate) struct Reader {
     steps: Seq<Step>,
@@ -30,6 +33,8 @@ pub(crate) struct Reader {
 
 impl Model for Reader {
     ghost use Rattle.std.specs.Prelude.{option_map, string_bytes};
+    ghost use Rattle.std.specs.List.{All};
+    ghost use Rattle.script_lang.specs.Limits.{IsProperParam, IsProperStep};
     ghost use Rattle.script_lang.specs.Script.{After};
 
     ghost Value = { After };
@@ -38,6 +43,8 @@ impl Model for Reader {
       steps = r.steps;
       begun = record { session = r.session; params = r.params; statement = option_map string_bytes r.statement };
     } };
+
+    ghost invariant = { λ r. All IsProperStep r.steps × All IsProperParam r.params };
 }
 
 impl Reader {
@@ -56,7 +63,8 @@ impl Reader {
 
     /// The steps. It takes no memory.
     pub(crate) fn into_steps(self) -> Seq<Step>
-        ensures { result ≡ self.steps }
+        ensures steps { result ≡ self.steps }
+        ensures proper { All IsProperStep result }
     {
         self.steps
     }
@@ -89,6 +97,7 @@ impl Reader {
     /// Takes the batch that is begun, and begins the next of the same session.
     fn take_batch(&mut self, alloc: Global) -> Batch
         ensures batch { result ≡ spec.batch_of self.old.begun }
+        ensures proper { HasProperParams result }
         ensures steps { self.new.steps ≡ self.old.steps }
         ensures begun { self.new.begun ≡ spec.nothing_begun self.old.begun.session }
     {
@@ -211,6 +220,7 @@ impl Reader {
 
     /// Declares a parameter, unless its name is declared already or the batch has no room for it.
     fn declare(&mut self, param: Param) -> Result<bool, AllocError>
+        requires { IsProperParam param }
         ensures { IfOk result (λ good. Takes self.old (spec.with_param self.old.begun (Some param)) good self.new) }
     {
         self.params.push(param)

@@ -19,7 +19,7 @@ use Rattle.run_words.specs.declared.stops.Stop.{Stop}
 use Rattle.run_words.specs.declared.stops.Stop.TheVariants as stop
 use Rattle.run_words.proofs.Going.{stay, breaks_between}
 use Rattle.script_lang.specs.declared.steps.Step.{Step}
-use Rattle.script_lang.specs.Limits.{IsWithinLimits}
+use Rattle.script_lang.specs.Limits.{IsProperStep, IsWithinLimits}
 use Rattle.script_run.specs.declared.runs.Ran.{Ran}
 use Rattle.script_run.specs.declared.runs.Ran.TheVariants as ran
 use Rattle.script_run.specs.declared.runs.Unread.TheVariants as unread
@@ -90,11 +90,11 @@ unstarted steps lent = (
 
 -- ---- a script
 
-pub runs_script : (r : Ran) (bytes : List ℕ) (steps : List Step) (old new : Lent) → IsScript bytes steps → All IsWithinLimits steps → RunsTo r steps old new → RunsScript r bytes old new
-runs_script ran.Done bytes steps old new s l h = (steps, s, l, h)
-runs_script ran.Refusals bytes steps old new s l h = (steps, s, l, h)
-runs_script (ran.Stopped why) bytes steps old new s l h = (steps, s, l, h)
-runs_script (ran.Unread why) bytes steps old new s l h = absurd h
+pub runs_script : (r : Ran) (bytes : List ℕ) (steps : List Step) (old new : Lent) → IsScript bytes steps → All IsWithinLimits steps → All IsProperStep steps → RunsTo r steps old new → RunsScript r bytes old new
+runs_script ran.Done bytes steps old new s l p h = record { steps = steps; script = s; limits = l; proper = p; runs = h }
+runs_script ran.Refusals bytes steps old new s l p h = record { steps = steps; script = s; limits = l; proper = p; runs = h }
+runs_script (ran.Stopped why) bytes steps old new s l p h = record { steps = steps; script = s; limits = l; proper = p; runs = h }
+runs_script (ran.Unread why) bytes steps old new s l p h = absurd h
 
 pub was_read : (r : Ran) (steps : List Step) (old new : Lent) → RunsTo r steps old new → IsRead r
 was_read ran.Done steps old new h = tt
@@ -155,7 +155,7 @@ read_it r w e = subst IsRead e w
 
 came_rose : (P : Lent → Lent → Type 0) (s : Stop) (bytes : List ℕ) (old new : Lent) → RunsScript (ran.Stopped s) bytes old new
     → ((steps : List Step) (refused : Bool) → CameTo (Err s) refused steps old new → P old new) → P old new
-came_rose P s bytes old new h f = f h.0 h.3.0 h.3.1
+came_rose P s bytes old new h f = f h.steps h.runs.0 h.runs.1
 
 pub write_rose : (r : Ran) (bytes : List ℕ) (old new : Lent) → RunsScript r bytes old new → r ≡ ran.Stopped stop.WriteFault → Rose old.out_faults new.out_faults ⊎ Rose old.tap_faults new.tap_faults
 write_rose r bytes old new h e =

@@ -2,6 +2,7 @@
 use Rattle.std.proofs.Common.{◌≡◌, ◌≤◌, ℕ, ◌+◌, List, [], ◌∷◌, ◌++◌, Option, Some, None, Result, Ok, Err, Bool, true, false, ◌||◌, refl, sym, ◌∙◌, ap, subst, append_assoc, append-nil, length, arith}
 use Rattle.std.specs.Prelude.{flat_map, IfSome}
 use Rattle.std.specs.List.{All}
+use Rattle.aes_block.specs.Bytes.{AreBytes}
 use Rattle.ae_edge.specs.Devices.{WhereTold, Adds, AddsFront, GrewByFront, IsFront}
 use Rattle.ae_edge.specs.Vaults.{KeyMap}
 use Rattle.ae_edge.proofs.Told.{told_then, told_map, front_then, front_behind, adds_then_front, adds_front_then, front_of}
@@ -13,8 +14,9 @@ use Rattle.conversation.specs.Drive.{End, Done, Dry, BadReply, Passed, over, end
 use Rattle.conversation.specs.Paths.{Event, Asked, Took, Strayed, Drew, Opened, Printed, Follows, taken_in, drawn_in, outcome_in, Waits, OpensAll}
 use Rattle.conversation.specs.Sessions.{nobody}
 use Rattle.conversation.specs.Talk.{Talk, Ends, Stops, Asks, Hears, Draws, Opens, Prints}
+use Rattle.conversation.proofs.Drawing.{drawn_are_bytes}
 use Rattle.conversation.proofs.Going.{flat_append}
-use Rattle.script_lang.specs.Limits.{IsWithinLimits}
+use Rattle.script_lang.specs.Limits.{IsProperStep, IsWithinLimits}
 use Rattle.script_lang.specs.declared.steps.Step.{Step}
 use Rattle.plain_meaning.specs.Laws.{EndsWith, Agrees, ServedIsPlain}
 use Rattle.plain_meaning.specs.Steps.{talk}
@@ -74,7 +76,11 @@ front_means (BadReply n) outcomes whole rest wanted e a = absurd a
 quiet_front : (outcomes last wanted : List Outcome) → last ≡ [] → IsFront outcomes wanted → IsFront (outcomes ++ last) wanted
 quiet_front outcomes last wanted n h = subst (λ xs. IsFront xs wanted) (sym (ap (λ xs. outcomes ++ xs) n ∙ append-nil outcomes)) h
 
-module _ (keys : KeyMap) (steps : List Step) (wanted : List Outcome) (agrees : (entropy : List ℕ) → Agrees (over serve keys (talk steps nobody) 0 entropy empty_state []) wanted) where
+-- what was drawn is bytes
+drew_bytes : (t u : Talk) (events : List Event) → Follows t events u → AreBytes (flat_map drawn_in events ++ [])
+drew_bytes t u events f = subst AreBytes (sym (append-nil (flat_map drawn_in events))) (drawn_are_bytes t u events f)
+
+module _ (keys : KeyMap) (steps : List Step) (wanted : List Outcome) (agrees : (entropy : List ℕ) → AreBytes entropy → Agrees (over serve keys (talk steps nobody) 0 entropy empty_state []) wanted) where
   pub record Reached (u : Talk) (events : List Event) (left : List Reply) : Type 0 where
     pub state : State
     pub taken : ℕ
@@ -93,7 +99,7 @@ module _ (keys : KeyMap) (steps : List Step) (wanted : List Outcome) (agrees : (
         }
 
     ahead_agrees : (r : Reached u g.events new.wire.waiting) → Agrees (ahead g.events (over serve keys u r.taken [] r.state new.wire.waiting)) wanted
-    ahead_agrees r = subst (λ p. Agrees p wanted) r.is (agrees (flat_map drawn_in g.events ++ []))
+    ahead_agrees r = subst (λ p. Agrees p wanted) r.is (agrees (flat_map drawn_in g.events ++ []) (drew_bytes (talk steps nobody) u g.events g.follows))
 
     goes_front : IsFront (flat_map outcome_in g.events) wanted
     goes_front =
@@ -171,9 +177,9 @@ module _ (keys : KeyMap) (steps : List Step) (wanted : List Outcome) (agrees : (
 
 -- ---- a run of a script
 
-module _ (law : ServedIsPlain) (keys : KeyMap) (steps : List Step) (limits : All IsWithinLimits steps) (old new : Lent) (state : old.state ≡ Some empty_state) (told : old.keys ≡ Some keys) where
-  agrees_so : (entropy : List ℕ) → Agrees (over serve keys (talk steps nobody) 0 entropy empty_state []) (meaning keys steps)
-  agrees_so entropy = law keys steps limits entropy
+module _ (law : ServedIsPlain) (keys : KeyMap) (steps : List Step) (limits : All IsWithinLimits steps) (proper : All IsProperStep steps) (old new : Lent) (state : old.state ≡ Some empty_state) (told : old.keys ≡ Some keys) where
+  agrees_so : (entropy : List ℕ) → AreBytes entropy → Agrees (over serve keys (talk steps nobody) 0 entropy empty_state []) (meaning keys steps)
+  agrees_so entropy are = law keys steps limits proper entropy are
 
   starts : (ended : Result (Unit {0}) Stop) (refused : Bool) (c : CameTo ended refused steps old new) → Starts keys (outside c.out c.entropy c.vault c.wire false [] 0 old)
   starts ended refused c = record { state = state; keys = told; waiting = refl }
@@ -212,7 +218,7 @@ one_script bytes steps others s o = let a = s.read in let b = o.read in cc
 runs_so : (law : ServedIsPlain) (r : Ran) (keys : KeyMap) (bytes : List ℕ) (steps : List Step) (old new : Lent) → old.state ≡ Some empty_state → old.keys ≡ Some keys
     → IsScript bytes steps → RunsSteps r bytes old new → PrintsPlain r keys steps old.out new.out
 runs_so law r keys bytes steps old new w k s h =
-    subst (λ ss. PrintsPlain r keys ss old.out new.out) (one_script bytes steps h.0 s h.1) (steps_plain law keys h.0 h.2 old new w k r h.3)
+    subst (λ ss. PrintsPlain r keys ss old.out new.out) (one_script bytes steps h.steps s h.script) (steps_plain law keys h.steps h.limits h.proper old new w k r h.runs)
 
 pub runs_plain : (law : ServedIsPlain) (r : Ran) (keys : KeyMap) (bytes : List ℕ) (steps : List Step) (old new : Lent) → old.state ≡ Some empty_state → old.keys ≡ Some keys
     → IsScript bytes steps → RunsScript r bytes old new → PrintsPlain r keys steps old.out new.out

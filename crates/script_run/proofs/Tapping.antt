@@ -178,7 +178,7 @@ module _ (keys : KeyMap) (steps : List Step) (old new : Lent) (state : old.state
 taps_so : (r : Ran) (keys : KeyMap) (bytes : List ℕ) (steps : List Step) (old new : Lent) → old.state ≡ Some empty_state → old.keys ≡ Some keys → IsScript bytes steps → RunsSteps r bytes old new
     → TapsTranscript r keys steps old.entropy new.entropy old.tap new.tap
 taps_so r keys bytes steps old new w k s h =
-    subst (λ ss. TapsTranscript r keys ss old.entropy new.entropy old.tap new.tap) (one_script bytes steps h.0 s h.1) (steps_tap keys h.0 old new w k r h.3)
+    subst (λ ss. TapsTranscript r keys ss old.entropy new.entropy old.tap new.tap) (one_script bytes steps h.steps s h.script) (steps_tap keys h.steps old new w k r h.runs)
 
 pub runs_tap : (r : Ran) (keys : KeyMap) (bytes : List ℕ) (steps : List Step) (old new : Lent) → old.state ≡ Some empty_state → old.keys ≡ Some keys → IsScript bytes steps → RunsScript r bytes old new
     → TapsTranscript r keys steps old.entropy new.entropy old.tap new.tap

@@ -14,7 +14,7 @@ use Rattle.run_words.specs.Shares.{Outside}
 use Rattle.run_words.specs.Ways.{Leads}
 use Rattle.run_words.specs.declared.stops.Stop.{Stop}
 use Rattle.script_lang.specs.declared.steps.Step.{Step}
-use Rattle.script_lang.specs.Limits.{IsWithinLimits}
+use Rattle.script_lang.specs.Limits.{IsProperStep, IsWithinLimits}
 use Rattle.script_lang.specs.Script.{steps_of}
 use Rattle.plain_meaning.specs.Steps.{talk}
 use Rattle.script_run.specs.declared.runs.Ran.{Ran}
@@ -88,9 +88,13 @@ pub record IsScript (bytes : List ℕ) (steps : List Step) : Type 0 where
   pub within : length bytes ≤ most_script_bytes
   pub read : steps_of bytes ≡ Ok steps
 
--- each step is of one of the sessions, with few parameters, whose names differ
-abbrev pub RunsSteps : Ran → List ℕ → Lent → Lent → Type 0
-RunsSteps r bytes old new = (steps : List Step) × IsScript bytes steps × All IsWithinLimits steps × RunsTo r steps old new
+-- each step is of one of the sessions, with few parameters, whose names differ and whose values are proper
+pub record RunsSteps (r : Ran) (bytes : List ℕ) (old new : Lent) : Type 0 where
+  pub steps : List Step
+  pub script : IsScript bytes steps
+  pub limits : All IsWithinLimits steps
+  pub proper : All IsProperStep steps
+  pub runs : RunsTo r steps old new
 
 -- what a run of a script's bytes leaves, by how it ended; a script that is refused or can't be read leaves everything as it was
 abbrev pub RunsScript : Ran → List ℕ → Lent → Lent → Type 0

@@ -1,0 +1,104 @@
+//! The command `wrap`.
+
+ghost use Rattle.std.specs.Prelude.{◌≡◌, ◌≤◌, ℕ, List, IfSome, length};
+ghost use Rattle.ae_edge.specs.Devices.{Rose, WhereTold};
+ghost use Rattle.wrap_command.specs.Wrapping.{IsRead, Puts, Takes, Wraps, wrapped_line};
+
+use crate::lines::key_in;
+use ae_base::texts::Txt;
+use ae_edge::sinks::Sink;
+use ae_edge::sources::Source;
+use ae_edge::streams::{PutAll, ReadAll, put_all, read_all};
+use ae_edge::vaults::{MasterKey, Vault};
+use aes_block::Aes256;
+use std::alloc::Global;
+
+/// The most bytes that the input has.
+pub const MOST_INPUT_BYTES: usize = 16_777_216;
+
+/// How the command ended.
+#[derive(Clone, Copy, PartialEq, Eq, Debug)]
+pub enum Wrapped {
+    /// The digits of the wrapped key were put whole.
+    Done,
+    /// A call of the input failed.
+    ReadFault,
+    /// A call of the output failed.
+    WriteFault,
+    OutOfMemory,
+    /// A call of the vault failed.
+    VaultFault,
+    /// The input isn't 64 hexadecimal digits with at most one end of line behind them.
+    BadLine,
+    /// The input is past its limit.
+    TooLong,
+    /// The vault has no master key at the path.
+    NoMasterKey,
+}
+
+/// The line of the wrapped key.
+fn line_of(master: &[u8; 32], key: &[u8; 32]) -> [u8; 81]
+    ensures { result ≡ wrapped_line master.now key.now }
+{
+    let mut line = [b'\n'; 81];
+    let digits = key_wrap::wrap(&Aes256::new(master), key);
+    hex::encode_to_slice(digits, &mut line[..80]).unwrap();
+    line
+}
+
+fn put_line<W: Sink>(out: &mut W, line: &[u8]) -> Wrapped
+    ensures content { Puts result line.now (W.held out.old) (W.held out.new) }
+    ensures count { W.faults out.old ≤ W.faults out.new }
+    ensures fault { result ≡ Wrapped.WriteFault → Rose (W.faults out.old) (W.faults out.new) }
+{
+    match put_all(out, line) {
+        PutAll::Whole => Wrapped::Done,
+        PutAll::WriteFault => Wrapped::WriteFault,
+        PutAll::OutOfMemory => Wrapped::OutOfMemory,
+    }
+}
+
+/// Wraps the key that the input spells.
+fn wrap_input<V: Vault, W: Sink>(path: &Txt, input: &[u8], vault: &mut V, out: &mut W) -> Wrapped
+    ensures content { Wraps result path.now input.now (record { keys = V.keys vault.old; out = W.held out.old }) (record { keys = V.keys vault.new; out = W.held out.new }) }
+    ensures read { IsRead result }
+    ensures vault { result ≡ Wrapped.VaultFault → Rose (V.faults vault.old) (V.faults vault.new) }
+    ensures write { result ≡ Wrapped.WriteFault → Rose (W.faults out.old) (W.faults out.new) }
+{
+    let Some(key) = key_in(input) else {
+        return Wrapped::BadLine;
+    };
+    match vault.master(path) {
+        MasterKey::Found(master) => put_line(out, &line_of(&master, &key)),
+        MasterKey::NotThere => Wrapped::NoMasterKey,
+        MasterKey::Failed => Wrapped::VaultFault,
+    }
+}
+
+/// Reads a column key, 64 hexadecimal digits, from the input, wraps it under the master key at the
+/// path (RFC 3394), and puts the 80 digits of the wrapped key and LF to the output. The input is
+/// read to its end before anything else happens. Of a line that can't be put whole a front is put;
+/// else the output stays as it was.
+pub fn wrap<S: Source, V: Vault, W: Sink>(
+    alloc: Global,
+    path: &Txt,
+    input: &mut S,
+    vault: &mut V,
+    out: &mut W,
+) -> Wrapped
+    // There are bytes, the input's where it tells them, of which this is what the command makes.
+    ensures content { (bytes : List ℕ) × IfSome (S.left input.old) (λ left. bytes ≡ left) × Wraps result path.now bytes (record { keys = V.keys vault.old; out = W.held out.old }) (record { keys = V.keys vault.new; out = W.held out.new }) }
+    // What was taken of the input.
+    ensures taken { WhereTold (Takes result) (S.left input.old) (S.left input.new) }
+    // The faults of the outside come only where a count rose.
+    ensures read { result ≡ Wrapped.ReadFault → Rose (S.faults input.old) (S.faults input.new) }
+    ensures vault { result ≡ Wrapped.VaultFault → Rose (V.faults vault.old) (V.faults vault.new) }
+    ensures write { result ≡ Wrapped.WriteFault → Rose (W.faults out.old) (W.faults out.new) }
+{
+    match read_all(input, alloc, MOST_INPUT_BYTES) {
+        ReadAll::Whole(bytes) => wrap_input(path, bytes.as_slice(), vault, out),
+        ReadAll::TooLong => Wrapped::TooLong,
+        ReadAll::ReadFault => Wrapped::ReadFault,
+        ReadAll::OutOfMemory => Wrapped::OutOfMemory,
+    }
+}
