@@ -49,8 +49,10 @@ DECLARE @number NVARCHAR(11) = N'078-05-1120'
 SELECT id, number, born, ward FROM patients WHERE number = @number
 GO
 
--- It joins on numbers without reading one.
+-- It joins on numbers, and counts findings, without reading one.
 SELECT p.id, v.day, v.finding FROM patients AS p JOIN visits AS v ON p.number = v.number WHERE p.ward = 3
+GO
+SELECT finding, COUNT(*) AS visits FROM visits GROUP BY finding
 GO
 
 -- A randomized column can be kept and read, and not compared: two cells of one value differ.

@@ -1,0 +1,17 @@
+CREATE TABLE o (a BIGINT, b BIGINT)
+GO
+INSERT INTO o (a, b) VALUES (1, 1), (2, 2), (3, 9223372036854775807)
+GO
+SELECT a FROM o WHERE a < 3 AND b + 1 > 0
+GO
+SELECT a FROM o WHERE b + 1 > 0 AND a < 3
+GO
+SELECT b + 1 AS n FROM o WHERE a < 3 ORDER BY b DESC
+GO
+SELECT TOP (1) a FROM o
+GO
+-- TOP, DISTINCT and the order of rows come behind the items of all rows.
+SELECT TOP 1 b + 1 FROM o
+GO
+SELECT DISTINCT b + 1 FROM o
+GO

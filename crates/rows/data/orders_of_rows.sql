@@ -1,0 +1,40 @@
+CREATE TABLE t (id INT, n NVARCHAR(4), b VARBINARY(4), g BIGINT)
+GO
+INSERT INTO t VALUES (1, N'b', 0x01, 2), (2, NULL, 0x, 1), (3, N'a', 0x0100, 2), (4, N'B', NULL, NULL), (5, N'ab', 0xff, 1), (6, N'b', 0x00ff, NULL), (7, N'', 0x01, 9223372036854775807)
+GO
+SELECT id, n FROM t ORDER BY n
+GO
+SELECT id, n FROM t ORDER BY n DESC
+GO
+SELECT id, b FROM t ORDER BY b ASC
+GO
+SELECT id FROM t ORDER BY g DESC
+GO
+SELECT id, g FROM t ORDER BY g, id DESC
+GO
+SELECT DISTINCT TOP 2 g FROM t ORDER BY g DESC
+GO
+SELECT g, COUNT(*) AS n FROM t GROUP BY g ORDER BY g
+GO
+SELECT TOP (2) id FROM t ORDER BY g, id
+GO
+SELECT TOP 0 id FROM t
+GO
+SELECT TOP 100 id FROM t WHERE n = N'ab'
+GO
+-- Texts are ordered by code point: U+1F600 stands behind U+FFFD.
+CREATE TABLE h (n NVARCHAR(4))
+GO
+INSERT INTO h VALUES (N'😀'), (N'�'), (N'~')
+GO
+SELECT n FROM h ORDER BY n
+GO
+-- Of joined rows, by columns that aren't shown.
+SELECT x.id, y.id FROM t AS x JOIN t AS y ON y.g = 2 WHERE x.n = N'' ORDER BY y.n, x.id
+GO
+SELECT n FROM t GROUP BY n ORDER BY id
+GO
+SELECT DISTINCT n FROM t ORDER BY g
+GO
+SELECT id FROM t ORDER BY z
+GO
