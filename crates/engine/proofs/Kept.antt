@@ -4,7 +4,7 @@ use Rattle.std.specs.Prelude.{filter, not, IsSome, if◌then◌else◌}
 use Rattle.std.specs.List.{All, AllZip, remove}
 use Rattle.std.proofs.lemmas.List.Elements.{All-head, All-tail, All-cons, All-nil, All-push, All-append}
 use Rattle.ae_base.specs.Atoms.{Atom}
-use Rattle.ae_base.specs.Results.{◌>>=◌, each}
+use Rattle.ae_base.specs.Results.{◌>>=◌}
 use Rattle.ae_base.specs.declared.faults.SqlFault.{SqlFault}
 use Rattle.ae_base.specs.declared.tables.ColumnDef.{ColumnDef}
 use Rattle.ae_base.specs.declared.tables.TableDef.{TableDef}
@@ -46,7 +46,7 @@ use Rattle.engine.proofs.Suited.{IsAt, IsShown, row_places, param_places, param_
 use Rattle.engine.proofs.Moving.{inserted_done, updated_done, deleted_done, selected_done}
 use Rattle.engine.proofs.Rowwise.{AllRows, events_typed, results_all}
 use Rattle.engine.proofs.Updating.{updated_are}
-use Rattle.engine.proofs.Walks.{found_bare, keys_placed}
+use Rattle.engine.proofs.Walks.{keys_placed}
 use Rattle.engine.proofs.Written.{rows_in, rows_passing, holds_updated, holds_passing, were_tested}
 
 -- ---- records, made of their parts

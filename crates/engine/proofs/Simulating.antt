@@ -51,14 +51,13 @@ use Rattle.engine.specs.Worlds.{World, place_of, rows_of, with_rows}
 use Rattle.engine.proofs.Apart.{all_at}
 use Rattle.engine.proofs.Contents.{table_place_there, master_made, key_made, master_dropped, key_dropped, table_made, table_dropped}
 use Rattle.engine.proofs.Answering.{FoundCorresponds, answered_alike}
-use Rattle.engine.proofs.Grouped.{GroupCorresponds, groups_alike, each_alike}
+use Rattle.engine.proofs.Grouped.{GroupCorresponds, groups_alike}
 use Rattle.engine.proofs.Kept.{created_done, dropped_done, done_ok, rows_ok, found_parts, found_ok, row_ok as whole_row, classes_same}
 use Rattle.engine.proofs.Suited.{class_placed}
 use Rattle.engine.proofs.Moving.{hit_row, inserted_done, updated_done, deleted_done, selected_done}
 use Rattle.engine.proofs.Pairs.{both_then, both_before, both_within, EventsCorrespond, contents_at, contents_set, contents_push, contents_remove, scanned_alike, results_alike, first_alike, filtered_alike, joined_alike}
 use Rattle.engine.proofs.Pairs as pairs
 use Rattle.engine.proofs.Updating.{places_of, values_of, values_for, TestedAlike, each_alike, rows_alike, counts_alike, passing_alike, selects_alike, all_tested_alike}
-use Rattle.engine.proofs.Walks.{found_bare}
 use Rattle.engine.proofs.Written.{rows_in, tested_ok}
 
 -- ---- classes of places

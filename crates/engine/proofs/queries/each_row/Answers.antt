@@ -1,5 +1,5 @@
 -- What is found of the rows that the walk met, and then its fault.
-use Rattle.std.proofs.Common.{◌≡◌, length, map, sym, ap, ◌∙◌, Ok}
+use Rattle.std.proofs.Common.{length, map, sym, ap, ◌∙◌, Ok}
 use Rattle.std.proofs.lemmas.Result.{err_from_is_err_and}
 use Rattle.sql_tree.specs.Bound.{query_of, item_of}
 use Rattle.operators.specs.Events.{scanned, fault_in}

@@ -7,8 +7,10 @@ use Rattle.server_core.proofs.executing.done.Goals as goal
 pub execute-requires : goal.execute-requires
 execute-requires c =
     let r = c.requires.ready in
-    parts_bound c.args.world.now r.0 c.args.ready.typed c.args.ready.atoms r.1 c.into_parts-bound.result.0 c.as_slice.result.now c.as_slice-2.result.now c.into_parts-bound.ensures.bound
-    (c.as_slice.ensures ∙ c.into_parts-bound.ensures.encs) c.as_slice-2.ensures c.typings_are_of_columns.ensures
+    record {
+      bound = parts_bound c.args.world.now r.0 c.args.ready.typed c.args.ready.atoms r.1 c.into_parts-bound.result.0 c.as_slice.result.now c.as_slice-2.result.now c.into_parts-bound.ensures.bound
+          (c.as_slice.ensures ∙ c.into_parts-bound.ensures.encs) c.as_slice-2.ensures c.typings_are_of_columns.ensures;
+    }
 
 pub returns-clause-state : goal.returns-clause-state
 returns-clause-state c =
