@@ -1,5 +1,5 @@
 -- What is bound over some declarations is bound alike over others that have those it uses.
-use Rattle.std.proofs.Common.{◌≡◌, ℕ, ◌+◌, List, [], ◌∷◌, map, refl, ap, sym, subst, Bool, true, false, ◌||◌, Option, Some, None, Result, Ok}
+use Rattle.std.proofs.Common.{◌≡◌, ℕ, ◌+◌, List, [], ◌∷◌, map, refl, ap, sym, subst, ◌∙◌, Bool, true, false, ◌||◌, Option, Some, None, Result, Ok}
 use Rattle.std.specs.List.{list_any}
 use Rattle.std.proofs.lemmas.Bool.{eq-eqb}
 use Rattle.ae_base.specs.Results.{each}
@@ -27,7 +27,7 @@ use Rattle.resolve.specs.Definitions.{key_path, wrapped_key, master_for, bind_ta
 use Rattle.resolve.specs.Bind.{bound_over, named}
 use Rattle.resolve.specs.Laws.{Keeps, NamesKeepTheUsed}
 use Rattle.resolve.proofs.Parts.{one_part, two_parts, first_part, one_ok, two_ok}
-use Rattle.resolve.proofs.QueryParts.{made, ordered, grouped, filtered, joined}
+use Rattle.resolve.proofs.QueryParts.{made, ordered, grouped, filtered, joined, in_parts}
 
 or_left : (a b : Bool) → a ≡ true → (a || b) ≡ true
 or_left true b e = refl
@@ -235,7 +235,7 @@ parts_kept : (ds es : List ParamDecl) (f : ℕ → ℕ) (sources : Sources) (q :
 parts_kept ds es f sources q items joins filter group order ei ej ec eg eo k =
     let s = scope_of (all_sources sources) in
     let later = right (λ p. list_any (uses_in_item p) items) (λ p. list_any (uses_in_join p) joins || uses_in_filter p filter) k in
-    one_ok (bind_items s es q.items) (map (renamed_item f) items) (joined es q sources) _
+    in_parts es q sources ∙ one_ok (bind_items s es q.items) (map (renamed_item f) items) (joined es q sources) _
     (items_kept s ds es f q.items items ei (left (λ p. list_any (uses_in_item p) items) (λ p. list_any (uses_in_join p) joins || uses_in_filter p filter) k))
     (one_ok (bind_joins es (scope_of (sources.from ∷ [])) sources.joins) (map (renamed_join f) joins) (filtered es q sources (map (renamed_item f) items)) _
     (joins_kept ds es f sources.joins (scope_of (sources.from ∷ [])) joins ej (left (λ p. list_any (uses_in_join p) joins) (λ p. uses_in_filter p filter) later))
@@ -247,7 +247,7 @@ parts_kept ds es f sources q items joins filter group order ei ej ec eg eo k =
 query_kept : (ds es : List ParamDecl) (f : ℕ → ℕ) (sources : Sources) (q : tree.Query) (b : bound.BoundQuery) → bind_query ds sources q ≡ Ok b → KeptQuery ds es f sources q b
 query_kept ds es f sources q b e =
     let s = scope_of (all_sources sources) in
-    first_part (bind_items s ds q.items) (joined ds q sources) b (KeptQuery ds es f sources q b) e
+    first_part (bind_items s ds q.items) (joined ds q sources) b (KeptQuery ds es f sources q b) (sym (in_parts ds q sources) ∙ e)
     (λ items ei e1. first_part (bind_joins ds (scope_of (sources.from ∷ [])) sources.joins) (filtered ds q sources items) b (KeptQuery ds es f sources q b) e1
     (λ joins ej e2. first_part (bind_filter s ds q.filter) (grouped q sources items joins) b (KeptQuery ds es f sources q b) e2
     (λ filter ec e3. first_part (each (bind_column_at s) q.group_by) (ordered q sources items joins filter) b (KeptQuery ds es f sources q b) e3

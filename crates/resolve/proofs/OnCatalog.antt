@@ -36,7 +36,7 @@ use Rattle.resolve.specs.Changes.{places_for, bind_row, bind_insert, assigned, t
 use Rattle.resolve.specs.Definitions.{key_path, wrapped_key, master_for, enc_of, enc_for, name_of, new_name, bind_column, bind_unique, word_keys, table_of, bind_table}
 use Rattle.resolve.specs.Bind.{type_of, bound_over, table_sites, named}
 use Rattle.resolve.proofs.Parts.{one_part, two_parts, first_part}
-use Rattle.resolve.proofs.QueryParts.{made, ordered, grouped, filtered, joined}
+use Rattle.resolve.proofs.QueryParts.{made, ordered, grouped, filtered, joined, in_parts}
 use Rattle.resolve.proofs.Places.{found}
 use Rattle.resolve.proofs.PlacedStatements.{each_from_placed}
 
@@ -120,7 +120,7 @@ query_sources : (ds : List ParamDecl) (sources : Sources) (q : tree.Query) (b : 
 query_sources ds sources q b e =
     let s = scope_of (all_sources sources) in
     let Q : bound.BoundQuery → Type 0 = λ z. sources_of z ≡ map bound_source (all_sources sources) in
-    first_part (bind_items s ds q.items) (joined ds q sources) b (Q b) e
+    first_part (bind_items s ds q.items) (joined ds q sources) b (Q b) (sym (in_parts ds q sources) ∙ e)
     (λ items ei e1. first_part (bind_joins ds (scope_of (sources.from ∷ [])) sources.joins) (filtered ds q sources items) b (Q b) e1
     (λ joins ej e2. first_part (bind_filter s ds q.filter) (grouped q sources items joins) b (Q b) e2
     (λ filter ec e3. first_part (each (bind_column_at s) q.group_by) (ordered q sources items joins filter) b (Q b) e3

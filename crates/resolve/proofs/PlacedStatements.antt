@@ -36,7 +36,7 @@ use Rattle.resolve.specs.Changes.{table_scope, all_places, places_for, listed_pl
 use Rattle.resolve.specs.Definitions.{key_path, wrapped_key, master_for, bind_column, word_keys, bind_key_column, bind_unique, listed_name, place_of_key, alone, places_of_list, table_of, bind_table}
 use Rattle.resolve.specs.Bind.{type_of, bound_over, table_sites, named}
 use Rattle.resolve.proofs.Parts.{one_part, two_parts, first_part}
-use Rattle.resolve.proofs.QueryParts.{made, ordered, grouped, filtered, joined}
+use Rattle.resolve.proofs.QueryParts.{made, ordered, grouped, filtered, joined, in_parts}
 use Rattle.resolve.proofs.Places.{place-within, column-within, operand_placed, operands_placed, condition_placed, filter_placed, each_placed}
 
 -- ---- changes
@@ -130,7 +130,7 @@ query_placed ds sources q b e =
     let s = scope_of (all_sources sources) in
     let Q : bound.BoundQuery → Type 0 = PlacedIfShort (length s.columns) (length ds) in
     subst (λ k. PlacedIfShort k (length ds) b) (scope-sites (all_sources sources))
-    (first_part (bind_items s ds q.items) (joined ds q sources) b (Q b) e
+    (first_part (bind_items s ds q.items) (joined ds q sources) b (Q b) (sym (in_parts ds q sources) ∙ e)
     (λ items ei e1. first_part (bind_joins ds (scope_of (sources.from ∷ [])) sources.joins) (filtered ds q sources items) b (Q b) e1
     (λ joins ej e2. first_part (bind_filter s ds q.filter) (grouped q sources items joins) b (Q b) e2
     (λ filter ec e3. first_part (each (bind_column_at s) q.group_by) (ordered q sources items joins filter) b (Q b) e3

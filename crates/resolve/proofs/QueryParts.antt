@@ -1,5 +1,5 @@
 -- The parts of a query behind its items, one after another.
-use Rattle.std.proofs.Common.{ℕ, List, [], ◌∷◌, Option, Result, Ok}
+use Rattle.std.proofs.Common.{◌≡◌, ℕ, List, [], ◌∷◌, refl, Option, Result, Ok, Err}
 use Rattle.ae_base.specs.Results.{◌>>=◌, each}
 use Rattle.ae_base.specs.declared.batches.ParamDecl.{ParamDecl}
 use Rattle.ae_base.specs.declared.faults.SqlFault.{SqlFault}
@@ -11,7 +11,7 @@ use Rattle.sql_tree.specs.Bound as bound
 use Rattle.resolve.specs.Scopes.{scope_of, bound_source}
 use Rattle.resolve.specs.Names.{bind_filter}
 use Rattle.resolve.specs.Tables.{Sources, all_sources}
-use Rattle.resolve.specs.Queries.{bind_joins, bind_column_at, bind_key}
+use Rattle.resolve.specs.Queries.{bind_items, bind_joins, bind_column_at, bind_key, bind_query}
 
 abbrev pub made : tree.Query → Sources → List bound.BoundItem → List bound.BoundJoin → Option (Condition ℕ ℕ) → List PlaceAt → List BoundOrderKey → bound.BoundQuery
 made q sources items joins filter group order = record {
@@ -36,3 +36,28 @@ filtered ds q sources items joins = bind_filter (scope_of (all_sources sources))
 
 abbrev pub joined : List ParamDecl → tree.Query → Sources → List bound.BoundItem → Result bound.BoundQuery SqlFault
 joined ds q sources items = bind_joins ds (scope_of (sources.from ∷ [])) sources.joins >>= λ joins. filtered ds q sources items joins
+
+abbrev both : List PlaceAt → List BoundOrderKey → List PlaceAt × List BoundOrderKey
+both group order = (group, order)
+
+order_alike : (q : tree.Query) (sources : Sources) (items : List bound.BoundItem) (joins : List bound.BoundJoin) (filter : Option (Condition ℕ ℕ)) (group : Result (List PlaceAt) SqlFault) (order : Result (List BoundOrderKey) SqlFault)
+    → ((group >>= λ g. order >>= λ o. Ok (both g o)) >>= λ z. Ok (made q sources items joins filter z.0 z.1)) ≡ (group >>= λ g. order >>= λ o. Ok (made q sources items joins filter g o))
+order_alike q sources items joins filter (Err e) order = refl
+order_alike q sources items joins filter (Ok g) (Err e) = refl
+order_alike q sources items joins filter (Ok g) (Ok o) = refl
+
+parts_alike : (q : tree.Query) (sources : Sources) (items : Result (List bound.BoundItem) SqlFault) (joins : Result (List bound.BoundJoin) SqlFault) (filter : Result (Option (Condition ℕ ℕ)) SqlFault) (group : Result (List PlaceAt) SqlFault) (order : Result (List BoundOrderKey) SqlFault)
+    → (items >>= λ i. joins >>= λ j. filter >>= λ f. (group >>= λ g. order >>= λ o. Ok (both g o)) >>= λ z. Ok (made q sources i j f z.0 z.1))
+    ≡ (items >>= λ i. joins >>= λ j. filter >>= λ f. group >>= λ g. order >>= λ o. Ok (made q sources i j f g o))
+parts_alike q sources (Err e) joins filter group order = refl
+parts_alike q sources (Ok i) (Err e) filter group order = refl
+parts_alike q sources (Ok i) (Ok j) (Err e) group order = refl
+parts_alike q sources (Ok i) (Ok j) (Ok f) group order = order_alike q sources i j f group order
+
+-- a query is bound part by part
+pub in_parts : (ds : List ParamDecl) (q : tree.Query) (sources : Sources)
+    → bind_query ds sources q ≡ (bind_items (scope_of (all_sources sources)) ds q.items >>= λ items. joined ds q sources items)
+in_parts ds q sources =
+    let s = scope_of (all_sources sources) in
+    parts_alike q sources (bind_items s ds q.items) (bind_joins ds (scope_of (sources.from ∷ [])) sources.joins) (bind_filter s ds q.filter)
+    (each (bind_column_at s) q.group_by) (each (bind_key s) q.order_by)

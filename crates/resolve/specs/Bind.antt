@@ -1,6 +1,6 @@
 -- Binding a statement, in five passes over the whole of it: its tables, then its other names, then kinds that clash, then
 -- what isn't grouped, then its length. The answer is the fault at the smallest place of the first pass that has one.
-use Rattle.std.specs.Prelude.{List, [], map, Result, Ok}
+use Rattle.std.specs.Prelude.{ℕ, List, [], map, Result, Ok}
 use Rattle.ae_base.specs.Results.{◌>>=◌}
 use Rattle.ae_base.specs.declared.batches.ParamDecl.{ParamDecl}
 use Rattle.ae_base.specs.declared.types.Ty.{Ty}
@@ -31,9 +31,12 @@ bound_over declarations columns statement = record { params = map type_of declar
 abbrev pub table_sites : TableDef → List ColumnSite
 table_sites def = map site_of def.columns
 
+-- of a master key the path alone is tested
+abbrev pub named_master : List ℕ → List ℕ → List ParamDecl → Result Bound SqlFault
+named_master name path declarations = key_path path >>= λ p. Ok (bound_over declarations [] (bound.CreateMaster name p))
+
 abbrev pub named : Catalog → Statement → List ParamDecl → Result Bound SqlFault
-named catalog (tree.CreateMaster name path) declarations =
-    key_path path >>= λ p. Ok (bound_over declarations [] (bound.CreateMaster name p))
+named catalog (tree.CreateMaster name path) declarations = named_master name path declarations
 named catalog (tree.CreateKey name master wrapped) declarations =
     wrapped_key wrapped >>= λ w. master_for catalog master >>= λ there. Ok (bound_over declarations [] (bound.CreateKey name master w))
 named catalog (tree.CreateTable table columns uniques) declarations =

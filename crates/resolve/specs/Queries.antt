@@ -67,13 +67,16 @@ abbrev pub bind_key : Scope → OrderKey → Result BoundOrderKey SqlFault
 bind_key scope key =
     column_place scope key.column.column >>= λ place. Ok (record { at = key.column.at; place = place; descending = key.descending })
 
-abbrev pub bind_query : List ParamDecl → Sources → Query → Result BoundQuery SqlFault
-bind_query declarations sources query =
-    bind_items (scope_of (all_sources sources)) declarations query.items >>= λ items.
+abbrev pub bind_order : Scope → Query → Result (List PlaceAt × List BoundOrderKey) SqlFault
+bind_order scope query =
+    each (bind_column_at scope) query.group_by >>= λ group_by. each (bind_key scope) query.order_by >>= λ order_by. Ok (group_by, order_by)
+
+abbrev pub bind_over : Scope → List ParamDecl → Sources → Query → Result BoundQuery SqlFault
+bind_over scope declarations sources query =
+    bind_items scope declarations query.items >>= λ items.
     bind_joins declarations (scope_of (sources.from ∷ [])) sources.joins >>= λ joins.
-    bind_filter (scope_of (all_sources sources)) declarations query.filter >>= λ filter.
-    each (bind_column_at (scope_of (all_sources sources))) query.group_by >>= λ group_by.
-    each (bind_key (scope_of (all_sources sources))) query.order_by >>= λ order_by.
+    bind_filter scope declarations query.filter >>= λ filter.
+    bind_order scope query >>= λ order.
     Ok (record {
       distinct = query.distinct;
       top = query.top;
@@ -81,6 +84,9 @@ bind_query declarations sources query =
       from = bound_source sources.from;
       joins = joins;
       filter = filter;
-      group_by = group_by;
-      order_by = order_by;
+      group_by = order.0;
+      order_by = order.1;
     })
+
+abbrev pub bind_query : List ParamDecl → Sources → Query → Result BoundQuery SqlFault
+bind_query declarations sources query = bind_over (scope_of (all_sources sources)) declarations sources query

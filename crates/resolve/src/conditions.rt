@@ -1,7 +1,9 @@
+ghost use Rattle.std.specs.Prelude.{map};
 ghost use Rattle.std.specs.Option.{option_map};
 ghost use Rattle.ae_base.specs.Results.{AnswersAs};
 ghost use Rattle.sql_tree.specs.Listed.{conditions_listed};
-ghost use Rattle.sql_tree.specs.Conditions.{condition_of};
+ghost use Rattle.sql_tree.specs.Operands.{operand_of};
+ghost use Rattle.sql_tree.specs.Conditions.{Compare, In, condition_of};
 ghost use Rattle.resolve.specs.Names.{bind_condition, bind_conditions, bind_filter};
 ghost use Rattle.resolve.specs.Seen.{scope_seen};
 
@@ -13,9 +15,61 @@ use ae_base::lists::Seq;
 use ae_base::names::ParamName;
 use ae_base::refusals::Refusal;
 use sql_tree::bound::BoundCondition;
-use sql_tree::conditions::Condition;
-use sql_tree::operands::ColumnRef;
+use sql_tree::conditions::{Comparison, Condition};
+use sql_tree::operands::{ColumnRef, Operand};
 use std::alloc::Global;
+
+fn compare(
+    alloc: Global,
+    scope: &Scope<'_>,
+    declarations: &[ParamDecl],
+    at: u32,
+    comparison: Comparison,
+    left: &Operand<ColumnRef, ParamName>,
+    right: &Operand<ColumnRef, ParamName>,
+) -> Result<BoundCondition, Refusal>
+    ensures { AnswersAs condition_of result (bind_condition (scope_seen scope.now) declarations.now (Compare at comparison (operand_of left.now) (operand_of right.now))) }
+{
+    let left = bind_operand(alloc, scope, declarations, left)?;
+    match bind_operand(alloc, scope, declarations, right) {
+        Ok(right) => Ok(Condition::Compare {
+            at,
+            comparison,
+            left,
+            right,
+        }),
+        Err(refusal) => {
+            drop(left);
+            Err(refusal)
+        }
+    }
+}
+
+fn is_in(
+    alloc: Global,
+    scope: &Scope<'_>,
+    declarations: &[ParamDecl],
+    at: u32,
+    negated: bool,
+    operand: &Operand<ColumnRef, ParamName>,
+    list: &[Operand<ColumnRef, ParamName>],
+) -> Result<BoundCondition, Refusal>
+    ensures { AnswersAs condition_of result (bind_condition (scope_seen scope.now) declarations.now (In at negated (operand_of operand.now) (map operand_of list.now))) }
+{
+    let operand = bind_operand(alloc, scope, declarations, operand)?;
+    match bind_operands(alloc, scope, declarations, list) {
+        Ok(list) => Ok(Condition::In {
+            at,
+            negated,
+            operand,
+            list: list.into_vec(),
+        }),
+        Err(refusal) => {
+            drop(operand);
+            Err(refusal)
+        }
+    }
+}
 
 #[cycle(bind_condition)]
 #[tactic(auto, using(crate::proofs::Trees::all_seen, crate::proofs::Trees::any_seen))]
@@ -33,12 +87,7 @@ pub(crate) fn bind_condition(
             comparison,
             left,
             right,
-        } => Ok(Condition::Compare {
-            at: *at,
-            comparison: *comparison,
-            left: bind_operand(alloc, scope, declarations, left)?,
-            right: bind_operand(alloc, scope, declarations, right)?,
-        }),
+        } => compare(alloc, scope, declarations, *at, *comparison, left, right),
         Condition::IsNull { negated, operand } => Ok(Condition::IsNull {
             negated: *negated,
             operand: bind_operand(alloc, scope, declarations, operand)?,
@@ -48,12 +97,7 @@ pub(crate) fn bind_condition(
             negated,
             operand,
             list,
-        } => Ok(Condition::In {
-            at: *at,
-            negated: *negated,
-            operand: bind_operand(alloc, scope, declarations, operand)?,
-            list: bind_operands(alloc, scope, declarations, list)?.into_vec(),
-        }),
+        } => is_in(alloc, scope, declarations, *at, *negated, operand, list),
         Condition::Not(condition) => {
             let condition = bind_condition(alloc, scope, declarations, condition)?;
             Ok(Condition::Not(boxed(alloc, condition)?))

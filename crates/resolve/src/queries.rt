@@ -5,7 +5,7 @@ ghost use Rattle.sql_tree.specs.Bound as bound;
 ghost use Rattle.sql_tree.specs.Statements as tree;
 ghost use Rattle.resolve.specs.Scopes.{bound_source, scope_of};
 ghost use Rattle.resolve.specs.Tables.{all_sources};
-ghost use Rattle.resolve.specs.Queries.{bind_column_at, bind_item, bind_items, bind_join, bind_joins, bind_key, bind_query, bind_value, operand_title, starred, title_of};
+ghost use Rattle.resolve.specs.Queries.{bind_column_at, bind_item, bind_items, bind_join, bind_joins, bind_key, bind_order, bind_over, bind_query, bind_value, operand_title, starred, title_of};
 ghost use Rattle.resolve.specs.Seen.{column_seen, joined_seen, scope_seen, source_seen, sources_seen};
 
 use crate::conditions::{bind_condition, bind_filter};
@@ -222,6 +222,51 @@ fn bind_keys(
     Ok(list)
 }
 
+/// GROUP BY and ORDER BY.
+fn bind_order(
+    alloc: Global,
+    scope: &Scope<'_>,
+    query: &Query,
+) -> Result<(Seq<PlaceAt>, Seq<BoundOrderKey>), Refusal>
+    ensures { Answers result (bind_order (scope_seen scope.now) (tree.query_of query.now)) }
+{
+    let group_by = bind_columns(alloc, scope, query.group_by.as_slice())?;
+    let order_by = bind_keys(alloc, scope, query.order_by.as_slice())?;
+    Ok((group_by, order_by))
+}
+
+/// The query over the scope of all its tables.
+fn bind_over(
+    alloc: Global,
+    scope: &Scope<'_>,
+    declarations: &[ParamDecl],
+    sources: &Sources<'_>,
+    query: &Query,
+) -> Result<BoundQuery, Refusal>
+    ensures { AnswersAs bound.query_of result (bind_over (scope_seen scope.now) declarations.now (sources_seen sources.now) (tree.query_of query.now)) }
+{
+    let from = bound_source(&sources.from)?;
+    let items = bind_items(alloc, scope, declarations, &query.items)?;
+    let joins = bind_joins(alloc, declarations, sources.from, sources.joins.as_slice())?;
+    let filter = bind_filter(alloc, scope, declarations, &query.filter)?;
+    match bind_order(alloc, scope, query) {
+        Ok((group_by, order_by)) => Ok(BoundQuery {
+            distinct: query.distinct,
+            top: query.top,
+            items,
+            from,
+            joins,
+            filter,
+            group_by,
+            order_by,
+        }),
+        Err(refusal) => {
+            drop(filter);
+            Err(refusal)
+        }
+    }
+}
+
 /// The query with its names as places.
 pub(crate) fn bind_query(
     alloc: Global,
@@ -232,19 +277,5 @@ pub(crate) fn bind_query(
     ensures { AnswersAs bound.query_of result (bind_query declarations.now (sources_seen sources.now) (tree.query_of query.now)) }
 {
     let scope = whole_scope(alloc, sources)?;
-    let items = bind_items(alloc, &scope, declarations, &query.items)?;
-    let joins = bind_joins(alloc, declarations, sources.from, sources.joins.as_slice())?;
-    let filter = bind_filter(alloc, &scope, declarations, &query.filter)?;
-    let group_by = bind_columns(alloc, &scope, query.group_by.as_slice())?;
-    let order_by = bind_keys(alloc, &scope, query.order_by.as_slice())?;
-    Ok(BoundQuery {
-        distinct: query.distinct,
-        top: query.top,
-        items,
-        from: bound_source(&sources.from)?,
-        joins,
-        filter,
-        group_by,
-        order_by,
-    })
+    bind_over(alloc, &scope, declarations, sources, query)
 }

@@ -1,4 +1,4 @@
-ghost use Rattle.std.specs.Prelude.{◌≡◌, ◌++◌, [], IfOk, Ok, OnOk, map};
+ghost use Rattle.std.specs.Prelude.{◌≡◌, ◌++◌, [], IfOk, List, Ok, OnOk, map};
 ghost use Rattle.std.specs.Option.{option_map};
 ghost use Rattle.ae_base.specs.Results.{AnswersAs};
 ghost use Rattle.sql_tree.specs.Bound as bound;
@@ -7,9 +7,10 @@ ghost use Rattle.sql_tree.specs.Statements as tree;
 ghost use Rattle.sql_tree.specs.Placed.{site_of};
 ghost use Rattle.resolve.specs.Scopes.{sites_of};
 ghost use Rattle.resolve.specs.Tables.{all_sources};
-ghost use Rattle.resolve.specs.Bind.{bind, bound_over, named, type_of};
+ghost use Rattle.ae_base.specs.declared.batches.ParamDecl.{ParamDecl};
+ghost use Rattle.resolve.specs.Bind.{bind, bound_over, named, named_master, type_of};
 ghost use Rattle.resolve.specs.Dropped.{drop_of};
-ghost use Rattle.resolve.specs.Seen.{sources_seen};
+ghost use Rattle.resolve.specs.Seen.{bound_of_placed, sources_seen};
 
 use crate::changes::{bind_delete, bind_insert, bind_update};
 use crate::definitions::{bind_table, key_path, master_for, wrapped_key};
@@ -71,42 +72,40 @@ fn sites_of(alloc: Global, sources: &Sources<'_>) -> Result<Seq<ColumnSite>, All
     Ok(sites)
 }
 
-fn named_master(
-    alloc: Global,
-    catalog: &Catalog,
-    declarations: &[ParamDecl],
-    name: &Name,
-    path: &Txt,
-) -> Result<Bound, Refusal>
-    ensures { AnswersAs bound.bound_of result (named catalog.now (tree.CreateMaster name.now path.now) declarations.now) }
+/// The columns that a statement sees, and the statement with its names as places.
+#[derive(Drop)]
+struct Placed {
+    columns: Seq<ColumnSite>,
+    statement: BoundStatement,
+}
+
+fn place_master(alloc: Global, name: &Name, path: &Txt) -> Result<Placed, Refusal>
+    ensures { (declarations : List ParamDecl)
+        → AnswersAs (bound_of_placed declarations) result (named_master name.now path.now declarations) }
 {
-    let params = types_of(alloc, declarations)?;
     let path = key_path(path)?;
     let name = name.copy()?;
-    Ok(Bound {
-        params,
+    Ok(Placed {
         columns: Seq::new(alloc),
         statement: BoundStatement::CreateMaster { name, path },
     })
 }
 
-fn named_key(
+fn place_key(
     alloc: Global,
     catalog: &Catalog,
-    declarations: &[ParamDecl],
     name: &Name,
     master: &Name,
     wrapped: &Blob,
-) -> Result<Bound, Refusal>
-    ensures { AnswersAs bound.bound_of result (named catalog.now (tree.CreateKey name.now master.now wrapped.now) declarations.now) }
+) -> Result<Placed, Refusal>
+    ensures { (declarations : List ParamDecl)
+        → AnswersAs (bound_of_placed declarations) result (named catalog.now (tree.CreateKey name.now master.now wrapped.now) declarations) }
 {
-    let params = types_of(alloc, declarations)?;
     let wrapped = wrapped_key(wrapped)?;
     master_for(catalog, master)?;
     let name = name.copy()?;
     let master = master.copy()?;
-    Ok(Bound {
-        params,
+    Ok(Placed {
         columns: Seq::new(alloc),
         statement: BoundStatement::CreateKey {
             name,
@@ -116,27 +115,26 @@ fn named_key(
     })
 }
 
-fn named_table(
+fn place_table(
     alloc: Global,
     catalog: &Catalog,
-    declarations: &[ParamDecl],
     table: &Name,
-    columns: &[ColumnSpec],
-    uniques: &[UniqueSpec],
-) -> Result<Bound, Refusal>
-    ensures { AnswersAs bound.bound_of result (named catalog.now (tree.CreateTable table.now columns.now uniques.now) declarations.now) }
+    columns: &Seq<ColumnSpec>,
+    uniques: &Seq<UniqueSpec>,
+) -> Result<Placed, Refusal>
+    ensures { (declarations : List ParamDecl)
+        → AnswersAs (bound_of_placed declarations) result (named catalog.now (tree.CreateTable table.now columns.now uniques.now) declarations) }
 {
-    let params = types_of(alloc, declarations)?;
+    let (columns, uniques) = (columns.as_slice(), uniques.as_slice());
     let made = bind_table(alloc, catalog, table, columns, uniques)?;
-    Ok(Bound {
-        params,
+    Ok(Placed {
         columns: table_sites(alloc, made.def.columns.as_slice())?,
         statement: BoundStatement::CreateTable(made),
     })
 }
 
 /// What a DROP drops.
-#[derive(Clone, Copy, PartialEq, Eq, Debug)]
+#[derive(Clone, Copy)]
 enum Dropped {
     Table,
     Master,
@@ -156,102 +154,129 @@ impl Dropped {
     }
 }
 
-fn named_drop(
-    alloc: Global,
-    declarations: &[ParamDecl],
-    dropped: Dropped,
-    name: &Name,
-) -> Result<Bound, Refusal>
-    ensures { AnswersAs bound.bound_of result (Ok (bound_over declarations.now [] (drop_of dropped name.now))) }
+fn place_drop(alloc: Global, dropped: Dropped, name: &Name) -> Result<Placed, Refusal>
+    ensures { (declarations : List ParamDecl)
+        → AnswersAs (bound_of_placed declarations) result (Ok (bound_over declarations [] (drop_of dropped name.now))) }
 {
-    let params = types_of(alloc, declarations)?;
     let name = name.copy()?;
-    Ok(Bound {
-        params,
+    Ok(Placed {
         columns: Seq::new(alloc),
         statement: dropped.named(name),
     })
 }
 
-fn named_insert(
+fn place_insert(
     alloc: Global,
     catalog: &Catalog,
     declarations: &[ParamDecl],
     table: &Name,
     names: &Option<Seq<Name>>,
-    rows: &[ValueRow],
-) -> Result<Bound, Refusal>
-    ensures { AnswersAs bound.bound_of result (named catalog.now (tree.Insert table.now names.now (map tree.row_of rows.now)) declarations.now) }
+    rows: &Seq<ValueRow>,
+) -> Result<Placed, Refusal>
+    ensures { AnswersAs (bound_of_placed declarations.now) result (named catalog.now (tree.Insert table.now names.now (map tree.row_of rows.now)) declarations.now) }
 {
-    let params = types_of(alloc, declarations)?;
     let def = table_for(catalog, table)?;
     let columns = table_sites(alloc, def.columns.as_slice())?;
-    let insert = bind_insert(alloc, declarations, def, table, names, rows)?;
-    Ok(Bound {
-        params,
+    let insert = bind_insert(alloc, declarations, def, table, names, rows.as_slice())?;
+    Ok(Placed {
         columns,
         statement: BoundStatement::Insert(insert),
     })
 }
 
-fn named_update(
+fn place_update(
     alloc: Global,
     catalog: &Catalog,
     declarations: &[ParamDecl],
     table: &Name,
-    assignments: &[Assignment],
+    assignments: &Seq<Assignment>,
     filter: &Option<Condition<ColumnRef, ParamName>>,
-) -> Result<Bound, Refusal>
-    ensures { AnswersAs bound.bound_of result (named catalog.now (tree.Update table.now (map tree.assignment_of assignments.now) (option_map condition_of filter.now)) declarations.now) }
+) -> Result<Placed, Refusal>
+    ensures { AnswersAs (bound_of_placed declarations.now) result (named catalog.now (tree.Update table.now (map tree.assignment_of assignments.now) (option_map condition_of filter.now)) declarations.now) }
 {
-    let params = types_of(alloc, declarations)?;
     let def = table_for(catalog, table)?;
     let columns = table_sites(alloc, def.columns.as_slice())?;
+    let assignments = assignments.as_slice();
     let update = bind_update(alloc, declarations, def, table, assignments, filter)?;
-    Ok(Bound {
-        params,
+    Ok(Placed {
         columns,
         statement: BoundStatement::Update(update),
     })
 }
 
-fn named_delete(
+fn place_delete(
     alloc: Global,
     catalog: &Catalog,
     declarations: &[ParamDecl],
     table: &Name,
     filter: &Option<Condition<ColumnRef, ParamName>>,
-) -> Result<Bound, Refusal>
-    ensures { AnswersAs bound.bound_of result (named catalog.now (tree.Delete table.now (option_map condition_of filter.now)) declarations.now) }
+) -> Result<Placed, Refusal>
+    ensures { AnswersAs (bound_of_placed declarations.now) result (named catalog.now (tree.Delete table.now (option_map condition_of filter.now)) declarations.now) }
 {
-    let params = types_of(alloc, declarations)?;
     let def = table_for(catalog, table)?;
     let columns = table_sites(alloc, def.columns.as_slice())?;
     let delete = bind_delete(alloc, declarations, def, table, filter)?;
-    Ok(Bound {
-        params,
+    Ok(Placed {
         columns,
         statement: BoundStatement::Delete(delete),
     })
 }
 
-fn named_query(
+fn place_query(
     alloc: Global,
     catalog: &Catalog,
     declarations: &[ParamDecl],
     query: &Query,
-) -> Result<Bound, Refusal>
-    ensures { AnswersAs bound.bound_of result (named catalog.now (tree.Select (tree.query_of query.now)) declarations.now) }
+) -> Result<Placed, Refusal>
+    ensures { AnswersAs (bound_of_placed declarations.now) result (named catalog.now (tree.Select (tree.query_of query.now)) declarations.now) }
 {
-    let params = types_of(alloc, declarations)?;
     let sources = sources_for(alloc, catalog, query)?;
     let columns = sites_of(alloc, &sources)?;
     let query = bind_query(alloc, declarations, &sources, query)?;
-    Ok(Bound {
-        params,
+    Ok(Placed {
         columns,
         statement: BoundStatement::Select(query),
     })
+}
+
+fn place(
+    alloc: Global,
+    catalog: &Catalog,
+    statement: &Statement,
+    declarations: &[ParamDecl],
+) -> Result<Placed, Refusal>
+    ensures { AnswersAs (bound_of_placed declarations.now) result (named catalog.now (tree.statement_of statement.now) declarations.now) }
+{
+    match statement {
+        Statement::CreateMaster { name, path } => place_master(alloc, name, path),
+        Statement::CreateKey {
+            name,
+            master,
+            wrapped,
+        } => place_key(alloc, catalog, name, master, wrapped),
+        Statement::CreateTable {
+            table,
+            columns,
+            uniques,
+        } => place_table(alloc, catalog, table, columns, uniques),
+        Statement::DropTable(name) => place_drop(alloc, Dropped::Table, name),
+        Statement::DropMaster(name) => place_drop(alloc, Dropped::Master, name),
+        Statement::DropKey(name) => place_drop(alloc, Dropped::Key, name),
+        Statement::Insert {
+            table,
+            columns,
+            rows,
+        } => place_insert(alloc, catalog, declarations, table, columns, rows),
+        Statement::Update {
+            table,
+            assignments,
+            filter,
+        } => place_update(alloc, catalog, declarations, table, assignments, filter),
+        Statement::Delete { table, filter } => {
+            place_delete(alloc, catalog, declarations, table, filter)
+        }
+        Statement::Select(query) => place_query(alloc, catalog, declarations, query),
+    }
 }
 
 /// The passes over the tables and the other names.
@@ -263,59 +288,13 @@ fn named(
 ) -> Result<Bound, Refusal>
     ensures { AnswersAs bound.bound_of result (named catalog.now (tree.statement_of statement.now) declarations.now) }
 {
-    match statement {
-        Statement::CreateMaster { name, path } => {
-            named_master(alloc, catalog, declarations, name, path)
-        }
-        Statement::CreateKey {
-            name,
-            master,
-            wrapped,
-        } => named_key(alloc, catalog, declarations, name, master, wrapped),
-        Statement::CreateTable {
-            table,
-            columns,
-            uniques,
-        } => named_table(
-            alloc,
-            catalog,
-            declarations,
-            table,
-            columns.as_slice(),
-            uniques.as_slice(),
-        ),
-        Statement::DropTable(name) => { named_drop(alloc, declarations, Dropped::Table, name) }
-        Statement::DropMaster(name) => { named_drop(alloc, declarations, Dropped::Master, name) }
-        Statement::DropKey(name) => { named_drop(alloc, declarations, Dropped::Key, name) }
-        Statement::Insert {
-            table,
-            columns,
-            rows,
-        } => named_insert(
-            alloc,
-            catalog,
-            declarations,
-            table,
-            columns,
-            rows.as_slice(),
-        ),
-        Statement::Update {
-            table,
-            assignments,
-            filter,
-        } => named_update(
-            alloc,
-            catalog,
-            declarations,
-            table,
-            assignments.as_slice(),
-            filter,
-        ),
-        Statement::Delete { table, filter } => {
-            named_delete(alloc, catalog, declarations, table, filter)
-        }
-        Statement::Select(query) => named_query(alloc, catalog, declarations, query),
-    }
+    let params = types_of(alloc, declarations)?;
+    let placed = place(alloc, catalog, statement, declarations)?;
+    Ok(Bound {
+        params,
+        columns: placed.columns,
+        statement: placed.statement,
+    })
 }
 
 /// Binds a statement over a catalog and the declarations of its parameters: each name becomes the
@@ -332,6 +311,11 @@ pub fn bind(
     ensures { AnswersAs bound.bound_of result (bind catalog.now (tree.statement_of statement.now) declarations.now) }
 {
     let made = named(alloc, catalog, statement, declarations)?;
-    checked(alloc, &made)?;
-    Ok(made)
+    match checked(alloc, &made) {
+        Ok(()) => Ok(made),
+        Err(refusal) => {
+            drop(made);
+            Err(refusal)
+        }
+    }
 }
