@@ -1,12 +1,11 @@
 -- What a run leaves of what it was lent.
-use Rattle.std.proofs.Common.{◌≡◌, ℕ, ◌+◌, ◌≤◌, ◌<◌, List, [], ◌∷◌, ◌++◌, Option, Some, None, Result, Ok, Err, Bool, true, false, length, replicate, ◌⊎◌, refl, sym, ◌∙◌, ap, subst, append-nil, arith, length-append}
-use Rattle.std.proofs.lemmas.List.{length-replicate}
+use Rattle.std.proofs.Common.{◌≡◌, ℕ, ◌+◌, ◌≤◌, List, [], ◌∷◌, ◌++◌, Option, Some, None, Result, Ok, Err, Bool, true, false, length, ◌⊎◌, refl, sym, ◌∙◌, ap, subst, append-nil, arith}
 use Rattle.std.specs.Prelude.{IfSome, IfOk}
 use Rattle.std.specs.List.{All}
 use Rattle.std.specs.Borrow.{GName}
 use Rattle.ae_edge.specs.Devices.{Rose, WhereTold}
 use Rattle.ae_edge.proofs.Told.{told_map}
-use Rattle.ae_edge.specs.Streams.{HasTaken, ReadsAll}
+use Rattle.ae_edge.specs.Streams.{ReadsAll}
 use Rattle.ae_edge.specs.declared.streams.ReadAll.TheVariants as read
 use Rattle.conversation.specs.Paths.{Event}
 use Rattle.conversation.specs.Sessions.{nobody}
@@ -101,36 +100,6 @@ was_read ran.Done steps old new h = tt
 was_read ran.Refusals steps old new h = tt
 was_read (ran.Stopped why) steps old new h = tt
 was_read (ran.Unread why) steps old new h = absurd h
-
--- the bytes that a source had
-pub some_bytes : (left : Option (List ℕ)) → (bytes : List ℕ) × IfSome left (λ xs. bytes ≡ xs)
-some_bytes (Some xs) = (xs, refl)
-some_bytes None = ([], tt)
-
--- a front that is longer than the limit
-longer_front : (bytes left : List ℕ) → HasTaken (λ n. n ≡ most_script_bytes + 1) bytes left → most_script_bytes < length bytes
-longer_front bytes left h =
-    let l : length bytes ≡ length h.0 + length left = ap length h.1 ∙ length-append h.0 left in
-    omega (arith, h.2)
-
--- there are lists of every length
-many_of : (n z : ℕ) → (bytes : List ℕ) × (n < length bytes)
-many_of n z =
-    let l : length (replicate (n + 1) z) ≡ n + 1 = length-replicate (n + 1) z in
-    (replicate (n + 1) z, omega (arith, l))
-
-many : (n : ℕ) → (bytes : List ℕ) × (n < length bytes)
-many n = many_of n 0
-
-pub too_many_bytes : (old new : Option (List ℕ)) → WhereTold (ReadsAll most_script_bytes read.TooLong) old new → (bytes : List ℕ) × IfSome old (λ xs. bytes ≡ xs) × (most_script_bytes < length bytes)
-too_many_bytes (Some xs) (Some left) h = (xs, refl, longer_front xs left h)
-too_many_bytes (Some xs) None h = absurd h
-too_many_bytes None new h = let m = many most_script_bytes in (m.0, tt, m.1)
-
-pub whole_bytes : (old new : Option (List ℕ)) (bytes : List ℕ) → WhereTold (ReadsAll most_script_bytes (read.Whole bytes)) old new → IfSome old (λ xs. bytes ≡ xs)
-whole_bytes (Some xs) (Some left) bytes h = sym h.0
-whole_bytes (Some xs) None bytes h = absurd h
-whole_bytes None new bytes h = tt
 
 -- ---- what was taken of it
 

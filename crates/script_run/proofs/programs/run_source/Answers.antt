@@ -1,13 +1,14 @@
 -- As its bytes run, or they weren't read.
 use Rattle.std.proofs.Common.{refl}
-use Rattle.script_run.proofs.Lent.{some_bytes, too_many_bytes, whole_bytes, takes_whole, read_it, write_rose, entropy_rose, vault_rose}
+use Rattle.ae_edge.proofs.Whole.{some_bytes, too_many_bytes, whole_bytes}
+use Rattle.script_run.proofs.Lent.{takes_whole, read_it, write_rose, entropy_rose, vault_rose}
 use Rattle.script_run.proofs.programs.run_source.Goals as goal
 
 pub run_bytes-requires : goal.run_bytes-requires
 run_bytes-requires g c = record { within = c.in-Whole.ensures.within }
 
 pub returns-in-Whole-clause-content : goal.returns-in-Whole-clause-content
-returns-in-Whole-clause-content g c = (_, whole_bytes _ _ _ c.in-Whole.ensures.content, c.run_bytes.ensures.content)
+returns-in-Whole-clause-content g c = (_, whole_bytes _ _ _ _ c.in-Whole.ensures.content, c.run_bytes.ensures.content)
 
 pub returns-in-Whole-clause-taken : goal.returns-in-Whole-clause-taken
 returns-in-Whole-clause-taken g c = takes_whole _ _ _ _ c.run_bytes.ensures.read c.in-Whole.ensures.content
@@ -25,7 +26,7 @@ pub returns-in-Whole-clause-vault : goal.returns-in-Whole-clause-vault
 returns-in-Whole-clause-vault g c = λ e. vault_rose _ _ _ _ c.run_bytes.ensures.content e
 
 pub returns-in-TooLong-clause-content : goal.returns-in-TooLong-clause-content
-returns-in-TooLong-clause-content g c = let t = too_many_bytes _ _ c.in-TooLong.ensures.content in (t.0, t.1, (t.2, refl))
+returns-in-TooLong-clause-content g c = let t = too_many_bytes _ _ _ c.in-TooLong.ensures.content in (t.0, t.1, (t.2, refl))
 
 pub returns-in-TooLong-clause-taken : goal.returns-in-TooLong-clause-taken
 returns-in-TooLong-clause-taken g c = c.in-TooLong.ensures.content
