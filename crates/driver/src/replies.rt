@@ -249,6 +249,8 @@ fn reading_replied(
         Reply::Row(row) => read_next(alloc, columns, keys, count, row),
         Reply::Ended(done) => {
             if ends(*done, count) {
+                drop(columns);
+                drop(keys);
                 return Turn {
                     answer: Ok(ReplyAnswer::Rows(count)),
                     after: Session::Idle,
@@ -285,6 +287,7 @@ fn skipping_replied(
         Reply::Row(row) => skip_next(columns, count, row),
         Reply::Ended(done) => {
             if ends(*done, count) {
+                drop(columns);
                 return Turn {
                     answer: Ok(ReplyAnswer::Over),
                     after: Session::Idle,
