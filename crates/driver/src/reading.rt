@@ -12,7 +12,7 @@ ghost use Rattle.driver.specs.Read.{ReadsRow};
 use ae_base::lists::Seq;
 use ae_base::types::{Enc, Ty};
 use ae_base::values::{Datum, Value};
-use cell_codec::{CellFault, unseal};
+use cell_codec::{CellFault, unseal_bytes};
 use conversation::faults::{CellFailure, DriverFault, Halt};
 use conversation::sessions::ColumnType;
 use hmac_kdf::CellKeys;
@@ -100,8 +100,7 @@ fn read_cell(
 ) -> Result<Result<Value, CellFailure>, Halt>
     ensures { IfOk result (λ read. read ≡ value_in ty (unsealed keys.now cell.now)) }
 {
-    let cell = cell.to_cell(alloc)?;
-    match unseal(alloc, keys, &cell) {
+    match unseal_bytes(alloc, keys, cell.bytes()) {
         Ok(bytes) => read_bytes(alloc, bytes.as_slice(), ty),
         Err(fault) => failed(fault),
     }
