@@ -2,7 +2,7 @@
 use Rattle.std.proofs.Common.{◌∙◌, Ok, Err}
 use Rattle.cbc_mode.specs.declared.CbcFault.TheVariants.{BadLength, NotPadded}
 use Rattle.cell_codec.proofs.Opening.{unsealed-version, unsealed-length, unsealed-tag, unsealed-opened}
-use Rattle.cell_codec.proofs.unsealing.unseal.Goals as goal
+use Rattle.cell_codec.proofs.unsealing.unseal_bytes.Goals as goal
 
 pub returns-then-lead-ne-VERSION-clause-exact : goal.returns-then-lead-ne-VERSION-clause-exact
 returns-then-lead-ne-VERSION-clause-exact c = unsealed-version _ _ (λ first. c.if-lead-ne-VERSION.true (c.lead.ensures ∙ first))
