@@ -29,6 +29,7 @@ use Rattle.wire_messages.specs.Messages.{Header}
 use Rattle.wire_messages.specs.declared.columns.SentColumn.{SentColumn}
 use Rattle.wire_messages.specs.declared.replies.Done.TheVariants.{Answered}
 use Rattle.wire_messages.specs.declared.replies.Reply.TheVariants.{Row, Ended}
+use Rattle.server_core.proofs.Understanding.{parts_of}
 use Rattle.server_core.specs.Describing.{Meant, understood, description, keys_of}
 use Rattle.server_core.specs.Params.{declaration_of, suited}
 use Rattle.server_core.specs.Serve.{refused, described, answered, executed, sent_column, header, serve}
@@ -72,7 +73,7 @@ use Rattle.plain_meaning.proofs.Sealed.{SealLaws}
 use Rattle.plain_meaning.proofs.Sending.{Each, each_over, told_among, params_used, encs_used, encs_found, all_fit}
 use Rattle.plain_meaning.proofs.Talk.{AreSealed, encs_in, types_shown, sealing_agrees, opening_agrees, rows_opened, rows_skipped}
 use Rattle.plain_meaning.proofs.Told.{IsMetaOf, are_told}
-use Rattle.plain_meaning.proofs.Understood.{parts_of, understood_alone, step_alone}
+use Rattle.plain_meaning.proofs.Understood.{understood_alone, step_alone}
 use Rattle.plain_meaning.proofs.Used.{tys_in, plain_in, atoms_in, uses_sendable, all_sendable, sent_declared, sent_suited, sent_typed, sent_stands, sent_long, encs_there, columns_there, used_encs, types_declared}
 use Rattle.plain_meaning.proofs.Versions.{Newer, step_leaves}
 
