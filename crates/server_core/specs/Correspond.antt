@@ -71,9 +71,12 @@ RepliesCorrespond R classes [] (other ∷ others) = ⊥
 RepliesCorrespond R classes (reply ∷ replies) [] = ⊥
 RepliesCorrespond R classes (reply ∷ replies) (other ∷ others) = ReplyCorresponds R classes reply other × RepliesCorrespond R (classes_behind classes reply) replies others
 
--- requests with their replies, one after another; each list of replies begins before any columns
+-- a request with its replies, before which no columns are told
+abbrev pub ExchangeCorresponds : Pairing → Exchange → Exchange → Type 0
+ExchangeCorresponds R e f = RequestsCorrespond R e.request f.request × RepliesCorrespond R [] e.replies f.replies
+
 abbrev pub ExchangesCorrespond : Pairing → List Exchange → List Exchange → Type 0
-ExchangesCorrespond R exchanges others = AllZip (λ e f. RequestsCorrespond R e.request f.request × RepliesCorrespond R [] e.replies f.replies) exchanges others
+ExchangesCorrespond R exchanges others = AllZip (ExchangeCorresponds R) exchanges others
 
 -- ---- states, and what is served
 
