@@ -13,14 +13,16 @@ use Rattle.sql_tree.specs.Placed.{site_of}
 use Rattle.scalar.specs.Classes.{Class, Pairing, class_at, IsOneToOne, PlacesCorrespond, RowsCorrespond, BothAnswer}
 use Rattle.scalar.specs.Eval.{atom_at}
 use Rattle.scalar.proofs.Correspondence.{corresponds_at}
-use Rattle.engine.specs.Rows.{column_at, value_at, replaced}
-use Rattle.engine.specs.Step.{Tested, columns_of, selects, row_to_update, rows_to_update, tested_row, row_to_delete}
+use Rattle.row_changes.specs.Rows.{column_at, value_at, replaced}
+use Rattle.row_changes.specs.Changes.{Tested, selects, row_to_update, tested_row, row_to_delete}
+use Rattle.engine.specs.Step.{columns_of, rows_to_update}
 use Rattle.engine.specs.Typed.{classes_of, IsValueFor, AreValuesFor, IsTypedFilter}
 use Rattle.engine.specs.WellTyped.{IsOf}
 use Rattle.engine.specs.Worlds.{World, rows_of}
-use Rattle.engine.proofs.Pairs.{both_before, asks_alike}
+use Rattle.operators.proofs.Pairs.{both_before, asks_alike, each_alike}
 use Rattle.engine.proofs.Suited.{IsSealedIn, sealed_of, values_are, given_there}
-use Rattle.engine.proofs.Written.{rows_in, made_all, rows_mapped, updated, were_updated}
+use Rattle.engine.proofs.Written.{rows_in, rows_mapped, updated, were_updated}
+use Rattle.operators.proofs.Collected.{made_all}
 
 -- ---- the assignments of SET as places and values
 
@@ -84,13 +86,6 @@ module _ (cell : List ℕ → Bool) where
       (λ row t k f. updated_is columns ps params there u typed row t k f) h (were_updated world u params tested e).each_is)
 
 -- ---- over rows that correspond
-
-pub each_alike : {A B C D E : Type 0} (P : A → B → Type 0) (Q : C → D → Type 0) (f : A → Result C E) (g : B → Result D E) (xs : List A) (ys : List B) → ((x : A) (y : B) → P x y → BothAnswer Q (f x) (g y)) → AllZip P xs ys
-    → BothAnswer (AllZip Q) (each f xs) (each g ys)
-each_alike P Q f g [] [] k h = tt
-each_alike P Q f g [] (y ∷ ys) k h = absurd h
-each_alike P Q f g (x ∷ xs) [] k h = absurd h
-each_alike P Q f g (x ∷ xs) (y ∷ ys) k h = both_before Q (f x) (g y) (each f xs) (each g ys) (k x y h.0) (each_alike P Q f g xs ys k h.1)
 
 module _ (R : Pairing) where
   -- both were hit or neither, and the rows correspond

@@ -1,14 +1,10 @@
 pub mod Answers
 pub mod BoundOn
-pub mod Changes
 pub mod Columns
 pub mod Correspond
-pub mod Keys
 pub mod Laws
 pub mod Queries
-pub mod Rows
 pub mod Step
 pub mod Typed
 pub mod WellTyped
-pub mod Wide
 pub mod Worlds

@@ -16,9 +16,9 @@ use Rattle.catalog.specs.Catalogs.{Catalog, with_master, with_key, with_table, w
 use Rattle.operators.specs.Events.{asks}
 use Rattle.engine.specs.declared.answers.ResultColumn.{ResultColumn}
 use Rattle.engine.specs.Columns.{result_column}
-use Rattle.engine.specs.Keys.{first_twins, unless_twins}
+use Rattle.unique_keys.specs.Keys.{first_twins, unless_twins}
 use Rattle.engine.specs.Queries.{found_in}
-use Rattle.engine.specs.Rows.{new_rows, values_into, replaced}
+use Rattle.row_changes.specs.Rows.{new_rows, values_into, replaced}
 use Rattle.engine.specs.Worlds.{World, place_of, rows_of, with_rows}
 
 -- ---- answers
@@ -79,26 +79,6 @@ abbrev pub insert : World → BoundInsert → List Atom → Result Done SqlFault
 insert world i params =
     rows_to_insert world i params >>= λ rows. Ok (record { answer = Changed (length rows); world = with_rows world i.table (rows_of world i.table ++ rows) })
 
--- a row, and whether the filter was true of it
-pub record Tested : Type 0 where
-  pub hit : Bool
-  pub row : List Atom
-
-abbrev pub selects : List Atom → Option BoundCondition → List Atom → Result Bool SqlFault
-selects params None row = Ok true
-selects params (Some condition) row = asks params condition row
-
--- the values that SET gives, over the old row
-abbrev pub assigned : List ColumnDef → (row params : List Atom) → List BoundAssignment → Result (List (ℕ × Atom)) SqlFault
-assigned columns row params sets = values_into columns row params (map (λ a. a.place) sets) (map (λ a. a.value) sets)
-
-abbrev pub updated_row : List ColumnDef → BoundUpdate → List Atom → List Atom → Bool → Result Tested SqlFault
-updated_row columns u params row true = assigned columns row params u.assignments >>= λ given. Ok (record { hit = true; row = replaced 0 given row })
-updated_row columns u params row false = Ok (record { hit = false; row = row })
-
-abbrev pub row_to_update : List ColumnDef → BoundUpdate → List Atom → List Atom → Result Tested SqlFault
-row_to_update columns u params row = selects params u.filter row >>= updated_row columns u params row
-
 -- the rows as they will stand, if the unique keys admit them
 abbrev pub rows_to_update : World → BoundUpdate → List Atom → Result (List Tested) SqlFault
 rows_to_update world u params =
@@ -108,12 +88,6 @@ rows_to_update world u params =
 abbrev pub update : World → BoundUpdate → List Atom → Result Done SqlFault
 update world u params =
     rows_to_update world u params >>= λ tested. Ok (record { answer = Changed (count_by (λ t. t.hit) tested); world = with_rows world u.table (map (λ t. t.row) tested) })
-
-abbrev pub tested_row : List Atom → Bool → Result Tested SqlFault
-tested_row row hit = Ok (record { hit = hit; row = row })
-
-abbrev pub row_to_delete : Option BoundCondition → List Atom → List Atom → Result Tested SqlFault
-row_to_delete filter params row = selects params filter row >>= tested_row row
 
 abbrev pub rows_to_delete : World → BoundDelete → List Atom → Result (List Tested) SqlFault
 rows_to_delete world d params = each (row_to_delete d.filter params) (rows_of world d.table)

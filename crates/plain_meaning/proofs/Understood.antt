@@ -22,7 +22,7 @@ use Rattle.enc_types.specs.UsedAlone.{used_among, place_among, is_used, alone}
 use Rattle.resolve.specs.Bind.{bind}
 use Rattle.resolve.specs.Laws.{PreparedAlone}
 use Rattle.engine.specs.Laws.{StepRenamed}
-use Rattle.engine.specs.Queries.{is_count}
+use Rattle.query_results.specs.Results.{is_count}
 use Rattle.engine.specs.Step.{step}
 use Rattle.engine.specs.Worlds.{World}
 use Rattle.server_core.specs.Describing.{Meant, understood}
