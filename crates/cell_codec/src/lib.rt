@@ -13,7 +13,7 @@ pub use faults::CellFault;
 pub use laws::{derived_keys_are_keys, sealing_is_read_back, sealing_makes_cells};
 pub use sealing::{MOST_BYTES, cell_len, seal_det, seal_rnd};
 pub use shapes::shape_ok;
-pub use unsealing::unseal;
+pub use unsealing::{unseal, unseal_bytes};
 
 /// The version byte, the first of every cell.
 const VERSION: u8 = 0x01;

@@ -1,4 +1,4 @@
-ghost use Rattle.std.specs.Prelude.{◌≡◌, IsTrue, IfSome, is_some, length};
+ghost use Rattle.std.specs.Prelude.{◌≡◌, IsTrue, IfSome, is_some, length, slice_index};
 ghost use Rattle.cell_codec.specs.Cells.{unsealed, UnsealsTo, is_authentic, is_cell_length};
 ghost use Rattle.cell_codec.specs.Cells.{tag_in, iv_in, ciphertext_in};
 
@@ -21,10 +21,21 @@ pub fn unseal(alloc: Global, keys: &CellKeys, cell: &Cell) -> Result<Vec<u8>, Ce
     ensures memory_after_tag { result ≡ Err CellFault.OutOfMemory
         → IsTrue (is_authentic keys.now cell.now) }
 {
-    if cell.lead() != VERSION {
+    unseal_bytes(alloc, keys, cell.bytes())
+}
+
+/// The same of a cell whose bytes are borrowed, so that it needn't be copied to be opened.
+pub fn unseal_bytes(alloc: Global, keys: &CellKeys, cell: &[u8]) -> Result<Vec<u8>, CellFault>
+    ensures exact { UnsealsTo result (unsealed keys.now cell.now) }
+    ensures padding_after_tag { result ≡ Err CellFault.BadPadding
+        → IsTrue (is_authentic keys.now cell.now) }
+    ensures memory_after_tag { result ≡ Err CellFault.OutOfMemory
+        → IsTrue (is_authentic keys.now cell.now) }
+{
+    if lead(cell) != VERSION {
         return Err(CellFault::BadVersion);
     }
-    let Some(parts) = parts_of(cell.bytes()) else {
+    let Some(parts) = parts_of(cell) else {
         return Err(CellFault::BadLength);
     };
     if !are_equal(parts.tag, &tag_of(keys, parts.iv, parts.ciphertext)) {
@@ -40,6 +51,16 @@ pub fn unseal(alloc: Global, keys: &CellKeys, cell: &Cell) -> Result<Vec<u8>, Ce
         Err(CbcFault::BadLength) => Err(CellFault::BadLength),
         Err(CbcFault::NotPadded) => Err(CellFault::BadPadding),
         Err(CbcFault::OutOfMemory) => Err(CellFault::OutOfMemory),
+    }
+}
+
+/// The first byte of a cell, or 0 where there is none.
+fn lead(cell: &[u8]) -> u8
+    ensures { result ≡ slice_index cell.now 0 }
+{
+    match cell {
+        [] => 0,
+        [first, ..] => *first,
     }
 }
 

@@ -73,7 +73,7 @@ impl Driver {
     {
         let slot = &mut self.sessions[number.number() as usize - 1];
         let turn = begin(alloc, mem::replace(slot, Session::Idle), number, batch);
-        *slot = turn.after;
+        put(slot, turn.after);
         turn.answer
     }
 
@@ -91,7 +91,7 @@ impl Driver {
     {
         let slot = &mut self.sessions[number.number() as usize - 1];
         let turn = described(alloc, mem::replace(slot, Session::Idle), reply);
-        *slot = turn.after;
+        put(slot, turn.after);
         turn.answer
     }
 
@@ -115,7 +115,7 @@ impl Driver {
         let slot = &mut self.sessions[number.number() as usize - 1];
         let session = mem::replace(slot, Session::Idle);
         let turn = execute(alloc, &mut self.store, vault, entropy, session, number);
-        *slot = turn.after;
+        put(slot, turn.after);
         turn.answer
     }
 
@@ -136,9 +136,16 @@ impl Driver {
         let slot = &mut self.sessions[number.number() as usize - 1];
         let session = mem::replace(slot, Session::Idle);
         let turn = replied(alloc, &mut self.store, vault, session, reply);
-        *slot = turn.after;
+        put(slot, turn.after);
         turn.answer
     }
+}
+
+/// Puts what a session holds, in the place of nothing.
+fn put(slot: &mut Session, session: Session)
+    ensures { slot.new ≡ session }
+{
+    drop(mem::replace(slot, session));
 }
 
 fn idle() -> Session

@@ -7,11 +7,12 @@ ghost use Rattle.cell_codec.specs.declared.faults.CellFault.{CellFault};
 ghost use Rattle.value_norm.specs.Reading as norm_reading;
 ghost use Rattle.wire_messages.specs.Atoms.{atom_of};
 ghost use Rattle.conversation.specs.Cells.{is_atom_of, is_encrypted, is_of_kind, is_row_of, normal, value_in, read_atom, read_atoms};
+ghost use Rattle.driver.specs.Read.{ReadsRow};
 
 use ae_base::lists::Seq;
 use ae_base::types::{Enc, Ty};
 use ae_base::values::{Datum, Value};
-use cell_codec::{CellFault, unseal};
+use cell_codec::{CellFault, unseal_bytes};
 use conversation::faults::{CellFailure, DriverFault, Halt};
 use conversation::sessions::ColumnType;
 use hmac_kdf::CellKeys;
@@ -19,6 +20,7 @@ use std::alloc::Global;
 use value_norm::{ReadError, from_cell_bytes};
 use wire_messages::atoms::{AtomCase, AtomPart};
 use wire_messages::parts::CellPart;
+use wire_messages::replies::RowParts;
 
 fn is_encrypted(enc: Enc) -> bool
     ensures { result ≡ is_encrypted enc }
@@ -98,8 +100,7 @@ fn read_cell(
 ) -> Result<Result<Value, CellFailure>, Halt>
     ensures { IfOk result (λ read. read ≡ value_in ty (unsealed keys.now cell.now)) }
 {
-    let cell = cell.to_cell(alloc)?;
-    match unseal(alloc, keys, &cell) {
+    match unseal_bytes(alloc, keys, cell.bytes()) {
         Ok(bytes) => read_bytes(alloc, bytes.as_slice(), ty),
         Err(fault) => failed(fault),
     }
@@ -160,4 +161,34 @@ pub fn read_row(
         }
     }
     Ok(Ok(values))
+}
+
+/// A row that was read: its number from 1, and its values, or why they can't be opened.
+#[derive(Drop)]
+pub struct RowRead {
+    pub number: u64,
+    pub values: Result<Seq<Value>, DriverFault>,
+}
+
+/// Reads the row behind so many others; BadReply where it is none of the columns.
+pub fn next_row(
+    alloc: Global,
+    columns: &[ColumnType],
+    keys: &[Option<CellKeys>],
+    count: u64,
+    row: &RowParts<'_>,
+) -> Result<RowRead, Halt>
+    ensures { ReadsRow result columns.now keys.now count row.now }
+{
+    if !is_row_of(columns, row.atoms()) {
+        return Err(Halt::BadReply);
+    }
+    // There is no memory for as many rows as 64 bits count.
+    let Some(number) = count.checked_add(1) else {
+        return Err(Halt::OutOfMemory);
+    };
+    match read_row(alloc, number, columns, keys, row.atoms()) {
+        Ok(values) => Ok(RowRead { number, values }),
+        Err(_) => Err(Halt::OutOfMemory),
+    }
 }

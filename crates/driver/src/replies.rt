@@ -11,7 +11,7 @@ ghost use Rattle.wire_messages.specs.declared.replies.Reply.TheVariants as reply
 
 use crate::describing::own_keys;
 use crate::opening::open_columns;
-use crate::reading::{is_row_of, read_row};
+use crate::reading::{RowRead, is_row_of, next_row};
 use ae_base::batches::KeyMeta;
 use ae_base::faults::SqlFault;
 use ae_base::lists::{Duplicate, Seq};
@@ -151,6 +151,37 @@ fn sent_ended(done: Done) -> Turn<Result<ReplyAnswer, Halt>>
     }
 }
 
+/// What a row that was read says, and the session after it.
+fn row_told(
+    columns: Seq<ColumnType>,
+    keys: Seq<Option<CellKeys>>,
+    read: RowRead,
+) -> Turn<Result<ReplyAnswer, Halt>>
+    ensures { (old : Session) → TellsAs result.answer (held.row_read columns keys read.number read.values) old result.after }
+{
+    let RowRead { number, values } = read;
+    match values {
+        Ok(values) => Turn {
+            answer: Ok(ReplyAnswer::Row(values)),
+            after: Session::Reading {
+                columns,
+                keys,
+                count: number,
+            },
+        },
+        Err(fault) => {
+            drop(keys);
+            Turn {
+                answer: Ok(ReplyAnswer::Failed(fault)),
+                after: Session::Skipping {
+                    columns,
+                    count: number,
+                },
+            }
+        }
+    }
+}
+
 fn read_next(
     alloc: Global,
     columns: Seq<ColumnType>,
@@ -160,62 +191,16 @@ fn read_next(
 ) -> Turn<Result<ReplyAnswer, Halt>>
     ensures { TellsAs result.answer (held.replied (Session.Reading columns keys count) (reply.Row row.now)) (Session.Reading columns keys count) result.after }
 {
-    if !is_row_of(columns.as_slice(), row.atoms()) {
-        return halted(
-            Halt::BadReply,
+    match next_row(alloc, columns.as_slice(), keys.as_slice(), count, row) {
+        Ok(read) => row_told(columns, keys, read),
+        Err(halt) => halted(
+            halt,
             Session::Reading {
                 columns,
                 keys,
                 count,
             },
-        );
-    }
-    // There is no memory for as many rows as 64 bits count.
-    let Some(more) = count.checked_add(1) else {
-        return halted(
-            Halt::OutOfMemory,
-            Session::Reading {
-                columns,
-                keys,
-                count,
-            },
-        );
-    };
-    let read = match read_row(
-        alloc,
-        more,
-        columns.as_slice(),
-        keys.as_slice(),
-        row.atoms(),
-    ) {
-        Ok(read) => read,
-        Err(_) => {
-            return halted(
-                Halt::OutOfMemory,
-                Session::Reading {
-                    columns,
-                    keys,
-                    count,
-                },
-            );
-        }
-    };
-    match read {
-        Ok(values) => Turn {
-            answer: Ok(ReplyAnswer::Row(values)),
-            after: Session::Reading {
-                columns,
-                keys,
-                count: more,
-            },
-        },
-        Err(fault) => Turn {
-            answer: Ok(ReplyAnswer::Failed(fault)),
-            after: Session::Skipping {
-                columns,
-                count: more,
-            },
-        },
+        ),
     }
 }
 
@@ -264,6 +249,8 @@ fn reading_replied(
         Reply::Row(row) => read_next(alloc, columns, keys, count, row),
         Reply::Ended(done) => {
             if ends(*done, count) {
+                drop(columns);
+                drop(keys);
                 return Turn {
                     answer: Ok(ReplyAnswer::Rows(count)),
                     after: Session::Idle,
@@ -300,6 +287,7 @@ fn skipping_replied(
         Reply::Row(row) => skip_next(columns, count, row),
         Reply::Ended(done) => {
             if ends(*done, count) {
+                drop(columns);
                 return Turn {
                     answer: Ok(ReplyAnswer::Over),
                     after: Session::Idle,

@@ -1,6 +1,6 @@
 //! A session begins a batch, and takes its description.
 
-ghost use Rattle.std.specs.Prelude.{◌≡◌, IfOk, Err};
+ghost use Rattle.std.specs.Prelude.{◌≡◌, IfOk, Ok, Err};
 ghost use Rattle.conversation.specs.Sessions as held;
 ghost use Rattle.conversation.specs.Batches.{fitted};
 ghost use Rattle.conversation.specs.declared.sessions.Session.{Session};
@@ -46,16 +46,20 @@ pub fn begin<'r>(
     ensures { Comes result.answer (held.begin session number batch) session result.after }
 {
     if !is_idle(&session) {
+        drop(batch);
         return Turn {
             answer: Ok(Err(DriverFault::StillPending)),
             after: session,
         };
     }
     match begun(alloc, number, batch) {
-        Ok(turn) => Turn {
-            answer: Ok(turn.answer),
-            after: turn.after,
-        },
+        Ok(turn) => {
+            drop(session);
+            Turn {
+                answer: Ok(turn.answer),
+                after: turn.after,
+            }
+        }
         Err(error) => Turn {
             answer: Err(error),
             after: session,
@@ -71,14 +75,30 @@ fn begun<'r>(
     ensures { IfOk result (λ turn. turn ≡ held.begun number (fitted batch)) }
 {
     match FitBatch::check(batch)? {
-        Ok(batch) => Ok(Turn {
-            answer: Ok(describe(alloc, number, batch.as_batch())?),
-            after: Session::Begun(batch),
-        }),
+        Ok(batch) => asked(alloc, number, batch),
         Err(fault) => Ok(Turn {
             answer: Err(fault),
             after: Session::Idle,
         }),
+    }
+}
+
+fn asked<'r>(
+    alloc: Global,
+    number: SessionId,
+    batch: FitBatch,
+) -> Result<Turn<Result<Request<'r>, DriverFault>>, AllocError>
+    ensures { IfOk result (λ turn. turn ≡ held.begun number (Ok batch)) }
+{
+    match describe(alloc, number, batch.as_batch()) {
+        Ok(request) => Ok(Turn {
+            answer: Ok(request),
+            after: Session::Begun(batch),
+        }),
+        Err(error) => {
+            drop(batch);
+            Err(error)
+        }
     }
 }
 
@@ -132,10 +152,13 @@ fn begun_refused(batch: FitBatch, fault: &SqlFault) -> Turn<Result<DescribeAnswe
     ensures { Describes result.answer (held.described (Session.Begun batch) (reply.Refused fault.now)) (Session.Begun batch) result.after }
 {
     match fault.copy() {
-        Ok(fault) => Turn {
-            answer: Ok(DescribeAnswer::Refused(fault)),
-            after: Session::Idle,
-        },
+        Ok(fault) => {
+            drop(batch);
+            Turn {
+                answer: Ok(DescribeAnswer::Refused(fault)),
+                after: Session::Idle,
+            }
+        }
         Err(_) => Turn {
             answer: Err(Halt::OutOfMemory),
             after: Session::Begun(batch),

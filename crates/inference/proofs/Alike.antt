@@ -1,6 +1,5 @@
 -- Small facts on tests.
-use Rattle.std.proofs.Common.{◌≡◌, ℕ, List, [], ◌∷◌, refl, ap, sym, ◌∙◌, Option, Some, None, Bool, true, false, not, cond, ◌&&◌, ◌||◌, ◌==◌, ◌⊎◌, inl, inr}
-use Rattle.std.specs.Bool.{Decides}
+use Rattle.std.proofs.Common.{◌≡◌, ℕ, List, [], ◌∷◌, refl, ap, sym, ◌∙◌, Option, Some, None, Bool, true, false, not, ◌==◌, ◌⊎◌, inl, inr}
 use Rattle.std.specs.List.{list_all}
 use Rattle.std.proofs.lemmas.Bool.Decides.{Decides-eqb, same_from_decides}
 use Rattle.ae_base.specs.declared.types.Ty.{Ty}
@@ -8,7 +7,7 @@ use Rattle.ae_base.specs.declared.types.Ty.TheVariants.{Int, BigInt, NVarChar, V
 use Rattle.ae_base.specs.declared.types.Enc.{Enc}
 use Rattle.ae_base.specs.declared.types.Enc.TheVariants.{Plain, Det, Rnd}
 use Rattle.sql_tree.specs.declared.bound.ColumnSite.{ColumnSite}
-use Rattle.enc_types.specs.Typing.{ty_eq, are_alike, is_plain, Typing, holds, fixed}
+use Rattle.enc_types.specs.Typing.{ty_eq, are_alike, is_plain, fixed}
 use Rattle.enc_types.specs.Least.{is_open}
 use Rattle.enc_types.specs.Clash.{IsAmong}
 use Rattle.enc_types.specs.declared.sites.Site.{Site}

@@ -1,13 +1,12 @@
 -- From what was found to the least typing, or to the first clash.
-use Rattle.std.proofs.Common.{◌≡◌, ℕ, zero, suc, ◌+◌, ◌<◌, List, [], ◌∷◌, ◌++◌, length, take, drop, get_or, reverse, refl, ap, sym, subst, ◌∙◌, arith, Option, Some, None, Bool, true, false, not, cond, ◌&&◌, ◌||◌, Ok, Err, add-one, append_assoc, ◌≤◌}
-use Rattle.std.specs.Bool.{Decides}
+use Rattle.std.proofs.Common.{◌≡◌, ℕ, zero, suc, ◌+◌, ◌<◌, List, [], ◌∷◌, ◌++◌, length, take, drop, get_or, reverse, refl, ap, sym, subst, ◌∙◌, arith, Some, Bool, true, false, not, ◌&&◌, ◌||◌, Ok, add-one, append_assoc, ◌≤◌}
 use Rattle.std.specs.List.{list_all}
 use Rattle.ae_base.specs.declared.types.Ty.{Ty}
 use Rattle.ae_base.specs.declared.types.Enc.{Enc}
 use Rattle.sql_tree.specs.declared.bound.ColumnSite.{ColumnSite}
 use Rattle.sql_tree.specs.Bound.{Bound}
 use Rattle.enc_types.specs.Rules.{at_of, rules}
-use Rattle.enc_types.specs.Typing.{type_of, are_alike, enc_eq, is_plain, isnt_rnd, Typing, holds, HasTyping, IsLeastTyping}
+use Rattle.enc_types.specs.Typing.{type_of, are_alike, enc_eq, is_plain, isnt_rnd, Typing, holds, IsLeastTyping}
 use Rattle.enc_types.specs.Least.{least, has_typing, clash, encs_from, encs_or_clash, inferred_over, inferred}
 use Rattle.enc_types.specs.Clash.{IsAmong, IsChain, IsFirstClash, IsClash}
 use Rattle.enc_types.specs.declared.sites.Site.{Site}
@@ -16,10 +15,10 @@ use Rattle.enc_types.specs.declared.rules.Rule.{Rule}
 use Rattle.enc_types.specs.declared.rules.Rule.TheVariants.{Same, NotRnd, PlainOnly}
 use Rattle.enc_types.proofs.Merging.{has_typing-Decides, one_least}
 use Rattle.enc_types.proofs.Clashes.{no_clash, none_typed, clash_at, first_clash, untyped}
-use Rattle.inference.specs.Steps.{goes, is_settled, traced, IsTrace, way_back}
+use Rattle.inference.specs.Steps.{goes, is_settled, traced, way_back}
 use Rattle.std.proofs.lemmas.List.{reverse-append, append-nil, at_drop_more, at_drop_all}
 use Rattle.ae_base.specs.declared.types.Ty.TheVariants.{Int}
-use Rattle.inference.specs.Ways.{onto, beyond, through, through_either, chain_through}
+use Rattle.inference.specs.Ways.{onto, beyond, through_either, chain_through}
 use Rattle.inference.specs.Reached.{typing_of, IsReached, AreSettled}
 use Rattle.inference.specs.Infers.{AreLeast, IsClashOf, IsLastTyped}
 use Rattle.inference.specs.declared.infer.EncryptionClash.{EncryptionClash}

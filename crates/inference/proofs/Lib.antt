@@ -3,3 +3,4 @@ mod Traces
 mod Ways
 mod Passes
 mod Inferring
+mod Exactness

@@ -1,25 +1,25 @@
 -- What a step, and a pass over the rules, finds.
-use Rattle.std.proofs.Common.{◌≡◌, ℕ, zero, suc, ◌+◌, ◌<◌, ◌≤◌, List, [], ◌∷◌, ◌++◌, length, take, drop, get_or, reverse, refl, ap, sym, subst, ◌∙◌, arith, Option, Some, None, Bool, true, false, cond, ◌&&◌, ◌||◌, unwrap_or, ◌⊎◌, inl, inr}
+use Rattle.std.proofs.Common.{◌≡◌, ℕ, zero, suc, ◌+◌, ◌<◌, ◌≤◌, List, [], ◌∷◌, ◌++◌, length, drop, get_or, reverse, refl, ap, sym, subst, ◌∙◌, arith, Option, Some, None, Bool, true, false, cond, ◌&&◌, ◌||◌, unwrap_or, ◌⊎◌, inl, inr}
 use Rattle.std.specs.List.{list_all}
 use Rattle.std.proofs.lemmas.List.{get_or_default, reverse-append, at_drop_more, at_drop_all}
 use Rattle.ae_base.specs.declared.types.Ty.{Ty}
 use Rattle.ae_base.specs.declared.types.Enc.{Enc}
 use Rattle.ae_base.specs.declared.types.Enc.TheVariants.{Plain}
 use Rattle.sql_tree.specs.declared.bound.ColumnSite.{ColumnSite}
-use Rattle.enc_types.specs.SiteLaws.{site_eq, site_eq-Decides}
-use Rattle.enc_types.specs.Typing.{fixed, Typing, holds, IsTyping, IsLeastTyping, HasTyping}
-use Rattle.enc_types.specs.Least.{is_open, least, has_typing}
+use Rattle.enc_types.specs.SiteLaws.{site_eq}
+use Rattle.enc_types.specs.Typing.{fixed}
+use Rattle.enc_types.specs.Least.{is_open}
 use Rattle.enc_types.specs.Clash.{IsAmong, Carries}
 use Rattle.enc_types.specs.declared.sites.Site.{Site}
 use Rattle.enc_types.specs.declared.rules.Rule.{Rule}
-use Rattle.enc_types.proofs.Merging.{fixed_or_open, and_left, and_right, and_both}
+use Rattle.enc_types.proofs.Merging.{fixed_or_open}
 use Rattle.inference.specs.Found.{enc_in}
 use Rattle.inference.specs.Steps.{goes, is_settled, loose, traced, IsTrace}
 use Rattle.inference.specs.Reached.{or_found, typing_of, IsReached, AreSettled}
 use Rattle.inference.specs.declared.steps.Step.{Step}
 use Rattle.inference.specs.declared.reach.Reach.{Reach}
 use Rattle.inference.proofs.Alike.{true_false}
-use Rattle.inference.proofs.Traces.{goes_same, goes_open, traced_fixed, fewer_loose}
+use Rattle.inference.proofs.Traces.{goes_same, traced_fixed, fewer_loose}
 
 pub among_at : (rules : List Rule) (i : ℕ) (rule : Rule) → i < length rules → rule ≡ get_or rules i rule → IsAmong rules rule
 among_at [] i rule lt e = absurd (omega arith)

@@ -1,22 +1,21 @@
 -- What the steps of a trace find is forced, and where nothing is left to be found and every rule holds it is the least typing.
-use Rattle.std.proofs.Common.{◌≡◌, ℕ, zero, suc, ◌+◌, ◌<◌, ◌≤◌, List, [], ◌∷◌, ◌++◌, length, refl, ap, sym, subst, ◌∙◌, arith, Option, Some, None, Bool, true, false, not, cond, ◌&&◌, ◌||◌, unwrap_or, ◌⊎◌, inl, inr}
-use Rattle.std.specs.Bool.{Decides}
+use Rattle.std.proofs.Common.{◌≡◌, ℕ, ◌+◌, ◌<◌, ◌≤◌, List, [], ◌∷◌, refl, ap, sym, ◌∙◌, arith, Some, None, Bool, true, false, not, cond, ◌&&◌, ◌||◌, unwrap_or, ◌⊎◌, inl, inr}
 use Rattle.std.specs.List.{list_all}
 use Rattle.ae_base.specs.declared.types.Ty.{Ty}
 use Rattle.ae_base.specs.declared.types.Enc.{Enc}
-use Rattle.ae_base.specs.declared.types.Enc.TheVariants.{Plain, Det, Rnd}
+use Rattle.ae_base.specs.declared.types.Enc.TheVariants.{Plain}
 use Rattle.sql_tree.specs.declared.bound.ColumnSite.{ColumnSite}
-use Rattle.enc_types.specs.Typing.{fixed, type_of, are_alike, enc_eq, is_plain, isnt_rnd, Typing, holds, Agrees, IsTyping, IsLeastTyping}
+use Rattle.enc_types.specs.Typing.{fixed, type_of, are_alike, is_plain, Typing, holds, Agrees, IsTyping, IsLeastTyping}
 use Rattle.enc_types.specs.SiteLaws.{site_eq, site_eq-Decides}
 use Rattle.enc_types.specs.Least.{is_open}
 use Rattle.enc_types.specs.Clash.{IsAmong, Carries}
 use Rattle.enc_types.specs.declared.sites.Site.{Site}
 use Rattle.enc_types.specs.declared.rules.Rule.{Rule}
 use Rattle.enc_types.specs.declared.rules.Rule.TheVariants.{Same, NotRnd, PlainOnly}
-use Rattle.enc_types.proofs.Merging.{enc_eq-Decides, fixed_or_open, and_left, and_right, and_both}
-use Rattle.inference.specs.Steps.{goes, is_settled, is_loose, loose, traced, IsTrace, way_back}
+use Rattle.enc_types.proofs.Merging.{enc_eq-Decides, fixed_or_open, and_left, and_right}
+use Rattle.inference.specs.Steps.{goes, is_loose, loose, traced, IsTrace}
 use Rattle.inference.specs.declared.steps.Step.{Step}
-use Rattle.inference.proofs.Alike.{plain_is, not_plain, isnt_plain, true_false, not_true, among_holds, fixed_closed, alike_comm}
+use Rattle.inference.proofs.Alike.{plain_is, not_plain, isnt_plain, true_false, not_true, among_holds, fixed_closed}
 
 module _ (params : List Ty) (columns : List ColumnSite) where
   abbrev alike : Site → Site → Bool

@@ -1,12 +1,11 @@
 -- Where a rule doesn't hold under all that was found, the way from a fixed site to it, and on to another fixed site, is a chain.
-use Rattle.std.proofs.Common.{◌≡◌, ℕ, List, [], ◌∷◌, ◌++◌, refl, ap, sym, subst, ◌∙◌, Option, Some, None, Bool, true, false, not, cond, ◌&&◌, ◌||◌, unwrap_or, ◌⊎◌, inl, inr, if◌then◌else◌}
-use Rattle.std.specs.Bool.{Decides}
+use Rattle.std.proofs.Common.{◌≡◌, ℕ, List, [], ◌∷◌, refl, ap, sym, subst, ◌∙◌, Some, None, Bool, true, false, not, cond, ◌||◌, unwrap_or, ◌⊎◌, inl, inr}
 use Rattle.std.specs.List.{list_all}
 use Rattle.ae_base.specs.declared.types.Ty.{Ty}
 use Rattle.ae_base.specs.declared.types.Enc.{Enc}
-use Rattle.ae_base.specs.declared.types.Enc.TheVariants.{Plain, Det, Rnd}
+use Rattle.ae_base.specs.declared.types.Enc.TheVariants.{Plain}
 use Rattle.sql_tree.specs.declared.bound.ColumnSite.{ColumnSite}
-use Rattle.enc_types.specs.Typing.{fixed, type_of, are_alike, enc_eq, is_plain, isnt_rnd, Typing, holds, Agrees, IsTyping, HasTyping}
+use Rattle.enc_types.specs.Typing.{fixed, type_of, are_alike, is_plain, isnt_rnd, Typing, holds, Agrees, HasTyping}
 use Rattle.enc_types.specs.SiteLaws.{site_eq, site_eq-Decides}
 use Rattle.enc_types.specs.Least.{is_open}
 use Rattle.enc_types.specs.Clash.{IsAmong, NoneTwice, Carries, HasSite, Breaks, Leads, IsChain}
@@ -17,7 +16,7 @@ use Rattle.enc_types.proofs.Merging.{enc_eq-Decides, fixed_or_open, and_left, an
 use Rattle.inference.specs.Steps.{goes, is_settled, traced, IsTrace, way_back}
 use Rattle.inference.specs.Ways.{onto, beyond, through, through_either, chain_through}
 use Rattle.inference.specs.declared.steps.Step.{Step}
-use Rattle.inference.proofs.Alike.{plain_is, not_plain, isnt_plain, true_false, not_true, among_holds, fixed_closed, alike_comm}
+use Rattle.inference.proofs.Alike.{plain_is, not_plain, isnt_plain, true_false, not_true, among_holds, alike_comm}
 use Rattle.inference.proofs.Traces.{goes_from, goes_open, goes_plain, goes_alike, traced_fixed, traced_kept, carried_same}
 
 -- ---- no rule twice

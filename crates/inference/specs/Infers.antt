@@ -1,5 +1,5 @@
 -- What inference comes to: the least typing, or the first clash with a chain that shows it, exactly where there is no typing.
-use Rattle.std.specs.Prelude.{◌≡◌, ℕ, ◌+◌, ◌<◌, List, Some, true, false, length, take, Result, Ok, Err}
+use Rattle.std.specs.Prelude.{◌≡◌, ℕ, ◌+◌, ◌<◌, List, true, false, length, take, Result, Ok, Err}
 use Rattle.ae_base.specs.declared.refusals.Refusal.{Refusal}
 use Rattle.ae_base.specs.declared.refusals.Refusal.TheVariants.{Fault, OutOfMemory}
 use Rattle.ae_base.specs.declared.types.Ty.{Ty}
@@ -8,7 +8,7 @@ use Rattle.sql_tree.specs.declared.bound.ColumnSite.{ColumnSite}
 use Rattle.sql_tree.specs.Bound.{Bound}
 use Rattle.enc_types.specs.Rules.{rules}
 use Rattle.enc_types.specs.Typing.{Typing, HasTyping, IsLeastTyping}
-use Rattle.enc_types.specs.Least.{encs_from, has_typing, clash, inferred_over, inferred}
+use Rattle.enc_types.specs.Least.{encs_from, has_typing, clash, inferred_over}
 use Rattle.enc_types.specs.Clash.{IsClash}
 use Rattle.enc_types.specs.declared.rules.Rule.{Rule}
 use Rattle.enc_types.specs.declared.typed.Typed.{Typed}

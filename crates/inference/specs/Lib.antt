@@ -3,3 +3,4 @@ pub mod Steps
 pub mod Ways
 pub mod Reached
 pub mod Infers
+pub mod Laws

@@ -1,5 +1,5 @@
 -- What is known of the sites of some rules, and the steps by which it was found.
-use Rattle.std.specs.Prelude.{◌≡◌, List, Option, Some, None, Bool, true, false, reverse}
+use Rattle.std.specs.Prelude.{◌≡◌, List, Option, Some, None, true, reverse}
 use Rattle.std.specs.List.{list_all}
 use Rattle.ae_base.specs.declared.types.Ty.{Ty}
 use Rattle.ae_base.specs.declared.types.Enc.{Enc}

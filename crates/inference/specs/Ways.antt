@@ -1,5 +1,5 @@
 -- A chain through a rule that doesn't hold under what was found.
-use Rattle.std.specs.Prelude.{List, [], ◌∷◌, Bool, true, false, if◌then◌else◌}
+use Rattle.std.specs.Prelude.{List, [], ◌∷◌, Bool, true, false}
 use Rattle.ae_base.specs.declared.types.Ty.{Ty}
 use Rattle.sql_tree.specs.declared.bound.ColumnSite.{ColumnSite}
 use Rattle.enc_types.specs.Typing.{type_of, are_alike, is_plain, Typing}

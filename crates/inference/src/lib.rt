@@ -4,6 +4,7 @@
 mod chains;
 mod encs;
 pub mod infer;
+pub mod laws;
 mod reach;
 mod sites;
 mod steps;

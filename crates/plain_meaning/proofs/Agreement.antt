@@ -29,14 +29,15 @@ use Rattle.wire_messages.specs.Messages.{Header}
 use Rattle.wire_messages.specs.declared.columns.SentColumn.{SentColumn}
 use Rattle.wire_messages.specs.declared.replies.Done.TheVariants.{Answered}
 use Rattle.wire_messages.specs.declared.replies.Reply.TheVariants.{Row, Ended}
+use Rattle.server_core.proofs.Understanding.{parts_of}
 use Rattle.server_core.specs.Describing.{Meant, understood, description, keys_of}
 use Rattle.server_core.specs.Params.{declaration_of, suited}
 use Rattle.server_core.specs.Serve.{refused, described, answered, executed, sent_column, header, serve}
-use Rattle.server_core.specs.States.{is_short}
+use Rattle.server_core.specs.States.{IsState, is_short}
 use Rattle.conversation.specs.Batches.{unfit_by, why_unfit, unless}
 use Rattle.conversation.specs.Drive.{End, Done, Dry, BadReply, Listened, Caught, passed_on, over}
 use Rattle.conversation.specs.Pending.{Pending, Use, uses_in, uses_of}
-use Rattle.conversation.specs.Sessions.{nobody, session_at, with_session, begun, described_params, titles_of}
+use Rattle.conversation.specs.Sessions.{encs_of, nobody, session_at, with_session, begun, described_params, titles_of}
 use Rattle.conversation.specs.Talk.{Talk, Hears, Prints, nothing_shown, Said}
 use Rattle.conversation.specs.Turns.{opening, answered_on, described_on, describing, executing, asked, rows_on, rested, reading, over_on}
 use Rattle.conversation.specs.declared.faults.DriverFault.{DriverFault}
@@ -46,11 +47,12 @@ use Rattle.conversation.specs.declared.sessions.Session.{Session}
 use Rattle.script_lang.specs.Limits.{IsWithinLimits, HasParams, HasProperParams, IsProperStep}
 use Rattle.script_lang.specs.declared.steps.Step.{Step}
 use Rattle.ae_base.specs.declared.batches.KeyMeta.{KeyMeta}
+use Rattle.ae_base.specs.declared.types.Enc.{Enc}
 use Rattle.aes_block.specs.Bytes.{AreBytes}
 use Rattle.catalog.specs.Laws.{DefinitionsAreFollowed, IdsAreNotReused, KeysAreTold}
 use Rattle.scalar.specs.Classes.{BothAnswer, RowsCorrespond}
 use Rattle.engine.specs.Correspond.{WorldsCorrespond, AnswersCorrespond, class_of_result}
-use Rattle.engine.specs.Typed.{param_classes}
+use Rattle.engine.specs.Typed.{param_classes, IsTypedBy}
 use Rattle.wire_messages.specs.declared.params.SentParam.{SentParam}
 use Rattle.wire_messages.specs.declared.replies.Reply.{Reply}
 use Rattle.hmac_kdf.specs.Keys.{Keys}
@@ -65,14 +67,15 @@ use Rattle.conversation.specs.declared.outcomes.Outcome.TheVariants as outcome
 use Rattle.conversation.specs.declared.sessions.Session.TheVariants as session
 use Rattle.script_lang.specs.declared.steps.Step.TheVariants as steps_of
 use Rattle.plain_meaning.specs.Reference as plain
-use Rattle.plain_meaning.proofs.Between.{beside, StandsFor, DescribedAs, HoldsBatch, Holds, AllHold, all_newer, hold_place, hold_set, none_held, empty_stands}
+use Rattle.plain_meaning.proofs.Between.{beside, StandsFor, IsSendableParam, DescribedAs, HoldsBatch, Holds, AllHold, all_newer, hold_place, hold_set, none_held, empty_stands}
 use Rattle.plain_meaning.proofs.Growing.{step_grows}
+use Rattle.plain_meaning.proofs.History.{Known}
 use Rattle.plain_meaning.proofs.Pairs.{stands, Standing, standing_is_one_to_one, standing_is_within, contents_longer}
 use Rattle.plain_meaning.proofs.Sealed.{SealLaws}
 use Rattle.plain_meaning.proofs.Sending.{Each, each_over, told_among, params_used, encs_used, encs_found, all_fit}
 use Rattle.plain_meaning.proofs.Talk.{AreSealed, encs_in, types_shown, sealing_agrees, opening_agrees, rows_opened, rows_skipped}
 use Rattle.plain_meaning.proofs.Told.{IsMetaOf, are_told}
-use Rattle.plain_meaning.proofs.Understood.{parts_of, understood_alone, step_alone}
+use Rattle.plain_meaning.proofs.Understood.{understood_alone, step_alone}
 use Rattle.plain_meaning.proofs.Used.{tys_in, plain_in, atoms_in, uses_sendable, all_sendable, sent_declared, sent_suited, sent_typed, sent_stands, sent_long, encs_there, columns_there, used_encs, types_declared}
 use Rattle.plain_meaning.proofs.Versions.{Newer, step_leaves}
 
@@ -103,7 +106,7 @@ printed comes (BadReply n) outs wanted h = absurd h
 
 -- ---- small facts
 
-types_sent : (columns : List ResultColumn) → map (λ (c : SentColumn). let t : ColumnType = record { ty = c.ty; enc = c.enc } in t) (map sent_column columns) ≡ types_shown columns
+pub types_sent : (columns : List ResultColumn) → map (λ (c : SentColumn). let t : ColumnType = record { ty = c.ty; enc = c.enc } in t) (map sent_column columns) ≡ types_shown columns
 types_sent [] = refl
 types_sent (c ∷ cs) = ap (λ ts. record { ty = c.ty; enc = c.enc } ∷ ts) (types_sent cs)
 
@@ -111,10 +114,10 @@ titles_sent : (columns : List ResultColumn) → map (λ (c : SentColumn). c.titl
 titles_sent [] = refl
 titles_sent (c ∷ cs) = ap (λ ts. c.title ∷ ts) (titles_sent cs)
 
-whole_count : (rows : List (List Atom)) → length rows ≡ 0 + length rows
+pub whole_count : (rows : List (List Atom)) → length rows ≡ 0 + length rows
 whole_count rows = omega arith
 
-stays : (w : World) (r : Result engine.Done SqlFault) (f : SqlFault) → (engine.outcome w r).answer ≡ Err f → (engine.outcome w r).world ≡ w
+pub stays : (w : World) (r : Result engine.Done SqlFault) (f : SqlFault) → (engine.outcome w r).answer ≡ Err f → (engine.outcome w r).world ≡ w
 stays w (Ok done) f e = absurd cc
 stays w (Err g) f e = refl
 
@@ -136,6 +139,109 @@ first_of (Some name) b h = absurd cc
 
 first_fits : (batch : Batch) → why_unfit batch ≡ None → first_unfit batch.params ≡ None
 first_fits batch h = first_of (first_unfit batch.params) (nat_lt 65536 (length (encode_utf8_all batch.text))) h
+
+-- ---- what is sent
+
+abbrev pub encs_alone : Meant → List Enc
+encs_alone meant = used_among (is_used meant.bound) 0 meant.encs
+
+abbrev pub plain_atoms_of : Batch → List Atom
+plain_atoms_of batch = map (λ (q : Param). plain_atom q.value) batch.params
+
+-- the statement over the parameters that it uses alone, over the atoms that are sent
+abbrev pub done_alone : World → Meant → List SentParam → Outcome
+done_alone w meant sent = step w (alone meant.bound) (encs_alone meant) (atoms_in sent)
+
+-- what is sent is executed so, over values that stand for the plain ones
+pub record Ready (keys : KeyMap) (history : List KeyMeta) (w : World) (p : Pending) (meant : Meant) (sent : List SentParam) : Type 0 where
+  pub served : executed w (understood w.catalog p.batch.text (map declaration_of sent) >>= λ meant. suited meant.encs sent >>= λ atoms. Ok (meant, atoms))
+      ≡ answered w (done_alone w meant sent).world (done_alone w meant sent).answer
+  pub on : IsBoundOn w.catalog (alone meant.bound) (encs_alone meant) (atoms_in sent)
+  pub admitted : IsTypedBy (encs_alone meant) (alone meant.bound)
+  pub values : AreValuesOf is_short (alone meant.bound).params (encs_alone meant) (atoms_in sent)
+  pub pairs : RowsCorrespond (Standing keys history) (param_classes (alone meant.bound).params (encs_alone meant)) (atoms_in sent) (used_among (is_used meant.bound) 0 (plain_atoms_of p.batch))
+  pub encs : encs_in (uses_of p) ≡ encs_alone meant
+  pub types : tys_in (uses_of p) ≡ (alone meant.bound).params
+  pub metas : Each (IsMetaOf p.keys history) (encs_in (uses_of p))
+  pub shown : (columns : List ResultColumn) (rows : List (List Atom)) → (done_alone w meant sent).answer ≡ Ok (Rows columns rows) → Each (λ (c : ResultColumn). IsMetaOf (keys_of w.catalog (plain.encs_shown columns)) history c.enc) columns
+
+module _ (laws : Laws) (keys : KeyMap) (history : List KeyMeta) (w : World) (known : Known history w.catalog) (state : IsState w) where
+  pub is_ready : (p : Pending) → Each IsSendableParam p.batch.params → (d : DescribedAs w.catalog p) → (sent : List SentParam) → AreSealed keys p.keys (uses_of p) sent → Ready keys history w p d.meant sent
+  is_ready p sendable d sent sealed =
+      let meant = d.meant in
+      let b = meant.bound in
+      let ps = p.batch.params in
+      let used = is_used b in
+      let es = encs_alone meant in
+      let parts = parts_of w.catalog p.batch.text (declared p.batch) meant d.understood in
+      let ready = laws.prepared w.catalog parts.statement (declared p.batch) b meant.encs parts.binds parts.infers in
+      let over_alone = laws.bound w.catalog parts.statement (used_among used 0 (declared p.batch)) (alone b) ready.is_bound in
+      let plain_atoms = plain_atoms_of p.batch in
+      let us = uses_in ps (told_among used 0 meant.encs) in
+      let same_uses : uses_of p ≡ us = ap (uses_in ps) d.encs in
+      let s : AreSealed keys p.keys us sent = subst (λ us. AreSealed keys p.keys us sent) same_uses sealed in
+      let fit = uses_sendable ps (told_among used 0 meant.encs) sendable in
+      let encs_are : encs_in us ≡ es = encs_used used 0 ps meant.encs d.long in
+      let tys_are : tys_in us ≡ (alone b).params =
+      params_used used (λ (q : Param). q.declaration.ty) 0 ps meant.encs d.long ∙ ap (used_among used 0) (types_declared ps ∙ sym (laws.bound w.catalog parts.statement (declared p.batch) b parts.binds).params) in
+      let plain_are : plain_in us ≡ used_among used 0 plain_atoms = params_used used (λ (q : Param). plain_atom q.value) 0 ps meant.encs d.long in
+      let names : map declaration_of sent ≡ used_among used 0 (declared p.batch) = sent_declared laws.seals keys p.keys us sent s ∙ params_used used (λ (q : Param). q.declaration) 0 ps meant.encs d.long in
+      let u : understood w.catalog p.batch.text (map declaration_of sent) ≡ Ok (record { bound = alone b; encs = es }) =
+      ap (understood w.catalog p.batch.text) names ∙ understood_alone laws.prepared w.catalog p.batch.text (declared p.batch) meant parts in
+      let atoms = atoms_in sent in
+      let suits : suited es sent ≡ Ok atoms = ap (λ es. suited es sent) (sym encs_are) ∙ sent_suited laws.seals keys p.keys us sent fit s in
+      let many : length atoms ≡ length (alone b).params = sent_long laws.seals keys p.keys us sent s ∙ sym (length-map us (λ (u : Use). u.param.declaration.ty)) ∙ ap length tys_are in
+      let typings = laws.typings (alone b) es ready.is_inferred in
+      let on : IsBoundOn w.catalog (alone b) es atoms = record {
+        placed = over_alone.placed;
+        tables = over_alone.tables;
+        master = has_master w.catalog (alone b).statement over_alone.master;
+        keys = over_alone.keys;
+        encs = typings.0;
+        values = many;
+      } in
+      let catalog = state.catalog in
+      let sites = over_alone.keys catalog in
+      let there = encs_there w.catalog (alone b).columns sites es typings.1 in
+      let metas : Each (IsMetaOf p.keys history) (encs_in us) =
+      subst (λ ms. Each (IsMetaOf ms history) (encs_in us)) (sym d.metas) (subst (Each (IsMetaOf (keys_of w.catalog es) history)) (sym encs_are) (are_told laws.told history w.catalog catalog known es there)) in
+      record {
+        served = ap (λ r. executed w (r >>= λ meant. suited meant.encs sent >>= λ atoms. Ok (meant, atoms))) u
+            ∙ ap (λ r. executed w (r >>= λ atoms. Ok (record { bound = alone b; encs = es }, atoms))) suits;
+        on = on;
+        admitted = laws.admitted (alone b) es over_alone.placed ready.is_inferred;
+        values = subst (λ tys. AreValuesOf is_short tys es atoms) tys_are (subst (λ es. AreValuesOf is_short (tys_in us) es atoms) encs_are (sent_typed laws.seals keys p.keys us sent fit s));
+        pairs = subst (λ xs. RowsCorrespond (Standing keys history) (param_classes (alone b).params es) atoms xs) plain_are
+            (subst (λ tys. RowsCorrespond (Standing keys history) (param_classes tys es) atoms (plain_in us)) tys_are
+            (subst (λ es. RowsCorrespond (Standing keys history) (param_classes (tys_in us) es) atoms (plain_in us)) encs_are (sent_stands laws.seals keys p.keys history us sent metas fit s)));
+        encs = ap encs_in same_uses ∙ encs_are;
+        types = ap tys_in same_uses ∙ tys_are;
+        metas = subst (λ us. Each (IsMetaOf p.keys history) (encs_in us)) (sym same_uses) metas;
+        shown = λ columns rows e.
+            each_over (IsMetaOf (keys_of w.catalog (plain.encs_shown columns)) history) (λ (c : ResultColumn). c.enc) columns
+            (are_told laws.told history w.catalog catalog known (plain.encs_shown columns)
+            (columns_there w.catalog (alone b) es sites there columns (laws.shown w (alone b) es atoms columns rows on e).shown));
+      }
+
+-- ---- what is described
+
+  -- a batch that is described as its statement is understood
+  pub is_held : (batch : Batch) → HasParams batch → HasProperParams batch → why_unfit batch ≡ None → (meant : Meant) → understood w.catalog batch.text (declared batch) ≡ Ok meant
+      → (encs_of batch.params (description w.catalog (declared batch) meant).params ≡ Some (told_among (is_used meant.bound) 0 meant.encs))
+      × HoldsBatch w.catalog (record { batch = batch; version = w.catalog.version; keys = (description w.catalog (declared batch) meant).keys; encs = told_among (is_used meant.bound) 0 meant.encs })
+  is_held batch params proper fit meant e =
+      let parts = parts_of w.catalog batch.text (declared batch) meant e in
+      let over_all = laws.bound w.catalog parts.statement (declared batch) meant.bound parts.binds in
+      let long : length meant.encs ≡ length batch.params =
+      (laws.typings meant.bound meant.encs parts.infers).0 ∙ ap length over_all.params ∙ length-map (declared batch) type_of ∙ length-map batch.params (λ (q : Param). q.declaration) in
+      let long_declared : length meant.encs ≡ length (declared batch) = long ∙ sym (length-map batch.params (λ (q : Param). q.declaration)) in (
+        encs_found meant.bound 0 batch.params meant.encs long params.1,
+        record {
+          past = omega arith;
+          sendable = all_sendable batch.params proper (all_fit batch.params (first_fits batch fit));
+          same = λ v. record { meant = meant; understood = e; long = long; encs = refl; metas = ap (keys_of w.catalog) (used_encs meant.bound 0 (declared batch) meant.encs long_declared) };
+        },
+      )
 
 module _ (laws : Laws) (keys : KeyMap) where
   -- whatever a turn comes to, over worlds that go on from these, it goes on as it is meant
@@ -228,58 +334,18 @@ module _ (laws : Laws) (keys : KeyMap) where
     runs_agrees p h d sent sealed taken left a =
         let meant = d.meant in
         let b = meant.bound in
-        let ps = p.batch.params in
-        let used = is_used b in
-        let es = used_among used 0 meant.encs in
-        let parts = parts_of w.catalog p.batch.text (declared p.batch) meant d.understood in
-        let ready = laws.prepared w.catalog parts.statement (declared p.batch) b meant.encs parts.binds parts.infers in
-        let over_alone = laws.bound w.catalog parts.statement (used_among used 0 (declared p.batch)) (alone b) ready.is_bound in
-        let plain_atoms = map (λ (q : Param). plain_atom q.value) ps in
-        let us = uses_in ps (told_among used 0 meant.encs) in
-        let same_uses : uses_of p ≡ us = ap (uses_in ps) d.encs in
-        let s : AreSealed keys p.keys us sent = subst (λ us. AreSealed keys p.keys us sent) same_uses sealed in
-        let fit = uses_sendable ps (told_among used 0 meant.encs) h.sendable in
-        let encs_are : encs_in us ≡ es = encs_used used 0 ps meant.encs d.long in
-        let tys_are : tys_in us ≡ (alone b).params =
-        params_used used (λ (q : Param). q.declaration.ty) 0 ps meant.encs d.long ∙ ap (used_among used 0) (types_declared ps ∙ sym (laws.bound w.catalog parts.statement (declared p.batch) b parts.binds).params) in
-        let plain_are : plain_in us ≡ used_among used 0 plain_atoms = params_used used (λ (q : Param). plain_atom q.value) 0 ps meant.encs d.long in
-        let names : map declaration_of sent ≡ used_among used 0 (declared p.batch) = sent_declared laws.seals keys p.keys us sent s ∙ params_used used (λ (q : Param). q.declaration) 0 ps meant.encs d.long in
-        let u : understood w.catalog p.batch.text (map declaration_of sent) ≡ Ok (record { bound = alone b; encs = es }) =
-        ap (understood w.catalog p.batch.text) names ∙ understood_alone laws.prepared w.catalog p.batch.text (declared p.batch) meant parts in
+        let es = encs_alone meant in
+        let plain_atoms = plain_atoms_of p.batch in
+        let r = is_ready laws keys history w st.known st.state p h.sendable d sent sealed in
         let atoms = atoms_in sent in
-        let suits : suited es sent ≡ Ok atoms = ap (λ es. suited es sent) (sym encs_are) ∙ sent_suited laws.seals keys p.keys us sent fit s in
         let did = step w (alone b) es atoms in
-        let other = step plainly (alone b) es (used_among used 0 plain_atoms) in
-        let served : executed w (understood w.catalog p.batch.text (map declaration_of sent) >>= λ meant. suited meant.encs sent >>= λ atoms. Ok (meant, atoms)) ≡ answered w did.world did.answer =
-        ap (λ r. executed w (r >>= λ meant. suited meant.encs sent >>= λ atoms. Ok (meant, atoms))) u
-        ∙ ap (λ r. executed w (r >>= λ atoms. Ok (record { bound = alone b; encs = es }, atoms))) suits in
-        let many : length atoms ≡ length (alone b).params = sent_long laws.seals keys p.keys us sent s ∙ sym (length-map us (λ (u : Use). u.param.declaration.ty)) ∙ ap length tys_are in
-        let typings = laws.typings (alone b) es ready.is_inferred in
-        let on : IsBoundOn w.catalog (alone b) es atoms = record {
-          placed = over_alone.placed;
-          tables = over_alone.tables;
-          master = has_master w.catalog (alone b).statement over_alone.master;
-          keys = over_alone.keys;
-          encs = typings.0;
-          values = many;
-        } in
-        let admitted = laws.admitted (alone b) es over_alone.placed ready.is_inferred in
-        let values : AreValuesOf is_short (alone b).params es atoms =
-        subst (λ tys. AreValuesOf is_short tys es atoms) tys_are (subst (λ es. AreValuesOf is_short (tys_in us) es atoms) encs_are (sent_typed laws.seals keys p.keys us sent fit s)) in
-        let catalog = st.state.catalog in
-        let sites = over_alone.keys catalog in
-        let there = encs_there w.catalog (alone b).columns sites es typings.1 in
-        let metas : Each (IsMetaOf p.keys history) (encs_in us) =
-        subst (λ ms. Each (IsMetaOf ms history) (encs_in us)) (sym d.metas) (subst (Each (IsMetaOf (keys_of w.catalog es) history)) (sym encs_are) (are_told laws.told history w.catalog catalog st.known es there)) in
-        let pairs : RowsCorrespond (Standing keys history) (param_classes (alone b).params es) atoms (used_among used 0 plain_atoms) =
-        subst (λ xs. RowsCorrespond (Standing keys history) (param_classes (alone b).params es) atoms xs) plain_are
-        (subst (λ tys. RowsCorrespond (Standing keys history) (param_classes tys es) atoms (plain_in us)) tys_are
-        (subst (λ es. RowsCorrespond (Standing keys history) (param_classes (tys_in us) es) atoms (plain_in us)) encs_are (sent_stands laws.seals keys p.keys history us sent metas fit s))) in
+        let other = step plainly (alone b) es (used_among (is_used b) 0 plain_atoms) in
+        let served = r.served in
         let worlds : WorldsCorrespond (Standing keys history) w plainly = record { catalog = refl; contents = st.pairs } in
-        let sim = laws.simulates (stands keys history) w plainly (alone b) es atoms (used_among used 0 plain_atoms) (standing_is_one_to_one keys history) (standing_is_within keys history) st.state.keys worlds pairs on admitted in
-        let kept = laws.keeps is_short w (alone b) es atoms st.state on admitted values in
+        let sim = laws.simulates (stands keys history) w plainly (alone b) es atoms (used_among (is_used b) 0 plain_atoms) (standing_is_one_to_one keys history) (standing_is_within keys history) st.state.keys worlds r.pairs r.on r.admitted in
+        let kept = laws.keeps is_short w (alone b) es atoms st.state r.on r.admitted r.values in
         let follows = step_leaves w (alone b) es atoms in
-        let grown = step_grows laws.reused laws.followed history w catalog st.known (alone b) es atoms on.master kept.0.catalog in
+        let grown = step_grows laws.reused laws.followed history w st.state.catalog st.known (alone b) es atoms r.on.master kept.0.catalog in
         let more = other.world.contents in
         let after : StandsFor keys grown.later did.world more = record {
           known = grown.known;
@@ -287,11 +353,7 @@ module _ (laws : Laws) (keys : KeyMap) where
           state = kept.0;
         } in
         let all_agrees = answer_agrees did.world more grown.later after (follows) taken left did.answer other.answer a sim.answers
-        (λ f e. stays w (done_by w (alone b) es (alone b).statement atoms) f e) kept.1
-        (λ columns rows e.
-        each_over (IsMetaOf (keys_of w.catalog (plain.encs_shown columns)) history) (λ (c : ResultColumn). c.enc) columns
-        (are_told laws.told history w.catalog catalog st.known (plain.encs_shown columns)
-        (columns_there w.catalog (alone b) es sites there columns (laws.shown w (alone b) es atoms columns rows on e).shown))) in
+        (λ f e. stays w (done_by w (alone b) es (alone b).statement atoms) f e) kept.1 r.shown in
         let whole = step plainly b meant.encs plain_atoms in
         let same : other ≡ whole = step_alone laws.renamed plainly b meant.encs plain_atoms in
         let world_is : beside did.world more ≡ other.world = ap (λ (c : Catalog). let v : World = record { catalog = c; contents = more } in v) (sym sim.worlds.catalog) in
@@ -329,19 +391,9 @@ module _ (laws : Laws) (keys : KeyMap) where
           let s = described w d in
           Agrees (over serve keys awaiting taken left s.after s.replies) (text rest (plain.described plainly batch readied d))
       described_agrees fit (Ok meant) e =
-          let parts = parts_of w.catalog batch.text (declared batch) meant e in
-          let over_all = laws.bound w.catalog parts.statement (declared batch) meant.bound parts.binds in
-          let long : length meant.encs ≡ length batch.params =
-          (laws.typings meant.bound meant.encs parts.infers).0 ∙ ap length over_all.params ∙ length-map (declared batch) type_of ∙ length-map batch.params (λ (q : Param). q.declaration) in
-          let long_declared : length meant.encs ≡ length (declared batch) = long ∙ sym (length-map batch.params (λ (q : Param). q.declaration)) in
-          let found = encs_found meant.bound 0 batch.params meant.encs long params.1 in
-          let told = told_among (is_used meant.bound) 0 meant.encs in
-          let d = description w.catalog (declared batch) meant in
-          rw found (ready_agrees (record { batch = batch; version = w.catalog.version; keys = d.keys; encs = told }) (record {
-            past = omega arith;
-            sendable = all_sendable batch.params proper (all_fit batch.params (first_fits batch fit));
-            same = λ v. record { meant = meant; understood = e; long = long; encs = refl; metas = ap (keys_of w.catalog) (used_encs meant.bound 0 (declared batch) meant.encs long_declared) };
-          }))
+          let h = is_held laws keys history w st.known st.state batch params proper fit meant e in
+          let found = h.0 in
+          rw found (ready_agrees (record { batch = batch; version = w.catalog.version; keys = (description w.catalog (declared batch) meant).keys; encs = told_among (is_used meant.bound) 0 meant.encs }) h.1)
       described_agrees fit (Err f) e = prints (outcome.Refused f) session.Idle (suc taken) left a tt
 
       begun_agrees : (o : Option DriverFault) → why_unfit batch ≡ o

@@ -1,13 +1,13 @@
-mod Agreement
-mod Between
-mod Growing
-mod History
-mod Pairs
-mod Sealed
-mod Sending
-mod Talk
-mod Told
-mod Understood
-mod Used
-mod Versions
+pub mod Agreement
+pub mod Between
+pub mod Growing
+pub mod History
+pub mod Pairs
+pub mod Sealed
+pub mod Sending
+pub mod Talk
+pub mod Told
+pub mod Understood
+pub mod Used
+pub mod Versions
 mod Worked

@@ -21,6 +21,7 @@ use Rattle.hmac_kdf.specs.Keys.{Keys}
 use Rattle.value_norm.specs.Norm.{norm}
 use Rattle.cell_codec.specs.Cells.{sealed_det, unsealed}
 use Rattle.scalar.specs.Classes.{Class, Open, Det, Rnd, Pairing, IsNotNull, IsOneToOne, Correspond, RowsCorrespond}
+use Rattle.blind_laws.proofs.Wider.{contents_wider}
 use Rattle.engine.specs.Correspond.{Related, IsWithinClass, ArePairsWithin, ContentsCorrespond, class_of_column}
 use Rattle.conversation.specs.Cells.{value_in}
 use Rattle.conversation.specs.Keys.{open_key}
@@ -221,7 +222,7 @@ cell_longer p q (Sealed c) Null f h = absurd cc
 cell_longer p q (Sealed c) (Plain d) f h = f c d h
 cell_longer p q (Sealed c) (Sealed d) f h = absurd cc
 
-stands_longer : (keys : KeyMap) (old new : List KeyMeta) → Extends old new → (c : Class) (a b : Atom) → stands keys old c a b ≡ true → stands keys new c a b ≡ true
+pub stands_longer : (keys : KeyMap) (old new : List KeyMeta) → Extends old new → (c : Class) (a b : Atom) → stands keys old c a b ≡ true → stands keys new c a b ≡ true
 stands_longer keys old new x Open a b h = absurd cc
 stands_longer keys old new x (Det id ty) a b h =
     cell_longer (λ c d. under (det_reads ty c d) (key_in keys old id)) (λ c d. under (det_reads ty c d) (key_in keys new id)) a b
@@ -230,32 +231,6 @@ stands_longer keys old new x (Rnd id ty) a b h =
     cell_longer (λ c d. under (λ ks. reads ks ty c d) (key_in keys old id)) (λ c d. under (λ ks. reads ks ty c d) (key_in keys new id)) a b
     (λ c d. under_longer (λ ks. reads ks ty c d) (key_in keys old id) (key_in keys new id) (key_longer keys old new x id)) h
 
-module _ (keys : KeyMap) (old new : List KeyMeta) (x : Extends old new) where
-  at_class : (c : Class) (a b : Atom) → Correspond (Standing keys old) c a b → Correspond (Standing keys new) c a b
-  at_class Open a b h = h
-  at_class (Det id ty) a b (inl h) = inl h
-  at_class (Det id ty) a b (inr h) = inr (stands_longer keys old new x (Det id ty) a b h)
-  at_class (Rnd id ty) a b (inl h) = inl h
-  at_class (Rnd id ty) a b (inr h) = inr (stands_longer keys old new x (Rnd id ty) a b h)
-
-  row_longer : (cs : List Class) (row other : List Atom) → RowsCorrespond (Standing keys old) cs row other → RowsCorrespond (Standing keys new) cs row other
-  row_longer [] [] [] h = tt
-  row_longer [] [] (b ∷ bs) h = absurd h
-  row_longer [] (a ∷ row) bs h = absurd h
-  row_longer (c ∷ cs) [] bs h = absurd h
-  row_longer (c ∷ cs) (a ∷ row) [] h = absurd h
-  row_longer (c ∷ cs) (a ∷ row) (b ∷ bs) h = (at_class c a b h.0, row_longer cs row bs h.1)
-
-  rows_longer : (cs : List Class) (rows others : List (List Atom)) → AllZip (RowsCorrespond (Standing keys old) cs) rows others → AllZip (RowsCorrespond (Standing keys new) cs) rows others
-  rows_longer cs [] [] h = tt
-  rows_longer cs [] (other ∷ others) h = absurd h
-  rows_longer cs (row ∷ rows) [] h = absurd h
-  rows_longer cs (row ∷ rows) (other ∷ others) h = (row_longer cs row other h.0, rows_longer cs rows others h.1)
-
-  pub contents_longer : (tables : List TableDef) (contents others : List (List (List Atom))) → ContentsCorrespond (Standing keys old) tables contents others → ContentsCorrespond (Standing keys new) tables contents others
-  contents_longer [] [] [] h = tt
-  contents_longer [] [] (others ∷ more) h = absurd h
-  contents_longer [] (rows ∷ contents) more h = absurd h
-  contents_longer (def ∷ defs) [] more h = absurd h
-  contents_longer (def ∷ defs) (rows ∷ contents) [] h = absurd h
-  contents_longer (def ∷ defs) (rows ∷ contents) (others ∷ more) h = (rows_longer (map class_of_column def.columns) rows others h.0, contents_longer defs contents more h.1)
+pub contents_longer : (keys : KeyMap) (old new : List KeyMeta) → Extends old new → (tables : List TableDef) (contents others : List (List (List Atom)))
+    → ContentsCorrespond (Standing keys old) tables contents others → ContentsCorrespond (Standing keys new) tables contents others
+contents_longer keys old new x = contents_wider (Standing keys old) (Standing keys new) (stands_longer keys old new x)

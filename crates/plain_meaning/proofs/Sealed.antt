@@ -28,7 +28,7 @@ use Rattle.value_norm.specs.Laws.{NormIsBounded}
 use Rattle.value_norm.specs.Norm.{norm, most_bytes}
 use Rattle.value_norm.specs.Reading as reading
 use Rattle.value_norm.specs.Reading.{ValueIsTheOne}
-use Rattle.cell_codec.specs.Cells.{sealed, sealed_det, iv_of, unsealed, is_shape, IsShape, most_blocks}
+use Rattle.cell_codec.specs.Cells.{version, sealed, sealed_det, iv_of, unsealed, is_shape, IsShape, most_blocks}
 use Rattle.cell_codec.specs.Laws.{SealedIsReadBack, SealedIsCell, SealedHasShape, DerivedAreKeys, IvIsBlock}
 use Rattle.scalar.specs.Classes.{Det, Rnd, IsNotSealed, Correspond, class_of}
 use Rattle.engine.specs.WellTyped.{IsOfType, IsAtomOf}
@@ -120,6 +120,8 @@ pub record IsSealOf (ks : Keys) (t : Ty) (d : Datum) (cell : List ℕ) : Type 0 
   pub within : is_within d t ≡ true
   pub shape : is_shape cell t ≡ true
   pub short : is_short cell ≡ true
+  pub long : length cell ≡ 49 + (length (norm d t) / 16 + 1) * 16
+  pub byte : slice_index cell 0 ≡ version
 
 module _ (laws : SealLaws) where
   pub seal_facts : (ks : Keys) (iv : List ℕ) (d : Datum) (t : Ty) → IsKey ks.enc_key → IsBlock iv → IsProperDatum d → IsType t → is_within d t ≡ true → IsSealOf ks t d (sealed ks iv (norm d t))
@@ -129,13 +131,16 @@ module _ (laws : SealLaws) where
       let back = laws.back ks iv (norm d t) k b bounded.0 in
       let one : reading.value_of (norm d t) t ≡ Some d = (laws.the_one (norm d t) t d).1 (record { fits = fits; spelled = refl }) in
       let long = (laws.cell ks iv (norm d t) k b bounded.0).long in
+      let shape = laws.shape ks iv (norm d t) t k b bounded.0 bounded.1 in
       let most = most_of t y in
       let few : length (norm d t) ≤ 8000 = let m = bounded.1 in omega (arith, m, most) in
       record {
         value = ap (value_in t) back ∙ ap normal one;
         within = w;
-        shape = shape_so (sealed ks iv (norm d t)) t (laws.shape ks iv (norm d t) t k b bounded.0 bounded.1);
+        shape = shape_so (sealed ks iv (norm d t)) t shape;
         short = ap (λ n. nat_le n 16384) long ∙ cell_short (length (norm d t)) few;
+        long = long;
+        byte = shape.version_byte;
       }
 
   derived_key : (r : Result (List ℕ) KeyFault) (ks : Keys) → seen (r >>= λ cek. Ok (keys_of cek)) ≡ Ok ks → IsKey ks.enc_key
@@ -168,12 +173,12 @@ pub record IsSendable (t : Ty) (v : Value) : Type 0 where
   pub fit : value_is_within v t ≡ true
 
 module _ (laws : SealLaws) (keys : KeyMap) (metas : List KeyMeta) (t : Ty) where
-  det_cellular : (ks : Keys) (id : ℕ) (v : Value) → open_key keys (meta_of metas id) ≡ Ok ks → IsSendable t v → Cellular ks t v (det_atom ks t v)
+  pub det_cellular : (ks : Keys) (id : ℕ) (v : Value) → open_key keys (meta_of metas id) ≡ Ok ks → IsSendable t v → Cellular ks t v (det_atom ks t v)
   det_cellular ks id value.Null e s = Nothing
   det_cellular ks id (value.Is d) e s =
       Cell d (sealed_det ks (norm d t)) (seal_facts laws ks (iv_of ks (norm d t)) d t (key_of_map laws keys (meta_of metas id) ks e) (laws.vector ks (norm d t)) s.proper s.ty s.fit)
 
-  rnd_cellular : (ks : Keys) (id : ℕ) (v : Value) (a : Atom) → open_key keys (meta_of metas id) ≡ Ok ks → IsSendable t v → IsRndSeal ks t v a → Cellular ks t v a
+  pub rnd_cellular : (ks : Keys) (id : ℕ) (v : Value) (a : Atom) → open_key keys (meta_of metas id) ≡ Ok ks → IsSendable t v → IsRndSeal ks t v a → Cellular ks t v a
   rnd_cellular ks id value.Null a e s h = rw h Nothing
   rnd_cellular ks id (value.Is d) a e s h =
       let i = h.2 in

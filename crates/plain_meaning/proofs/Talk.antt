@@ -77,10 +77,10 @@ AreSealed keys metas (u ∷ us) [] = ⊥
 AreSealed keys metas (u ∷ us) (p ∷ ps) =
     ((p ≡ sent_param u p.atom) × IsSealed keys metas u.enc u.param.declaration.ty u.param.value p.atom) × AreSealed keys metas us ps
 
-unopened_later : (r : Result Keys DriverFault) (ks : Keys) (o q : Option DriverFault) → r ≡ Ok ks → o ≡ q → unopened_or r o ≡ q
+pub unopened_later : (r : Result Keys DriverFault) (ks : Keys) (o q : Option DriverFault) → r ≡ Ok ks → o ≡ q → unopened_or r o ≡ q
 unopened_later r ks o q e f = rw (e, f) refl
 
-unopened_here : (r : Result Keys DriverFault) (f : DriverFault) (o : Option DriverFault) → r ≡ Err f → unopened_or r o ≡ Some f
+pub unopened_here : (r : Result Keys DriverFault) (f : DriverFault) (o : Option DriverFault) → r ≡ Err f → unopened_or r o ≡ Some f
 unopened_here r f o e = rw e refl
 
 module _ (keys : KeyMap) (w : State) (text : List Outcome) where

@@ -25,34 +25,12 @@ use Rattle.engine.specs.Laws.{StepRenamed}
 use Rattle.query_results.specs.Results.{is_count}
 use Rattle.engine.specs.Step.{step}
 use Rattle.engine.specs.Worlds.{World}
-use Rattle.server_core.specs.Describing.{Meant, with_encs, typed, named, understood}
+use Rattle.server_core.specs.Describing.{Meant, understood}
+use Rattle.server_core.proofs.Understanding.{Parts}
 use Rattle.plain_meaning.proofs.Sending.{found_among}
 
 abbrev pub followed : {A B E : Type 0} → Result A E → (A → Result B E) → Result B E
 followed r f = r >>= f
-
-bind_ok : {A B : Type 0} (r : Result A SqlFault) (f : A → Result B SqlFault) (y : B) → r >>= f ≡ Ok y → (x : A) × (r ≡ Ok x) × (f x ≡ Ok y)
-bind_ok (Ok x) f y h = (x, refl, h)
-bind_ok (Err e) f y h = absurd cc
-
--- what each text is made of that is understood
-pub record Parts (catalog : Catalog) (text : List ℕ) (declarations : List ParamDecl) (meant : Meant) : Type 0 where
-  pub statement : Statement
-  pub reads : parsed (encode_utf8_all text) ≡ Ok statement
-  pub binds : bind catalog statement declarations ≡ Ok meant.bound
-  pub infers : inferred meant.bound ≡ Ok meant.encs
-
-typed_parts : (b : Bound) (r : Result (List Enc) ℕ) (m : Meant) → with_encs b r ≡ Ok m → (r ≡ Ok m.encs) × (m.bound ≡ b)
-typed_parts b (Ok encs) m h = let e : record { bound = b; encs = encs } ≡ m = cc in rw (← e) (refl, refl)
-typed_parts b (Err at) m h = absurd cc
-
-pub parts_of : (catalog : Catalog) (text : List ℕ) (declarations : List ParamDecl) (meant : Meant) → understood catalog text declarations ≡ Ok meant → Parts catalog text declarations meant
-unfolding understood
-parts_of catalog text declarations meant h =
-    let n = bind_ok (named catalog text declarations) typed meant h in
-    let p = bind_ok (parsed (encode_utf8_all text)) (λ statement. bind catalog statement declarations) n.0 n.1 in
-    let i = typed_parts n.0 (inferred n.0) meant n.2 in
-    record { statement = p.0; reads = p.1; binds = p.2 ∙ ap Ok (sym i.1); infers = ap inferred i.1 ∙ i.0 }
 
 pub understood_as : (catalog : Catalog) (text : List ℕ) (declarations : List ParamDecl) (statement : Statement) (b : Bound) (encs : List Enc) → parsed (encode_utf8_all text) ≡ Ok statement
     → bind catalog statement declarations ≡ Ok b → inferred b ≡ Ok encs → understood catalog text declarations ≡ Ok (record { bound = b; encs = encs })

@@ -29,7 +29,7 @@ INSERT INTO v (n) VALUES (@n)
 ";
 
 /// The master key of RFC 3394, section 4.6.
-const MAIN: [u8; 32] = [
+pub(crate) const MAIN: [u8; 32] = [
     0, 1, 2, 3, 4, 5, 6, 7, 8, 9, 10, 11, 12, 13, 14, 15, 16, 17, 18, 19, 20, 21, 22, 23, 24, 25,
     26, 27, 28, 29, 30, 31,
 ];

@@ -1,3 +1,4 @@
+mod Alike
 mod Beginning
 mod Headers
 mod Listing
@@ -10,5 +11,6 @@ mod Steps
 mod Suiting
 mod Told
 mod Typings
+pub mod Understanding
 mod Used
 mod Versions

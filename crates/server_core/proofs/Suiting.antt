@@ -73,7 +73,7 @@ atom_of (enc.Rnd key) t (Plain d) h s = absurd (false≢true h)
 atom_of (enc.Rnd key) t (Sealed cell) h s = (tt, short_cell cell s)
 
 -- the value that is suited, and why
-record IsSuited (e : Enc) (p : SentParam) (atom : Atom) : Type 0 where
+pub record IsSuited (e : Enc) (p : SentParam) (atom : Atom) : Type 0 where
   pub is : atom ≡ p.atom
   pub of : is_of e p.ty p.atom ≡ true
 
@@ -84,7 +84,7 @@ suited_by true true false p atom f g e = absurd cc
 suited_by true false shaped p atom f g e = absurd cc
 suited_by false of shaped p atom f g e = absurd cc
 
-is_suited : (e : Enc) (p : SentParam) (atom : Atom) → suited_atom e p ≡ Ok atom → IsSuited e p atom
+pub is_suited : (e : Enc) (p : SentParam) (atom : Atom) → suited_atom e p ≡ Ok atom → IsSuited e p atom
 is_suited e p atom h =
     let s = suited_by (enc_eq p.enc e) (is_of e p.ty p.atom) (is_shaped p.ty p.atom) p atom (fault.BadCell p.name) (fault.ParamClash p.name) h in
     record { is = s.0; of = s.1 }

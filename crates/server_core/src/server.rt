@@ -3,11 +3,13 @@
 ghost use Rattle.std.specs.Prelude.{◌≡◌, IfOk};
 ghost use Rattle.wire_messages.specs.Exchanges.{HasKinds};
 ghost use Rattle.server_core.specs.Calls.{Serves};
+ghost use Rattle.server_core.specs.Correspond.{IsServedAlike};
 ghost use Rattle.server_core.specs.Describing.{named};
 ghost use Rattle.server_core.specs.Explaining.{Explains};
 ghost use Rattle.server_core.specs.Serve.{empty_state};
 
 use crate::explaining::explain;
+use crate::laws::requests_are_served_alike;
 use crate::requests::serve;
 use ae_base::batches::Declarations;
 use ae_base::cells::Cell;
@@ -49,7 +51,9 @@ impl Server {
     }
 
     /// Serves a request whole: the replies to it, which are of its kinds, and the state after it. A
-    /// refusal leaves the state as before, and so does want of memory.
+    /// refusal leaves the state as before, and so does want of memory. To each request that is this
+    /// one but for a renaming of cells, in each state that is this one but for it, come these replies
+    /// and this state but for it.
     pub fn serve(
         &mut self,
         alloc: Global,
@@ -57,7 +61,9 @@ impl Server {
     ) -> Result<Seq<Reply<'static>>, AllocError>
         ensures served { Serves result request.now self.old self.new }
         ensures kinds { IfOk result (λ replies. HasKinds request.now replies) }
+        ensures alike { IfOk result (λ replies. IsServedAlike self.old request.now replies self.new) }
     {
+        requests_are_served_alike();
         serve(alloc, &mut self.world, request)
     }
 

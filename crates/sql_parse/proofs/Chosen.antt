@@ -1,7 +1,5 @@
 -- Readings of which the next word tells which it is.
-use Rattle.std.proofs.Common.{◌≡◌, ℕ, Bool, true, false, List, [], ◌∷◌, Option, Some, None, Result, codes, refl, sym, ◌∙◌, subst}
-use Rattle.ae_base.specs.declared.faults.SqlFault.{SqlFault}
-use Rattle.ae_base.specs.declared.refusals.Refusal.{Refusal}
+use Rattle.std.proofs.Common.{◌≡◌, ℕ, Bool, true, false, List, [], ◌∷◌, Option, Some, None, codes, refl, ◌∙◌}
 use Rattle.sql_tree.specs.declared.lexemes.Keyword.{Keyword}
 use Rattle.sql_tree.specs.declared.lexemes.Keyword.TheVariants as keyword
 use Rattle.sql_tree.specs.declared.lexemes.Token.{Token}
@@ -10,12 +8,6 @@ use Rattle.sql_grammar.specs.Readers.{Terminal, Reading, next_among, both, made,
 use Rattle.sql_grammar.specs.Readers as terminal
 use Rattle.sql_grammar.specs.Making as make
 use Rattle.sql_grammar.specs.Parse.{word, next_reads, create, create_table, create_master, create_key, drop, insert, update, delete, select, body}
-use Rattle.sql_parse.specs.Reads.{Gives}
-
--- what is given of a reading is given of one that reads the same
-pub same_gives : {X Y : Type 0} (view : X → Y) (result : Result X (Refusal SqlFault)) (rest : List Token) (one other : Option (Y × List Token)) → one ≡ other
-    → Gives view result rest other → Gives view result rest one
-same_gives view result rest one other e g = subst (λ read. Gives view result rest read) (sym e) g
 
 here : {A : Type 0} (test : List Token → Bool) (r s : Reading A) (tokens : List Token) → test tokens ≡ true → choice_by test r s tokens ≡ r tokens
 here test r s tokens h = rw h refl

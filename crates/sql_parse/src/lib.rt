@@ -1,11 +1,8 @@
 //! The statement that a text spells, or the first fault of the text.
 #![tactic(auto)]
 
-mod conditions;
-mod cursor;
 mod definitions;
 mod limits;
-mod operands;
 pub mod parsing;
 mod queries;
 mod reading;

@@ -6,11 +6,9 @@ ghost use Rattle.sql_tree.specs.Statements.{items_of, statement_of};
 ghost use Rattle.ae_base.specs.declared.values.Datum.TheVariants as datum;
 ghost use Rattle.sql_grammar.specs.Texts as spec;
 
+use sql_conditions::operands::MOST_OPEN;
 use sql_tree::lexemes::{Lexeme, Symbol, Token};
 use sql_tree::statements::{Items, Statement, UniqueSpec};
-
-/// The most parentheses that are open at once.
-const MOST_OPEN: usize = 64;
 
 /// The most columns of a table.
 const MOST_COLUMNS: usize = 64;

@@ -3,14 +3,14 @@ ghost use Rattle.ae_base.specs.Results.{AnswersAs};
 ghost use Rattle.sql_tree.specs.Statements.{statement_of};
 ghost use Rattle.sql_tree.specs.Tokens.{first_wide};
 ghost use Rattle.sql_grammar.specs.Texts.{parsed, parsed_narrow};
-ghost use Rattle.sql_parse.specs.Reads.{IsParseFault};
+ghost use Rattle.sql_parse.specs.Faults.{IsParseFault};
 
-use crate::cursor::{Cursor, MOST_NUMBER};
 use crate::limits::{has_long, opens_too_deep, passes_a_limit};
 use crate::statements::statement;
 use ae_base::faults::SqlFault;
 use ae_base::lists::Seq;
 use ae_base::refusals::Refusal;
+use sql_conditions::cursor::{Cursor, MOST_NUMBER};
 use sql_tree::lexemes::Token;
 use sql_tree::statements::Statement;
 use sql_tree::tokens::{TokensFault, tokens};

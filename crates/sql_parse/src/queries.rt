@@ -8,19 +8,19 @@ ghost use Rattle.sql_grammar.specs.Readers as terminal;
 ghost use Rattle.sql_grammar.specs.Readers.{both, many, optional};
 ghost use Rattle.sql_grammar.specs.Making as make;
 ghost use Rattle.sql_grammar.specs.Parse as parse;
-ghost use Rattle.sql_parse.specs.Reads.{Gives, Reads};
+ghost use Rattle.sql_conditions.specs.Reads.{Gives, Reads};
 ghost use Rattle.std.specs.List.{list_any};
 ghost use Rattle.sql_parse.specs.Views.{tail_of};
 
-use crate::conditions::{ConditionTree, condition};
-use crate::cursor::{Cursor, syntax};
 use crate::definitions::number_in_parens;
-use crate::operands::{MOST_OPEN, column_ref, operand_in};
 use crate::reading::{Read, listed};
 use crate::statements::filter;
 use ae_base::lists::Seq;
 use ae_base::names::Name;
 use ae_base::refusals::Refusal;
+use sql_conditions::conditions::{ConditionTree, condition};
+use sql_conditions::cursor::{Cursor, syntax};
+use sql_conditions::operands::{column_ref, operand};
 use sql_tree::lexemes::{Keyword, Symbol};
 use sql_tree::statements::{
     ColumnAt, Item, ItemValue, Items, Join, OrderKey, Query, SourceTable, Statement,
@@ -58,7 +58,7 @@ fn item_value(alloc: Global, tokens: &mut Cursor) -> Result<ItemValue, Refusal>
     if tokens.next_counts() {
         return count(tokens);
     }
-    Ok(ItemValue::Value(operand_in(alloc, tokens, MOST_OPEN)?))
+    Ok(ItemValue::Value(operand(alloc, tokens)?))
 }
 
 impl Read for Item {
@@ -133,7 +133,7 @@ fn join(alloc: Global, tokens: &mut Cursor) -> Result<Join, Refusal>
 }
 
 /// The further tables of FROM.
-#[tactic(auto, using(crate::proofs::Listing::goes_fails, sql_grammar::proofs::Going::goes_end))]
+#[tactic(auto, using(sql_conditions::proofs::Listing::goes_fails, sql_grammar::proofs::Going::goes_end))]
 fn joins(alloc: Global, tokens: &mut Cursor) -> Result<Seq<Join>, Refusal>
     ensures { Gives (map join_of) result tokens.new
         (many (terminal.Word keyword.Inner ∷ terminal.Word keyword.Join ∷ []) parse.join tokens.old) }

@@ -2,12 +2,12 @@ ghost use Rattle.std.specs.Prelude.{List, Option, map};
 ghost use Rattle.sql_tree.specs.declared.lexemes.Token.{Token};
 ghost use Rattle.sql_grammar.specs.Shortening.{Shortens};
 ghost use Rattle.sql_grammar.specs.Parse as parse;
-ghost use Rattle.sql_parse.specs.Reads.{Gives};
+ghost use Rattle.sql_conditions.specs.Reads.{Gives};
 
-use crate::cursor::Cursor;
 use ae_base::lists::Seq;
 use ae_base::names::Name;
 use ae_base::refusals::Refusal;
+use sql_conditions::cursor::Cursor;
 use sql_tree::lexemes::Symbol;
 use sql_tree::statements::NameAt;
 use std::alloc::Global;
@@ -68,7 +68,7 @@ impl Read for NameAt {
 }
 
 /// One or more, with commas between.
-#[tactic(auto, using(crate::proofs::Listing::lists_fails, crate::proofs::Listing::first_fails, crate::proofs::Listing::lists_end))]
+#[tactic(auto, using(sql_conditions::proofs::Listing::lists_fails, sql_conditions::proofs::Listing::first_fails, sql_conditions::proofs::Listing::lists_end))]
 pub(crate) fn listed<T: Read>(alloc: Global, tokens: &mut Cursor) -> Result<Seq<T>, Refusal>
     ensures { Gives (map T.view) result tokens.new (parse.listed T.reading tokens.old) }
 {

@@ -3,15 +3,15 @@ ghost use Rattle.std.specs.List.{list_all};
 ghost use Rattle.sql_tree.specs.Reading.{is_capital};
 ghost use Rattle.sql_grammar.specs.Making as make;
 ghost use Rattle.sql_grammar.specs.Parse as parse;
-ghost use Rattle.sql_parse.specs.Reads.{Gives};
+ghost use Rattle.sql_conditions.specs.Reads.{Gives};
 
-use crate::cursor::{Cursor, syntax};
 use crate::reading::Read;
 use ae_base::blobs::Blob;
 use ae_base::lists::Seq;
 use ae_base::names::Name;
 use ae_base::refusals::Refusal;
 use ae_base::texts::Txt;
+use sql_conditions::cursor::{Cursor, syntax};
 use sql_grammar::settings::{KeySetting, MasterSetting};
 use sql_tree::lexemes::Symbol;
 use sql_tree::statements::EncryptionKind;

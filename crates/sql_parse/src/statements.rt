@@ -8,13 +8,10 @@ ghost use Rattle.sql_tree.specs.declared.lexemes.Symbol.TheVariants as symbol;
 ghost use Rattle.sql_grammar.specs.Readers as terminal;
 ghost use Rattle.sql_grammar.specs.Readers.{optional};
 ghost use Rattle.sql_grammar.specs.Parse as parse;
-ghost use Rattle.sql_parse.specs.Reads.{Gives, Reads};
+ghost use Rattle.sql_conditions.specs.Reads.{Gives, Reads};
 ghost use Rattle.sql_grammar.specs.Texts.{tree_of};
 
-use crate::conditions::{ConditionTree, condition};
-use crate::cursor::{Cursor, syntax};
 use crate::definitions::parts_in_parens;
-use crate::operands::{MOST_OPEN, OperandTree, operand_in};
 use crate::queries::select;
 use crate::reading::{Read, in_parens, listed};
 use crate::settings::{key_of, path_of};
@@ -22,6 +19,9 @@ use ae_base::blobs::Blob;
 use ae_base::lists::Seq;
 use ae_base::names::Name;
 use ae_base::refusals::Refusal;
+use sql_conditions::conditions::{ConditionTree, condition};
+use sql_conditions::cursor::{Cursor, syntax};
+use sql_conditions::operands::{operand, operands};
 use sql_grammar::settings::{KeySetting, MasterSetting};
 use sql_tree::lexemes::{Keyword, Symbol};
 use sql_tree::statements::{Assignment, Statement, ValueRow};
@@ -126,7 +126,7 @@ impl Read for ValueRow {
 
     fn read(alloc: Global, tokens: &mut Cursor) -> Result<ValueRow, Refusal> {
         let at = tokens.sign(Symbol::Open)?;
-        let values: Seq<OperandTree> = listed(alloc, tokens)?;
+        let values = operands(alloc, tokens)?;
         tokens.sign(Symbol::Close)?;
         Ok(ValueRow { at, values })
     }
@@ -187,7 +187,7 @@ impl Read for Assignment {
     fn read(alloc: Global, tokens: &mut Cursor) -> Result<Assignment, Refusal> {
         let column = tokens.name()?;
         let at = tokens.sign(Symbol::Equal)?;
-        let value = operand_in(alloc, tokens, MOST_OPEN)?;
+        let value = operand(alloc, tokens)?;
         Ok(Assignment { at, column, value })
     }
 

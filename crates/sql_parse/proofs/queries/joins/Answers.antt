@@ -5,7 +5,7 @@ use Rattle.sql_grammar.specs.Readers as terminal
 use Rattle.sql_grammar.specs.Parse.{join}
 use Rattle.sql_grammar.proofs.Going.{shortens, goes_end}
 use Rattle.sql_grammar.proofs.Statements.{join_agrees}
-use Rattle.sql_parse.proofs.Listing.{goes_push}
+use Rattle.sql_conditions.proofs.Listing.{goes_push}
 use Rattle.sql_parse.proofs.queries.joins.Goals as goal
 
 pub joins-smaller : goal.joins-smaller

@@ -1,6 +1,6 @@
 use Rattle.std.proofs.Common.{sym}
 use Rattle.sql_grammar.proofs.Going.{behind_comma_shortens}
-use Rattle.sql_parse.proofs.Listing.{lists_push, lists_end}
+use Rattle.sql_conditions.proofs.Listing.{lists_push, lists_end}
 use Rattle.sql_parse.proofs.reading.listed.Goals as goal
 
 pub items-smaller : goal.items-smaller

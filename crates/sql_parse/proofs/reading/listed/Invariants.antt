@@ -1,5 +1,5 @@
 use Rattle.std.proofs.Common.{length, map}
-use Rattle.sql_parse.proofs.Listing.{Lists}
+use Rattle.sql_conditions.proofs.Listing.{Lists}
 use Rattle.sql_parse.proofs.reading.listed.Given as goal
 
 abbrev pub invariant-items : goal.invariant-items

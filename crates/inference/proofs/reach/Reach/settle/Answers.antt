@@ -1,5 +1,4 @@
 -- A step goes on from what was found.
-use Rattle.std.proofs.Common.{rules}
 use Rattle.inference.proofs.Passes.{step_reached, step_fewer}
 use Rattle.inference.proofs.reach.Reach.settle.Goals as goal
 

@@ -1,0 +1,6 @@
+//! Operands and conditions, read from tokens.
+#![tactic(auto)]
+
+pub mod conditions;
+pub mod cursor;
+pub mod operands;
