@@ -234,7 +234,7 @@ module _ (laws : Laws) (keys : KeyMap) (history : List KeyMeta) (w : World) (kno
             (columns_there w.catalog (alone b) es sites there columns (laws.shown w (alone b) es atoms columns rows on e).shown));
       }
 
--- ---- what is described
+  -- ---- what is described
 
   -- a batch that is described as its statement is understood
   pub is_held : (batch : Batch) → HasParams batch → HasProperParams batch → why_unfit batch ≡ None → (meant : Meant) → understood w.catalog batch.text (declared batch) ≡ Ok meant
