@@ -137,7 +137,7 @@ first_of : (o : Option (List ℕ)) (b : Bool) → unfit_by o b ≡ None → o �
 first_of None b h = refl
 first_of (Some name) b h = absurd cc
 
-first_fits : (batch : Batch) → why_unfit batch ≡ None → first_unfit batch.params ≡ None
+pub first_fits : (batch : Batch) → why_unfit batch ≡ None → first_unfit batch.params ≡ None
 first_fits batch h = first_of (first_unfit batch.params) (nat_lt 65536 (length (encode_utf8_all batch.text))) h
 
 -- ---- what is sent
@@ -166,6 +166,18 @@ pub record Ready (keys : KeyMap) (history : List KeyMeta) (w : World) (p : Pendi
   pub shown : (columns : List ResultColumn) (rows : List (List Atom)) → (done_alone w meant sent).answer ≡ Ok (Rows columns rows) → Each (λ (c : ResultColumn). IsMetaOf (keys_of w.catalog (plain.encs_shown columns)) history c.enc) columns
 
 module _ (laws : Laws) (keys : KeyMap) (history : List KeyMeta) (w : World) (known : Known history w.catalog) (state : IsState w) where
+  -- the keys that are told with a description are those of the history
+  pub keys_told : (p : Pending) → DescribedAs w.catalog p → Each (IsMetaOf p.keys history) (encs_in (uses_of p))
+  keys_told p d =
+      let b = d.meant.bound in
+      let es = encs_alone d.meant in
+      let parts = parts_of w.catalog p.batch.text (declared p.batch) d.meant d.understood in
+      let ready = laws.prepared w.catalog parts.statement (declared p.batch) b d.meant.encs parts.binds parts.infers in
+      let over_alone = laws.bound w.catalog parts.statement (used_among (is_used b) 0 (declared p.batch)) (alone b) ready.is_bound in
+      let encs_are : encs_in (uses_of p) ≡ es = ap (λ os. encs_in (uses_in p.batch.params os)) d.encs ∙ encs_used (is_used b) 0 p.batch.params d.meant.encs d.long in
+      let there = encs_there w.catalog (alone b).columns (over_alone.keys state.catalog) es (laws.typings (alone b) es ready.is_inferred).1 in
+      subst (λ ms. Each (IsMetaOf ms history) (encs_in (uses_of p))) (sym d.metas) (subst (Each (IsMetaOf (keys_of w.catalog es) history)) (sym encs_are) (are_told laws.told history w.catalog state.catalog known es there))
+
   pub is_ready : (p : Pending) → Each IsSendableParam p.batch.params → (d : DescribedAs w.catalog p) → (sent : List SentParam) → AreSealed keys p.keys (uses_of p) sent → Ready keys history w p d.meant sent
   is_ready p sendable d sent sealed =
       let meant = d.meant in
@@ -203,8 +215,7 @@ module _ (laws : Laws) (keys : KeyMap) (history : List KeyMeta) (w : World) (kno
       let catalog = state.catalog in
       let sites = over_alone.keys catalog in
       let there = encs_there w.catalog (alone b).columns sites es typings.1 in
-      let metas : Each (IsMetaOf p.keys history) (encs_in us) =
-      subst (λ ms. Each (IsMetaOf ms history) (encs_in us)) (sym d.metas) (subst (Each (IsMetaOf (keys_of w.catalog es) history)) (sym encs_are) (are_told laws.told history w.catalog catalog known es there)) in
+      let metas : Each (IsMetaOf p.keys history) (encs_in us) = subst (λ us. Each (IsMetaOf p.keys history) (encs_in us)) same_uses (keys_told p d) in
       record {
         served = ap (λ r. executed w (r >>= λ meant. suited meant.encs sent >>= λ atoms. Ok (meant, atoms))) u
             ∙ ap (λ r. executed w (r >>= λ atoms. Ok (record { bound = alone b; encs = es }, atoms))) suits;
@@ -216,7 +227,7 @@ module _ (laws : Laws) (keys : KeyMap) (history : List KeyMeta) (w : World) (kno
             (subst (λ es. RowsCorrespond (Standing keys history) (param_classes (tys_in us) es) atoms (plain_in us)) encs_are (sent_stands laws.seals keys p.keys history us sent metas fit s)));
         encs = ap encs_in same_uses ∙ encs_are;
         types = ap tys_in same_uses ∙ tys_are;
-        metas = subst (λ us. Each (IsMetaOf p.keys history) (encs_in us)) (sym same_uses) metas;
+        metas = keys_told p d;
         shown = λ columns rows e.
             each_over (IsMetaOf (keys_of w.catalog (plain.encs_shown columns)) history) (λ (c : ResultColumn). c.enc) columns
             (are_told laws.told history w.catalog catalog known (plain.encs_shown columns)

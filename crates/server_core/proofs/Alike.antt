@@ -265,7 +265,7 @@ module _ (R : Pairing) (r : IsOneToOne R) (cells : PairsCells R) (within : ArePa
   described_alike w v (Ok description) st = record { replies = λ classes. (refl, tt); states = st }
   described_alike w v (Err f) st = refused_alike w v f st
 
-  answered_alike : (w v new now : World) (x y : Result Answer SqlFault) → StatesCorrespond R w v → StatesCorrespond R new now → BothAnswer (AnswersCorrespond R) x y → Alike (answered w new x) (answered v now y)
+  pub answered_alike : (w v new now : World) (x y : Result Answer SqlFault) → StatesCorrespond R w v → StatesCorrespond R new now → BothAnswer (AnswersCorrespond R) x y → Alike (answered w new x) (answered v now y)
   answered_alike w v new now (Ok x) (Ok y) st next h = record {
     replies = λ classes. subst (λ c. RepliesCorrespond R classes (replies_of w.catalog x) (replies_of c y)) (sym st.worlds.catalog) (answers_correspond R w.catalog classes (Ok x) (Ok y) h);
     states = next;

@@ -1,4 +1,4 @@
-mod Alike
+pub mod Alike
 mod Beginning
 mod Headers
 mod Listing
