@@ -15,7 +15,8 @@ ghost use Rattle.script_run.specs.Plain.{IsDoneOrFault, PrintsPlain};
 ghost use Rattle.script_run.specs.Statuses.{status_of};
 ghost use Rattle.script_run.specs.Transcript.{TapsTranscript};
 
-use crate::words::{is_run, usage, wrap_path};
+use crate::serving::serve_requests;
+use crate::words::{is_run, is_serve, usage, wrap_path};
 use crate::wrapping::wrap_key;
 use ae_base::texts::Txt;
 use ae_edge::entropies::Entropy;
@@ -81,6 +82,9 @@ pub fn ae_main<S: Source, V: Vault, E: Entropy, L: Source, W: Sink, T: Sink, P: 
 {
     if is_run(words) {
         return Status::from(run(alloc, script, vault, entropy, out, tap, peer));
+    }
+    if is_serve(words) {
+        return serve_requests(alloc, script, out);
     }
     match wrap_path(words) {
         Some(path) => wrap_key(alloc, path, script, vault, out),
