@@ -2,7 +2,7 @@
 
 ghost use Rattle.std.specs.Prelude.{◌≡◌};
 ghost use Rattle.std.specs.Option.{option_map};
-ghost use Rattle.ae_cli.specs.Words.{IsRefusedUsage, is_run, wrap_path};
+ghost use Rattle.ae_cli.specs.Words.{IsRefusedUsage, is_run, is_serve, wrap_path};
 
 use ae_base::texts::Txt;
 use script_run::status::Status;
@@ -23,6 +23,7 @@ pub fn is_run(words: &[Txt]) -> bool
 
 /// Whether the words, of which the first is the program's name, ask to serve requests.
 pub fn is_serve(words: &[Txt]) -> bool
+    ensures { result ≡ is_serve words.now }
 {
     match words {
         [_, word] => word.as_str() == "serve",

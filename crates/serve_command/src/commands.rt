@@ -17,7 +17,7 @@ use ae_edge::sources::{Source, Taken};
 use frame_feed::FrameFeed;
 use server_core::server::Server;
 use std::alloc::Global;
-use wire_frames::Way;
+use wire_frames::{Way, frames_are_read_back, one_reading, streams_are_read_once};
 
 /// The most bytes that the input has.
 pub const MOST_INPUT_BYTES: usize = 1_073_741_824;
@@ -70,28 +70,27 @@ fn answer_piece<W: Sink>(
     }
 }
 
-/// Looks for a byte past the limit.
-fn past_limit<S: Source>(alloc: Global, input: &mut S, feed: &FrameFeed) -> Served {
-    match input.take(alloc, 1) {
-        Taken::Bytes(_) => Served::TooLong,
-        Taken::End => at_end(feed),
-        Taken::Failed => Served::ReadFault,
-        Taken::OutOfMemory => Served::OutOfMemory,
-    }
-}
-
-/// Answers the requests of the input, piece by piece.
+/// Answers the requests of the input, piece by piece. At the limit one byte more is asked for.
 fn serve_pieces<S: Source, W: Sink>(
     alloc: Global,
     input: &mut S,
     out: &mut W,
     feed: &mut FrameFeed,
     server: &mut Server,
-) -> Served {
+) -> Served
+    requires unfed { feed.old ≡ unfed ToServer }
+    requires empty { server.old ≡ empty_state }
+    ensures content { Serves result (S.left input.old) (S.left input.new) (W.held out.old) (W.held out.new) }
+    ensures read { result ≡ Served.ReadFault → Rose (S.faults input.old) (S.faults input.new) }
+    ensures write { result ≡ Served.WriteFault → Rose (W.faults out.old) (W.faults out.new) }
+{
     let mut left = MOST_INPUT_BYTES;
-    'pieces: while left > 0 {
-        match input.take(alloc, left.min(MOST_PIECE_BYTES)) {
+    'pieces: loop {
+        match input.take(alloc, left.min(MOST_PIECE_BYTES).max(1)) {
             Taken::Bytes(piece) => {
+                if left == 0 {
+                    return Served::TooLong;
+                }
                 left -= piece.len();
                 match answer_piece(alloc, &piece, feed, server, out) {
                     Came::Waits => {}
@@ -105,13 +104,26 @@ fn serve_pieces<S: Source, W: Sink>(
             Taken::OutOfMemory => return Served::OutOfMemory,
         }
     }
-    past_limit(alloc, input, feed)
 }
 
 /// Reads requests from the input, frame after frame, and puts the frames of the replies of a server
 /// that begins with nothing defined to the output: all those of one request before the next request
-/// is looked at.
-pub fn serve_stream<S: Source, W: Sink>(alloc: Global, input: &mut S, out: &mut W) -> Served {
+/// is looked at. What the input is taken to, and what is held of it, is at most a piece more than a
+/// frame.
+pub fn serve_stream<S: Source, W: Sink>(alloc: Global, input: &mut S, out: &mut W) -> Served
+    // What was taken of the input, and what was put for it, by how it ended.
+    ensures content { Serves result (S.left input.old) (S.left input.new) (W.held out.old) (W.held out.new) }
+    // Where the input tells its bytes: by how those within the limit end, and the frames of their replies. So whole frames within
+    // the limit end with `Done` and all frames, unless memory or a device fails.
+    ensures exact { (bytes frames : List ℕ) (end : End) (after : State) → S.left input.old ≡ Some bytes → ServeAll (take most_input_bytes bytes) end frames after
+        → IsServed result bytes end frames (W.held out.old) (W.held out.new) }
+    // The faults of the outside come only where a count rose.
+    ensures read { result ≡ Served.ReadFault → Rose (S.faults input.old) (S.faults input.new) }
+    ensures write { result ≡ Served.WriteFault → Rose (W.faults out.old) (W.faults out.new) }
+{
+    one_reading();
+    streams_are_read_once();
+    frames_are_read_back();
     let mut feed = FrameFeed::new(alloc, Way::ToServer);
     let mut server = Server::new(alloc);
     let served = serve_pieces(alloc, input, out, &mut feed, &mut server);

@@ -12,7 +12,7 @@ use server_core::server::Server;
 use std::alloc::Global;
 
 /// What came of what stands next.
-#[derive(Clone, Copy, PartialEq, Eq, Debug)]
+#[derive(Clone, Copy)]
 enum Turn {
     /// A request was answered, whose frame has so many bytes.
     Answered(usize),
@@ -48,12 +48,7 @@ fn answer_message<W: Sink>(
 }
 
 /// Answers the request that stands next. It stays in the feed.
-fn answer_next<W: Sink>(
-    alloc: Global,
-    feed: &FrameFeed,
-    server: &mut Server,
-    out: &mut W,
-) -> Turn
+fn answer_next<W: Sink>(alloc: Global, feed: &FrameFeed, server: &mut Server, out: &mut W) -> Turn
     requires { feed.now.way ≡ ToServer }
     ensures turns { Turns result feed.now server.old server.new (W.held out.old) (W.held out.new) }
     ensures counts { CountsTurn result (W.faults out.old) (W.faults out.new) }
@@ -67,7 +62,7 @@ fn answer_next<W: Sink>(
 }
 
 /// What came of all that is held.
-#[derive(Clone, Copy, PartialEq, Eq, Debug)]
+#[derive(Clone, Copy)]
 pub(crate) enum Came {
     /// Each request was answered, and less than a frame is left.
     Waits,
