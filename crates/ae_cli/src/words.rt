@@ -9,7 +9,8 @@ use script_run::status::Status;
 use std::alloc::Global;
 
 /// How the program is called.
-const USAGE: &str = "usage: ae run < SCRIPT\n       ae serve < REQUESTS > REPLIES\n       ae wrap PATH < KEY\n";
+const USAGE: &str =
+    "usage: ae run < SCRIPT\n       ae serve < REQUESTS > REPLIES\n       ae wrap PATH < KEY\n";
 
 /// Whether the words, of which the first is the program's name, ask to run a script.
 pub fn is_run(words: &[Txt]) -> bool

@@ -1,9 +1,8 @@
 -- Bytes that begin with requests, and how they are read.
-use Rattle.std.proofs.Common.{◌≡◌, ◌+◌, ◌<◌, ◌≤◌, ℕ, List, [], ◌∷◌, ◌++◌, length, map, take, drop, Bool, true, false, refl, sym, ap, subst, ◌∙◌, append_assoc, length-append, add-zero, arith, inl, inr}
+use Rattle.std.proofs.Common.{◌≡◌, ◌+◌, ◌<◌, ◌≤◌, ℕ, List, [], ◌∷◌, ◌++◌, length, take, drop, Bool, true, false, refl, sym, ap, subst, ◌∙◌, append_assoc, length-append, add-zero, arith, inl, inr}
 use Rattle.std.specs.Prelude.{flat_map, ◌⊎◌}
 use Rattle.std.proofs.lemmas.Bool.{cases_lt}
 use Rattle.std.specs.List.{All}
-use Rattle.std.proofs.lemmas.Grind.{flat_map-append}
 use Rattle.std.proofs.lemmas.List.{append_cancel_left, append-nil, take-append-le, take-append-drop, flat_map_more}
 use Rattle.std.proofs.lemmas.List.Elements.{All-nil, All-cons, All-push, All-head, All-tail}
 use Rattle.ae_edge.specs.Devices.{IsFront}
@@ -11,7 +10,7 @@ use Rattle.ae_edge.proofs.Told.{front_none}
 use Rattle.wire_messages.specs.Conditions.{IsRequest}
 use Rattle.wire_messages.specs.declared.requests.Request.{Request}
 use Rattle.wire_spelling.specs.Spelling.{SpellsRequest, request_frame}
-use Rattle.wire_frames.specs.Frames.{Placed, End, Whole, Refused, Rest, EndsSo, ReadsAs, RequestFrames, IsNotYet, IsRefused, is_request_kind, is_no_header, stated}
+use Rattle.wire_frames.specs.Frames.{Placed, End, Whole, Refused, Rest, EndsSo, ReadsAs, RequestFrames, IsRefused, is_request_kind, is_no_header, stated}
 use Rattle.wire_frames.specs.Laws.{HasOneReading, IsReadBack, IsReadOnce, placed_from}
 use Rattle.serve_command.specs.ServeAll.{requests_of}
 use Rattle.serve_command.specs.Serving.{Begins}

@@ -1,21 +1,19 @@
 -- How far the input was taken, and what stands where serving ends.
-use Rattle.std.proofs.Common.{◌≡◌, ◌⊎◌, ◌+◌, ◌<◌, ◌≤◌, ◌^◌, ℕ, List, [], ◌∷◌, ◌++◌, length, take, Option, Some, None, refl, sym, ap, subst, ◌∙◌, length-append, append-nil, arith, inl, inr}
+use Rattle.std.proofs.Common.{◌≡◌, ◌⊎◌, ◌+◌, ◌<◌, ◌≤◌, ◌^◌, ℕ, List, [], ◌++◌, length, take, Option, Some, None, refl, sym, subst, ◌∙◌, length-append, append-nil, arith, inl, inr}
 use Rattle.std.specs.Io.KnownBytes.{IsAtEnd}
 use Rattle.std.proofs.lemmas.List.{take-append-le, take_all}
 use Rattle.ae_edge.specs.Devices.{WhereTold, Removes}
 use Rattle.ae_edge.specs.Sources.{Takes}
 use Rattle.ae_edge.specs.declared.sources.Taken.TheVariants as taken
 use Rattle.ae_edge.proofs.Told.{told_map, removes_none, removes_then}
-use Rattle.wire_frames.specs.Frames.{End, Whole, Refused, Rest, EndsSo, IsNotYet, is_request_kind}
+use Rattle.wire_frames.specs.Frames.{Whole, Refused, Rest, IsNotYet, is_request_kind}
 use Rattle.wire_frames.specs.declared.decoding.Way.TheVariants.{ToServer}
-use Rattle.wire_spelling.specs.Spelling.{SpellsRequest}
 use Rattle.frame_feed.specs.Feeding.{Feeding, unfed}
 use Rattle.server_core.specs.Serve.{State, empty_state}
-use Rattle.serve_command.specs.Serving.{AnswersAll, AnswersFirst, AnswersOpen, BreaksOff, Ends, Serves, most_input_bytes}
+use Rattle.serve_command.specs.Serving.{AnswersAll, AnswersFirst, AnswersOpen, BreaksOff, Serves, most_input_bytes}
 use Rattle.serve_command.specs.Turns.{Comes, EndsAt, Stands}
 use Rattle.serve_command.specs.declared.commands.Served.{Served}
 use Rattle.serve_command.specs.declared.commands.Served.TheVariants as served
-use Rattle.serve_command.specs.declared.turns.Came.{Came}
 use Rattle.serve_command.specs.declared.turns.Came.TheVariants as came
 use Rattle.serve_command.proofs.Turning.{stands_first, answers_all, answers_first, answers_open}
 

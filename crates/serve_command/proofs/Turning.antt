@@ -1,5 +1,5 @@
 -- One request more is answered, and what stands where serving ends.
-use Rattle.std.proofs.Common.{◌≡◌, ◌⊎◌, ◌+◌, ◌<◌, ◌≤◌, ◌^◌, ℕ, List, [], ◌∷◌, ◌++◌, length, take, drop, min, Option, Some, None, refl, sym, ap, subst, ◌∙◌, length-append, append-nil, arith, inl, inr}
+use Rattle.std.proofs.Common.{◌≡◌, ◌⊎◌, ◌+◌, ◌<◌, ◌^◌, ℕ, List, [], ◌∷◌, ◌++◌, length, take, drop, Option, Some, None, refl, sym, ap, subst, ◌∙◌, length-append, arith, inl, inr}
 use Rattle.std.specs.Prelude.{flat_map, Bool, true, false, if◌then◌else◌}
 use Rattle.std.proofs.lemmas.List.{flat_map_more, length-take-le}
 use Rattle.ae_edge.specs.Devices.{Adds, AddsFront, IsFront}
@@ -10,7 +10,7 @@ use Rattle.wire_frames.specs.Decoding.{has_kind}
 use Rattle.wire_frames.specs.Frames.{End, Whole, Refused, Rest, EndsSo, IsNotYet, IsRefused, is_request_kind}
 use Rattle.wire_frames.specs.Laws.{placed_from}
 use Rattle.wire_frames.specs.declared.decoding.Way.{Way}
-use Rattle.wire_frames.specs.declared.decoding.Way.TheVariants.{ToServer, ToDriver}
+use Rattle.wire_frames.specs.declared.decoding.Way.TheVariants.{ToServer}
 use Rattle.frame_feed.specs.Feeding.{Feeding, SpellsMessage, behind, fed, unfed}
 use Rattle.frame_feed.specs.Steps.{Steps}
 use Rattle.frame_feed.specs.declared.feeds.Next.TheVariants as next
@@ -19,7 +19,7 @@ use Rattle.frame_feed.specs.declared.messages.Message.TheVariants.{Asks, Tells}
 use Rattle.server_core.specs.Serve.{State, serve, empty_state}
 use Rattle.serve_command.specs.ServeAll.{reply_frames, state_after}
 use Rattle.serve_command.specs.Serving.{Begins, AnswersAll, AnswersFirst, AnswersOpen, BreaksOff, IsOpen}
-use Rattle.serve_command.specs.Turns.{IsAsked, Answers, Turns, IsNext, AnswersNext, BreaksNext, Stands}
+use Rattle.serve_command.specs.Turns.{IsAsked, Answers, Turns, AnswersNext, BreaksNext, Stands}
 use Rattle.serve_command.specs.declared.turns.Turn.{Turn}
 use Rattle.serve_command.specs.declared.turns.Turn.TheVariants as turn
 use Rattle.serve_command.proofs.Replying.{state_more, frames_more}

@@ -3,7 +3,7 @@ use Rattle.std.specs.Prelude.{◌≡◌, ◌⊎◌, ℕ, ◌<◌, ◌≤◌, Lis
 use Rattle.ae_edge.specs.Devices.{Adds, AddsFront, Rose}
 use Rattle.wire_messages.specs.declared.requests.Request.{Request}
 use Rattle.wire_spelling.specs.Spelling.{SpellsRequest, request_frame, reply_frame}
-use Rattle.wire_frames.specs.Frames.{End, Refused, IsNotYet, IsRefused, is_request_kind}
+use Rattle.wire_frames.specs.Frames.{Refused, IsNotYet, IsRefused, is_request_kind}
 use Rattle.wire_frames.specs.declared.decoding.Way.TheVariants.{ToServer}
 use Rattle.frame_feed.specs.Feeding.{Feeding}
 use Rattle.frame_feed.specs.declared.messages.Message.{Message}

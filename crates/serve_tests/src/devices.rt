@@ -55,6 +55,7 @@ pub fn is_served(
 
 /// The question of a query where there is no table, and its answer.
 pub const QUESTION: &[u8] = b"\x01\x01\x00\x00\x00\x16\x00\x01\x00\x00\x00\x0fSELECT a FROM t\x00";
+
 pub const NO_TABLE: &[u8] = b"\x01\x85\x00\x00\x00\x04\x14\x00\x01t";
 
 // Three questions in pieces of 28 bytes, of which each is one: the call of the input that fails, that of the output, the end, and how

@@ -1,5 +1,5 @@
 -- One piece more, or the end.
-use Rattle.std.proofs.Common.{◌∙◌, ◌≤◌, ◌+◌, ◌≡◌, length, arith}
+use Rattle.std.proofs.Common.{◌∙◌, ◌≤◌, ◌≡◌, length, arith}
 use Rattle.serve_command.proofs.Pieces.{goes_on, ends_refused, ends_unput, ends_unheld, ends_past, ends_unread, ends_whole}
 use Rattle.serve_command.proofs.commands.serve_pieces.Goals as goal
 

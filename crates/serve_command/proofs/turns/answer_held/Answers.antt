@@ -1,5 +1,5 @@
 -- One request more is answered, or what was taken ends there.
-use Rattle.std.proofs.Common.{◌∙◌, ◌≡◌, Option, List, ℕ, inl, inr}
+use Rattle.std.proofs.Common.{◌∙◌}
 use Rattle.serve_command.proofs.Turning.{stands_more, stops_refused, breaks_off, stops_unheld}
 use Rattle.serve_command.proofs.turns.answer_held.Goals as goal
 
