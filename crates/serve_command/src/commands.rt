@@ -108,8 +108,8 @@ fn serve_pieces<S: Source, W: Sink>(
 
 /// Reads requests from the input, frame after frame, and puts the frames of the replies of a server
 /// that begins with nothing defined to the output: all those of one request before the next request
-/// is looked at. What the input is taken to, and what is held of it, is at most a piece more than a
-/// frame.
+/// is looked at. Of the input at most a frame and a piece are held. Up to the limit all whole frames
+/// are answered, before a byte past it is asked for.
 pub fn serve_stream<S: Source, W: Sink>(alloc: Global, input: &mut S, out: &mut W) -> Served
     // What was taken of the input, and what was put for it, by how it ended.
     ensures content { Serves result (S.left input.old) (S.left input.new) (W.held out.old) (W.held out.new) }
