@@ -1,5 +1,5 @@
 -- Renamings: finite lists of pairs of cells, each at its class.
-use Rattle.std.specs.Prelude.{◌≡◌, ℕ, List, length, slice_index}
+use Rattle.std.specs.Prelude.{◌≡◌, List, length, slice_index}
 use Rattle.ae_base.specs.Atoms.{Atom}
 use Rattle.ae_base.specs.declared.atoms.AtomOf.TheVariants.{Null, Plain, Sealed}
 use Rattle.scalar.specs.Classes.{Class, IsOneToOne, Entry, Listing}

@@ -16,7 +16,7 @@ use Rattle.ae_edge.specs.Vaults.{KeyMap}
 use Rattle.sql_tree.specs.Bound.{BoundStatement, Bound}
 use Rattle.catalog.specs.Catalogs.{Catalog, master_named}
 use Rattle.enc_types.specs.Laws.{TypingsAreOfColumns}
-use Rattle.enc_types.specs.UsedAlone.{used_among, place_among, is_used, alone}
+use Rattle.enc_types.specs.UsedAlone.{used_among, is_used, alone}
 use Rattle.resolve.specs.Bind.{type_of}
 use Rattle.resolve.specs.Laws.{BoundStatementsAre, PreparedAlone}
 use Rattle.engine.specs.BoundOn.{HasMaster, IsBoundOn}
@@ -234,7 +234,7 @@ module _ (laws : Laws) (keys : KeyMap) (history : List KeyMeta) (w : World) (kno
             (columns_there w.catalog (alone b) es sites there columns (laws.shown w (alone b) es atoms columns rows on e).shown));
       }
 
--- ---- what is described
+  -- ---- what is described
 
   -- a batch that is described as its statement is understood
   pub is_held : (batch : Batch) → HasParams batch → HasProperParams batch → why_unfit batch ≡ None → (meant : Meant) → understood w.catalog batch.text (declared batch) ≡ Ok meant

@@ -89,7 +89,7 @@ module _ (R : Pairing) where
       rw (same, long) (
         refl,
         subst (λ cs. RepliesCorrespond R cs (map Row rows ++ Ended (Answered (length rows)) ∷ []) (map Row more ++ Ended (Answered (length rows)) ∷ [])) (sym (classes_sent columns))
-        (rows_correspond (map class_of_result columns) rows more (length rows) h.1),
+            (rows_correspond (map class_of_result columns) rows more (length rows) h.1),
       )
   answers_correspond catalog classes (Ok (engine.Changed count)) (Ok (engine.Changed other)) h = rw h (refl, tt)
   answers_correspond catalog classes (Ok engine.Defined) (Ok engine.Defined) h = (refl, tt)

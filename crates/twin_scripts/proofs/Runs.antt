@@ -338,7 +338,7 @@ module _ (laws : Laws) (keys : KeyMap) (literals : List Entry) (twins : AreTwinL
           let found = x.0 in
           let refound : encs_of qs (description w.catalog (declared one_batch) meant).params ≡ Some (told_among (is_used meant.bound) 0 meant.encs) =
           ap (λ ds. encs_of qs (description w.catalog ds meant).params) (sym same) ∙ y.0 in
-          let p : Pending = record { one_batch = one_batch; version = w.catalog.version; keys = (description w.catalog (declared one_batch) meant).keys; encs = told_among (is_used meant.bound) 0 meant.encs } in
+          let p : Pending = record { batch = one_batch; version = w.catalog.version; keys = (description w.catalog (declared one_batch) meant).keys; encs = told_among (is_used meant.bound) 0 meant.encs } in
           let params2 : AllTwinParams (Listing literals) (told_among (is_used meant.bound) 0 meant.encs) ps qs = rw found at params in
           let rest2 : RestOf (readied p) = rw found at rest in
           let told = keys_told laws keys history w st.known st.states.left p (x.1.same refl) in
