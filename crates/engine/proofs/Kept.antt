@@ -30,21 +30,26 @@ use Rattle.engine.specs.BoundOn.{HasMaster, IsBoundOn}
 use Rattle.engine.specs.Columns.{site_at, result_column}
 use Rattle.engine.specs.Correspond.{class_of_column, AreKeysTyped}
 use Rattle.engine.specs.Queries as queries
-use Rattle.engine.specs.Queries.{items_of, found_of, results, groups_of, is_grouped, found_of_groups, all_found, answered, found_in}
+use Rattle.query_results.specs.Results.{items_of, found_of, results, groups_of, is_grouped, found_of_groups, all_found, answered}
+use Rattle.engine.specs.Queries.{found_in}
 use Rattle.engine.specs.Step as step
-use Rattle.engine.specs.Step.{Done, Tested, outcome, columns_of, uniques_of, rows_to_insert, rows_to_update, rows_to_delete, done_by}
-use Rattle.engine.specs.Keys.{first_twins, unless_twins}
-use Rattle.engine.specs.Rows.{new_rows}
+use Rattle.engine.specs.Step.{Done, outcome, columns_of, uniques_of, rows_to_insert, rows_to_update, rows_to_delete, done_by}
+use Rattle.row_changes.specs.Changes.{Tested}
+use Rattle.unique_keys.specs.Keys.{first_twins, unless_twins}
+use Rattle.row_changes.specs.Rows.{new_rows}
 use Rattle.engine.specs.Typed.{classes_of, param_classes, IsValueFor, AreValuesFor, IsTypedStatement, IsTypedBy}
 use Rattle.engine.specs.WellTyped.{IsOf, IsTableOf, IsWellTyped, AreValuesOf, IsAnswerOf}
 use Rattle.engine.specs.Worlds.{World, place_of, rows_of, with_rows, HoldsRows, IsShaped}
-use Rattle.engine.proofs.Answering.{all_answered}
-use Rattle.engine.proofs.Collected.{came}
+use Rattle.query_results.proofs.Answering.{all_answered}
+use Rattle.operators.proofs.Collected.{came, each_all}
 use Rattle.engine.proofs.Contents.{zip_push, zip_remove, related_there, related_set, placed_of, table_holds, set_shape, holds_more, no_twins, kept_shape, created_shape, dropped_shape, master_made, key_made, master_dropped, key_dropped, table_made, table_dropped}
-use Rattle.engine.proofs.Grouped.{OfFirst, groups_all, each_all}
+use Rattle.operators.proofs.GroupsAlike.{OfFirst}
+use Rattle.query_results.proofs.Grouped.{groups_all}
 use Rattle.engine.proofs.Suited.{IsAt, IsShown, row_places, param_places, param_sealed, items_shown, new_rows_are}
 use Rattle.engine.proofs.Moving.{inserted_done, updated_done, deleted_done, selected_done}
-use Rattle.engine.proofs.Rowwise.{AllRows, events_typed, results_all}
+use Rattle.operators.proofs.Rowwise.{AllRows}
+use Rattle.engine.proofs.Rowwise.{events_typed}
+use Rattle.query_results.proofs.Resulting.{results_all}
 use Rattle.engine.proofs.Updating.{updated_are}
 use Rattle.engine.proofs.Walks.{keys_placed}
 use Rattle.engine.proofs.Written.{rows_in, rows_passing, holds_updated, holds_passing, were_tested}

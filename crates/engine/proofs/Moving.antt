@@ -18,14 +18,16 @@ use Rattle.scalar.specs.Laws.{AreMoved}
 use Rattle.scalar.proofs.Renaming.{or_left, or_right, both_same, eval_moved, truth_moved}
 use Rattle.operators.specs.Events.{Event, or_overflow, is_true, asks, row_where, in_place, scanned, filtered, behind, joined}
 use Rattle.engine.specs.Columns.{ty_at, enc_at, shown_of, result_column}
-use Rattle.engine.specs.Keys.{first_twins, unless_twins}
+use Rattle.unique_keys.specs.Keys.{first_twins, unless_twins}
 use Rattle.engine.specs.Queries as queries
 use Rattle.operators.specs.Found.{Found, keys_of}
 use Rattle.operators.specs.Groups.{Group}
-use Rattle.engine.specs.Queries.{item_of, items_of, found_of, results, joined_all, where_true, is_count, is_grouped, groups_of, all_found, answered, found_in}
-use Rattle.engine.specs.Rows.{admitted, column_at, value_into, values_into, completed, new_row, new_rows, replaced}
+use Rattle.query_results.specs.Results.{item_of, items_of, found_of, results, where_true, is_count, is_grouped, groups_of, all_found, answered}
+use Rattle.engine.specs.Queries.{joined_all, found_in}
+use Rattle.row_changes.specs.Rows.{admitted, column_at, value_into, values_into, completed, new_row, new_rows, replaced}
 use Rattle.engine.specs.Step as step
-use Rattle.engine.specs.Step.{Done, Tested, Changed, Rows, outcome, columns_of, uniques_of, selects, updated_row, row_to_update, tested_row, row_to_delete, done_by}
+use Rattle.engine.specs.Step.{Done, Changed, Rows, outcome, columns_of, uniques_of, done_by}
+use Rattle.row_changes.specs.Changes.{Tested, selects, updated_row, row_to_update, tested_row, row_to_delete}
 use Rattle.engine.specs.Worlds.{World, rows_of, with_rows}
 use Rattle.engine.specs.declared.answers.ResultColumn.{ResultColumn}
 use Rattle.std.proofs.lemmas.Bool.{eq-eqb}

@@ -40,24 +40,30 @@ use Rattle.operators.specs.Groups.{Group}
 use Rattle.engine.specs.BoundOn.{IsBoundOn}
 use Rattle.engine.specs.Columns.{site_at, ty_at, enc_at, shown_by, shown_of, result_column}
 use Rattle.engine.specs.Correspond.{IsWithinClass, ArePairsWithin, class_of_column, class_of_result, TablesCorrespond, ContentsCorrespond, AreKeysTyped, WorldsCorrespond, AnswersCorrespond, OutcomesCorrespond}
-use Rattle.engine.specs.Keys.{first_twins, unless_twins}
+use Rattle.unique_keys.specs.Keys.{first_twins, unless_twins}
 use Rattle.engine.specs.Queries as queries
-use Rattle.engine.specs.Queries.{item_of, items_of, joined_all, where_true, found_in, results, found_of, groups_of, is_grouped, found_of_groups, all_found, answered}
-use Rattle.engine.specs.Rows.{admitted, column_at, value_into, values_into, value_at, value_or_null, completed, new_row, new_rows, replaced}
+use Rattle.query_results.specs.Results.{item_of, items_of, where_true, results, found_of, groups_of, is_grouped, found_of_groups, all_found, answered}
+use Rattle.engine.specs.Queries.{joined_all, found_in}
+use Rattle.row_changes.specs.Rows.{admitted, column_at, value_into, values_into, value_at, value_or_null, completed, new_row, new_rows, replaced}
 use Rattle.engine.specs.Step as step
-use Rattle.engine.specs.Step.{Done, Tested, outcome, columns_of, uniques_of, rows_to_insert, selects, assigned, updated_row, row_to_update, rows_to_update, rows_to_delete, done_by}
+use Rattle.engine.specs.Step.{Done, outcome, columns_of, uniques_of, rows_to_insert, rows_to_update, rows_to_delete, done_by}
+use Rattle.row_changes.specs.Changes.{Tested, selects, assigned, updated_row, row_to_update}
 use Rattle.engine.specs.Typed.{classes_of, param_classes, IsValueFor, AreValuesFor, IsTypedFilter, IsTypedItem, IsTypedStatement, IsTypedBy, IsTypedDistinct, class_of_item}
 use Rattle.engine.specs.Worlds.{World, place_of, rows_of, with_rows}
-use Rattle.engine.proofs.Apart.{all_at}
+use Rattle.operators.proofs.Places.{all_at}
 use Rattle.engine.proofs.Contents.{table_place_there, master_made, key_made, master_dropped, key_dropped, table_made, table_dropped}
-use Rattle.engine.proofs.Answering.{FoundCorresponds, answered_alike}
-use Rattle.engine.proofs.Grouped.{GroupCorresponds, groups_alike}
+use Rattle.operators.proofs.Keeping.{FoundCorresponds}
+use Rattle.query_results.proofs.Answering.{answered_alike}
+use Rattle.operators.proofs.GroupsAlike.{GroupCorresponds}
+use Rattle.query_results.proofs.Grouped.{groups_alike, results_alike}
 use Rattle.engine.proofs.Kept.{created_done, dropped_done, done_ok, rows_ok, found_parts, found_ok, row_ok as whole_row, classes_same}
 use Rattle.engine.proofs.Suited.{class_placed}
 use Rattle.engine.proofs.Moving.{hit_row, inserted_done, updated_done, deleted_done, selected_done}
-use Rattle.engine.proofs.Pairs.{both_then, both_before, both_within, EventsCorrespond, contents_at, contents_set, contents_push, contents_remove, scanned_alike, results_alike, first_alike, filtered_alike, joined_alike}
+use Rattle.operators.proofs.Pairs.{both_then, both_before, both_within, EventsCorrespond, scanned_alike, filtered_alike, joined_alike, each_alike}
+use Rattle.engine.proofs.Tables.{contents_at, contents_set, contents_push, contents_remove}
+use Rattle.unique_keys.proofs.TwinsAlike.{first_alike}
 use Rattle.engine.proofs.Pairs as pairs
-use Rattle.engine.proofs.Updating.{places_of, values_of, values_for, TestedAlike, each_alike, rows_alike, counts_alike, passing_alike, selects_alike, all_tested_alike}
+use Rattle.engine.proofs.Updating.{places_of, values_of, values_for, TestedAlike, rows_alike, counts_alike, passing_alike, selects_alike, all_tested_alike}
 use Rattle.engine.proofs.Written.{rows_in, tested_ok}
 
 -- ---- classes of places

@@ -34,12 +34,12 @@ use Rattle.scalar.specs.Typed.{StandsAt}
 use Rattle.scalar.specs.declared.faults.Overflow.{Overflow}
 use Rattle.operators.specs.Events.{or_overflow}
 use Rattle.engine.specs.Columns.{site_at, ty_at, enc_at, shown_by, shown_of, result_column}
-use Rattle.engine.specs.Queries.{item_of, items_of}
-use Rattle.engine.specs.Rows.{admitted, column_at, value_into, values_into, value_at, value_or_null, completed, new_row, new_rows}
+use Rattle.query_results.specs.Results.{item_of, items_of}
+use Rattle.row_changes.specs.Rows.{admitted, column_at, value_into, values_into, value_at, value_or_null, completed, new_row, new_rows}
 use Rattle.engine.specs.Typed.{classes_of, param_classes, IsValueFor, AreValuesFor}
 use Rattle.engine.specs.WellTyped.{IsOfType, IsEncrypted, IsAtomOf, IsOf, AreValuesOf}
 use Rattle.engine.specs.declared.answers.ResultColumn.{ResultColumn}
-use Rattle.engine.proofs.Collected.{came, came_before}
+use Rattle.operators.proofs.Collected.{came, came_before}
 
 -- an atom of a site
 abbrev pub IsAt : (List ℕ → Bool) → ColumnSite → Atom → Type 0

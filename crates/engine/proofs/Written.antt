@@ -12,33 +12,18 @@ use Rattle.sql_tree.specs.Bound.{BoundCondition, BoundUpdate, BoundDelete}
 use Rattle.sql_tree.specs.OnTables.{table_among}
 use Rattle.sql_tree.specs.Placed.{IsPlacedFilter}
 use Rattle.catalog.specs.Catalogs.{table_place}
-use Rattle.engine.specs.Changes.{all_changed, standing, all_tested, staying}
-use Rattle.engine.specs.Keys.{alike_on, has_twins, first_twins, unless_twins}
-use Rattle.engine.specs.Rows.{replaced}
+use Rattle.row_changes.specs.Changes.{all_changed, standing, all_tested, staying, Tested, selects, assigned, updated_row, row_to_update, tested_row, row_to_delete}
+use Rattle.operators.specs.Alike.{alike_on}
+use Rattle.unique_keys.specs.Keys.{has_twins, first_twins, unless_twins}
+use Rattle.row_changes.specs.Rows.{replaced}
 use Rattle.engine.specs.Step as step
-use Rattle.engine.specs.Step.{Tested, outcome, columns_of, uniques_in, uniques_of, selects, assigned, updated_row, row_to_update, rows_to_update, tested_row, row_to_delete, rows_to_delete}
+use Rattle.engine.specs.Step.{outcome, columns_of, uniques_in, uniques_of, rows_to_update, rows_to_delete}
 use Rattle.engine.specs.Worlds.{World, rows_of, with_rows, HoldsRows, IsShaped}
-use Rattle.engine.proofs.Apart.{or_false, neither}
-use Rattle.engine.proofs.Changing.{replaced_width, changes_counted, hits_counted}
-use Rattle.engine.proofs.Collected.{came, came_before}
+use Rattle.unique_keys.proofs.Twins.{or_false, neither, all_differ}
+use Rattle.row_changes.proofs.Changing.{replaced_width, changes_counted, hits_counted}
+use Rattle.operators.proofs.Collected.{came, came_before, each_made, made_all}
 use Rattle.engine.proofs.Contents.{zip_long, rows_read, table_holds, no_twins, set_shape}
 use Rattle.engine.proofs.Moving.{hit_row}
-use Rattle.engine.proofs.Twins.{all_differ}
-
--- ---- what was made of each
-
-pub each_made : {A B E : Type 0} (f : A → Result B E) (xs : List A) (ys : List B) → each f xs ≡ Ok ys → AllZip (λ x y. f x ≡ Ok y) xs ys
-each_made f [] [] e = tt
-each_made f [] (y ∷ ys) e = absurd cc
-each_made f (x ∷ xs) ys e =
-    let b = came_before (f x) (each f xs) ys e in
-    subst (AllZip (λ x y. f x ≡ Ok y) (x ∷ xs)) (sym b.all) (b.is, each_made f xs b.others b.then)
-
-pub made_all : {A B : Type 0} (R : A → B → Type 0) (P : A → Type 0) (Q : B → Type 0) (xs : List A) (ys : List B) → ((x : A) (y : B) → P x → R x y → Q y) → All P xs → AllZip R xs ys → All Q ys
-made_all R P Q [] [] g h m = All-nil Q
-made_all R P Q [] (y ∷ ys) g h m = absurd m
-made_all R P Q (x ∷ xs) [] g h m = absurd m
-made_all R P Q (x ∷ xs) (y ∷ ys) g h m = All-cons Q y ys (g x y (All-head P x xs h) m.0) (made_all R P Q xs ys g (All-tail P x xs h) m.1)
 
 -- ---- the rows of what was tested
 

@@ -12,16 +12,13 @@ use Rattle.ae_base.specs.Atoms.{Atom, alike}
 use Rattle.ae_base.specs.declared.atoms.AtomOf.TheVariants.{Null}
 use Rattle.sql_tree.specs.declared.bound.PlaceAt.{PlaceAt}
 use Rattle.scalar.specs.Eval.{atom_at}
-use Rattle.operators.specs.Alike.{alike_on, are_alike}
+use Rattle.operators.specs.Alike.{key_of, alike_on, are_alike}
 use Rattle.operators.specs.AlikeLaws.{alike-Decides}
 use Rattle.operators.specs.Groups.{Group, grouped_row, grouped, keys_on, group_of}
 use Rattle.operators.specs.declared.groups.Group as code
 
 abbrev pub places_of : List PlaceAt → List ℕ
 places_of columns = map (λ (column : PlaceAt). column.place) columns
-
-abbrev pub key_of : List ℕ → List Atom → List Atom
-key_of places row = map (atom_at row) places
 
 -- ---- tests
 
@@ -200,7 +197,7 @@ counted_there (g ∷ groups) (suc n) group lt e = ap (λ gs. group_of g ∷ gs) 
 
 -- ---- the atoms of a row in some columns
 
-atom_read : (atoms : List Atom) (i : ℕ) (atom : Atom) → i < length atoms → atom ≡ get_or atoms i atom → atom ≡ atom_at atoms i
+pub atom_read : (atoms : List Atom) (i : ℕ) (atom : Atom) → i < length atoms → atom ≡ get_or atoms i atom → atom ≡ atom_at atoms i
 atom_read atoms i atom lt e = ap (λ x. unwrap_or x Null) (sym (slice_get_read atoms (length atoms) i atom refl lt e))
 
 pub atoms_more : (columns : List PlaceAt) (row : List Atom) (i : ℕ) (column : PlaceAt) (atom : Atom) (done : List Atom) → done ≡ map (λ (column : PlaceAt). atom_at row column.place) (take i columns) → i < length columns

@@ -1,5 +1,12 @@
+pub mod Collected
 pub mod Firsts
 pub mod Grouping
+pub mod GroupsAlike
+pub mod Keeping
 pub mod Orders
+pub mod Pairs
+pub mod Places
+pub mod Rowwise
 pub mod Sorting
 pub mod Walking
+pub mod Widths

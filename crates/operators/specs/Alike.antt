@@ -1,9 +1,13 @@
 -- Rows that are alike: as unique keys, DISTINCT and GROUP BY ask, NULLs are, and otherwise equal values.
-use Rattle.std.specs.Prelude.{ℕ, List, Bool}
+use Rattle.std.specs.Prelude.{ℕ, List, map, Bool}
 use Rattle.std.specs.List.{list_all}
 use Rattle.std.specs.Cmp.Lexicographic.{pointwise}
 use Rattle.ae_base.specs.Atoms.{Atom, alike}
 use Rattle.scalar.specs.Eval.{atom_at}
+
+-- what a row has in the columns of these places
+abbrev pub key_of : List ℕ → List Atom → List Atom
+key_of places row = map (atom_at row) places
 
 -- two rows are alike on the columns of these places
 abbrev pub alike_on : List ℕ → List Atom → List Atom → Bool

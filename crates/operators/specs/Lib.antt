@@ -6,3 +6,4 @@ pub mod Gathers
 pub mod Groups
 pub mod Hashed
 pub mod Met
+pub mod Wide

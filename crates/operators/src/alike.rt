@@ -11,9 +11,9 @@ use std::alloc::{AllocError, Global};
 use std::hash::{Hash, Hasher};
 use std::marker::Model;
 
-/// A lent atom, compared as DISTINCT and GROUP BY do: NULL is like NULL.
+/// A lent atom, compared as unique keys, DISTINCT and GROUP BY do: NULL is like NULL.
 #[derive(Drop)]
-pub(crate) struct Alike<'a, K: Same> {
+pub struct Alike<'a, K: Same> {
     atom: &'a Atom<K>,
 }
 
@@ -24,6 +24,15 @@ impl<'a, K: Same> Model for Alike<'a, K> {
     ghost Value = { AtomOf (List ℕ) };
 
     ghost view = { λ a. a.atom.now };
+}
+
+impl<'a, K: Same> Alike<'a, K> {
+    /// The atom, lent.
+    pub fn new(atom: &'a Atom<K>) -> Alike<'a, K>
+        ensures { result ≡ atom.now }
+    {
+        Alike { atom }
+    }
 }
 
 impl<'a, K: Same> PartialEq for Alike<'a, K> {

@@ -2,7 +2,7 @@
 //! tables, row by row up to the first fault, and behind it groups, DISTINCT, ORDER BY and TOP.
 #![tactic(auto)]
 
-mod alike;
+pub mod alike;
 pub mod distinct;
 pub mod events;
 pub mod found;

@@ -20,8 +20,8 @@ use Rattle.cell_codec.specs.Cells.{is_length_of}
 use Rattle.enc_types.proofs.Merging.{enc_eq-Decides}
 use Rattle.enc_types.specs.Laws.{TypingsAreOfColumns}
 use Rattle.enc_types.specs.Typing.{enc_eq}
-use Rattle.engine.proofs.Collected.{came_before}
-use Rattle.engine.proofs.Pairs.{both_then}
+use Rattle.operators.proofs.Collected.{came_before}
+use Rattle.operators.proofs.Pairs.{both_then}
 use Rattle.engine.proofs.Simulating.{step_alike}
 use Rattle.engine.specs.Correspond.{IsWithinClass, ArePairsWithin, AnswersCorrespond, class_of_result}
 use Rattle.engine.specs.Laws.{StepKeepsWorlds, TypedStatementsAreAdmitted}

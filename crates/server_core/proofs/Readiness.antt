@@ -24,8 +24,7 @@ use Rattle.engine.specs.Answers.{Gives, answer_of}
 use Rattle.engine.specs.BoundOn.{HasMaster, IsBoundOn}
 use Rattle.engine.specs.Laws.{AreShown, IsShownBy, StepKeepsWorlds, RowsAreShown, TypedStatementsAreAdmitted}
 use Rattle.enc_types.specs.declared.typed.Typed.{Typed}
-use Rattle.engine.specs.Step.{Outcome, Rows}
-use Rattle.engine.specs.Step.{step}
+use Rattle.engine.specs.Step.{Outcome, Rows, step}
 use Rattle.engine.specs.WellTyped.{AreValuesOf, IsAnswerOf}
 use Rattle.resolve.specs.Bind.{type_of}
 use Rattle.wire_messages.specs.AtomBounds.{IsSendable}

@@ -18,7 +18,7 @@ use Rattle.ae_base.specs.declared.types.Ty.TheVariants as ty
 use Rattle.ae_base.specs.declared.values.Datum.{Datum}
 use Rattle.ae_base.specs.declared.values.Datum.TheVariants as datum
 use Rattle.enc_types.specs.Typing.{enc_eq}
-use Rattle.engine.proofs.Collected.{collected, before, collected_more, collected_fault, came_before}
+use Rattle.operators.proofs.Collected.{collected, before, collected_more, collected_fault, came_before}
 use Rattle.engine.specs.WellTyped.{IsAtomOf, IsOfType, AreValuesOf}
 use Rattle.resolve.specs.Bind.{type_of}
 use Rattle.wire_messages.specs.AtomBounds.{IsSendable}

@@ -1,6 +1,5 @@
 -- What is typed, or clashes.
-use Rattle.std.proofs.Common.{◌≡◌, ℕ, List, [], map, Ok, Err, refl, sym, ap, subst}
-use Rattle.std.proofs.Common.{Result, IfOk}
+use Rattle.std.proofs.Common.{◌≡◌, ℕ, List, [], map, Ok, Err, refl, sym, ap, subst, Result, IfOk}
 use Rattle.ae_base.specs.Results.{AnswersAs}
 use Rattle.ae_base.specs.declared.faults.SqlFault.{SqlFault}
 use Rattle.ae_base.specs.declared.refusals.Refusal.{Refusal}

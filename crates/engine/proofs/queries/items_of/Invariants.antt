@@ -1,9 +1,0 @@
--- The items so far, with those that are left, are the whole.
-use Rattle.std.proofs.Common.{◌≡◌, drop, map}
-use Rattle.sql_tree.specs.Bound.{item_of}
-use Rattle.engine.specs.Queries as queries
-use Rattle.engine.proofs.Collected.{collected}
-use Rattle.engine.proofs.queries.items_of.Given as goal
-
-abbrev pub invariant-loop-item : goal.invariant-loop-item
-invariant-loop-item g l = queries.items_of l.params l.count l.row (map item_of l.items) ≡ collected l.shown (queries.items_of l.params l.count l.row (map item_of (drop l.item-index l.items)))

@@ -1,0 +1,5 @@
+pub mod Answering
+pub mod Finding
+pub mod Grouped
+pub mod Nulls
+pub mod Resulting

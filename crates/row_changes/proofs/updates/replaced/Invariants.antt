@@ -1,0 +1,7 @@
+-- The atoms so far, with those that are left, are the whole.
+use Rattle.std.proofs.Common.{◌≡◌, ◌++◌, drop}
+use Rattle.row_changes.specs.Rows.{replaced}
+use Rattle.row_changes.proofs.updates.replaced.Given as goal
+
+abbrev pub invariant-loop-place : goal.invariant-loop-place
+invariant-loop-place g l = replaced 0 l.given l.row ≡ l.new ++ replaced l.place l.given (drop l.place l.row)

@@ -1,0 +1,61 @@
+-- What UPDATE and DELETE make of the rows of a table, and how it is kept until they are written.
+use Rattle.std.specs.Prelude.{◌<◌, ℕ, List, map, filter, Option, Some, None, Result, Ok, Bool, true, false, not}
+use Rattle.std.specs.List.{All, zip}
+use Rattle.ae_base.specs.Atoms.{Atom}
+use Rattle.ae_base.specs.Results.{◌>>=◌}
+use Rattle.ae_base.specs.declared.faults.SqlFault.{SqlFault}
+use Rattle.ae_base.specs.declared.tables.ColumnDef.{ColumnDef}
+use Rattle.sql_tree.specs.Bound.{BoundCondition, BoundAssignment, BoundUpdate}
+use Rattle.sql_tree.specs.Placed.{IsPlaced}
+use Rattle.operators.specs.Events.{asks}
+use Rattle.row_changes.specs.Rows.{values_into, replaced}
+
+-- a row, and whether the filter was true of it
+pub record Tested : Type 0 where
+  pub hit : Bool
+  pub row : List Atom
+
+abbrev pub selects : List Atom → Option BoundCondition → List Atom → Result Bool SqlFault
+selects params None row = Ok true
+selects params (Some condition) row = asks params condition row
+
+-- the values that SET gives, over the old row
+abbrev pub assigned : List ColumnDef → (row params : List Atom) → List BoundAssignment → Result (List (ℕ × Atom)) SqlFault
+assigned columns row params sets = values_into columns row params (map (λ a. a.place) sets) (map (λ a. a.value) sets)
+
+abbrev pub updated_row : List ColumnDef → BoundUpdate → List Atom → List Atom → Bool → Result Tested SqlFault
+updated_row columns u params row true = assigned columns row params u.assignments >>= λ given. Ok (record { hit = true; row = replaced 0 given row })
+updated_row columns u params row false = Ok (record { hit = false; row = row })
+
+abbrev pub row_to_update : List ColumnDef → BoundUpdate → List Atom → List Atom → Result Tested SqlFault
+row_to_update columns u params row = selects params u.filter row >>= updated_row columns u params row
+
+abbrev pub tested_row : List Atom → Bool → Result Tested SqlFault
+tested_row row hit = Ok (record { hit = hit; row = row })
+
+abbrev pub row_to_delete : Option BoundCondition → List Atom → List Atom → Result Tested SqlFault
+row_to_delete filter params row = selects params filter row >>= tested_row row
+
+-- each assignment sets one of so many columns, and reads a row of these and so many parameters
+abbrev pub ArePlacedSets : (columns params : ℕ) → List BoundAssignment → Type 0
+ArePlacedSets columns params sets = All (λ a. (a.place < columns) × IsPlaced columns params a.value) sets
+
+-- a row with the new one that is to stand in its place, where the filter was true of it
+abbrev pub changed : List Atom → Option (List Atom) → Tested
+changed row None = record { hit = false; row = row }
+changed row (Some new) = record { hit = true; row = new }
+
+abbrev pub all_changed : List (List Atom) → List (Option (List Atom)) → List Tested
+all_changed rows changes = map (λ p. changed p.0 p.1) (zip rows changes)
+
+-- the rows as they stand after the changes
+abbrev pub standing : List (List Atom) → List (Option (List Atom)) → List (List Atom)
+standing rows changes = map (λ t. t.row) (all_changed rows changes)
+
+-- each row, and whether the filter was true of it
+abbrev pub all_tested : List (List Atom) → List Bool → List Tested
+all_tested rows hits = map (λ p. record { hit = p.1; row = p.0 }) (zip rows hits)
+
+-- the rows that stay after the others are dropped
+abbrev pub staying : List (List Atom) → List Bool → List (List Atom)
+staying rows hits = map (λ t. t.row) (filter (λ t. not t.hit) (all_tested rows hits))

@@ -1,0 +1,5 @@
+//! Unique keys: whether two rows are alike on one.
+#![tactic(auto)]
+
+pub mod keys;
+pub mod seen;
