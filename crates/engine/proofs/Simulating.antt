@@ -62,7 +62,7 @@ use Rattle.engine.proofs.Moving.{hit_row, inserted_done, updated_done, deleted_d
 use Rattle.operators.proofs.Pairs.{both_then, both_before, both_within, EventsCorrespond, scanned_alike, filtered_alike, joined_alike, each_alike}
 use Rattle.engine.proofs.Tables.{contents_at, contents_set, contents_push, contents_remove}
 use Rattle.unique_keys.proofs.TwinsAlike.{first_alike}
-use Rattle.engine.proofs.Pairs as pairs
+use Rattle.operators.proofs.Pairs as pairs
 use Rattle.engine.proofs.Updating.{places_of, values_of, values_for, TestedAlike, rows_alike, counts_alike, passing_alike, selects_alike, all_tested_alike}
 use Rattle.engine.proofs.Written.{rows_in, tested_ok}
 

@@ -21,7 +21,7 @@ use Rattle.engine.specs.Step.{outcome, columns_of, uniques_in, uniques_of, rows_
 use Rattle.engine.specs.Worlds.{World, rows_of, with_rows, HoldsRows, IsShaped}
 use Rattle.unique_keys.proofs.Twins.{or_false, neither, all_differ}
 use Rattle.row_changes.proofs.Changing.{replaced_width, changes_counted, hits_counted}
-use Rattle.operators.proofs.Collected.{came, came_before, each_made, made_all}
+use Rattle.operators.proofs.Collected.{came, each_made, made_all}
 use Rattle.engine.proofs.Contents.{zip_long, rows_read, table_holds, no_twins, set_shape}
 use Rattle.engine.proofs.Moving.{hit_row}
 

@@ -1,21 +1,16 @@
 -- What comes behind the walk of a query keeps what holds of each row, and goes alike over rows that correspond.
-use Rattle.std.proofs.Common.{◌≡◌, ℕ, zero, suc, List, [], ◌∷◌, ◌++◌, length, map, take, append_assoc, refl, ap, sym, subst, ◌∙◌, arith, Option, Some, None, Bool, true, false, cond, Ordering, is_gt}
-use Rattle.std.specs.Prelude.{◌&&◌, IsSome}
-use Rattle.std.specs.Cmp.Lexicographic.{pointwise}
-use Rattle.std.specs.List.{All, AllZip, list_any}
+use Rattle.std.proofs.Common.{◌≡◌, ℕ, zero, suc, List, [], ◌∷◌, ◌++◌, length, map, append_assoc, refl, ap, sym, subst, ◌∙◌, arith, Option, Some, None, Ordering}
+use Rattle.std.specs.Prelude.{IsSome}
+use Rattle.std.specs.List.{All, AllZip}
 use Rattle.std.proofs.lemmas.List.{append-nil}
-use Rattle.std.proofs.lemmas.List.Elements.{All-head, All-tail, All-cons, All-nil}
-use Rattle.ae_base.specs.Atoms.{Atom, alike}
+use Rattle.ae_base.specs.Atoms.{Atom}
 use Rattle.sql_tree.specs.Bound.{BoundQuery}
 use Rattle.sql_tree.specs.declared.bound.BoundOrderKey.{BoundOrderKey}
 use Rattle.scalar.specs.Classes.{Class, Pairing, IsOneToOne, RowsCorrespond}
 use Rattle.scalar.specs.Typed.{IsNotRandomized}
-use Rattle.scalar.proofs.Correspondence.{alike_alike}
-use Rattle.operators.specs.Alike.{are_alike}
-use Rattle.operators.specs.Found.{Found, found_by, first_seen, keys_cmp, put, sorted_by, ordered, topped}
+use Rattle.operators.specs.Found.{Found, found_by, keys_cmp, ordered, topped}
 use Rattle.operators.specs.declared.found.Found as code
 use Rattle.query_results.specs.Results.{distinct_if, answered}
-use Rattle.operators.proofs.Pairs.{any_alike, zip_append}
 use Rattle.operators.proofs.Places.{all_mapped}
 use Rattle.operators.proofs.Grouping.{map-push}
 use Rattle.operators.proofs.Keeping.{all_first, all_sorted, all_top, FoundCorresponds, Founds, firsts_alike, sorted_alike, top_alike, shown_alike}

@@ -9,9 +9,8 @@ ghost use Rattle.sql_conditions.specs.Reads.{Gives, Reads};
 ghost use Rattle.sql_conditions.specs.Views.{all_from, any_from, inner_of, test_of};
 
 use crate::cursor::{Cursor, syntax};
-use crate::operands::{
-    MOST_OPEN, OperandTree, bare_term, boxed, operand, operands_in_parens, sum_from,
-};
+use crate::operands::{MOST_OPEN, OperandReader, OperandTree, bare_term, boxed, operand, sum_from};
+use crate::reading::in_parens;
 use ae_base::lists::Seq;
 use ae_base::names::ParamName;
 use ae_base::refusals::Refusal;
@@ -103,7 +102,7 @@ fn in_test(alloc: Global, tokens: &mut Cursor) -> Result<Test, Refusal>
 {
     let not = tokens.optional_word(Keyword::Not);
     let at = tokens.word(Keyword::In)?;
-    let list = operands_in_parens(alloc, tokens)?;
+    let list = in_parens::<OperandReader>(alloc, tokens)?;
     Ok(Test::IsIn {
         at,
         negated: not.is_some(),

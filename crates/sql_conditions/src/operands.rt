@@ -9,6 +9,7 @@ ghost use Rattle.sql_conditions.specs.Reads.{Gives, Reads};
 ghost use Rattle.sql_conditions.specs.Views.{signed_of, signs};
 
 use crate::cursor::{Cursor, MOST_NUMBER, syntax};
+use crate::reading::Reader;
 use ae_base::lists::Seq;
 use ae_base::names::ParamName;
 use ae_base::refusals::Refusal;
@@ -287,42 +288,27 @@ pub fn operand(alloc: Global, tokens: &mut Cursor) -> Result<OperandTree, Refusa
     operand_in(alloc, tokens, MOST_OPEN)
 }
 
-/// One operand or more, with commas between.
-#[tactic(auto, using(crate::proofs::Listing::lists_fails, crate::proofs::Listing::first_fails, crate::proofs::Listing::lists_end))]
-pub fn operands(alloc: Global, tokens: &mut Cursor) -> Result<Seq<OperandTree>, Refusal>
-    ensures { Gives (map operand_of) result tokens.new (parse.listed parse.operand tokens.old) }
-{
-    let first = operand(alloc, tokens)?;
-    let mut operands = Seq::new(alloc);
-    operands.push(first)?;
-    'operands: while tokens.next_is_sign(Symbol::Comma) {
-        operands.push(behind_comma(alloc, tokens)?)?;
-    }
-    Ok(operands)
-}
+/// Reads an operand.
+pub struct OperandReader;
 
-/// The operand behind a comma.
-fn behind_comma(alloc: Global, tokens: &mut Cursor) -> Result<OperandTree, Refusal>
-    ensures { Gives operand_of result tokens.new (parse.behind_comma parse.operand tokens.old) }
-{
-    tokens.sign(Symbol::Comma)?;
-    operand(alloc, tokens)
-}
+impl Reader for OperandReader {
+    ghost use Rattle.sql_tree.specs.Operands.{operand_of};
+    ghost use Rattle.sql_tree.specs.Statements as tree;
+    ghost use Rattle.sql_grammar.specs.Parse as parse;
+    ghost use Rattle.sql_grammar.proofs.Going.{shortens};
+    ghost use Rattle.sql_grammar.proofs.Operands.{operand_agrees};
 
-/// One operand or more in parentheses, with commas between.
-pub(crate) fn operands_in_parens(
-    alloc: Global,
-    tokens: &mut Cursor,
-) -> Result<Seq<OperandTree>, Refusal>
-    ensures { Gives (map operand_of) result tokens.new (parse.in_parens (parse.listed parse.operand) tokens.old) }
-{
-    tokens.sign(Symbol::Open)?;
-    let operands = operands(alloc, tokens)?;
-    match tokens.sign(Symbol::Close) {
-        Ok(_) => Ok(operands),
-        Err(fault) => {
-            drop(operands);
-            Err(fault)
-        }
+    type Part = OperandTree;
+
+    ghost Tree = { tree.Operand };
+
+    ghost view = { operand_of };
+
+    ghost reading = { parse.operand };
+
+    fn read(alloc: Global, tokens: &mut Cursor) -> Result<OperandTree, Refusal> {
+        operand(alloc, tokens)
     }
+
+    ghost shortens = { shortens operand_agrees };
 }

@@ -1,5 +1,3 @@
 pub mod Chosen
 pub mod Counts
-pub mod Once
 pub mod Parsed
-pub mod Sorting

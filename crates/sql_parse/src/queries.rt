@@ -12,8 +12,6 @@ ghost use Rattle.sql_conditions.specs.Reads.{Gives, Reads};
 ghost use Rattle.std.specs.List.{list_any};
 ghost use Rattle.sql_parse.specs.Views.{tail_of};
 
-use crate::definitions::number_in_parens;
-use crate::reading::{Read, listed};
 use crate::statements::filter;
 use ae_base::lists::Seq;
 use ae_base::names::Name;
@@ -21,6 +19,7 @@ use ae_base::refusals::Refusal;
 use sql_conditions::conditions::{ConditionTree, condition};
 use sql_conditions::cursor::{Cursor, syntax};
 use sql_conditions::operands::{column_ref, operand};
+use sql_conditions::reading::{Reader, listed, number_in_parens};
 use sql_tree::lexemes::{Keyword, Symbol};
 use sql_tree::statements::{
     ColumnAt, Item, ItemValue, Items, Join, OrderKey, Query, SourceTable, Statement,
@@ -61,11 +60,16 @@ fn item_value(alloc: Global, tokens: &mut Cursor) -> Result<ItemValue, Refusal>
     Ok(ItemValue::Value(operand(alloc, tokens)?))
 }
 
-impl Read for Item {
+/// Reads an item of a SELECT.
+struct ItemReader;
+
+impl Reader for ItemReader {
     ghost use Rattle.sql_tree.specs.Statements as tree;
     ghost use Rattle.sql_grammar.specs.Parse as parse;
     ghost use Rattle.sql_grammar.proofs.Going.{shortens};
     ghost use Rattle.sql_grammar.proofs.Statements.{item_agrees};
+
+    type Part = Item;
 
     ghost Tree = { tree.Item };
 
@@ -90,7 +94,7 @@ fn items(alloc: Global, tokens: &mut Cursor) -> Result<Items, Refusal>
             at: tokens.sign(Symbol::Star)?,
         });
     }
-    Ok(Items::List(listed(alloc, tokens)?))
+    Ok(Items::List(listed::<ItemReader>(alloc, tokens)?))
 }
 
 fn top(tokens: &mut Cursor) -> Result<u64, Refusal>
@@ -145,11 +149,16 @@ fn joins(alloc: Global, tokens: &mut Cursor) -> Result<Seq<Join>, Refusal>
     Ok(joins)
 }
 
-impl Read for ColumnAt {
+/// Reads a column.
+struct ColumnReader;
+
+impl Reader for ColumnReader {
     ghost use Rattle.sql_tree.specs.declared.statements.ColumnAt as declared;
     ghost use Rattle.sql_grammar.specs.Parse as parse;
     ghost use Rattle.sql_grammar.proofs.Going.{shortens};
     ghost use Rattle.sql_grammar.proofs.Operands.{column_ref_agrees};
+
+    type Part = ColumnAt;
 
     ghost Tree = { declared.ColumnAt };
 
@@ -172,7 +181,7 @@ fn group(alloc: Global, tokens: &mut Cursor) -> Result<Seq<ColumnAt>, Refusal>
     }
     tokens.word(Keyword::Group)?;
     tokens.word(Keyword::By)?;
-    listed(alloc, tokens)
+    listed::<ColumnReader>(alloc, tokens)
 }
 
 /// Whether a key of ORDER BY descends.
@@ -197,11 +206,16 @@ fn optional_direction(tokens: &mut Cursor) -> Result<Option<bool>, Refusal>
     Ok(Some(direction(tokens)?))
 }
 
-impl Read for OrderKey {
+/// Reads a key of ORDER BY.
+struct OrderKeyReader;
+
+impl Reader for OrderKeyReader {
     ghost use Rattle.sql_tree.specs.declared.statements.OrderKey as declared;
     ghost use Rattle.sql_grammar.specs.Parse as parse;
     ghost use Rattle.sql_grammar.proofs.Going.{shortens};
     ghost use Rattle.sql_grammar.proofs.Statements.{order_key_agrees};
+
+    type Part = OrderKey;
 
     ghost Tree = { declared.OrderKey };
 
@@ -229,7 +243,7 @@ fn order(alloc: Global, tokens: &mut Cursor) -> Result<Seq<OrderKey>, Refusal>
     }
     tokens.word(Keyword::Order)?;
     tokens.word(Keyword::By)?;
-    listed(alloc, tokens)
+    listed::<OrderKeyReader>(alloc, tokens)
 }
 
 /// What stands from FROM on.

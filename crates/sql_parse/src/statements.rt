@@ -11,112 +11,29 @@ ghost use Rattle.sql_grammar.specs.Parse as parse;
 ghost use Rattle.sql_conditions.specs.Reads.{Gives, Reads};
 ghost use Rattle.sql_grammar.specs.Texts.{tree_of};
 
-use crate::definitions::parts_in_parens;
 use crate::queries::select;
-use crate::reading::{Read, in_parens, listed};
-use crate::settings::{key_of, path_of};
-use ae_base::blobs::Blob;
 use ae_base::lists::Seq;
 use ae_base::names::Name;
 use ae_base::refusals::Refusal;
 use sql_conditions::conditions::{ConditionTree, condition};
 use sql_conditions::cursor::{Cursor, syntax};
-use sql_conditions::operands::{operand, operands};
-use sql_grammar::settings::{KeySetting, MasterSetting};
+use sql_conditions::operands::{OperandReader, operand};
+use sql_conditions::reading::{NameReader, Reader, in_parens, listed};
+use sql_definitions::definitions::{create, drop_named};
 use sql_tree::lexemes::{Keyword, Symbol};
 use sql_tree::statements::{Assignment, Statement, ValueRow};
 use std::alloc::Global;
 
-fn create_table(alloc: Global, tokens: &mut Cursor) -> Result<Statement, Refusal>
-    ensures { Gives statement_of result tokens.new (parse.create_table tokens.old) }
-{
-    tokens.word(Keyword::Table)?;
-    let table = tokens.name()?;
-    let parts = parts_in_parens(alloc, tokens)?;
-    Ok(Statement::CreateTable {
-        table,
-        columns: parts.columns,
-        uniques: parts.uniques,
-    })
-}
+/// Reads a row of VALUES.
+struct RowReader;
 
-fn create_master(alloc: Global, tokens: &mut Cursor) -> Result<Statement, Refusal>
-    ensures { Gives statement_of result tokens.new (parse.create_master tokens.old) }
-{
-    tokens.reads("MASTER")?;
-    tokens.word(Keyword::Key)?;
-    let name = tokens.name()?;
-    tokens.word(Keyword::With)?;
-    let settings: Seq<MasterSetting> = in_parens(alloc, tokens)?;
-    match path_of(settings) {
-        Some(path) => Ok(Statement::CreateMaster { name, path }),
-        None => Err(syntax()),
-    }
-}
-
-fn create_key(alloc: Global, tokens: &mut Cursor) -> Result<Statement, Refusal>
-    ensures { Gives statement_of result tokens.new (parse.create_key tokens.old) }
-{
-    tokens.reads("ENCRYPTION")?;
-    tokens.word(Keyword::Key)?;
-    let name = tokens.name()?;
-    tokens.word(Keyword::With)?;
-    tokens.word(Keyword::Values)?;
-    let settings: Seq<KeySetting<Blob>> = in_parens(alloc, tokens)?;
-    match key_of(settings) {
-        Some((master, wrapped)) => Ok(Statement::CreateKey {
-            name,
-            master,
-            wrapped,
-        }),
-        None => Err(syntax()),
-    }
-}
-
-fn create(alloc: Global, tokens: &mut Cursor) -> Result<Statement, Refusal>
-    ensures { Gives statement_of result tokens.new (parse.create tokens.old) }
-{
-    tokens.word(Keyword::Create)?;
-    if tokens.next_is(Keyword::Table) {
-        return create_table(alloc, tokens);
-    }
-    tokens.word(Keyword::Column)?;
-    if tokens.next_reads("MASTER") {
-        return create_master(alloc, tokens);
-    }
-    create_key(alloc, tokens)
-}
-
-fn drop_key(tokens: &mut Cursor) -> Result<Statement, Refusal>
-    ensures { Gives statement_of result tokens.new (parse.drop_column tokens.old) }
-{
-    tokens.word(Keyword::Column)?;
-    if tokens.next_reads("MASTER") {
-        tokens.reads("MASTER")?;
-        tokens.word(Keyword::Key)?;
-        return Ok(Statement::DropMaster(tokens.name()?));
-    }
-    tokens.reads("ENCRYPTION")?;
-    tokens.word(Keyword::Key)?;
-    Ok(Statement::DropKey(tokens.name()?))
-}
-
-fn drop_named(tokens: &mut Cursor) -> Result<Statement, Refusal>
-    ensures { Gives statement_of result tokens.new (parse.drop tokens.old) }
-{
-    tokens.word(Keyword::Drop)?;
-    if tokens.next_is(Keyword::Table) {
-        tokens.word(Keyword::Table)?;
-        return Ok(Statement::DropTable(tokens.name()?));
-    }
-    drop_key(tokens)
-}
-
-impl Read for ValueRow {
+impl Reader for RowReader {
     ghost use Rattle.sql_tree.specs.Statements as tree;
     ghost use Rattle.sql_grammar.specs.Parse as parse;
     ghost use Rattle.sql_grammar.proofs.Going.{shortens};
     ghost use Rattle.sql_grammar.proofs.Statements.{row_agrees};
+
+    type Part = ValueRow;
 
     ghost Tree = { tree.ValueRow };
 
@@ -126,7 +43,7 @@ impl Read for ValueRow {
 
     fn read(alloc: Global, tokens: &mut Cursor) -> Result<ValueRow, Refusal> {
         let at = tokens.sign(Symbol::Open)?;
-        let values = operands(alloc, tokens)?;
+        let values = listed::<OperandReader>(alloc, tokens)?;
         tokens.sign(Symbol::Close)?;
         Ok(ValueRow { at, values })
     }
@@ -142,7 +59,7 @@ fn optional_columns(alloc: Global, tokens: &mut Cursor) -> Result<Option<Seq<Nam
     if !tokens.next_is_sign(Symbol::Open) {
         return Ok(None);
     }
-    Ok(Some(in_parens(alloc, tokens)?))
+    Ok(Some(in_parens::<NameReader>(alloc, tokens)?))
 }
 
 fn insert(alloc: Global, tokens: &mut Cursor) -> Result<Statement, Refusal>
@@ -153,7 +70,7 @@ fn insert(alloc: Global, tokens: &mut Cursor) -> Result<Statement, Refusal>
     let table = tokens.name()?;
     let columns = optional_columns(alloc, tokens)?;
     tokens.word(Keyword::Values)?;
-    let rows = listed(alloc, tokens)?;
+    let rows = listed::<RowReader>(alloc, tokens)?;
     Ok(Statement::Insert {
         table,
         columns,
@@ -172,11 +89,16 @@ pub(crate) fn filter(alloc: Global, tokens: &mut Cursor) -> Result<Option<Condit
     Ok(Some(condition(alloc, tokens)?))
 }
 
-impl Read for Assignment {
+/// Reads what SET gives a column.
+struct AssignmentReader;
+
+impl Reader for AssignmentReader {
     ghost use Rattle.sql_tree.specs.Statements as tree;
     ghost use Rattle.sql_grammar.specs.Parse as parse;
     ghost use Rattle.sql_grammar.proofs.Going.{shortens};
     ghost use Rattle.sql_grammar.proofs.Statements.{assignment_agrees};
+
+    type Part = Assignment;
 
     ghost Tree = { tree.Assignment };
 
@@ -200,7 +122,7 @@ fn update(alloc: Global, tokens: &mut Cursor) -> Result<Statement, Refusal>
     tokens.word(Keyword::Update)?;
     let table = tokens.name()?;
     tokens.word(Keyword::Set)?;
-    let assignments = listed(alloc, tokens)?;
+    let assignments = listed::<AssignmentReader>(alloc, tokens)?;
     let filter = filter(alloc, tokens)?;
     Ok(Statement::Update {
         table,

@@ -2,8 +2,8 @@ use Rattle.std.proofs.Common.{sym}
 use Rattle.sql_tree.specs.Statements.{statement_of}
 use Rattle.sql_grammar.specs.Parse as parse
 use Rattle.sql_conditions.proofs.Alike.{same_gives}
-use Rattle.sql_parse.proofs.Chosen.{creates_table, creates_master, creates_key}
-use Rattle.sql_parse.proofs.statements.create.Goals as goal
+use Rattle.sql_definitions.proofs.Chosen.{creates_table, creates_master, creates_key}
+use Rattle.sql_definitions.proofs.definitions.create.Goals as goal
 
 pub returns-then-next_is : goal.returns-then-next_is
 returns-then-next_is c =

@@ -1,8 +1,8 @@
 -- No parts are left.
 use Rattle.std.proofs.Common.{◌≡◌, [], length, sym, ◌∙◌, ap, arith}
 use Rattle.std.proofs.lemmas.List.{nil_from_length}
-use Rattle.sql_parse.proofs.Sorting.{sorted_with, sort_end}
-use Rattle.sql_parse.proofs.definitions.sorted.Goals as goal
+use Rattle.sql_definitions.proofs.Sorting.{sorted_with, sort_end}
+use Rattle.sql_definitions.proofs.tables.sorted.Goals as goal
 
 pub returns : goal.returns
 returns c =

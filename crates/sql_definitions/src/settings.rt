@@ -5,24 +5,29 @@ ghost use Rattle.sql_grammar.specs.Making as make;
 ghost use Rattle.sql_grammar.specs.Parse as parse;
 ghost use Rattle.sql_conditions.specs.Reads.{Gives};
 
-use crate::reading::Read;
 use ae_base::blobs::Blob;
 use ae_base::lists::Seq;
 use ae_base::names::Name;
 use ae_base::refusals::Refusal;
 use ae_base::texts::Txt;
 use sql_conditions::cursor::{Cursor, syntax};
+use sql_conditions::reading::Reader;
 use sql_grammar::settings::{KeySetting, MasterSetting};
 use sql_tree::lexemes::Symbol;
 use sql_tree::statements::EncryptionKind;
 use sql_tree::words::reads_as;
 use std::alloc::Global;
 
-impl Read for MasterSetting {
+/// Reads a setting of a master key.
+pub(crate) struct MasterSettingReader;
+
+impl Reader for MasterSettingReader {
     ghost use Rattle.sql_grammar.specs.declared.settings.MasterSetting as declared;
     ghost use Rattle.sql_grammar.specs.Parse as parse;
     ghost use Rattle.sql_grammar.proofs.Going.{shortens};
     ghost use Rattle.sql_grammar.proofs.Definitions.{master_setting_agrees};
+
+    type Part = MasterSetting;
 
     ghost Tree = { declared.MasterSetting };
 
@@ -103,13 +108,18 @@ fn algorithm<V: Drop>(tokens: &mut Cursor, text: &str) -> Result<KeySetting<V>, 
     Ok(KeySetting::Algorithm)
 }
 
-impl Read for KeySetting<EncryptionKind> {
+/// Reads a setting of ENCRYPTED WITH.
+pub(crate) struct ColumnSettingReader;
+
+impl Reader for ColumnSettingReader {
     ghost use Rattle.std.specs.Prelude.{codes, refl};
     ghost use Rattle.sql_tree.specs.declared.statements.EncryptionKind as kind;
     ghost use Rattle.sql_grammar.specs.declared.settings.KeySetting as declared;
     ghost use Rattle.sql_grammar.specs.Parse as parse;
     ghost use Rattle.sql_grammar.proofs.Going.{shortens};
     ghost use Rattle.sql_grammar.proofs.Definitions.{column_setting_agrees};
+
+    type Part = KeySetting<EncryptionKind>;
 
     ghost Tree = { declared.KeySetting kind.EncryptionKind };
 
@@ -132,12 +142,17 @@ impl Read for KeySetting<EncryptionKind> {
     ghost shortens = { shortens column_setting_agrees };
 }
 
-impl Read for KeySetting<Blob> {
+/// Reads a setting of a column key.
+pub(crate) struct WrappedSettingReader;
+
+impl Reader for WrappedSettingReader {
     ghost use Rattle.std.specs.Prelude.{List, ℕ};
     ghost use Rattle.sql_grammar.specs.declared.settings.KeySetting as declared;
     ghost use Rattle.sql_grammar.specs.Parse as parse;
     ghost use Rattle.sql_grammar.proofs.Going.{shortens};
     ghost use Rattle.sql_grammar.proofs.Definitions.{wrapped_setting_agrees};
+
+    type Part = KeySetting<Blob>;
 
     ghost Tree = { declared.KeySetting (List ℕ) };
 

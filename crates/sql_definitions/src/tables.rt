@@ -6,32 +6,21 @@ ghost use Rattle.sql_grammar.specs.Readers.{both, optional};
 ghost use Rattle.sql_grammar.specs.Making as make;
 ghost use Rattle.sql_grammar.specs.Parse as parse;
 ghost use Rattle.sql_conditions.specs.Reads.{Gives, Reads};
-ghost use Rattle.sql_parse.specs.Views.{parts_of};
+ghost use Rattle.sql_definitions.specs.Views.{parts_of};
 ghost use Rattle.std.specs.Option.{option_map};
 
-use crate::reading::{Read, in_parens, listed};
-use crate::settings::key_of;
+use crate::settings::{ColumnSettingReader, key_of};
 use ae_base::lists::Seq;
 use ae_base::names::Name;
 use ae_base::refusals::Refusal;
 use ae_base::types::Ty;
 use sql_conditions::cursor::{Cursor, syntax};
+use sql_conditions::reading::{PlacedNameReader, Reader, in_parens, listed, number_in_parens};
 use sql_grammar::parts::TablePart;
-use sql_grammar::settings::KeySetting;
 use sql_grammar::types::type_of;
 use sql_tree::lexemes::{Keyword, Symbol};
-use sql_tree::statements::{ColumnSpec, Encryption, EncryptionKind, UniqueSpec};
+use sql_tree::statements::{ColumnSpec, Encryption, UniqueSpec};
 use std::alloc::{AllocError, Global};
-
-/// A number in parentheses.
-pub(crate) fn number_in_parens(tokens: &mut Cursor) -> Result<u64, Refusal>
-    ensures { Gives (λ n. n) result tokens.new (parse.in_parens parse.number tokens.old) }
-{
-    tokens.sign(Symbol::Open)?;
-    let number = tokens.number()?;
-    tokens.sign(Symbol::Close)?;
-    Ok(number)
-}
 
 /// The number in parentheses behind a type's name, where it is there.
 fn size(tokens: &mut Cursor) -> Result<Option<u64>, Refusal>
@@ -75,7 +64,7 @@ fn encryption(alloc: Global, tokens: &mut Cursor) -> Result<Encryption, Refusal>
 {
     tokens.reads("ENCRYPTED")?;
     tokens.word(Keyword::With)?;
-    let settings: Seq<KeySetting<EncryptionKind>> = in_parens(alloc, tokens)?;
+    let settings = in_parens::<ColumnSettingReader>(alloc, tokens)?;
     match key_of(settings) {
         Some((key, kind)) => Ok(Encryption { key, kind }),
         None => Err(syntax()),
@@ -164,15 +153,20 @@ fn unique(alloc: Global, tokens: &mut Cursor) -> Result<UniqueSpec, Refusal>
     ensures { Gives (λ unique. unique) result tokens.new (parse.unique tokens.old) }
 {
     tokens.word(Keyword::Unique)?;
-    let columns = in_parens(alloc, tokens)?;
+    let columns = in_parens::<PlacedNameReader>(alloc, tokens)?;
     Ok(UniqueSpec { columns })
 }
 
-impl Read for TablePart {
+/// Reads a column or a list UNIQUE.
+struct TablePartReader;
+
+impl Reader for TablePartReader {
     ghost use Rattle.sql_grammar.specs.declared.parts.TablePart as declared;
     ghost use Rattle.sql_grammar.specs.Parse as parse;
     ghost use Rattle.sql_grammar.proofs.Going.{shortens};
     ghost use Rattle.sql_grammar.proofs.Definitions.{table_part_agrees};
+
+    type Part = TablePart;
 
     ghost Tree = { declared.TablePart };
 
@@ -241,7 +235,7 @@ fn table_of(alloc: Global, parts: Seq<TablePart>) -> Result<Parts, Refusal>
 fn table_parts(alloc: Global, tokens: &mut Cursor) -> Result<Parts, Refusal>
     ensures { Gives parts_of result tokens.new (parse.table_parts tokens.old) }
 {
-    let parts = listed(alloc, tokens)?;
+    let parts = listed::<TablePartReader>(alloc, tokens)?;
     table_of(alloc, parts)
 }
 
