@@ -16,7 +16,7 @@ use Rattle.ae_edge.specs.Vaults.{KeyMap}
 use Rattle.sql_tree.specs.Bound.{BoundStatement, Bound}
 use Rattle.catalog.specs.Catalogs.{Catalog, master_named}
 use Rattle.enc_types.specs.Laws.{TypingsAreOfColumns}
-use Rattle.enc_types.specs.UsedAlone.{used_among, place_among, is_used, alone}
+use Rattle.enc_types.specs.UsedAlone.{used_among, is_used, alone}
 use Rattle.resolve.specs.Bind.{type_of}
 use Rattle.resolve.specs.Laws.{BoundStatementsAre, PreparedAlone}
 use Rattle.engine.specs.BoundOn.{HasMaster, IsBoundOn}

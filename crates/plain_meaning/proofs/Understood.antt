@@ -1,20 +1,16 @@
 -- A batch that is described and executed over the parameters that are sent does what it does over all of them.
-use Rattle.std.proofs.Common.{◌+◌, ◌≡◌, ℕ, List, [], ◌∷◌, map, Result, Ok, Err, Bool, true, false, cond, refl, sym, ap, ◌∙◌, arith, encode_utf8_all}
+use Rattle.std.proofs.Common.{◌+◌, ◌≡◌, ℕ, List, Result, Ok, true, refl, sym, ap, ◌∙◌, arith, encode_utf8_all}
 use Rattle.std.specs.Prelude.{unwrap_or}
-use Rattle.std.specs.List.{list_any}
 use Rattle.ae_base.specs.Atoms.{Atom}
 use Rattle.ae_base.specs.Results.{◌>>=◌}
 use Rattle.ae_base.specs.declared.batches.ParamDecl.{ParamDecl}
-use Rattle.ae_base.specs.declared.faults.SqlFault.{SqlFault}
-use Rattle.ae_base.specs.declared.faults.SqlFault.TheVariants as fault
 use Rattle.ae_base.specs.declared.atoms.AtomOf.TheVariants as atom
 use Rattle.ae_base.specs.declared.types.Enc.{Enc}
 use Rattle.ae_base.specs.declared.types.Enc.TheVariants as enc
 use Rattle.ae_base.specs.declared.types.Ty.TheVariants as ty
-use Rattle.sql_tree.specs.Bound.{BoundItem, BoundItemValue, BoundQuery, BoundStatement, Bound}
-use Rattle.sql_tree.specs.Bound as bound
+use Rattle.sql_tree.specs.Bound.{Bound}
 use Rattle.sql_tree.specs.Statements.{Statement}
-use Rattle.sql_tree.specs.Uses.{uses, renamed_statement, renamed_item, renamed_value}
+use Rattle.sql_tree.specs.Uses.{uses}
 use Rattle.sql_grammar.specs.Texts.{parsed}
 use Rattle.catalog.specs.Catalogs.{Catalog}
 use Rattle.enc_types.specs.Least.{inferred}
@@ -22,11 +18,10 @@ use Rattle.enc_types.specs.UsedAlone.{used_among, place_among, is_used, alone}
 use Rattle.resolve.specs.Bind.{bind}
 use Rattle.resolve.specs.Laws.{PreparedAlone}
 use Rattle.engine.specs.Laws.{StepRenamed}
-use Rattle.query_results.specs.Results.{is_count}
 use Rattle.engine.specs.Step.{step}
 use Rattle.engine.specs.Worlds.{World}
 use Rattle.server_core.specs.Describing.{Meant, understood}
-use Rattle.server_core.proofs.Understanding.{Parts}
+pub use Rattle.server_core.proofs.Understanding.{Parts, parts_of}
 use Rattle.plain_meaning.proofs.Sending.{found_among}
 
 abbrev pub followed : {A B E : Type 0} → Result A E → (A → Result B E) → Result B E

@@ -1,8 +1,8 @@
 -- What is the same of twin scripts between their steps.
-use Rattle.std.proofs.Common.{◌≡◌, inl, inr, ℕ, zero, suc, List, [], ◌∷◌, map, length, replicate, Option, Some, None, Ok, Bool, true, false, cond, refl, sym, ap, ◌∙◌, subst}
+use Rattle.std.proofs.Common.{◌≡◌, inl, inr, ℕ, zero, suc, List, [], ◌∷◌, map, length, replicate, Option, Some, None, Bool, true, false, refl, sym, ap, ◌∙◌}
 use Rattle.std.specs.Prelude.{slice_index_or, slice_set, nat_lt, encode_utf8_all}
 use Rattle.std.specs.List.{AllZip}
-use Rattle.ae_base.specs.Atoms.{Atom, plain_atom}
+use Rattle.ae_base.specs.Atoms.{plain_atom}
 use Rattle.ae_base.specs.Batches.{first_unfit}
 use Rattle.ae_base.specs.Values.{is_within, value_is_within}
 use Rattle.ae_base.specs.declared.atoms.AtomOf.TheVariants as atom
@@ -22,15 +22,14 @@ use Rattle.conversation.specs.Pending.{Pending, Use, uses_in, uses_of}
 use Rattle.conversation.specs.declared.sessions.Session.{Session}
 use Rattle.conversation.specs.declared.sessions.Session.TheVariants as session
 use Rattle.engine.specs.Correspond.{IsWithinClass}
-use Rattle.scalar.specs.Classes.{Class, Open, Det, Rnd, Pairing, Entry, Listing, NullOr, Correspond}
+use Rattle.scalar.specs.Classes.{Class, Det, Rnd, Pairing, Entry, Listing, NullOr, Correspond}
 use Rattle.server_core.specs.Describing.{understood}
-use Rattle.plain_meaning.specs.Reference.{declared}
 use Rattle.plain_meaning.proofs.Between.{IsSendableParam, DescribedAs}
 use Rattle.plain_meaning.proofs.Pairs.{Extends}
 use Rattle.plain_meaning.proofs.Sending.{Each, IsFit, each_map}
 use Rattle.plain_meaning.proofs.Talk.{encs_in}
 use Rattle.plain_meaning.proofs.Told.{IsMetaOf}
-use Rattle.twin_scripts.specs.Twins.{AreTwinLiterals, class_told, TwinParams, AllTwinParams, TwinBatches}
+use Rattle.twin_scripts.specs.Twins.{AreTwinLiterals, class_told, TwinParams, AllTwinParams}
 use Rattle.twin_scripts.proofs.Going.{with_value, TwinUses}
 use Rattle.twin_scripts.proofs.Twinning.{literals_within}
 

@@ -1,11 +1,10 @@
 -- Two conversations side by side: what passes in the one corresponds to what passes in the other.
-use Rattle.std.proofs.Common.{◌≡◌, inl, inr, ℕ, suc, ◌+◌, ◌<◌, ◌≤◌, List, [], ◌∷◌, ◌++◌, map, length, take, drop, Option, Some, None, Result, Ok, Err, Bool, true, false, refl, sym, ap, ◌∙◌, subst, arith}
+use Rattle.std.proofs.Common.{◌≡◌, inl, inr, ℕ, suc, ◌<◌, ◌≤◌, List, [], ◌∷◌, ◌++◌, map, length, take, drop, Option, Some, None, Result, Ok, Err, Bool, true, false, refl, sym, ap, subst, arith}
 use Rattle.std.specs.Prelude.{nat_lt}
-use Rattle.std.specs.List.{All, AllZip}
+use Rattle.std.specs.List.{AllZip}
 use Rattle.std.proofs.lemmas.Bool.Decides.{nat_tests}
 use Rattle.std.proofs.lemmas.List.{length-take-le}
 use Rattle.std.proofs.lemmas.List.Elements.{All-take, All-drop}
-use Rattle.std.proofs.lemmas.Slice.Zip.{AllZip-long}
 use Rattle.ae_base.specs.Atoms.{Atom, plain_atom}
 use Rattle.ae_base.specs.declared.atoms.AtomOf.TheVariants as atom
 use Rattle.ae_base.specs.declared.batches.KeyMeta.{KeyMeta}
@@ -19,7 +18,7 @@ use Rattle.ae_edge.specs.Vaults.{KeyMap}
 use Rattle.aes_block.specs.Aes.{IsBlock}
 use Rattle.aes_block.specs.Bytes.{AreBytes}
 use Rattle.conversation.specs.Cells.{det_atom, rnd_atom}
-use Rattle.conversation.specs.Drive.{Listened, Caught, stopped, passing, coming, passed_on, passed_by, Passed, over}
+use Rattle.conversation.specs.Drive.{Listened, Caught, passing, coming, passed_on, passed_by, Passed, over}
 use Rattle.conversation.specs.Keys.{open_key, meta_of}
 use Rattle.conversation.specs.Pending.{Use}
 use Rattle.conversation.specs.Sessions.{titles_of}
@@ -51,7 +50,6 @@ use Rattle.wire_messages.specs.declared.replies.Reply.TheVariants.{Row, Ended}
 use Rattle.plain_meaning.specs.Reference.{why_unopened}
 use Rattle.plain_meaning.specs.Reference as plain
 use Rattle.plain_meaning.proofs.Agreement.{types_sent, whole_count}
-use Rattle.plain_meaning.proofs.Between.{beside}
 use Rattle.plain_meaning.proofs.Pairs.{Extends}
 use Rattle.plain_meaning.proofs.Sealed.{IsSealed, IsRndSeal}
 use Rattle.plain_meaning.proofs.Sending.{Each}
@@ -59,7 +57,7 @@ use Rattle.plain_meaning.proofs.Talk.{AreSealed, AreOpened, OpensAt, encs_in, ty
 use Rattle.plain_meaning.proofs.Told.{IsMetaOf}
 use Rattle.twin_scripts.specs.Laws.{TwinOutcomes, IsNotDry}
 use Rattle.twin_scripts.proofs.Gathered.{exchange_wider}
-use Rattle.twin_scripts.proofs.Twinning.{Twinning, StandsBoth, twinning_longer, rows_stand}
+use Rattle.twin_scripts.proofs.Twinning.{Twinning, twinning_longer, rows_stand}
 use Rattle.twin_scripts.specs.Twins.{AreTwinLiterals}
 
 -- what passed corresponds under the keys that were made by then, and what was printed is paired

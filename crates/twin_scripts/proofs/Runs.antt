@@ -1,5 +1,5 @@
 -- Two runs of twin scripts: what passes in the one corresponds to what passes in the other.
-use Rattle.std.proofs.Common.{◌≡◌, inl, inr, ℕ, suc, ◌-◌, List, [], ◌∷◌, ◌++◌, map, length, Option, Some, None, Result, Ok, Err, Bool, true, false, cond, refl, sym, ap, ◌∙◌, subst}
+use Rattle.std.proofs.Common.{◌≡◌, inl, ℕ, suc, ◌-◌, List, [], ◌∷◌, map, Option, Some, None, Result, Ok, Err, Bool, true, false, cond, refl, sym, ap, ◌∙◌, subst}
 use Rattle.std.specs.Prelude.{◌==◌}
 use Rattle.std.specs.List.{All, AllZip}
 use Rattle.std.proofs.lemmas.Bool.{eqb-true}
@@ -18,12 +18,12 @@ use Rattle.aes_block.specs.Bytes.{AreBytes}
 use Rattle.blind_laws.proofs.Wider.{contents_wider}
 use Rattle.catalog.specs.Catalogs.{Catalog, with_master, with_key, with_table, without_master, without_key, without_table}
 use Rattle.conversation.specs.Batches.{why_unfit, unless}
-use Rattle.conversation.specs.Drive.{Passed, passing, over}
+use Rattle.conversation.specs.Drive.{passing, over}
 use Rattle.conversation.specs.Pending.{Pending, Use, uses_in, uses_of}
 use Rattle.conversation.specs.Sessions.{encs_of, session_at, with_session, begun, named_enc, described_params}
 use Rattle.conversation.specs.declared.outcomes.DescribedParam.{DescribedParam}
 use Rattle.conversation.specs.Talk.{Talk, Hears, Prints, nothing_shown}
-use Rattle.conversation.specs.Turns.{sent_param, asked, answered_on, described_on, describing, executing}
+use Rattle.conversation.specs.Turns.{asked, answered_on, described_on, describing, executing}
 use Rattle.conversation.specs.declared.faults.DriverFault.{DriverFault}
 use Rattle.conversation.specs.declared.faults.DriverFault.TheVariants.{StillPending, NothingPending}
 use Rattle.conversation.specs.declared.outcomes.Outcome as outcomes
@@ -32,13 +32,12 @@ use Rattle.conversation.specs.declared.sessions.Session.{Session}
 use Rattle.conversation.specs.declared.sessions.Session.TheVariants as session
 use Rattle.enc_types.specs.UsedAlone.{used_among, is_used, alone}
 use Rattle.engine.proofs.Simulating.{step_alike}
-use Rattle.engine.specs.Correspond.{WorldsCorrespond}
 use Rattle.engine.specs.Queries.{found_in}
 use Rattle.engine.specs.Step.{done_by, step, rows_to_insert, rows_to_update, rows_to_delete}
 use Rattle.engine.specs.Step as engine
 use Rattle.engine.specs.Typed.{param_classes}
 use Rattle.engine.specs.Worlds.{World}
-use Rattle.scalar.specs.Classes.{Class, Pairing, Entry, Listing, Correspond, RowsCorrespond, class_of}
+use Rattle.scalar.specs.Classes.{Pairing, Entry, Listing, Correspond, RowsCorrespond, class_of}
 use Rattle.script_lang.specs.Limits.{IsWithinLimits, HasParams, HasProperParams, IsProperStep}
 use Rattle.script_lang.specs.declared.steps.Step.{Step}
 use Rattle.script_lang.specs.declared.steps.Step.TheVariants as steps_of
@@ -46,7 +45,7 @@ use Rattle.server_core.proofs.Alike as served
 use Rattle.server_core.specs.Correspond.{SentAtomsCorrespond, ParamsCorrespond, StatesCorrespond, ExchangeCorresponds}
 use Rattle.server_core.specs.Describing.{Meant, understood, describe, description}
 use Rattle.server_core.specs.Params.{declaration_of, suited}
-use Rattle.server_core.specs.Serve.{State, refused, described, answered, executed, serve}
+use Rattle.server_core.specs.Serve.{State, described, executed, serve}
 use Rattle.server_core.specs.States.{is_short}
 use Rattle.sql_tree.specs.Bound.{BoundStatement, Bound}
 use Rattle.sql_tree.specs.Bound as bound
@@ -56,7 +55,7 @@ use Rattle.wire_messages.specs.declared.requests.Request.TheVariants as request
 use Rattle.plain_meaning.specs.Reference.{Came, came, declared, means}
 use Rattle.plain_meaning.specs.Reference as plain
 use Rattle.plain_meaning.specs.Steps.{number_of, turn, talk}
-use Rattle.plain_meaning.proofs.Agreement.{Laws, Ready, encs_alone, plain_atoms_of, done_alone, is_ready, is_held, keys_told, first_fits, stays}
+use Rattle.plain_meaning.proofs.Agreement.{Laws, encs_alone, plain_atoms_of, done_alone, is_ready, is_held, keys_told, first_fits, stays}
 use Rattle.plain_meaning.proofs.Between.{beside, IsSendableParam, DescribedAs, HoldsBatch, Holds, AllHold, all_newer, hold_place, hold_set}
 use Rattle.plain_meaning.proofs.Growing.{step_grows}
 use Rattle.plain_meaning.proofs.History.{Known}
@@ -67,7 +66,7 @@ use Rattle.plain_meaning.proofs.Told.{IsMetaOf}
 use Rattle.plain_meaning.proofs.Understood.{step_alone}
 use Rattle.plain_meaning.proofs.Used.{tys_in, atoms_in, uses_sendable}
 use Rattle.plain_meaning.proofs.Versions.{Newer, step_leaves}
-use Rattle.twin_scripts.specs.Twins.{AreTwinLiterals, AllTwinParams, TwinBatches, encs_of_description, encs_where_fit, encs_described, TwinSteps, AreTwins}
+use Rattle.twin_scripts.specs.Twins.{AreTwinLiterals, AllTwinParams, encs_of_description, encs_where_fit, encs_described, TwinSteps, AreTwins}
 use Rattle.twin_scripts.proofs.Between.{untold_same, declarations_same, uses_twins, twins_fit, other_fits, twin_of, AreTwinPending, AreTwinSessions, AllTwinSessions, sessions_longer, twin_place, twin_set, twin_described}
 use Rattle.twin_scripts.specs.Laws.{TwinOutcomes}
 use Rattle.twin_scripts.proofs.Going.{Goes, with_value, TwinUses, asks_goes, prints_goes, sealing_goes, answer_goes}
@@ -338,7 +337,7 @@ module _ (laws : Laws) (keys : KeyMap) (literals : List Entry) (twins : AreTwinL
           let found = x.0 in
           let refound : encs_of qs (description w.catalog (declared one_batch) meant).params ≡ Some (told_among (is_used meant.bound) 0 meant.encs) =
           ap (λ ds. encs_of qs (description w.catalog ds meant).params) (sym same) ∙ y.0 in
-          let p : Pending = record { one_batch = one_batch; version = w.catalog.version; keys = (description w.catalog (declared one_batch) meant).keys; encs = told_among (is_used meant.bound) 0 meant.encs } in
+          let p : Pending = record { batch = one_batch; version = w.catalog.version; keys = (description w.catalog (declared one_batch) meant).keys; encs = told_among (is_used meant.bound) 0 meant.encs } in
           let params2 : AllTwinParams (Listing literals) (told_among (is_used meant.bound) 0 meant.encs) ps qs = rw found at params in
           let rest2 : RestOf (readied p) = rw found at rest in
           let told = keys_told laws keys history w st.known st.states.left p (x.1.same refl) in

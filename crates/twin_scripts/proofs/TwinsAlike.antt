@@ -1,11 +1,10 @@
 -- What passes of twin scripts is the same but for a renaming: the pairs of cells at like places.
 use Rattle.std.proofs.Common.{List, [], refl}
-use Rattle.std.specs.List.{All}
 use Rattle.ae_base.specs.declared.batches.KeyMeta.{KeyMeta}
 use Rattle.ae_edge.specs.Vaults.{KeyMap}
 use Rattle.blind_laws.specs.Renaming.{IsRenaming}
 use Rattle.engine.specs.Worlds.{empty_world}
-use Rattle.scalar.specs.Classes.{Entry, Listing, IsOneToOne, Det}
+use Rattle.scalar.specs.Classes.{Entry, Listing, Det}
 use Rattle.server_core.specs.Correspond.{ExchangesCorrespond}
 use Rattle.wire_messages.specs.Exchanges.{Exchange}
 use Rattle.plain_meaning.proofs.Agreement.{Laws}
@@ -14,7 +13,7 @@ use Rattle.twin_scripts.specs.Laws.{TwinsAlike}
 use Rattle.twin_scripts.specs.Pairs.{pairs_in}
 use Rattle.twin_scripts.specs.Twins.{AreTwinLiterals}
 use Rattle.twin_scripts.proofs.Between.{none_twins}
-use Rattle.twin_scripts.proofs.Gathered.{Gathers, gathers_exchanges}
+use Rattle.twin_scripts.proofs.Gathered.{gathers_exchanges}
 use Rattle.twin_scripts.proofs.Runs.{talk_goes}
 use Rattle.twin_scripts.proofs.Twinning.{Twinning, twinning_cells, twinning_one_to_one}
 
