@@ -5,6 +5,7 @@ pub mod Lent
 pub mod Passing
 pub mod Places
 pub mod Plainly
+pub mod RunsAre
 pub mod Tapping
 pub mod Turning
 pub mod Waiting

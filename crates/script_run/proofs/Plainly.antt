@@ -243,7 +243,3 @@ runs_whole law (ran.Unread unread.ReadFault) keys bytes steps old new w k s h = 
 runs_whole law (ran.Unread unread.TooLong) keys bytes steps old new w k s h = let a = s.within in let b = h.0 in absurd (omega arith)
 runs_whole law (ran.Unread (unread.BadLine line)) keys bytes steps old new w k s h = let a = s.read in let b = h.1 in cc
 runs_whole law (ran.Unread unread.OutOfMemory) keys bytes steps old new w k s h = tt
-
--- of the bytes that the source tells
-pub told_bytes : (left : Option (List ℕ)) (bytes given : List ℕ) → left ≡ Some bytes → IfSome left (λ xs. given ≡ xs) → given ≡ bytes
-told_bytes left bytes given e h = subst (λ w. IfSome w (λ xs. given ≡ xs)) e h
