@@ -55,7 +55,7 @@ encs_in us = map (λ (u : Use). u.enc) us
 abbrev pub types_shown : List ResultColumn → List ColumnType
 types_shown columns = map (λ (c : ResultColumn). record { ty = c.ty; enc = c.enc }) columns
 
-kind_of_type : (t : Ty) (d : Datum) → IsOfType t d → is_of_kind d t ≡ true
+pub kind_of_type : (t : Ty) (d : Datum) → IsOfType t d → is_of_kind d t ≡ true
 kind_of_type ty.Int (datum.Num n) h = refl
 kind_of_type ty.Int (datum.Text characters) h = absurd h
 kind_of_type ty.Int (datum.Bin bytes) h = absurd h

@@ -2,6 +2,7 @@ pub mod Awaited
 pub mod Framed
 pub mod Heeded
 pub mod Lent
+pub mod NoStray
 pub mod Passing
 pub mod Places
 pub mod Plainly
