@@ -1,5 +1,5 @@
 -- Over the server from the empty state each reply is awaited: whatever is asked, the server's replies are of their kinds, and its rows of their columns.
-use Rattle.std.proofs.Common.{◌≡◌, inl, inr, ℕ, suc, ◌+◌, List, [], ◌∷◌, ◌++◌, map, length, Option, Some, None, Result, Ok, Err, Bool, true, false, cond, refl, sym, ap, ◌∙◌, subst, arith, eq-eqb}
+use Rattle.std.proofs.Common.{◌≡◌, inl, inr, ℕ, ◌+◌, List, [], ◌∷◌, ◌++◌, map, length, Option, Some, None, Result, Ok, Err, Bool, true, false, cond, refl, sym, ap, ◌∙◌, subst, arith, eq-eqb}
 use Rattle.std.specs.Prelude.{◌==◌}
 use Rattle.std.specs.List.{All, AllZip}
 use Rattle.std.proofs.lemmas.List.{length-map}
@@ -10,7 +10,6 @@ use Rattle.ae_base.specs.declared.atoms.AtomOf.TheVariants as atom
 use Rattle.ae_base.specs.declared.batches.Batch.{Batch}
 use Rattle.ae_base.specs.declared.batches.KeyMeta.{KeyMeta}
 use Rattle.ae_base.specs.declared.batches.Param.{Param}
-use Rattle.ae_base.specs.declared.batches.ParamDecl.{ParamDecl}
 use Rattle.ae_base.specs.declared.faults.SqlFault.{SqlFault}
 use Rattle.ae_base.specs.declared.faults.SqlFault.TheVariants.{Moved}
 use Rattle.ae_base.specs.declared.types.Enc.{Enc}
@@ -18,7 +17,6 @@ use Rattle.ae_base.specs.declared.types.Enc.TheVariants as enc
 use Rattle.ae_base.specs.declared.types.Ty.{Ty}
 use Rattle.ae_base.specs.declared.values.Value.{Value}
 use Rattle.ae_base.specs.declared.values.Value.TheVariants as value
-use Rattle.aes_block.specs.Bytes.{AreBytes}
 use Rattle.hmac_kdf.specs.Keys.{Keys}
 use Rattle.enc_types.specs.Laws.{TypingsAreOfColumns}
 use Rattle.enc_types.specs.UsedAlone.{is_used}
@@ -33,25 +31,22 @@ use Rattle.engine.specs.Typed.{param_classes}
 use Rattle.engine.specs.WellTyped.{IsAtomOf, AreValuesOf, AreResults, IsAnswerOf}
 use Rattle.engine.specs.Worlds.{World, empty_world}
 use Rattle.engine.specs.declared.answers.ResultColumn.{ResultColumn}
-use Rattle.wire_messages.specs.Messages.{Description, Header}
+use Rattle.wire_messages.specs.Messages.{Header}
 use Rattle.wire_messages.specs.declared.params.SentParam.{SentParam}
 use Rattle.wire_messages.specs.declared.replies.Done.TheVariants.{Answered}
 use Rattle.wire_messages.specs.declared.replies.Reply.{Reply}
 use Rattle.wire_messages.specs.declared.replies.Reply.TheVariants.{Row, Ended}
 use Rattle.server_core.specs.Describing.{Meant, understood, description}
 use Rattle.server_core.specs.Params.{declaration_of, suited}
-use Rattle.server_core.specs.Serve.{State, serve, header, described, answered, executed, refused, understood_at, prepared}
+use Rattle.server_core.specs.Serve.{State, serve, header, described, answered, executed}
 use Rattle.conversation.specs.Batches.{why_unfit, unless}
 use Rattle.conversation.specs.Cells.{det_atom, rnd_atom, is_atom_of, is_row_of, read_atoms}
-use Rattle.conversation.specs.Keys.{meta_of}
 use Rattle.conversation.specs.Pending.{Pending, Use, uses_of}
-use Rattle.conversation.specs.Sessions.{begun, described_params, nobody, row_read, session_at, titles_of, types_of, with_session}
+use Rattle.conversation.specs.Sessions.{begun, described_params, nobody, row_read, session_at, titles_of, with_session}
 use Rattle.conversation.specs.Talk.{Talk, Hears, Prints, Heard, Said, heard_answer, nothing_shown, with_row}
 use Rattle.conversation.specs.Turns.{on, opening_one, opening, drawing, sealing_value, sent_param, sealing, asked, described_on, describing, executing, answered_on, rows_on, rested, reading, over_on}
 use Rattle.conversation.specs.declared.faults.DriverFault.{DriverFault}
-use Rattle.conversation.specs.declared.faults.DriverFault.TheVariants.{StillPending, NothingPending}
 use Rattle.conversation.specs.declared.outcomes.Listing.{Listing}
-use Rattle.conversation.specs.declared.outcomes.Outcome.{Outcome}
 use Rattle.conversation.specs.declared.outcomes.Outcome.TheVariants as outcome
 use Rattle.conversation.specs.declared.sessions.ColumnType.{ColumnType}
 use Rattle.conversation.specs.declared.sessions.Session.{Session}
