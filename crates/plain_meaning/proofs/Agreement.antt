@@ -121,7 +121,7 @@ pub stays : (w : World) (r : Result engine.Done SqlFault) (f : SqlFault) → (en
 stays w (Ok done) f e = absurd cc
 stays w (Err g) f e = refl
 
-has_master : (catalog : Catalog) (s : BoundStatement) → ((name master wrapped : List ℕ) → s ≡ bound.CreateKey name master wrapped → IsSome (master_named catalog master)) → HasMaster catalog s
+pub has_master : (catalog : Catalog) (s : BoundStatement) → ((name master wrapped : List ℕ) → s ≡ bound.CreateKey name master wrapped → IsSome (master_named catalog master)) → HasMaster catalog s
 has_master catalog (bound.CreateMaster name path) h = tt
 has_master catalog (bound.CreateKey name master wrapped) h = h name master wrapped refl
 has_master catalog (bound.CreateTable table) h = tt

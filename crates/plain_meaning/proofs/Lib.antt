@@ -1,7 +1,9 @@
 pub mod Agreement
+pub mod Awaiting
 pub mod Between
 pub mod Growing
 pub mod History
+pub mod ItsOwn
 pub mod Pairs
 pub mod Sealed
 pub mod Sending

@@ -2,9 +2,11 @@ pub mod Awaited
 pub mod Framed
 pub mod Heeded
 pub mod Lent
+pub mod NoStray
 pub mod Passing
 pub mod Places
 pub mod Plainly
+pub mod RunsAre
 pub mod Tapping
 pub mod Turning
 pub mod Waiting
