@@ -4,10 +4,10 @@ mod Growing
 mod History
 mod Pairs
 mod Sealed
-mod Sending
+pub mod Sending
 mod Talk
 mod Told
-mod Understood
+pub mod Understood
 mod Used
 mod Versions
 mod Worked
