@@ -1,2 +1,3 @@
+pub mod CheckWords
 pub mod TwoWords
 pub mod Unread

@@ -1,8 +1,12 @@
 //! The top call: the words of a command line, and what the command does.
 
 ghost use Rattle.std.specs.Prelude.{◌≡◌, ◌⊎◌, ℕ, List, IfSome, Some, true, false};
-ghost use Rattle.ae_cli.specs.Words.{AreNoCommand, IsOfRun, IsRefusedUsage, is_run, wrap_path};
+ghost use Rattle.ae_cli.specs.Words.{AreNoCommand, IsOfRun, IsRefusedUsage, is_check, is_run, wrap_path};
+ghost use Rattle.ae_cli.specs.Checks.{status_of_checking};
 ghost use Rattle.ae_cli.specs.Wraps.{status_of_wrapping};
+ghost use Rattle.check_command.specs.Ends as check;
+ghost use Rattle.check_command.specs.Ends.{ChecksScript};
+ghost use Rattle.check_command.specs.declared.steps.Checked.{Checked};
 ghost use Rattle.wrap_command.specs.Wrapping.{Takes, Wraps};
 ghost use Rattle.wrap_command.specs.declared.commands.Wrapped.{Wrapped};
 ghost use Rattle.ae_edge.specs.Devices.{Rose, WhereTold};
@@ -15,7 +19,8 @@ ghost use Rattle.script_run.specs.Plain.{IsDoneOrFault, PrintsPlain};
 ghost use Rattle.script_run.specs.Statuses.{status_of};
 ghost use Rattle.script_run.specs.Transcript.{TapsTranscript};
 
-use crate::words::{is_run, usage, wrap_path};
+use crate::checking::check_script;
+use crate::words::{is_check, is_run, usage, wrap_path};
 use crate::wrapping::wrap_key;
 use ae_base::texts::Txt;
 use ae_edge::entropies::Entropy;
@@ -32,7 +37,9 @@ use std::alloc::Global;
 /// `run` reads a script from `script`, runs its steps through a
 /// driver and the peer, puts the text to `out` and every frame to `tap`. The values of protected
 /// columns pass as cells: the driver opens their keys through the vault, draws from the random
-/// source for randomized ones, and prints what the cells hold. `wrap PATH` reads a column key from
+/// source for randomized ones, and prints what the cells hold. `check` reads a script from `script`,
+/// executes its definitions, describes every other batch without executing it, and puts to `out`
+/// what each comes to, a clash with the rules that show it; nothing else is touched. `wrap PATH` reads a column key from
 /// `script`, wraps it under the vault's master key at the path, and puts its digits to `out`;
 /// nothing else is touched. No command touches the replies. Other words are `Usage`, and touch
 /// nothing.
@@ -72,6 +79,10 @@ pub fn ae_main<S: Source, V: Vault, E: Entropy, L: Source, W: Sink, T: Sink, P: 
     ensures wrapped { IfSome (wrap_path words.now) (λ path. (wrapped : Wrapped) × (result ≡ status_of_wrapping path wrapped) × (bytes : List ℕ) × IfSome (S.left script.old) (λ left. bytes ≡ left) × Wraps wrapped path bytes (record { keys = V.keys vault.old; out = W.held out.old }) (record { keys = V.keys vault.new; out = W.held out.new })) }
     ensures wrapped_taken { IfSome (wrap_path words.now) (λ path. (wrapped : Wrapped) × (result ≡ status_of_wrapping path wrapped) × WhereTold (Takes wrapped) (S.left script.old) (S.left script.new)) }
     ensures wrapped_alone { IfSome (wrap_path words.now) (λ path. (entropy.new ≡ entropy.old) × (tap.new ≡ tap.old) × (peer.new ≡ peer.old)) }
+    // A check: there are bytes, the script's where it tells them, of which it is what the command makes; nothing else is touched.
+    ensures checked { is_check words.now ≡ true → (checked : Checked) × (result ≡ status_of_checking checked) × (bytes : List ℕ) × IfSome (S.left script.old) (λ left. bytes ≡ left) × ChecksScript checked bytes (W.held out.old) (W.held out.new) }
+    ensures checked_taken { is_check words.now ≡ true → (checked : Checked) × (result ≡ status_of_checking checked) × WhereTold (check.Takes checked) (S.left script.old) (S.left script.new) }
+    ensures checked_alone { is_check words.now ≡ true → (vault.new ≡ vault.old) × (entropy.new ≡ entropy.old) × (tap.new ≡ tap.old) × (peer.new ≡ peer.old) }
     // The faults of the outside come only where a count rose.
     ensures read { result ≡ Status.ReadFault → Rose (S.faults script.old) (S.faults script.new) }
     ensures write { result ≡ Status.WriteFault → Rose (W.faults out.old) (W.faults out.new) ⊎ Rose (T.faults tap.old) (T.faults tap.new) }
@@ -81,6 +92,9 @@ pub fn ae_main<S: Source, V: Vault, E: Entropy, L: Source, W: Sink, T: Sink, P: 
 {
     if is_run(words) {
         return Status::from(run(alloc, script, vault, entropy, out, tap, peer));
+    }
+    if is_check(words) {
+        return check_script(alloc, script, out);
     }
     match wrap_path(words) {
         Some(path) => wrap_key(alloc, path, script, vault, out),
