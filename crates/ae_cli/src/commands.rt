@@ -1,9 +1,13 @@
 //! The top call: the words of a command line, and what the command does.
 
 ghost use Rattle.std.specs.Prelude.{◌≡◌, ◌⊎◌, ℕ, List, IfSome, Some, take, true, false};
+ghost use Rattle.ae_cli.specs.Checks.{status_of_checking};
 ghost use Rattle.ae_cli.specs.Serves.{status_of_serving};
-ghost use Rattle.ae_cli.specs.Words.{AreNoCommand, IsOfRun, IsRefusedUsage, is_run, is_serve, wrap_path};
+ghost use Rattle.ae_cli.specs.Words.{AreNoCommand, IsOfRun, IsRefusedUsage, is_check, is_run, is_serve, wrap_path};
 ghost use Rattle.ae_cli.specs.Wraps.{status_of_wrapping};
+ghost use Rattle.check_command.specs.Ends as check;
+ghost use Rattle.check_command.specs.Ends.{ChecksScript};
+ghost use Rattle.check_command.specs.declared.steps.Checked.{Checked};
 ghost use Rattle.wrap_command.specs.Wrapping.{Takes, Wraps};
 ghost use Rattle.wrap_command.specs.declared.commands.Wrapped.{Wrapped};
 ghost use Rattle.ae_edge.specs.Devices.{Rose, WhereTold};
@@ -17,8 +21,9 @@ ghost use Rattle.script_run.specs.Ends.{TakesScript};
 ghost use Rattle.script_run.specs.RunOf.{IsRunOf};
 ghost use Rattle.script_run.specs.Statuses.{status_of};
 
+use crate::checking::check_script;
 use crate::serving::serve_requests;
-use crate::words::{is_run, is_serve, usage, wrap_path};
+use crate::words::{is_check, is_run, is_serve, usage, wrap_path};
 use crate::wrapping::wrap_key;
 use ae_base::texts::Txt;
 use ae_edge::entropies::Entropy;
@@ -35,9 +40,11 @@ use std::alloc::Global;
 /// `run` reads a script from `script`, runs its steps through a
 /// driver and the peer, puts the text to `out` and every frame to `tap`. The values of protected
 /// columns pass as cells: the driver opens their keys through the vault, draws from the random
-/// source for randomized ones, and prints what the cells hold. `serve` reads frames of requests from
-/// `script`, and puts the frames of the replies of a server that begins with nothing defined to
-/// `out`. `wrap PATH` reads a column key from
+/// source for randomized ones, and prints what the cells hold. `check` reads a script from `script`,
+/// executes its definitions, describes every other batch without executing it, and puts to `out`
+/// what each comes to, a clash with the rules that show it; nothing else is touched. `serve` reads
+/// frames of requests from `script`, and puts the frames of the replies of a server that begins with
+/// nothing defined to `out`. `wrap PATH` reads a column key from
 /// `script`, wraps it under the vault's master key at the path, and puts its digits to `out`;
 /// nothing else is touched. No command touches the replies. Other words are `Usage`, and touch
 /// nothing.
@@ -72,6 +79,10 @@ pub fn ae_main<S: Source, V: Vault, E: Entropy, L: Source, W: Sink, T: Sink, P: 
     ensures wrapped { IfSome (wrap_path words.now) (λ path. (wrapped : Wrapped) × (result ≡ status_of_wrapping path wrapped) × (bytes : List ℕ) × IfSome (S.left script.old) (λ left. bytes ≡ left) × Wraps wrapped path bytes (record { keys = V.keys vault.old; out = W.held out.old }) (record { keys = V.keys vault.new; out = W.held out.new })) }
     ensures wrapped_taken { IfSome (wrap_path words.now) (λ path. (wrapped : Wrapped) × (result ≡ status_of_wrapping path wrapped) × WhereTold (Takes wrapped) (S.left script.old) (S.left script.new)) }
     ensures wrapped_alone { IfSome (wrap_path words.now) (λ path. (entropy.new ≡ entropy.old) × (tap.new ≡ tap.old) × (peer.new ≡ peer.old)) }
+    // A check: there are bytes, the script's where it tells them, of which it is what the command makes; nothing else is touched.
+    ensures checked { is_check words.now ≡ true → (checked : Checked) × (result ≡ status_of_checking checked) × (bytes : List ℕ) × IfSome (S.left script.old) (λ left. bytes ≡ left) × ChecksScript checked bytes (W.held out.old) (W.held out.new) }
+    ensures checked_taken { is_check words.now ≡ true → (checked : Checked) × (result ≡ status_of_checking checked) × WhereTold (check.Takes checked) (S.left script.old) (S.left script.new) }
+    ensures checked_alone { is_check words.now ≡ true → (vault.new ≡ vault.old) × (entropy.new ≡ entropy.old) × (tap.new ≡ tap.old) × (peer.new ≡ peer.old) }
     // Serving: what was taken of the script, and what was put for it, by how it ended; nothing else is touched.
     ensures served { is_serve words.now ≡ true → (served : Served) × (result ≡ status_of_serving served) × Serves served (S.left script.old) (S.left script.new) (W.held out.old) (W.held out.new) }
     // Where the script tells its bytes: by how those within the limit end, and the frames of the replies to their requests.
@@ -87,6 +98,9 @@ pub fn ae_main<S: Source, V: Vault, E: Entropy, L: Source, W: Sink, T: Sink, P: 
 {
     if is_run(words) {
         return Status::from(run(alloc, script, vault, entropy, out, tap, peer));
+    }
+    if is_check(words) {
+        return check_script(alloc, script, out);
     }
     if is_serve(words) {
         return serve_requests(alloc, script, out);

@@ -1,6 +1,7 @@
 //! The program `ae`: Always Encrypted SQL, both ends in one process.
 #![tactic(auto)]
 
+mod checking;
 mod commands;
 mod files;
 mod serving;

@@ -2,7 +2,7 @@
 
 ghost use Rattle.std.specs.Prelude.{◌≡◌};
 ghost use Rattle.std.specs.Option.{option_map};
-ghost use Rattle.ae_cli.specs.Words.{IsRefusedUsage, is_run, is_serve, wrap_path};
+ghost use Rattle.ae_cli.specs.Words.{IsRefusedUsage, is_check, is_run, is_serve, wrap_path};
 
 use ae_base::texts::Txt;
 use script_run::status::Status;
@@ -10,7 +10,7 @@ use std::alloc::Global;
 
 /// How the program is called.
 const USAGE: &str =
-    "usage: ae run < SCRIPT\n       ae serve < REQUESTS > REPLIES\n       ae wrap PATH < KEY\n";
+    "usage: ae run < SCRIPT\n       ae check < SCRIPT\n       ae serve < REQUESTS > REPLIES\n       ae wrap PATH < KEY\n";
 
 /// Whether the words, of which the first is the program's name, ask to run a script.
 pub fn is_run(words: &[Txt]) -> bool
@@ -18,6 +18,16 @@ pub fn is_run(words: &[Txt]) -> bool
 {
     match words {
         [_, word] => word.as_str() == "run",
+        _ => false,
+    }
+}
+
+/// Whether the words, of which the first is the program's name, ask to check a script.
+pub fn is_check(words: &[Txt]) -> bool
+    ensures { result ≡ is_check words.now }
+{
+    match words {
+        [_, word] => word.as_str() == "check",
         _ => false,
     }
 }

@@ -1,11 +1,14 @@
 //! Runs each script of the folder that it is started in, in the order of their names, over devices in memory and an
 //! empty server, and prints what it comes to: its name, its text, its status, and the kinds of the frames that passed.
+//! A script whose name ends in `.check.sql` is checked: its text is printed, and how the check ended.
 #![tactic(auto)]
 
+mod checks;
 mod kinds;
 mod runs;
 
 use ae_edge::memory::sink::MemSink;
+use checks::{Check, check_of};
 use kinds::kinds_of;
 use runs::{Came, come_to};
 use std::io::Write;
@@ -14,9 +17,12 @@ use std::{fs, io};
 fn main(rt: HostRuntime) -> io::Result<()> {
     for name in &script_names(&rt)? {
         let script = fs::read(&rt, name.as_str())?;
-        let came = come_to(rt.alloc(), script)?;
         println!(rt; "== {name}")?;
-        print_came(&rt, &came)?;
+        if name.ends_with(".check.sql") {
+            print_check(&rt, script)?;
+        } else {
+            print_came(&rt, &come_to(rt.alloc(), script)?)?;
+        }
     }
     Ok(())
 }
@@ -32,6 +38,12 @@ fn script_names(rt: &HostRuntime) -> io::Result<Vec<String>> {
     }
     names.sort()?;
     Ok(names)
+}
+
+fn print_check(rt: &HostRuntime, script: Vec<u8>) -> io::Result<()> {
+    let Check { ended, text } = check_of(rt.alloc(), script);
+    rt.stdout().write_all(text.bytes())?;
+    println!(rt; "ended {ended:?}")
 }
 
 fn print_came(rt: &HostRuntime, came: &Came) -> io::Result<()> {

@@ -1,0 +1,30 @@
+-- What was read of a script.
+use Rattle.std.proofs.Common.{◌≡◌, ℕ, ◌≤◌, List, length, Option, Some, None, sym, subst, arith}
+use Rattle.std.proofs.lemmas.List.{append-nil}
+use Rattle.ae_edge.specs.Devices.{WhereTold}
+use Rattle.ae_edge.specs.Streams.{ReadsAll}
+use Rattle.ae_edge.specs.declared.streams.ReadAll.TheVariants as read
+use Rattle.check_command.specs.Ends.{IsRead, Takes, most_script_bytes}
+use Rattle.check_command.specs.declared.steps.Checked.{Checked}
+use Rattle.check_command.specs.declared.steps.Checked.TheVariants as ended
+
+-- all of it was taken
+takes : (r : Checked) (bytes xs left : List ℕ) → IsRead r → ReadsAll most_script_bytes (read.Whole bytes) xs left → Takes r xs left
+takes ended.Done bytes xs left w h = h.1
+takes ended.Refusals bytes xs left w h = h.1
+takes ended.WriteFault bytes xs left w h = h.1
+takes ended.OutOfMemory bytes xs left w h =
+    let n : length xs ≤ most_script_bytes = h.2 in
+    (xs, rw (h.1) (sym (append-nil xs)), omega arith)
+takes ended.ReadFault bytes xs left w h = absurd w
+takes (ended.BadLine n) bytes xs left w h = h.1
+takes ended.TooLong bytes xs left w h = absurd w
+
+pub takes_whole : (r : Checked) (bytes : List ℕ) (old new : Option (List ℕ)) → IsRead r → WhereTold (ReadsAll most_script_bytes (read.Whole bytes)) old new → WhereTold (Takes r) old new
+takes_whole r bytes (Some xs) (Some left) w h = takes r bytes xs left w h
+takes_whole r bytes (Some xs) None w h = absurd h
+takes_whole r bytes None (Some left) w h = absurd h
+takes_whole r bytes None None w h = tt
+
+pub not_read : (r bad : Checked) → IsRead r → (IsRead bad → ⊥) → r ≡ bad → ⊥
+not_read r bad w unread e = unread (subst IsRead e w)

@@ -1,0 +1,117 @@
+-- What a server replies to a batch that is begun is awaited, and tells its description or why there is none.
+use Rattle.std.proofs.Common.{◌≡◌, ◌<◌, ◌≤◌, arith, List, [], ◌∷◌, length, Option, Some, None, Result, Ok, Err, refl, sym, ap, ◌∙◌, subst}
+use Rattle.std.specs.Prelude.{unwrap_or, slice_index_or}
+use Rattle.std.proofs.lemmas.List.{length-map}
+use Rattle.ae_base.specs.declared.batches.Batch.{Batch}
+use Rattle.ae_base.specs.declared.batches.Param.{Param}
+use Rattle.ae_base.specs.declared.faults.SqlFault.{SqlFault}
+use Rattle.ae_base.specs.declared.types.Enc.{Enc}
+use Rattle.enc_types.specs.Laws.{TypingsAreOfColumns}
+use Rattle.enc_types.specs.UsedAlone.{is_used}
+use Rattle.resolve.specs.Bind.{type_of}
+use Rattle.resolve.specs.Laws.{BoundStatementsAre}
+use Rattle.engine.specs.Worlds.{World}
+use Rattle.wire_messages.specs.Messages.{Description}
+use Rattle.wire_messages.specs.declared.replies.Reply.{Reply}
+use Rattle.wire_messages.specs.declared.replies.Reply.TheVariants as reply
+use Rattle.server_core.specs.Describing.{Meant, understood, description, describe}
+use Rattle.server_core.specs.Serve.{described}
+use Rattle.conversation.specs.Batches.{why_unfit}
+use Rattle.conversation.specs.Pending.{Pending, uses_of}
+use Rattle.conversation.specs.Sessions as held
+use Rattle.conversation.specs.Sessions.{encs_of, described_as, described_params}
+use Rattle.conversation.specs.declared.answers.DescribeAnswer.{DescribeAnswer}
+use Rattle.conversation.specs.declared.answers.DescribeAnswer.TheVariants.{Ready}
+use Rattle.conversation.specs.declared.outcomes.DescribedParam.{DescribedParam}
+use Rattle.conversation.specs.declared.sessions.Session.{Session}
+use Rattle.conversation.specs.declared.sessions.Session.TheVariants as session
+use Rattle.conversation.specs.declared.sessions.Turn.{Turn}
+use Rattle.script_lang.specs.Limits.{HasParams}
+use Rattle.plain_meaning.specs.Reference.{declared, pending}
+use Rattle.plain_meaning.proofs.Sending.{told_among, encs_found}
+use Rattle.plain_meaning.proofs.Understood.{parts_of}
+use Rattle.check_command.proofs.Following.{bind_ok}
+use Rattle.conversation.specs.declared.faults.Halt.{Halt}
+use Rattle.conversation.specs.declared.faults.Halt.TheVariants as halt
+use Rattle.driver.specs.Calls.{Describes}
+use Rattle.check_command.specs.Asked.{said_of, IsToldOf, IsAsked, TellsAs, AnswersOf}
+use Rattle.check_command.specs.declared.describing.Asked.TheVariants as asked
+
+-- it is awaited, and says so
+abbrev pub IsHeardAs : World → Batch → Option (Turn DescribeAnswer) → Type 0
+IsHeardAs w batch (Some turn) = TellsAs w batch turn.answer turn.after
+IsHeardAs w batch None = ⊥
+
+module _ (bound : BoundStatementsAre) (typings : TypingsAreOfColumns) (w : World) (batch : Batch) (params : HasParams batch) where
+  -- each declared parameter has an encryption, where it is used
+  found : (meant : Meant) → understood w.catalog batch.text (declared batch) ≡ Ok meant
+      → encs_of batch.params (description w.catalog (declared batch) meant).params ≡ Some (told_among (is_used meant.bound) 0 meant.encs)
+  found meant e =
+      let parts = parts_of w.catalog batch.text (declared batch) meant e in
+      let over_all = bound w.catalog parts.statement (declared batch) meant.bound parts.binds in
+      let long : length meant.encs ≡ length batch.params =
+      (typings meant.bound meant.encs parts.infers).0 ∙ ap length over_all.params ∙ length-map (declared batch) type_of ∙ length-map batch.params (λ (q : Param). q.declaration) in
+      encs_found meant.bound 0 batch.params meant.encs long params.1
+
+  told_encs : (d : Description) → describe w.catalog batch.text (declared batch) ≡ Ok d → (es : List (Option Enc)) × (encs_of batch.params d.params ≡ Some es)
+  told_encs d e =
+      let h = bind_ok (understood w.catalog batch.text (declared batch)) (λ meant. Ok (description w.catalog (declared batch) meant)) d e in
+      let is : description w.catalog (declared batch) h.0 ≡ d = cc in
+      (told_among (is_used h.0.bound) 0 h.0.encs, ap (λ (x : Description). encs_of batch.params x.params) (sym is) ∙ found h.0 h.1)
+
+  described_so : (d : Description) → describe w.catalog batch.text (declared batch) ≡ Ok d → (o : Option (List (Option Enc))) → encs_of batch.params d.params ≡ o → (es : List (Option Enc)) → o ≡ Some es
+      → IsHeardAs w batch (described_as batch d o)
+  described_so d e (Some xs) i es s =
+      let p : record { batch = batch; version = d.version; keys = d.keys; encs = xs } ≡ pending batch d = ap (λ (o : Option (List (Option Enc))). let v : Pending = record { batch = batch; version = d.version; keys = d.keys; encs = unwrap_or o [] } in v) (sym i) in
+      (d, e, ap session.Pending p, ap (λ (v : Pending). described_params d.keys (uses_of v)) p)
+  described_so d e None i es s = absurd cc
+
+  pub hears : (r : Result Description SqlFault) → describe w.catalog batch.text (declared batch) ≡ r → (x : Reply) → x ∷ [] ≡ (described w r).replies → IsHeardAs w batch (held.described (session.Begun batch) x)
+  hears (Ok d) e x h =
+      let i : x ≡ reply.Described d = cc in
+      let t = told_encs d e in
+      subst (λ y. IsHeardAs w batch (held.described (session.Begun batch) y)) (sym i) (described_so d e (encs_of batch.params d.params) refl t.0 t.1)
+  hears (Err f) e x h =
+      let i : x ≡ reply.Refused f = cc in
+      subst (λ y. IsHeardAs w batch (held.described (session.Begun batch) y)) (sym i) e
+
+-- there is one reply
+one_reply : (w : World) (r : Result Description SqlFault) → length (described w r).replies ≡ 1
+one_reply w (Ok d) = refl
+one_reply w (Err f) = refl
+
+pub told_one : (s : Session) (replies : List Reply) → IsToldOf s replies → length replies ≡ 1
+told_one s replies t = ap length t.told ∙ one_reply t.world (describe t.world.catalog t.batch.text (declared t.batch))
+
+answers_of : (w : World) (batch : Batch) (o : Option (Turn DescribeAnswer)) (r : Result DescribeAnswer Halt) (old after : Session) → IsHeardAs w batch o → Describes r o old after → AnswersOf w batch r after
+answers_of w batch (Some turn) (Ok x) old after h e =
+    let i : turn ≡ record { answer = x; after = after } = cc in
+    subst (λ (t : Turn DescribeAnswer). TellsAs w batch t.answer t.after) i h
+answers_of w batch None r old after h e = absurd h
+answers_of w batch (Some turn) (Err halt.BadReply) old after h e = let i = e.0 in absurd cc
+answers_of w batch (Some turn) (Err halt.OutOfMemory) old after h e = tt
+answers_of w batch (Some turn) (Err halt.EntropyFault) old after h e = absurd e
+answers_of w batch (Some turn) (Err halt.VaultFault) old after h e = absurd e
+
+pub told_answers : BoundStatementsAre → TypingsAreOfColumns → (w : World) (batch : Batch) → HasParams batch → (s : Session) → s ≡ session.Begun batch → (x : Reply) → x ∷ [] ≡ said_of w batch
+    → (r : Result DescribeAnswer Halt) (after : Session) → Describes r (held.described s x) s after → AnswersOf w batch r after
+told_answers bound typings w batch params s b x t r after h =
+    answers_of w batch (held.described s x) r s after
+    (subst (λ y. IsHeardAs w batch (held.described y x)) (sym b) (hears bound typings w batch params (describe w.catalog batch.text (declared batch)) refl x t)) h
+
+-- what is asked of a batch
+pub ready_is : (w : World) (batch : Batch) (p : Pending) (params : List DescribedParam) → why_unfit batch ≡ None → TellsAs w batch (Ready params) (session.Pending p) → IsAsked w batch (asked.Ready p params)
+ready_is w batch p params fit h =
+    let i : session.Pending p ≡ session.Pending (pending batch h.0) = h.2 in
+    let e : p ≡ pending batch h.0 = cc in
+    (fit, (h.0, h.1, e), h.3 ∙ ap (λ (v : Pending). described_params v.keys (uses_of v)) (sym e))
+
+-- the one that there is
+pub alone_is : (replies : List Reply) (x : Reply) → 1 ≤ length replies → length replies < 2 → x ≡ slice_index_or replies 0 x → x ∷ [] ≡ replies
+alone_is [] x one two e = absurd (omega (arith, one))
+alone_is (y ∷ []) x one two e = let i : x ≡ y = e in rw i refl
+alone_is (y ∷ z ∷ more) x one two e = absurd (omega (arith, two))
+
+-- one session begins one batch
+pub begun_same : (a b : Batch) (s : Session) → s ≡ session.Begun a → s ≡ session.Begun b → a ≡ b
+begun_same a b s e f = let i : session.Begun a ≡ session.Begun b = sym e ∙ f in cc

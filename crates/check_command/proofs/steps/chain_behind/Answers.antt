@@ -1,0 +1,18 @@
+-- There is a chain where there is a clash, and none else.
+use Rattle.std.proofs.Common.{sym, ◌∙◌, subst}
+use Rattle.conversation.specs.Batches.{why_unfit}
+use Rattle.plain_meaning.specs.Reference.{declared}
+use Rattle.server_core.specs.Describing.{named}
+use Rattle.check_command.specs.Check.{Chains}
+use Rattle.check_command.proofs.Clashes.{no_chain, chains_so}
+use Rattle.check_command.proofs.steps.chain_behind.Goals as goal
+
+pub returns-then-not-is_clash : goal.returns-then-not-is_clash
+returns-then-not-is_clash c =
+    λ world h.
+    let batch = c.args.batch.now in
+    subst (Chains (why_unfit batch) (named world.catalog batch.text (declared batch))) (sym c.new.ensures)
+    (no_chain world batch c.args.outcome.now (h.0) (sym c.is_clash.ensures ∙ c.if-not-is_clash.true))
+
+pub returns : goal.returns
+returns c = λ world h. chains_so world c.args.server.now c.args.batch.now c.args.outcome.now c.chain_of.result (h.0) (h.1) (sym c.is_clash.ensures ∙ c.if-not-is_clash.false) c.chain_of.ensures

@@ -1,0 +1,109 @@
+-- What a batch comes to when its description is asked, and what the server answers to a definition.
+use Rattle.std.specs.Prelude.{◌≡◌, ◌==◌, ℕ, List, [], ◌∷◌, Some, None, Result, Ok, Err, Bool, true, false}
+use Rattle.ae_base.specs.Faults.{code_of}
+use Rattle.ae_base.specs.declared.batches.Batch.{Batch}
+use Rattle.engine.specs.Worlds.{World}
+use Rattle.wire_messages.specs.Messages.{Description}
+use Rattle.wire_messages.specs.declared.replies.Done.TheVariants as done
+use Rattle.wire_messages.specs.declared.replies.Reply.{Reply}
+use Rattle.wire_messages.specs.declared.replies.Reply.TheVariants as reply
+use Rattle.wire_messages.specs.declared.requests.Request.{Request}
+use Rattle.wire_messages.specs.declared.requests.Request.TheVariants as request
+use Rattle.server_core.specs.Describing.{describe}
+use Rattle.server_core.specs.Serve.{described}
+use Rattle.enc_types.specs.Laws.{TypingsAreOfColumns}
+use Rattle.resolve.specs.Laws.{BoundStatementsAre}
+use Rattle.conversation.specs.Batches.{why_unfit}
+use Rattle.conversation.specs.Pending.{Pending, uses_of}
+use Rattle.conversation.specs.Sessions.{described_params}
+use Rattle.conversation.specs.declared.answers.DescribeAnswer.{DescribeAnswer}
+use Rattle.conversation.specs.declared.answers.DescribeAnswer.TheVariants as answer
+use Rattle.conversation.specs.declared.faults.Halt.{Halt}
+use Rattle.conversation.specs.declared.faults.Halt.TheVariants as halt
+use Rattle.conversation.specs.declared.outcomes.Outcome.{Outcome}
+use Rattle.conversation.specs.declared.outcomes.Outcome.TheVariants as outcome
+use Rattle.conversation.specs.declared.sessions.Session.{Session}
+use Rattle.conversation.specs.declared.sessions.Session.TheVariants as session
+use Rattle.script_lang.specs.Limits.{HasParams}
+use Rattle.plain_meaning.specs.Reference.{Came, declared, pending}
+use Rattle.check_command.specs.Check.{defines}
+use Rattle.check_command.specs.declared.describing.Asked.{Asked}
+use Rattle.check_command.specs.declared.describing.Asked.TheVariants as asked
+
+-- the batch that is begun is asked to be described
+pub record AsksOf (r : Request) (s : Session) : Type 0 where
+  pub number : ℕ
+  pub batch : Batch
+  pub params : HasParams batch
+  pub fit : why_unfit batch ≡ None
+  pub begun : s ≡ session.Begun batch
+  pub asks : r ≡ request.Describe number batch.text (declared batch)
+
+-- what a server in this world replies
+abbrev pub said_of : World → Batch → List Reply
+said_of world batch = (described world (describe world.catalog batch.text (declared batch))).replies
+
+-- the replies are those to the batch that is begun, over a server that binds and types as the laws say
+pub record IsToldOf (s : Session) (replies : List Reply) : Type 0 where
+  pub world : World
+  pub batch : Batch
+  pub params : HasParams batch
+  pub fit : why_unfit batch ≡ None
+  pub begun : s ≡ session.Begun batch
+  pub told : replies ≡ said_of world batch
+  pub bound : BoundStatementsAre
+  pub typings : TypingsAreOfColumns
+
+-- it is described, and its parameters are told; or the server refuses; or it may not be sent
+abbrev pub IsAsked : World → Batch → Asked → Type 0
+IsAsked world batch (asked.Ready p params) =
+    (why_unfit batch ≡ None) × ((d : Description) × (describe world.catalog batch.text (declared batch) ≡ Ok d) × (p ≡ pending batch d)) × (params ≡ described_params p.keys (uses_of p))
+IsAsked world batch (asked.Refused f) = (why_unfit batch ≡ None) × (describe world.catalog batch.text (declared batch) ≡ Err f)
+IsAsked world batch (asked.Unfit f) = why_unfit batch ≡ Some f
+
+-- what the driver's answer to a description says of a batch, and the session after it
+abbrev pub TellsAs : World → Batch → DescribeAnswer → Session → Type 0
+TellsAs world batch (answer.Ready params) after =
+    (d : Description) × (describe world.catalog batch.text (declared batch) ≡ Ok d) × (after ≡ session.Pending (pending batch d))
+    × (params ≡ described_params d.keys (uses_of (pending batch d)))
+TellsAs world batch (answer.Refused f) after = describe world.catalog batch.text (declared batch) ≡ Err f
+
+-- the reply is awaited
+abbrev pub AnswersOf : World → Batch → Result DescribeAnswer Halt → Session → Type 0
+AnswersOf world batch (Ok x) after = TellsAs world batch x after
+AnswersOf world batch (Err halt.OutOfMemory) after = Unit {0}
+AnswersOf world batch (Err halt.BadReply) after = ⊥
+AnswersOf world batch (Err halt.EntropyFault) after = ⊥
+AnswersOf world batch (Err halt.VaultFault) after = ⊥
+
+-- a definition was described in this world
+pub record IsDefinition (world : World) (p : Pending) : Type 0 where
+  pub batch : Batch
+  pub description : Description
+  pub described : describe world.catalog batch.text (declared batch) ≡ Ok description
+  pub is : p ≡ pending batch description
+  pub defines : defines batch.text ≡ true
+
+-- what it came to, and the world after it
+abbrev pub ComesTo : Came → World → Outcome → Type 0
+ComesTo c after comes = (c.comes ≡ comes) × (c.world ≡ after)
+
+-- EncryptionClash
+abbrev pub is_clash : Outcome → Bool
+is_clash (outcome.Refused f) = code_of f == 30
+is_clash (outcome.Rows listing) = false
+is_clash (outcome.Broken listing why) = false
+is_clash (outcome.Changed count) = false
+is_clash outcome.Defined = false
+is_clash (outcome.Described params) = false
+is_clash (outcome.Failed f) = false
+
+-- the one reply to a definition that is executed
+abbrev pub AnswersAs : List Reply → Outcome → Type 0
+AnswersAs replies outcome.Defined = replies ≡ reply.Ended done.Defined ∷ []
+AnswersAs replies (outcome.Refused f) = replies ≡ reply.Refused f ∷ []
+AnswersAs replies (outcome.Rows listing) = ⊥
+AnswersAs replies (outcome.Broken listing why) = ⊥
+AnswersAs replies (outcome.Changed count) = ⊥
+AnswersAs replies (outcome.Described params) = ⊥
+AnswersAs replies (outcome.Failed f) = ⊥

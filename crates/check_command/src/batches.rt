@@ -1,0 +1,42 @@
+//! What a batch comes to when it is checked.
+
+ghost use Rattle.std.specs.Prelude.{◌≡◌, IfOk};
+ghost use Rattle.script_lang.specs.Limits.{HasParams};
+ghost use Rattle.check_command.specs.Asked.{ComesTo};
+ghost use Rattle.check_command.specs.Check as check;
+
+use crate::defining::defined;
+use crate::definitions::defines;
+use crate::describing::{Asked, describe};
+use ae_base::batches::Batch;
+use ae_base::sessions::SessionId;
+use conversation::outcomes::Outcome;
+use server_core::server::Server;
+use std::alloc::{AllocError, Global};
+
+/// What a batch comes to: a definition is executed, any other batch described.
+pub fn outcome_of(
+    alloc: Global,
+    server: &mut Server,
+    number: SessionId,
+    batch: &Batch,
+) -> Result<Outcome, AllocError>
+    requires { HasParams batch.now }
+    ensures { IfOk result (ComesTo (check.checked server.old batch.now) server.new) }
+{
+    let defines = defines(alloc, &batch.text)?;
+    match describe(alloc, server, number, batch) {
+        Ok(Asked::Ready(pending, params)) => {
+            if defines {
+                drop(params);
+                defined(alloc, server, number, pending)
+            } else {
+                drop(pending);
+                Ok(Outcome::Described(params))
+            }
+        }
+        Ok(Asked::Refused(fault)) => Ok(Outcome::Refused(fault)),
+        Ok(Asked::Unfit(fault)) => Ok(Outcome::Failed(fault)),
+        Err(error) => Err(error),
+    }
+}

@@ -1,0 +1,117 @@
+//! A batch is described.
+
+ghost use Rattle.std.specs.Prelude.{◌≡◌, IfOk, None};
+ghost use Rattle.ae_base.specs.declared.batches.Batch.{Batch};
+ghost use Rattle.conversation.specs.Batches.{why_unfit};
+ghost use Rattle.conversation.specs.declared.sessions.Session.TheVariants as session_of;
+ghost use Rattle.script_lang.specs.Limits.{HasParams};
+ghost use Rattle.engine.specs.Worlds.{World};
+ghost use Rattle.check_command.specs.Asked.{AnswersOf, AsksOf, IsAsked, IsToldOf, said_of};
+
+use ae_base::batches::Batch;
+use ae_base::faults::SqlFault;
+use ae_base::lists::{Duplicate, Seq};
+use ae_base::sessions::SessionId;
+use conversation::answers::DescribeAnswer;
+use conversation::faults::{DriverFault, Halt};
+use conversation::outcomes::DescribedParam;
+use conversation::sessions::{Pending, Session, Turn};
+use driver::{begin, described};
+use enc_types::laws::typings_are_of_columns;
+use resolve::laws::bound_statements_are;
+use server_core::server::Server;
+use std::alloc::{AllocError, Global};
+use wire_messages::replies::Reply;
+use wire_messages::requests::Request;
+
+/// What a batch comes to when it is described.
+#[derive(Drop)]
+pub enum Asked {
+    /// It is described; these parameters are used.
+    Ready(Pending, Seq<DescribedParam>),
+    /// The server refuses.
+    Refused(SqlFault),
+    /// It may not be sent.
+    Unfit(DriverFault),
+}
+
+/// Describes a batch, which leaves the server as it was.
+pub fn describe(
+    alloc: Global,
+    server: &mut Server,
+    number: SessionId,
+    batch: &Batch,
+) -> Result<Asked, AllocError>
+    requires { HasParams batch.now }
+    ensures asked { IfOk result (IsAsked server.old batch.now) }
+    ensures same { server.new ≡ server.old }
+{
+    let Turn { answer, after } = begin(alloc, Session::Idle, number, batch.copy()?);
+    match answer {
+        Ok(Ok(request)) => heard(alloc, server, request, after),
+        Ok(Err(fault)) => {
+            drop(after);
+            Ok(Asked::Unfit(fault))
+        }
+        Err(error) => {
+            drop(after);
+            Err(error)
+        }
+    }
+}
+
+/// Asks for the description of the batch that is begun, and hears it.
+fn heard(
+    alloc: Global,
+    server: &mut Server,
+    request: Request<'_>,
+    session: Session,
+) -> Result<Asked, AllocError>
+    requires { AsksOf request session }
+    ensures asked { (batch : Batch) → session ≡ session_of.Begun batch → IfOk result (IsAsked server.old batch) }
+    ensures same { server.new ≡ server.old }
+{
+    bound_statements_are();
+    typings_are_of_columns();
+    let replies = server.serve(alloc, &request);
+    drop(request);
+    match replies {
+        Ok(replies) => told(alloc, session, replies.as_slice()),
+        Err(error) => {
+            drop(session);
+            Err(error)
+        }
+    }
+}
+
+/// What the replies to a description tell: there is one.
+fn told(alloc: Global, session: Session, replies: &[Reply<'static>]) -> Result<Asked, AllocError>
+    requires { IsToldOf session replies.now }
+    ensures { (world : World) (batch : Batch) → session ≡ session_of.Begun batch → replies.now ≡ said_of world batch → IfOk result (IsAsked world batch) }
+{
+    let [reply] = replies else { unreachable!() };
+    answered(described(alloc, session, reply))
+}
+
+/// What the driver's answer to a description says.
+fn answered(turn: Turn<Result<DescribeAnswer, Halt>>) -> Result<Asked, AllocError>
+    requires { (world : World) × (batch : Batch) × AnswersOf world batch turn.answer turn.after }
+    ensures { (world : World) (batch : Batch) → why_unfit batch ≡ None → AnswersOf world batch turn.answer turn.after → IfOk result (IsAsked world batch) }
+{
+    let Turn { answer, after } = turn;
+    match answer {
+        Ok(DescribeAnswer::Ready(params)) => match after {
+            Session::Pending(pending) => Ok(Asked::Ready(pending, params)),
+            _ => unreachable!(),
+        },
+        Ok(DescribeAnswer::Refused(fault)) => {
+            drop(after);
+            Ok(Asked::Refused(fault))
+        }
+        Err(Halt::OutOfMemory) => {
+            drop(after);
+            Err(AllocError)
+        }
+        Err(Halt::BadReply | Halt::EntropyFault | Halt::VaultFault) => unreachable!(),
+    }
+}

@@ -1,0 +1,191 @@
+//! The steps of a script, checked one after another.
+
+ghost use Rattle.std.specs.Prelude.{◌≡◌, ◌||◌, IfOk};
+ghost use Rattle.std.specs.List.{All};
+ghost use Rattle.ae_edge.specs.Devices.{Rose};
+ghost use Rattle.conversation.specs.Batches.{why_unfit};
+ghost use Rattle.engine.specs.Worlds.{World};
+ghost use Rattle.plain_meaning.specs.Reference.{declared};
+ghost use Rattle.script_lang.specs.Limits.{HasParams, IsWithinLimits};
+ghost use Rattle.server_core.specs.Describing.{named};
+ghost use Rattle.server_core.specs.Serve.{empty_state};
+ghost use Rattle.check_command.specs.Asked.{ComesTo};
+ghost use Rattle.check_command.specs.Check as check;
+ghost use Rattle.check_command.specs.Check.{Chains};
+ghost use Rattle.check_command.specs.Ends.{ChecksTo};
+ghost use Rattle.check_command.specs.Puts.{AreLines, CountsPut, PutsBatch, PutsStep};
+
+use crate::batches::outcome_of;
+use crate::lines::{chain_of, is_clash, text_with};
+use ae_base::batches::Batch;
+use ae_base::lists::Seq;
+use ae_base::sessions::SessionId;
+use ae_edge::sinks::Sink;
+use ae_edge::streams::{PutAll, put_all};
+use conversation::outcomes::Outcome;
+use run_words::texts::is_refusal;
+use script_lang::steps::Step;
+use server_core::server::Server;
+use std::alloc::{AllocError, Global};
+
+/// How a check ended.
+#[derive(Clone, Copy, PartialEq, Eq, Debug)]
+pub enum Checked {
+    /// The text was put whole, and no batch was refused.
+    Done,
+    /// The text was put whole, and a batch was refused.
+    Refusals,
+    /// A call of the script failed.
+    ReadFault,
+    /// A call of the output failed.
+    WriteFault,
+    OutOfMemory,
+    /// The first line that no script has, from 1.
+    BadLine(u64),
+    /// The script is past its limit.
+    TooLong,
+}
+
+/// Why a batch wasn't put whole.
+#[derive(Clone, Copy, PartialEq, Eq, Debug)]
+pub enum Unput {
+    WriteFault,
+    OutOfMemory,
+}
+
+/// The lines of a batch, and whether it was refused.
+#[derive(Drop)]
+pub struct Lines {
+    text: String,
+    refused: bool,
+}
+
+/// The places of the chain behind what a batch came to.
+fn chain_behind(
+    alloc: Global,
+    server: &Server,
+    batch: &Batch,
+    outcome: &Outcome,
+) -> Result<Seq<u32>, AllocError>
+    requires { (world : World) × ComesTo (check.checked world batch.now) server.now outcome.now }
+    ensures { (world : World) → ComesTo (check.checked world batch.now) server.now outcome.now → IfOk result (Chains (why_unfit batch.now) (named world.catalog batch.now.text (declared batch.now))) }
+{
+    if !is_clash(outcome) {
+        return Ok(Seq::new(alloc));
+    }
+    chain_of(alloc, server, batch)
+}
+
+fn lines_for(
+    alloc: Global,
+    server: &Server,
+    batch: &Batch,
+    outcome: &Outcome,
+) -> Result<Lines, AllocError>
+    requires { (world : World) × ComesTo (check.checked world batch.now) server.now outcome.now }
+    ensures { (world : World) → ComesTo (check.checked world batch.now) server.now outcome.now → IfOk result (AreLines world server.now batch.now) }
+{
+    let chain = chain_behind(alloc, server, batch, outcome)?;
+    Ok(Lines {
+        text: text_with(alloc, outcome, chain.as_slice())?,
+        refused: is_refusal(outcome),
+    })
+}
+
+/// The lines of a batch that is checked.
+fn lines_of(
+    alloc: Global,
+    server: &mut Server,
+    number: SessionId,
+    batch: &Batch,
+) -> Result<Lines, AllocError>
+    requires { HasParams batch.now }
+    ensures { IfOk result (AreLines server.old server.new batch.now) }
+{
+    let outcome = outcome_of(alloc, server, number, batch)?;
+    let lines = lines_for(alloc, server, batch, &outcome);
+    drop(outcome);
+    lines
+}
+
+/// Checks a batch and puts its lines; says whether it was refused.
+fn check_batch<W: Sink>(
+    alloc: Global,
+    server: &mut Server,
+    number: SessionId,
+    batch: &Batch,
+    out: &mut W,
+) -> Result<bool, Unput>
+    requires { HasParams batch.now }
+    ensures puts { PutsBatch result server.old server.new batch.now (W.held out.old) (W.held out.new) }
+    ensures counts { CountsPut result (W.faults out.old) (W.faults out.new) }
+{
+    let lines = match lines_of(alloc, server, number, batch) {
+        Ok(lines) => lines,
+        Err(_) => return Err(Unput::OutOfMemory),
+    };
+    match put_all(out, lines.text.as_bytes()) {
+        PutAll::Whole => Ok(lines.refused),
+        PutAll::WriteFault => Err(Unput::WriteFault),
+        PutAll::OutOfMemory => Err(Unput::OutOfMemory),
+    }
+}
+
+/// Checks the batch of a step, if it has one; says whether it was refused.
+fn check_step<W: Sink>(
+    alloc: Global,
+    server: &mut Server,
+    step: &Step,
+    out: &mut W,
+) -> Result<bool, Unput>
+    requires { IsWithinLimits step.now }
+    ensures puts { PutsStep result server.old server.new step.now (W.held out.old) (W.held out.new) }
+    ensures counts { CountsPut result (W.faults out.old) (W.faults out.new) }
+{
+    match step {
+        Step::Whole { session, batch } => check_batch(alloc, server, *session, batch, out),
+        Step::Half { session, batch } => check_batch(alloc, server, *session, batch, out),
+        Step::Execute { .. } => Ok(false),
+    }
+}
+
+/// Whether a batch was refused by now.
+fn or_refused(refused: bool, refuses: bool) -> bool
+    ensures { result ≡ refused || refuses }
+{
+    refused || refuses
+}
+
+/// Checks the batches of steps over a server in whose state nothing is defined.
+fn check_over<W: Sink>(alloc: Global, server: &mut Server, steps: &[Step], out: &mut W) -> Checked
+    requires limits { All IsWithinLimits steps.now }
+    requires empty { server.old ≡ empty_state }
+    ensures content { ChecksTo result steps.now (W.held out.old) (W.held out.new) }
+    ensures write { result ≡ Checked.WriteFault → Rose (W.faults out.old) (W.faults out.new) }
+{
+    let mut refused = false;
+    for step in steps {
+        match check_step(alloc, server, step, out) {
+            Ok(refuses) => refused = or_refused(refused, refuses),
+            Err(Unput::WriteFault) => return Checked::WriteFault,
+            Err(Unput::OutOfMemory) => return Checked::OutOfMemory,
+        }
+    }
+    if refused {
+        Checked::Refusals
+    } else {
+        Checked::Done
+    }
+}
+
+/// Checks the batches of steps over a server of their own.
+pub fn check_steps<W: Sink>(alloc: Global, steps: &[Step], out: &mut W) -> Checked
+    requires { All IsWithinLimits steps.now }
+    ensures content { ChecksTo result steps.now (W.held out.old) (W.held out.new) }
+    ensures write { result ≡ Checked.WriteFault → Rose (W.faults out.old) (W.faults out.new) }
+{
+    let mut server = Server::new(alloc);
+    let checked = check_over(alloc, &mut server, steps, out);
+    drop(server);
+    checked
+}

@@ -1,0 +1,2 @@
+:sesion 2
+CREATE TABLE t (a INT)
