@@ -23,17 +23,16 @@ head, tail = b"".join(requests[:4]), b"".join(requests[4:])
 
 
 def serve(size):
-    """Returns the seconds that so many bytes take, and the most memory in KB."""
+    """Returns the processor seconds that so many bytes take, and the most memory in KB."""
     with open("requests", "wb") as file:
         file.write(head)
         for _ in range(size // len(tail)):
             file.write(tail)
-    begin = time.time()
     with open("requests", "rb") as given, open("replies", "wb") as put:
         child = subprocess.Popen([program, "serve"], stdin=given, stdout=put)
         _, status, usage = os.wait4(child.pid, 0)
     assert status == 0, status
-    return time.time() - begin, usage.ru_maxrss
+    return usage.ru_utime + usage.ru_stime, usage.ru_maxrss
 
 
 def serve_bytes(data):
