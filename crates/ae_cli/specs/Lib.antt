@@ -1,3 +1,4 @@
 pub mod Files
+pub mod Serves
 pub mod Words
 pub mod Wraps

@@ -11,6 +11,13 @@ is_run (name ∷ []) = false
 is_run (name ∷ word ∷ []) = bytes_eq (encode_utf8_all word) (codes "run")
 is_run (name ∷ word ∷ more ∷ others) = false
 
+-- the program's name and `serve`, in UTF-8
+abbrev pub is_serve : List (List ℕ) → Bool
+is_serve [] = false
+is_serve (name ∷ []) = false
+is_serve (name ∷ word ∷ []) = bytes_eq (encode_utf8_all word) (codes "serve")
+is_serve (name ∷ word ∷ more ∷ others) = false
+
 -- the path, behind the program's name and `wrap`
 abbrev pub wrap_path : List (List ℕ) → Option (List ℕ)
 wrap_path [] = None
@@ -21,11 +28,11 @@ wrap_path (name ∷ word ∷ path ∷ more ∷ others) = None
 
 -- the words are those of no command
 abbrev pub AreNoCommand : List (List ℕ) → Type 0
-AreNoCommand words = (is_run words ≡ false) × (wrap_path words ≡ None)
+AreNoCommand words = (is_run words ≡ false) × (is_serve words ≡ false) × (wrap_path words ≡ None)
 
 -- how the program is called
 abbrev pub usage_lines : List ℕ
-usage_lines = codes "usage: ae run < SCRIPT" ++ 10 ∷ codes "       ae wrap PATH < KEY" ++ 10 ∷ []
+usage_lines = codes "usage: ae run < SCRIPT" ++ 10 ∷ codes "       ae serve < REQUESTS > REPLIES" ++ 10 ∷ codes "       ae wrap PATH < KEY" ++ 10 ∷ []
 
 -- the words are no command, and it is said how they are written, or there was no memory to say so
 abbrev pub IsRefusedUsage : Status → Type 0

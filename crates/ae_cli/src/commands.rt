@@ -1,21 +1,27 @@
 //! The top call: the words of a command line, and what the command does.
 
-ghost use Rattle.std.specs.Prelude.{◌≡◌, ◌⊎◌, ℕ, List, IfSome, Some, true, false};
-ghost use Rattle.ae_cli.specs.Words.{AreNoCommand, IsOfRun, IsRefusedUsage, is_run, wrap_path};
+ghost use Rattle.std.specs.Prelude.{◌≡◌, ◌⊎◌, ℕ, List, IfSome, Some, take, true, false};
+ghost use Rattle.ae_cli.specs.Serves.{status_of_serving};
+ghost use Rattle.ae_cli.specs.Words.{AreNoCommand, IsOfRun, IsRefusedUsage, is_run, is_serve, wrap_path};
 ghost use Rattle.ae_cli.specs.Wraps.{status_of_wrapping};
 ghost use Rattle.wrap_command.specs.Wrapping.{Takes, Wraps};
 ghost use Rattle.wrap_command.specs.declared.commands.Wrapped.{Wrapped};
 ghost use Rattle.ae_edge.specs.Devices.{Rose, WhereTold};
 ghost use Rattle.ae_edge.specs.Vaults.{KeyMap};
 ghost use Rattle.script_lang.specs.declared.steps.Step.{Step};
-ghost use Rattle.server_core.specs.Serve.{empty_state};
+ghost use Rattle.server_core.specs.Serve.{State, empty_state};
+ghost use Rattle.wire_frames.specs.Frames.{End};
+ghost use Rattle.serve_command.specs.ServeAll.{ServeAll};
+ghost use Rattle.serve_command.specs.Serving.{IsServed, Serves, most_input_bytes};
+ghost use Rattle.serve_command.specs.declared.commands.Served.{Served};
 ghost use Rattle.script_run.specs.declared.runs.Ran.{Ran};
 ghost use Rattle.script_run.specs.Ends.{IsScript, RunsScript, TakesScript};
 ghost use Rattle.script_run.specs.Plain.{IsDoneOrFault, PrintsPlain};
 ghost use Rattle.script_run.specs.Statuses.{status_of};
 ghost use Rattle.script_run.specs.Transcript.{TapsTranscript};
 
-use crate::words::{is_run, usage, wrap_path};
+use crate::serving::serve_requests;
+use crate::words::{is_run, is_serve, usage, wrap_path};
 use crate::wrapping::wrap_key;
 use ae_base::texts::Txt;
 use ae_edge::entropies::Entropy;
@@ -32,7 +38,9 @@ use std::alloc::Global;
 /// `run` reads a script from `script`, runs its steps through a
 /// driver and the peer, puts the text to `out` and every frame to `tap`. The values of protected
 /// columns pass as cells: the driver opens their keys through the vault, draws from the random
-/// source for randomized ones, and prints what the cells hold. `wrap PATH` reads a column key from
+/// source for randomized ones, and prints what the cells hold. `serve` reads frames of requests from
+/// `script`, and puts the frames of the replies of a server that begins with nothing defined to
+/// `out`. `wrap PATH` reads a column key from
 /// `script`, wraps it under the vault's master key at the path, and puts its digits to `out`;
 /// nothing else is touched. No command touches the replies. Other words are `Usage`, and touch
 /// nothing.
@@ -72,6 +80,12 @@ pub fn ae_main<S: Source, V: Vault, E: Entropy, L: Source, W: Sink, T: Sink, P: 
     ensures wrapped { IfSome (wrap_path words.now) (λ path. (wrapped : Wrapped) × (result ≡ status_of_wrapping path wrapped) × (bytes : List ℕ) × IfSome (S.left script.old) (λ left. bytes ≡ left) × Wraps wrapped path bytes (record { keys = V.keys vault.old; out = W.held out.old }) (record { keys = V.keys vault.new; out = W.held out.new })) }
     ensures wrapped_taken { IfSome (wrap_path words.now) (λ path. (wrapped : Wrapped) × (result ≡ status_of_wrapping path wrapped) × WhereTold (Takes wrapped) (S.left script.old) (S.left script.new)) }
     ensures wrapped_alone { IfSome (wrap_path words.now) (λ path. (entropy.new ≡ entropy.old) × (tap.new ≡ tap.old) × (peer.new ≡ peer.old)) }
+    // Serving: what was taken of the script, and what was put for it, by how it ended; nothing else is touched.
+    ensures served { is_serve words.now ≡ true → (served : Served) × (result ≡ status_of_serving served) × Serves served (S.left script.old) (S.left script.new) (W.held out.old) (W.held out.new) }
+    // Where the script tells its bytes: by how those within the limit end, and the frames of the replies to their requests.
+    ensures served_exactly { is_serve words.now ≡ true → (bytes frames : List ℕ) (end : End) (after : State) → S.left script.old ≡ Some bytes → ServeAll (take most_input_bytes bytes) end frames after
+        → (served : Served) × (result ≡ status_of_serving served) × IsServed served bytes end frames (W.held out.old) (W.held out.new) }
+    ensures served_alone { is_serve words.now ≡ true → (vault.new ≡ vault.old) × (entropy.new ≡ entropy.old) × (tap.new ≡ tap.old) × (peer.new ≡ peer.old) }
     // The faults of the outside come only where a count rose.
     ensures read { result ≡ Status.ReadFault → Rose (S.faults script.old) (S.faults script.new) }
     ensures write { result ≡ Status.WriteFault → Rose (W.faults out.old) (W.faults out.new) ⊎ Rose (T.faults tap.old) (T.faults tap.new) }
@@ -81,6 +95,9 @@ pub fn ae_main<S: Source, V: Vault, E: Entropy, L: Source, W: Sink, T: Sink, P: 
 {
     if is_run(words) {
         return Status::from(run(alloc, script, vault, entropy, out, tap, peer));
+    }
+    if is_serve(words) {
+        return serve_requests(alloc, script, out);
     }
     match wrap_path(words) {
         Some(path) => wrap_key(alloc, path, script, vault, out),

@@ -3,6 +3,7 @@
 
 mod commands;
 mod files;
+mod serving;
 #[cfg(test)]
 mod tests;
 mod words;

@@ -2,14 +2,15 @@
 
 ghost use Rattle.std.specs.Prelude.{◌≡◌};
 ghost use Rattle.std.specs.Option.{option_map};
-ghost use Rattle.ae_cli.specs.Words.{IsRefusedUsage, is_run, wrap_path};
+ghost use Rattle.ae_cli.specs.Words.{IsRefusedUsage, is_run, is_serve, wrap_path};
 
 use ae_base::texts::Txt;
 use script_run::status::Status;
 use std::alloc::Global;
 
 /// How the program is called.
-const USAGE: &str = "usage: ae run < SCRIPT\n       ae wrap PATH < KEY\n";
+const USAGE: &str =
+    "usage: ae run < SCRIPT\n       ae serve < REQUESTS > REPLIES\n       ae wrap PATH < KEY\n";
 
 /// Whether the words, of which the first is the program's name, ask to run a script.
 pub fn is_run(words: &[Txt]) -> bool
@@ -17,6 +18,16 @@ pub fn is_run(words: &[Txt]) -> bool
 {
     match words {
         [_, word] => word.as_str() == "run",
+        _ => false,
+    }
+}
+
+/// Whether the words, of which the first is the program's name, ask to serve requests.
+pub fn is_serve(words: &[Txt]) -> bool
+    ensures { result ≡ is_serve words.now }
+{
+    match words {
+        [_, word] => word.as_str() == "serve",
         _ => false,
     }
 }

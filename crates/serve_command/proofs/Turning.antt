@@ -1,0 +1,181 @@
+-- One request more is answered, and what stands where serving ends.
+use Rattle.std.proofs.Common.{◌≡◌, ◌⊎◌, ◌+◌, ◌<◌, ◌^◌, ℕ, List, [], ◌∷◌, ◌++◌, length, take, drop, Option, Some, None, refl, sym, ap, subst, ◌∙◌, length-append, arith, inl, inr}
+use Rattle.std.specs.Prelude.{flat_map, Bool, true, false, if◌then◌else◌}
+use Rattle.std.proofs.lemmas.List.{flat_map_more, length-take-le}
+use Rattle.ae_edge.specs.Devices.{Adds, AddsFront, IsFront}
+use Rattle.ae_edge.proofs.Told.{adds_none, adds_then, front_none}
+use Rattle.wire_messages.specs.declared.requests.Request.{Request}
+use Rattle.wire_spelling.specs.Spelling.{SpellsRequest, request_frame, reply_frame}
+use Rattle.wire_frames.specs.Decoding.{has_kind}
+use Rattle.wire_frames.specs.Frames.{End, Whole, Refused, Rest, EndsSo, IsNotYet, IsRefused, is_request_kind}
+use Rattle.wire_frames.specs.Laws.{placed_from}
+use Rattle.wire_frames.specs.declared.decoding.Way.{Way}
+use Rattle.wire_frames.specs.declared.decoding.Way.TheVariants.{ToServer}
+use Rattle.frame_feed.specs.Feeding.{Feeding, SpellsMessage, behind, fed, unfed}
+use Rattle.frame_feed.specs.Steps.{Steps}
+use Rattle.frame_feed.specs.declared.feeds.Next.TheVariants as next
+use Rattle.frame_feed.specs.declared.messages.Message.{Message}
+use Rattle.frame_feed.specs.declared.messages.Message.TheVariants.{Asks, Tells}
+use Rattle.server_core.specs.Serve.{State, serve, empty_state}
+use Rattle.serve_command.specs.ServeAll.{reply_frames, state_after}
+use Rattle.serve_command.specs.Serving.{Begins, AnswersAll, AnswersFirst, AnswersOpen, BreaksOff, IsOpen}
+use Rattle.serve_command.specs.Turns.{IsAsked, Answers, Turns, AnswersNext, BreaksNext, Stands}
+use Rattle.serve_command.specs.declared.turns.Turn.{Turn}
+use Rattle.serve_command.specs.declared.turns.Turn.TheVariants as turn
+use Rattle.serve_command.proofs.Replying.{state_more, frames_more}
+use Rattle.serve_command.proofs.Beginning.{begins_none, begins_more, begins_fed, requests_placed, reads_so}
+
+-- ---- what stands next
+
+-- a message to the server is a request
+pub is_asked : (way : Way) (message : Message) (bytes : List ℕ) → way ≡ ToServer → SpellsMessage way message bytes → IsAsked message
+is_asked way (Asks request) bytes e s = tt
+is_asked way (Tells reply) bytes e s = subst (λ (w : Way). SpellsMessage w (Tells reply) bytes) e s
+
+spells_asked : (way : Way) (request : Request) (bytes : List ℕ) → way ≡ ToServer → SpellsMessage way (Asks request) bytes → SpellsRequest request bytes
+spells_asked way request bytes e s = subst (λ (w : Way). SpellsMessage w (Asks request) bytes) e s
+
+pub turns_one : (t : Turn) (place used : ℕ) (message : Message) (feed new : Feeding) (state after : State) (old now : Option (List ℕ)) → feed.way ≡ ToServer
+    → Steps (next.One place used message) feed new → Answers t used message state after old now → Turns t feed state after old now
+turns_one (turn.Answered count) place used (Asks request) feed new state after old now e s a =
+    subst (λ (n : ℕ). AnswersNext feed n state after old now) (sym a.0)
+    (record {
+      request = request;
+      next = record { header = s.2; held = s.3; spells = spells_asked feed.way request (take used feed.held) e s.4 };
+      waits = s.0;
+      left = a.1;
+      put = a.2;
+    })
+turns_one turn.WriteFault place used (Asks request) feed new state after old now e s a = record {
+  request = request;
+  used = used;
+  next = record { header = s.2; held = s.3; spells = spells_asked feed.way request (take used feed.held) e s.4 };
+  put = a;
+}
+turns_one turn.OutOfMemory place used (Asks request) feed new state after old now e s a =
+    inr (record {
+      request = request;
+      used = used;
+      next = record { header = s.2; held = s.3; spells = spells_asked feed.way request (take used feed.held) e s.4 };
+      put = a;
+    })
+turns_one turn.Waits place used (Asks request) feed new state after old now e s a = absurd a
+turns_one (turn.Refused at) place used (Asks request) feed new state after old now e s a = absurd a
+turns_one (turn.Answered count) place used (Tells reply) feed new state after old now e s a = absurd a
+turns_one turn.WriteFault place used (Tells reply) feed new state after old now e s a = absurd a
+turns_one turn.OutOfMemory place used (Tells reply) feed new state after old now e s a = absurd a
+turns_one turn.Waits place used (Tells reply) feed new state after old now e s a = absurd a
+turns_one (turn.Refused at) place used (Tells reply) feed new state after old now e s a = absurd a
+
+waits_so : (way : Way) (held : List ℕ) → way ≡ ToServer → IsNotYet (has_kind way) held → IsNotYet is_request_kind held
+waits_so way held e h = subst (λ (w : Way). IsNotYet (has_kind w) held) e h
+
+pub turns_waits : (feed new : Feeding) (state : State) (old : Option (List ℕ)) → feed.way ≡ ToServer → Steps next.NotYet feed new → Turns turn.Waits feed state state old old
+turns_waits feed new state old e s = (waits_so feed.way feed.held e s.2, s.0, refl, refl)
+
+refused_so : (way : Way) (held : List ℕ) → way ≡ ToServer → IsRefused (has_kind way) (SpellsMessage way) held → IsRefused is_request_kind SpellsRequest held
+refused_so way held e h =
+    let asks : IsRefused is_request_kind (SpellsMessage ToServer) held = subst (λ (w : Way). IsRefused (has_kind w) (SpellsMessage w) held) e h in
+    (asks.0, elim asks.1 [ inl header ↦ inl header | inr frame ↦ inr (frame.0, λ (r : Request) s. frame.1 (Asks r) s) ])
+
+pub turns_refused : (place : ℕ) (feed new : Feeding) (state : State) (old : Option (List ℕ)) → feed.way ≡ ToServer → Steps (next.Bad place) feed new → Turns (turn.Refused place) feed state state old old
+turns_refused place feed new state old e s = (s.0, refused_so feed.way feed.held e s.1, refl)
+
+-- ---- all that was taken
+
+-- of what was put, the front is told
+a_front : (xs : List ℕ) (old new : Option (List ℕ)) → AddsFront xs old new → (front : List ℕ) × IsFront front xs × Adds front old new
+a_front xs (Some old) (Some new) h = (h.front, h.of_it, h.grew)
+a_front xs None None h = ([], front_none xs, tt)
+a_front xs (Some old) None h = absurd h
+a_front xs None (Some new) h = absurd h
+
+-- where less than a frame is held, it ends after a frame, or inside one
+open_end : (at : ℕ) (held : List ℕ) → IsNotYet is_request_kind held → (end : End) × IsOpen end × EndsSo is_request_kind SpellsRequest at held end
+open_end at [] w = (Whole, tt, refl)
+open_end at (byte ∷ held) w = (Rest at, tt, (refl, omega arith, w))
+
+unless : {A : Type 0} (b : Bool) (x y : A) → b ≡ false → x ≡ (if b then y else x)
+unless true x y e = cc
+unless false x y e = refl
+
+held_fed : (feed : Feeding) (piece : List ℕ) → feed.failed ≡ false → feed.held ++ piece ≡ (fed feed piece).held
+held_fed feed piece waits = unless feed.failed (feed.held ++ piece) feed.held waits
+
+pub stands_first : (out : Option (List ℕ)) → Stands [] (unfed ToServer) empty_state out out
+stands_first out = record { answered = []; begins = begins_none []; place = refl; way = refl; waits = refl; left = refl; put = adds_none out }
+
+pub stands_fed : (taken piece : List ℕ) (feed : Feeding) (state : State) (first now : Option (List ℕ)) → Stands taken feed state first now → Stands (taken ++ piece) (fed feed piece) state first now
+stands_fed taken piece feed state first now s = record {
+  answered = s.answered;
+  begins = subst (λ (l : List ℕ). Begins (taken ++ piece) s.answered l) (held_fed feed piece s.waits) (begins_fed taken s.answered feed.held piece s.begins);
+  place = s.place;
+  way = s.way;
+  waits = s.waits;
+  left = s.left;
+  put = s.put;
+}
+
+module _ (taken : List ℕ) (feed : Feeding) (state : State) (first now : Option (List ℕ)) (s : Stands taken feed state first now) where
+  pub stands_more : (used : ℕ) (after : State) (new : Option (List ℕ)) → length taken < 2 ^ 64 → AnswersNext feed used state after now new → Stands taken (behind feed used) after first new
+  stands_more used after new short a =
+      let more = begins_more taken s.answered feed.held used a.request s.begins a.next.spells in
+      let frame : length (request_frame a.request) ≡ used = ap length (sym a.next.spells.1) ∙ length-take-le used feed.held a.next.held in
+      let all : length (flat_map request_frame (s.answered ++ a.request ∷ [])) ≡ length (flat_map request_frame s.answered) + length (request_frame a.request) =
+      ap length (sym (flat_map_more request_frame [] s.answered a.request)) ∙ length-append (flat_map request_frame s.answered) (request_frame a.request) in
+      let fits = ap length more.whole ∙ length-append (flat_map request_frame (s.answered ++ a.request ∷ [])) (drop used feed.held) in
+      record {
+        answered = s.answered ++ a.request ∷ [];
+        begins = more;
+        place = omega (arith, s.place, frame, all, fits, short);
+        way = s.way;
+        waits = s.waits;
+        left = a.left ∙ ap (λ (x : State). (serve x a.request).after) s.left ∙ sym (state_more s.answered a.request);
+        put =
+            subst (λ (l : List ℕ). Adds l first new) (sym (frames_more s.answered a.request))
+            (adds_then (reply_frames s.answered) (flat_map reply_frame (serve (state_after s.answered) a.request).replies) first now new s.put
+            (subst (λ (x : State). Adds (flat_map reply_frame (serve x a.request).replies) now new) s.left a.put));
+      }
+
+  -- what was taken ends so
+  pub answers_all : (end : End) → EndsSo is_request_kind SpellsRequest feed.at feed.held end → AnswersAll taken end first now
+  answers_all end e = record {
+    frames = reply_frames s.answered;
+    after = state_after s.answered;
+    serves = record {
+      requests = placed_from request_frame 0 s.answered;
+      read = reads_so taken s.answered feed.held end s.begins (subst (λ (n : ℕ). EndsSo is_request_kind SpellsRequest n feed.held end) s.place e);
+      replied = ap reply_frames (sym (requests_placed s.answered));
+      left = ap state_after (sym (requests_placed s.answered));
+    };
+    put = s.put;
+  }
+
+  pub answers_first : AnswersFirst taken first now
+  answers_first = record { answered = s.answered; others = feed.held; begins = s.begins; put = s.put }
+
+  pub breaks_off : (new : Option (List ℕ)) → BreaksNext feed state now new → BreaksOff taken first new
+  breaks_off new b =
+      let frames = flat_map reply_frame (serve (state_after s.answered) b.request).replies in
+      let put = a_front frames now new (subst (λ (x : State). AddsFront (flat_map reply_frame (serve x b.request).replies) now new) s.left b.put) in
+      record {
+        answered = s.answered;
+        next = b.request;
+        others = drop b.used feed.held;
+        begins = begins_more taken s.answered feed.held b.used b.request s.begins b.next.spells;
+        front = put.0;
+        of_next = put.1;
+        put = adds_then (reply_frames s.answered) put.0 first now new s.put put.2;
+      }
+
+  -- less than a frame is held
+  pub answers_open : IsNotYet is_request_kind feed.held → AnswersOpen taken first now
+  answers_open w = let e = open_end feed.at feed.held w in (e.0, e.1, answers_all e.0 e.2)
+
+  pub stops_refused : (place : ℕ) (after : State) (new : Option (List ℕ)) → Turns (turn.Refused place) feed state after now new → AnswersAll taken (Refused place) first new
+  stops_refused place after new t =
+      subst (λ (x : Option (List ℕ)). AnswersAll taken (Refused place) first x) (sym t.2) (answers_all (Refused place) (t.0, t.1))
+
+  pub stops_unheld : (after : State) (new : Option (List ℕ)) → Turns turn.OutOfMemory feed state after now new → AnswersFirst taken first new ⊎ BreaksOff taken first new
+  stops_unheld after new t =
+      elim t [ inl same ↦ inl (subst (λ (x : Option (List ℕ)). AnswersFirst taken first x) (sym same) answers_first) | inr part ↦ inr (breaks_off new part) ]

@@ -1,0 +1,3 @@
+pub mod ServeAll
+pub mod Serving
+pub mod Turns

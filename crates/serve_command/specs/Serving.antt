@@ -1,0 +1,89 @@
+-- The command `serve`: what it puts of what it took of its input, by how it ended.
+use Rattle.std.specs.Prelude.{◌≡◌, ◌⊎◌, ℕ, ◌+◌, ◌≤◌, ◌<◌, List, [], ◌∷◌, ◌++◌, length, take, flat_map, Option}
+use Rattle.std.specs.Io.KnownBytes.{IsAtEnd}
+use Rattle.std.specs.List.{All}
+use Rattle.ae_edge.specs.Devices.{Adds, AddsFront, IsFront, Removes}
+use Rattle.wire_messages.specs.Conditions.{IsRequest}
+use Rattle.wire_messages.specs.declared.requests.Request.{Request}
+use Rattle.wire_spelling.specs.Spelling.{request_frame, reply_frame}
+use Rattle.wire_frames.specs.Frames.{End, Whole, Refused, Rest}
+use Rattle.server_core.specs.Serve.{State, serve}
+use Rattle.serve_command.specs.ServeAll.{ServeAll, reply_frames, state_after}
+use Rattle.serve_command.specs.declared.commands.Served.{Served}
+use Rattle.serve_command.specs.declared.commands.Served.TheVariants as served
+
+-- the input has at most 1,073,741,824 bytes
+abbrev pub most_input_bytes : ℕ
+most_input_bytes = 1073741824
+
+-- ---- how far it came
+
+-- the bytes begin with the frames of these requests, and then come the others
+pub record Begins (bytes : List ℕ) (requests : List Request) (others : List ℕ) : Type 0 where
+  pub whole : bytes ≡ flat_map request_frame requests ++ others
+  pub proper : All IsRequest requests
+
+-- the bytes taken end so, and the frames of all replies to their requests were put
+pub record AnswersAll (taken : List ℕ) (end : End) (old new : Option (List ℕ)) : Type 0 where
+  pub frames : List ℕ
+  pub after : State
+  pub serves : ServeAll taken end frames after
+  pub put : Adds frames old new
+
+-- the frames of all replies to the first requests of the bytes taken were put
+pub record AnswersFirst (taken : List ℕ) (old new : Option (List ℕ)) : Type 0 where
+  pub answered : List Request
+  pub others : List ℕ
+  pub begins : Begins taken answered others
+  pub put : Adds (reply_frames answered) old new
+
+-- and then, of the replies to the next request, a front of their frames
+pub record BreaksOff (taken : List ℕ) (old new : Option (List ℕ)) : Type 0 where
+  pub answered : List Request
+  pub next : Request
+  pub others : List ℕ
+  pub begins : Begins taken (answered ++ next ∷ []) others
+  pub front : List ℕ
+  pub of_next : IsFront front (flat_map reply_frame (serve (state_after answered) next).replies)
+  pub put : Adds (reply_frames answered ++ front) old new
+
+-- they end after a frame, or inside one
+abbrev pub IsOpen : End → Type 0
+IsOpen Whole = Unit {0}
+IsOpen (Refused place) = ⊥
+IsOpen (Rest place) = Unit {0}
+
+abbrev pub AnswersOpen : List ℕ → Option (List ℕ) → Option (List ℕ) → Type 0
+AnswersOpen taken old new = (end : End) × IsOpen end × AnswersAll taken end old new
+
+-- ---- how it ended
+
+-- A frame that is refused ends it at once, a fault and want of memory too; else the input is taken to its end, or to one byte
+-- past the limit, when all requests within the limit are answered.
+abbrev pub Ends : Served → List ℕ → Option (List ℕ) → Option (List ℕ) → Option (List ℕ) → Type 0
+Ends served.Done taken left old new = (length taken ≤ most_input_bytes) × IsAtEnd left × AnswersAll taken Whole old new
+Ends (served.BadFrame place) taken left old new =
+    (length taken ≤ most_input_bytes) × (AnswersAll taken (Refused place) old new ⊎ (IsAtEnd left × AnswersAll taken (Rest place) old new))
+Ends served.TooLong taken left old new = (length taken ≡ most_input_bytes + 1) × AnswersOpen (take most_input_bytes taken) old new
+Ends served.ReadFault taken left old new = (length taken ≤ most_input_bytes) × AnswersOpen taken old new
+Ends served.WriteFault taken left old new = (length taken ≤ most_input_bytes) × BreaksOff taken old new
+Ends served.OutOfMemory taken left old new = (length taken ≤ most_input_bytes) × (AnswersFirst taken old new ⊎ BreaksOff taken old new)
+
+-- so much was taken of the input, and it ended so
+pub record Serves (ended : Served) (left left_after out out_after : Option (List ℕ)) : Type 0 where
+  pub taken : List ℕ
+  pub lost : Removes taken left left_after
+  pub ends : Ends ended taken left_after out out_after
+
+-- ---- over a whole input
+
+-- Of an input whose bytes within the limit end so, and have these frames of replies, all were put; of a fault or want of
+-- memory, a front.
+abbrev pub IsServed : Served → List ℕ → End → List ℕ → Option (List ℕ) → Option (List ℕ) → Type 0
+IsServed served.Done bytes end frames old new = (length bytes ≤ most_input_bytes) × (end ≡ Whole) × Adds frames old new
+IsServed (served.BadFrame place) bytes end frames old new =
+    ((end ≡ Refused place) ⊎ ((length bytes ≤ most_input_bytes) × (end ≡ Rest place))) × Adds frames old new
+IsServed served.TooLong bytes end frames old new = (most_input_bytes < length bytes) × IsOpen end × Adds frames old new
+IsServed served.ReadFault bytes end frames old new = AddsFront frames old new
+IsServed served.WriteFault bytes end frames old new = AddsFront frames old new
+IsServed served.OutOfMemory bytes end frames old new = AddsFront frames old new

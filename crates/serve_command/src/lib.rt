@@ -1,0 +1,7 @@
+//! The command `serve`: requests are read from a stream of frames, and each is answered before the
+//! next is looked at.
+#![tactic(auto)]
+
+mod answers;
+pub mod commands;
+mod turns;
