@@ -1,1 +1,3 @@
+pub mod Executions
+pub mod Laws
 pub mod Renaming

@@ -1,5 +1,6 @@
 pub mod Admitted
 pub mod Contents
+pub mod GivingAlike
 pub mod Kept
 pub mod Moving
 pub mod Rowwise

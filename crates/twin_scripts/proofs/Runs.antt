@@ -67,7 +67,7 @@ use Rattle.plain_meaning.proofs.Understood.{step_alone}
 use Rattle.plain_meaning.proofs.Used.{tys_in, atoms_in, uses_sendable}
 use Rattle.plain_meaning.proofs.Versions.{Newer, step_leaves}
 use Rattle.twin_scripts.specs.Twins.{AreTwinLiterals, AllTwinParams, encs_of_description, encs_where_fit, encs_described, TwinSteps, AreTwins}
-use Rattle.twin_scripts.proofs.Between.{untold_same, declarations_same, uses_twins, twins_fit, other_fits, twin_of, AreTwinPending, AreTwinSessions, AllTwinSessions, sessions_longer, twin_place, twin_set, twin_described}
+use Rattle.twin_scripts.proofs.Between.{untold_same, declarations_same, uses_twins, twin_few, twins_fit, twins_proper, other_fits, twin_of, AreTwinPending, AreTwinSessions, AllTwinSessions, sessions_longer, twin_place, twin_set, twin_described}
 use Rattle.twin_scripts.specs.Laws.{TwinOutcomes}
 use Rattle.twin_scripts.proofs.Going.{Goes, with_value, TwinUses, asks_goes, prints_goes, sealing_goes, answer_goes}
 use Rattle.twin_scripts.proofs.Twinning.{Twinning, twinning_cells, twinning_one_to_one, twinning_longer, sent_where, sealed_twins}
@@ -424,31 +424,33 @@ module _ (laws : Laws) (keys : KeyMap) (literals : List Entry) (twins : AreTwinL
         (record { is = refl; told = told; params = params; sendable = sendable }) rest) before other h z params rest
 
     -- the second is of the same session, over the same text
-    turn_goes : (step other : Step) → IsWithinLimits step → IsProperStep step → IsWithinLimits other → IsProperStep other → (before later : Session) → Holds w.catalog before → AreTwinSessions literals history before later
-        → TwinSteps (Listing literals) walk before step other → (n m : ℕ) (left right : List ℕ) → AreBytes left → AreBytes right → RestOf (means keys step before walk) → Follow n m (turn step before k) (turn other later j) left right
-    turn_goes (steps_of.Whole number batch) (steps_of.Whole x other) within proper within2 proper2 before later h z t n m left right a b rest =
+    turn_goes : (step other : Step) → IsWithinLimits step → IsProperStep step → (before later : Session) → Holds w.catalog before → AreTwinSessions literals history before later → TwinSteps (Listing literals) walk before step other
+        → (n m : ℕ) (left right : List ℕ) → AreBytes left → AreBytes right → RestOf (means keys step before walk) → Follow n m (turn step before k) (turn other later j) left right
+    turn_goes (steps_of.Whole number batch) (steps_of.Whole x other) within proper before later h z t n m left right a b rest =
         let same : other ≡ record { text = batch.text; params = other.params } = ap (λ text. let c : Batch = record { text = text; params = other.params } in c) t.1.0 in
-        let few2 : HasParams (record { text = batch.text; params = other.params }) = within2.1 in
+        let encs = encs_described walk batch before in
         subst (λ c. Follow n m (turn (steps_of.Whole number batch) before k) (turn (steps_of.Whole x c) later j) left right) (sym same)
         (subst (λ y. Follow n m (turn (steps_of.Whole number batch) before k) (turn (steps_of.Whole y (record { text = batch.text; params = other.params })) later j) left right) (sym t.0)
-        (whole_goes number batch.text batch.params other.params before later within.1 few2 proper proper2 h z t.1.1 n m left right a b rest))
-    turn_goes (steps_of.Half number batch) (steps_of.Half x other) within proper within2 proper2 before later h z t n m left right a b rest =
+        (whole_goes number batch.text batch.params other.params before later within.1 (twin_few (Listing literals) encs batch.text batch.params other.params t.1.1 within.1) proper
+        (twins_proper literals twins encs batch.params other.params proper t.1.1) h z t.1.1 n m left right a b rest))
+    turn_goes (steps_of.Half number batch) (steps_of.Half x other) within proper before later h z t n m left right a b rest =
         let same : other ≡ record { text = batch.text; params = other.params } = ap (λ text. let c : Batch = record { text = text; params = other.params } in c) t.1.0 in
-        let few2 : HasParams (record { text = batch.text; params = other.params }) = within2.1 in
+        let encs = encs_described walk batch before in
         subst (λ c. Follow n m (turn (steps_of.Half number batch) before k) (turn (steps_of.Half x c) later j) left right) (sym same)
         (subst (λ y. Follow n m (turn (steps_of.Half number batch) before k) (turn (steps_of.Half y (record { text = batch.text; params = other.params })) later j) left right) (sym t.0)
-        (half_goes number batch.text batch.params other.params before later within.1 few2 proper proper2 h z t.1.1 n m left right a b rest))
-    turn_goes (steps_of.Execute number) (steps_of.Execute x) within proper within2 proper2 before later h z t n m left right a b rest =
+        (half_goes number batch.text batch.params other.params before later within.1 (twin_few (Listing literals) encs batch.text batch.params other.params t.1.1 within.1) proper
+        (twins_proper literals twins encs batch.params other.params proper t.1.1) h z t.1.1 n m left right a b rest))
+    turn_goes (steps_of.Execute number) (steps_of.Execute x) within proper before later h z t n m left right a b rest =
         subst (λ y. Follow n m (executing number before k) (executing y later j) left right) (sym t) (executes_goes number before later h z n m left right a b (executes_rest before h rest))
       where
         executes_rest : (before : Session) → Holds w.catalog before → RestOf (means keys (steps_of.Execute number) before walk) → RestOf (plain.executes keys walk before)
         executes_rest before h rest = rest
-    turn_goes (steps_of.Whole number batch) (steps_of.Half x other) within proper within2 proper2 before later h z t n m left right a b rest = absurd t
-    turn_goes (steps_of.Whole number batch) (steps_of.Execute x) within proper within2 proper2 before later h z t n m left right a b rest = absurd t
-    turn_goes (steps_of.Half number batch) (steps_of.Whole x other) within proper within2 proper2 before later h z t n m left right a b rest = absurd t
-    turn_goes (steps_of.Half number batch) (steps_of.Execute x) within proper within2 proper2 before later h z t n m left right a b rest = absurd t
-    turn_goes (steps_of.Execute number) (steps_of.Whole x other) within proper within2 proper2 before later h z t n m left right a b rest = absurd t
-    turn_goes (steps_of.Execute number) (steps_of.Half x other) within proper within2 proper2 before later h z t n m left right a b rest = absurd t
+    turn_goes (steps_of.Whole number batch) (steps_of.Half x other) within proper before later h z t n m left right a b rest = absurd t
+    turn_goes (steps_of.Whole number batch) (steps_of.Execute x) within proper before later h z t n m left right a b rest = absurd t
+    turn_goes (steps_of.Half number batch) (steps_of.Whole x other) within proper before later h z t n m left right a b rest = absurd t
+    turn_goes (steps_of.Half number batch) (steps_of.Execute x) within proper before later h z t n m left right a b rest = absurd t
+    turn_goes (steps_of.Execute number) (steps_of.Whole x other) within proper before later h z t n m left right a b rest = absurd t
+    turn_goes (steps_of.Execute number) (steps_of.Half x other) within proper before later h z t n m left right a b rest = absurd t
 
   -- ---- the steps
 
@@ -468,8 +470,8 @@ module _ (laws : Laws) (keys : KeyMap) (literals : List Entry) (twins : AreTwinL
       → AllHold w.catalog sessions → AllTwinSessions literals history sessions laters → AreTwins (Listing literals) keys steps others sessions (beside w plains)
       → Goes keys literals history (over serve keys (talk steps sessions) n left w []) (over serve keys (talk others laters) m right (beside w contents) [])
 
-  step_goes : (step other : Step) (steps others : List Step) → IsWithinLimits step → IsProperStep step → IsWithinLimits other → IsProperStep other → Next steps others → Next (step ∷ steps) (other ∷ others)
-  step_goes step other steps others within proper within2 proper2 next sessions laters w contents plains history n m left right a b st held z t =
+  step_goes : (step other : Step) (steps others : List Step) → IsWithinLimits step → IsProperStep step → Next steps others → Next (step ∷ steps) (other ∷ others)
+  step_goes step other steps others within proper next sessions laters w contents plains history n m left right a b st held z t =
       let number = number_of step in
       let same = number_same (Listing literals) (beside w plains) (session_at sessions number) step other t.0 in
       let onto : (x : ℕ) → Type 0 = λ x.
@@ -482,13 +484,13 @@ module _ (laws : Laws) (keys : KeyMap) (literals : List Entry) (twins : AreTwinL
       next (with_session sessions number after) (with_session laters number later) now others plains newer_history n m left right a b st
       (hold_set now.catalog sessions (number - 1) after (all_newer w.catalog now.catalog newer sessions held) holds)
       (twin_set literals newer_history sessions laters (number - 1) after later (sessions_longer literals history newer_history longer sessions laters z) twins) rest)
-      step other within proper within2 proper2 (session_at sessions number) (session_at laters number) (hold_place w.catalog sessions (number - 1) held) (twin_place literals history sessions laters (number - 1) z) t.0 n m left right a b t.1)
+      step other within proper (session_at sessions number) (session_at laters number) (hold_place w.catalog sessions (number - 1) held) (twin_place literals history sessions laters (number - 1) z) t.0 n m left right a b t.1)
 
-  pub talk_goes : (steps others : List Step) → All IsWithinLimits steps → All IsProperStep steps → All IsWithinLimits others → All IsProperStep others → Next steps others
-  talk_goes [] [] within proper within2 proper2 sessions laters w contents plains history n m left right a b st held z t = λ x y. record { after = history; longer = λ id m e. e; exchanges = tt; outcomes = tt }
-  talk_goes [] (other ∷ others) within proper within2 proper2 sessions laters w contents plains history n m left right a b st held z t = absurd t
-  talk_goes (step ∷ steps) [] within proper within2 proper2 sessions laters w contents plains history n m left right a b st held z t = absurd t
-  talk_goes (step ∷ steps) (other ∷ others) within proper within2 proper2 sessions laters w contents plains history n m left right a b st held z t =
-      step_goes step other steps others (All-head IsWithinLimits step steps within) (All-head IsProperStep step steps proper) (All-head IsWithinLimits other others within2) (All-head IsProperStep other others proper2)
-      (talk_goes steps others (All-tail IsWithinLimits step steps within) (All-tail IsProperStep step steps proper) (All-tail IsWithinLimits other others within2) (All-tail IsProperStep other others proper2))
+  pub talk_goes : (steps others : List Step) → All IsWithinLimits steps → All IsProperStep steps → Next steps others
+  talk_goes [] [] within proper sessions laters w contents plains history n m left right a b st held z t = λ x y. record { after = history; longer = λ id m e. e; exchanges = tt; outcomes = tt }
+  talk_goes [] (other ∷ others) within proper sessions laters w contents plains history n m left right a b st held z t = absurd t
+  talk_goes (step ∷ steps) [] within proper sessions laters w contents plains history n m left right a b st held z t = absurd t
+  talk_goes (step ∷ steps) (other ∷ others) within proper sessions laters w contents plains history n m left right a b st held z t =
+      step_goes step other steps others (All-head IsWithinLimits step steps within) (All-head IsProperStep step steps proper)
+      (talk_goes steps others (All-tail IsWithinLimits step steps within) (All-tail IsProperStep step steps proper))
       sessions laters w contents plains history n m left right a b st held z t

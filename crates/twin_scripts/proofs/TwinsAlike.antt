@@ -43,9 +43,9 @@ pairs_rename keys literals twins history exchanges others c =
     }
 
 pub twins_alike : Laws → TwinsAlike
-twins_alike laws keys literals twins steps others within proper within2 proper2 t entropy more bytes bytes2 p q =
+twins_alike laws keys literals twins steps others within proper t entropy more bytes bytes2 p q =
     let empty = empty_stands keys in
-    let went = talk_goes laws keys literals twins steps others within proper within2 proper2 _ _ empty_world [] [] [] 0 0 entropy more bytes bytes2
+    let went = talk_goes laws keys literals twins steps others within proper _ _ empty_world [] [] [] 0 0 entropy more bytes bytes2
     (record { known = empty.known; states = record { left = empty.state; right = empty.state; worlds = record { catalog = refl; contents = tt } } }) (none_held empty_world.catalog 64) (none_twins literals [] 64) t p q in
     let r = pairs_rename keys literals twins went.after _ _ went.exchanges in
     record { renaming = r.renaming; exchanges = r.correspond; outcomes = went.outcomes }

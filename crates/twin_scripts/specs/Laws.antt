@@ -44,9 +44,9 @@ pub record AreAlike (literals : List Entry) (p q : Passed State) : Type 0 where
   pub exchanges : ExchangesCorrespond (Listing (pairs_in p.exchanges q.exchanges)) p.exchanges q.exchanges
   pub outcomes : AllZip (TwinOutcomes (Listing literals)) p.outcomes q.outcomes
 
--- for every two twin scripts in the grammar, under one vault, with any random bytes that suffice
+-- for the steps of every script in the grammar and every twin of them, under one vault, with any random bytes that suffice
 abbrev pub TwinsAlike : Type 0
-TwinsAlike = (keys : KeyMap) (literals : List Entry) → AreTwinLiterals literals → (steps others : List Step) → All IsWithinLimits steps → All IsProperStep steps → All IsWithinLimits others → All IsProperStep others
+TwinsAlike = (keys : KeyMap) (literals : List Entry) → AreTwinLiterals literals → (steps others : List Step) → All IsWithinLimits steps → All IsProperStep steps
     → AreTwins (Listing literals) keys steps others nobody empty_world → (entropy more : List ℕ) → AreBytes entropy → AreBytes more
     → let p = transcript keys steps entropy in
     let q = transcript keys others more in

@@ -1,13 +1,14 @@
 -- Twin scripts: two that differ in protected values alone.
 use Rattle.std.specs.Prelude.{◌≡◌, List, [], ◌∷◌, length, IsTrue, Option, Some, None, Result, Ok, Err}
 use Rattle.ae_base.specs.Atoms.{Atom, plain_atom}
-use Rattle.ae_base.specs.Values.{is_within}
+use Rattle.ae_base.specs.Values.{IsProperDatum, is_within}
 use Rattle.ae_base.specs.declared.atoms.AtomOf.TheVariants.{Null, Plain, Sealed}
 use Rattle.ae_base.specs.declared.batches.Batch.{Batch}
 use Rattle.ae_base.specs.declared.batches.Param.{Param}
 use Rattle.ae_base.specs.declared.faults.SqlFault.{SqlFault}
 use Rattle.ae_base.specs.declared.types.Enc.{Enc}
 use Rattle.ae_base.specs.declared.types.Ty.{Ty}
+use Rattle.ae_base.specs.declared.values.Datum.{Datum}
 use Rattle.ae_edge.specs.Vaults.{KeyMap}
 use Rattle.conversation.specs.Batches.{why_unfit}
 use Rattle.conversation.specs.Sessions.{session_at, with_session}
@@ -26,13 +27,17 @@ use Rattle.wire_messages.specs.Messages.{Description}
 
 -- ---- literals that stand for each other
 
--- both are of the type, and their cell bytes are as long
+-- a proper value that fits the type
+abbrev pub IsOf : Ty → Datum → Type 0
+IsOf ty value = IsProperDatum value × IsTrue (is_within value ty)
+
+-- both fit the type, and their cell bytes are as long
 abbrev pub AreTwinValues : Ty → Atom → Atom → Type 0
 AreTwinValues ty Null b = ⊥
 AreTwinValues ty (Sealed cell) b = ⊥
 AreTwinValues ty (Plain value) Null = ⊥
 AreTwinValues ty (Plain value) (Sealed cell) = ⊥
-AreTwinValues ty (Plain value) (Plain other) = IsTrue (is_within value ty) × IsTrue (is_within other ty) × (length (norm other ty) ≡ length (norm value ty))
+AreTwinValues ty (Plain value) (Plain other) = IsOf ty value × IsOf ty other × (length (norm other ty) ≡ length (norm value ty))
 
 abbrev pub AreTwinsAt : Class → Atom → Atom → Type 0
 AreTwinsAt Open a b = ⊥

@@ -22,7 +22,7 @@ returns-clause-state c =
       shown = c.rows_are_shown.ensures;
     } in
     let given = parts_given c.args.world.now r.0 c.args.ready.typed c.args.ready.atoms r.1 c.into_parts-bound.result.0 c.as_slice.result.now c.as_slice-2.result.now c.into_parts-bound.ensures.bound
-    (c.as_slice.ensures ∙ c.into_parts-bound.ensures.encs) c.as_slice-2.ensures c.execute.result c.execute.new.self c.execute.ensures in
+    (c.as_slice.ensures ∙ c.into_parts-bound.ensures.encs) c.as_slice-2.ensures c.execute.result c.execute.new.self c.execute.ensures.exact in
     (done_well laws c.args.world.now c.execute.new.self r.0 (meant_of c.args.ready.typed) c.args.ready.atoms c.execute.result c.requires.state r.1 given).state
 
 pub returns-clause-rows : goal.returns-clause-rows
@@ -35,5 +35,5 @@ returns-clause-rows c =
       shown = c.rows_are_shown.ensures;
     } in
     let given = parts_given c.args.world.now r.0 c.args.ready.typed c.args.ready.atoms r.1 c.into_parts-bound.result.0 c.as_slice.result.now c.as_slice-2.result.now c.into_parts-bound.ensures.bound
-    (c.as_slice.ensures ∙ c.into_parts-bound.ensures.encs) c.as_slice-2.ensures c.execute.result c.execute.new.self c.execute.ensures in
+    (c.as_slice.ensures ∙ c.into_parts-bound.ensures.encs) c.as_slice-2.ensures c.execute.result c.execute.new.self c.execute.ensures.exact in
     (done_well laws c.args.world.now c.execute.new.self r.0 (meant_of c.args.ready.typed) c.args.ready.atoms c.execute.result c.requires.state r.1 given).sent
