@@ -1,5 +1,5 @@
 -- A conversation that awaits each reply is never stuck on its way.
-use Rattle.std.proofs.Common.{◌≡◌, ℕ, ◌≤◌, List, [], ◌∷◌, ◌++◌, Option, Some, None, Err, Bool, refl, sym, subst, arith}
+use Rattle.std.proofs.Common.{◌≡◌, ℕ, ◌≤◌, List, [], ◌∷◌, ◌++◌, Option, Some, None, Err, Bool, false, refl, sym, subst, arith}
 use Rattle.std.specs.List.{All}
 use Rattle.ae_edge.specs.Devices.{WhereTold}
 use Rattle.wire_messages.specs.Exchanges.{Served}

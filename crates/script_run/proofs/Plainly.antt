@@ -29,7 +29,7 @@ use Rattle.script_run.specs.declared.runs.Ran.{Ran}
 use Rattle.script_run.specs.declared.runs.Ran.TheVariants as ran
 use Rattle.script_run.specs.declared.runs.Unread.TheVariants as unread
 use Rattle.script_run.specs.Ends.{Lent, outside, CameTo, RunsTo, IsScript, RunsSteps, RunsScript}
-use Rattle.script_run.specs.Plain.{meaning, PrintsPlain, IsDoneOrFault}
+use Rattle.script_run.specs.Plain.{meaning, PrintsPlain}
 use Rattle.script_run.proofs.Passing.{ahead, path_passes}
 
 -- a conversation over a peer that serves from the empty state, with keys that are told
