@@ -1,3 +1,2 @@
-pub mod NotStray
 pub mod TwoWords
 pub mod Unread

@@ -1,0 +1,8 @@
+-- Without memory for the vault nothing was read.
+use Rattle.std.proofs.Common.{refl}
+use Rattle.script_run.specs.declared.runs.Ran.TheVariants as ran
+use Rattle.script_run.specs.declared.runs.Unread.TheVariants as unread
+use Rattle.ae_cli.proofs.status_of.Goals as goal
+
+pub returns-in_default-clause-run : goal.returns-in_default-clause-run
+returns-in_default-clause-run c = λ r. (ran.Unread unread.OutOfMemory, refl)
