@@ -1,5 +1,5 @@
 -- Two words are the program's name and a command, and no words ask for two commands.
-use Rattle.std.proofs.Common.{◌≡◌, ◌<◌, ◌≤◌, ℕ, List, [], ◌∷◌, length, get_or, codes, encode_utf8_all, refl, sym, ◌∙◌, arith}
+use Rattle.std.proofs.Common.{◌≡◌, ◌<◌, ◌≤◌, ℕ, List, [], ◌∷◌, length, get_or, codes, encode_utf8_all, refl, sym, ap, ◌∙◌, arith}
 use Rattle.std.specs.Str.{bytes_eq}
 use Rattle.std.specs.Prelude.{true}
 use Rattle.std.proofs.lemmas.Slice.Eq.{bytes_eq-Decides}
@@ -47,5 +47,6 @@ check-or-serve [] r s = cc
 check-or-serve (a ∷ []) r s = cc
 check-or-serve (a ∷ b ∷ []) r s =
     let both : codes "check" ≡ codes "serve" = same-word b (codes "check") (codes "serve") r s in
-    cc
+    let first : 99 ≡ 115 = ap (λ word. get_or word 0 0) both in
+    absurd (omega (arith, first))
 check-or-serve (a ∷ b ∷ c ∷ more) r s = cc
