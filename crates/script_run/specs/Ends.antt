@@ -1,5 +1,5 @@
 -- How a run ends, in words of what it was lent.
-use Rattle.std.specs.Prelude.{◌≡◌, ℕ, ◌≤◌, ◌<◌, ◌+◌, List, [], ◌∷◌, length, Option, Result, Ok, Err, Bool, true, false, IfOk}
+use Rattle.std.specs.Prelude.{◌≡◌, ℕ, ◌≤◌, ◌<◌, ◌+◌, List, [], ◌∷◌, length, Option, None, Result, Ok, Err, Bool, true, false, IfOk}
 use Rattle.std.specs.List.{All}
 use Rattle.std.specs.Borrow.{GName}
 use Rattle.ae_edge.specs.Streams.{HasTaken}
@@ -51,7 +51,7 @@ outside out_names entropy_names vault_names wire_names refused waiting taken l =
     entropy_faults = l.entropy_faults;
     vault_faults = l.vault_faults;
   };
-  wire = record { names = wire_names; tap = l.tap; log = l.log; state = l.state; waiting = waiting; taken = taken; faults = l.tap_faults };
+  wire = record { names = wire_names; tap = l.tap; log = l.log; state = l.state; waiting = waiting; stream = None; taken = taken; faults = l.tap_faults };
 }
 
 -- from 64 idle sessions the script's conversation was followed to its end, with no reply left, or stopped
