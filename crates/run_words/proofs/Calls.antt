@@ -15,7 +15,7 @@ use Rattle.conversation.specs.declared.outcomes.Outcome.{Outcome}
 use Rattle.conversation.specs.declared.sessions.Session.{Session}
 use Rattle.conversation.specs.Devices.{Devices, AreOwn, HasShare}
 use Rattle.conversation.specs.Devices as own
-use Rattle.conversation.specs.Paths.{Event, Asked, Took, Strayed, Drew, Opened, Printed, Follows, stays, asks, takes_more, takes_last, strays, prints_last, prints, taken_in, drawn_in, outcome_in, Waits, OpensAll, IsStray, next_of}
+use Rattle.conversation.specs.Paths.{Event, Asked, Took, Strayed, Drew, Opened, Printed, Follows, stays, asks, takes_more, takes_last, strays, prints_last, prints, replies_to, taken_in, drawn_in, outcome_in, Waits, OpensAll, IsStray, next_of}
 use Rattle.conversation.specs.Talk.{Talk, Ends, Stops, Asks, Hears, Draws, Opens, Prints, Heard, Hearing, More, Got, Missed, hear, broken}
 use Rattle.run_words.specs.Printing.{printed_outcome, is_refusal, has_refusal}
 use Rattle.run_words.specs.Shares.{Desk, Wire, Outside, Serves, Stream, Streams, Comes, IsNext, coming, DeskPut, WirePut, HasPut, WireRead, HasRead, text_of, frames_of, exchanges_of, devices_of, with_devices}
@@ -87,6 +87,15 @@ own_waits (Took reply ∷ xs) h x = absurd h
 own_waits (Strayed next ∷ xs) h x = absurd h
 own_waits (Printed comes ∷ xs) h x = absurd h
 
+none_come : (xs : List Event) → AreOwn xs → flat_map replies_to xs ≡ []
+none_come [] h = refl
+none_come (Drew bytes ∷ xs) h = none_come xs h
+none_come (Opened meta key ∷ xs) h = none_come xs h
+none_come (Asked request replies ∷ xs) h = absurd h
+none_come (Took reply ∷ xs) h = absurd h
+none_come (Strayed next ∷ xs) h = absurd h
+none_come (Printed comes ∷ xs) h = absurd h
+
 own_streams : (xs : List Event) → AreOwn xs → (x : List ℕ) → Streams xs x x
 own_streams [] h x = refl
 own_streams (Drew bytes ∷ xs) h x = own_streams xs h x
@@ -128,7 +137,7 @@ own_goes t u old x g = record {
   read = record {
     refused = or_false old.desk.refused ∙ ap (λ w. old.desk.refused || has_refusal w) (sym (no_outcomes g.events g.own));
     wire = record {
-      comes = comes_still g.events (own_waits g.events g.own) (own_streams g.events g.own) old.wire.stream old.wire.waiting;
+      comes = comes_still g.events (none_come g.events g.own) (own_waits g.events g.own) (own_streams g.events g.own) old.wire.stream old.wire.waiting;
       taken = let e : length (flat_map reply_frame (flat_map taken_in g.events)) ≡ 0 = ap (λ w. length (flat_map reply_frame w)) (none_taken g.events g.own) in omega arith;
     };
   };
@@ -159,7 +168,7 @@ wire_printed : (comes : Outcome) (w : Wire) → WirePut Adds (Printed comes ∷ 
 wire_printed comes w = record { names = refl; tap = adds_none w.tap; log = adds_none w.log; state = told_same (Serves (Printed comes ∷ [])) (λ x. refl) w.state; count = omega arith }
 
 pub printed_read : (comes : Outcome) (w : Wire) → WireRead (Printed comes ∷ []) w w
-printed_read comes w = record { comes = comes_still (Printed comes ∷ []) (λ x. refl) (λ x. refl) w.stream w.waiting; taken = omega arith }
+printed_read comes w = record { comes = comes_still (Printed comes ∷ []) refl (λ x. refl) (λ x. refl) w.stream w.waiting; taken = omega arith }
 
 module _ (comes : Outcome) (t u : Talk) (follows : Follows t (Printed comes ∷ []) u) (old : Outside) (out : Option (List ℕ)) (faults : ℕ) (names : List GName)
     (same : names ≡ old.desk.out_names) (count : old.desk.out_faults ≤ faults) where
@@ -316,7 +325,7 @@ streams_strayed next (Some bytes) h = (h, refl)
 
 comes_strayed : (next : Option Reply) (s : Option Stream) (waiting : List Reply) → IsNextOf next s waiting → Comes (Strayed next ∷ []) s s waiting waiting
 comes_strayed next None waiting h = (h, refl)
-comes_strayed next (Some s) waiting h = (streams_strayed next (coming s) h, omega arith)
+comes_strayed next (Some s) waiting h = (refl, streams_strayed next (coming s) h, omega arith)
 
 -- the next reply isn't awaited, or none is there
 pub strayed_goes : (session : Session) (shown : Listing) (f : Heard → Talk) (next : Option Reply) (old : Outside)

@@ -10,7 +10,7 @@ use Rattle.wire_messages.specs.Exchanges.{Served}
 use Rattle.wire_messages.specs.declared.replies.Reply.{Reply}
 use Rattle.wire_spelling.specs.Spelling.{reply_frame}
 use Rattle.server_core.specs.Serve.{State, serve}
-use Rattle.conversation.specs.Paths.{Event, Asked, Took, Strayed, Drew, Opened, Printed, Follows, stays, taken_in, drawn_in, outcome_in, Waits, OpensAll, next_of}
+use Rattle.conversation.specs.Paths.{Event, Asked, Took, Strayed, Drew, Opened, Printed, Follows, stays, replies_to, taken_in, drawn_in, outcome_in, Waits, OpensAll, next_of}
 use Rattle.conversation.specs.Talk.{Talk}
 use Rattle.conversation.specs.declared.outcomes.Outcome.{Outcome}
 use Rattle.conversation.proofs.Going.{flat_append, follows_then, opens_then}
@@ -41,9 +41,13 @@ streams_then (Printed comes ∷ xs) ys a b c p q = streams_then xs ys a b c p q
 comes_then : (xs ys : List Event) (r s t : Option Stream) (a b c : List Reply) → Comes xs r s a b → Comes ys s t b c → Comes (xs ++ ys) r t a c
 comes_then xs ys None None None a b c p q = waits_then xs ys a b c p q
 comes_then xs ys (Some r) (Some s) (Some t) a b c p q =
-    let x = p.1 in
-    let y = q.1 in
-    (told_then (Streams xs) (Streams ys) (Streams (xs ++ ys)) (streams_then xs ys) (coming r) (coming s) (coming t) p.0 q.0, omega arith)
+    let x = p.2 in
+    let y = q.2 in
+    (
+      flat_append replies_to xs ys ∙ ap (λ w. w ++ flat_map replies_to ys) p.0 ∙ q.0,
+      told_then (Streams xs) (Streams ys) (Streams (xs ++ ys)) (streams_then xs ys) (coming r) (coming s) (coming t) p.1 q.1,
+      omega arith,
+    )
 comes_then xs ys None None (Some t) a b c p q = absurd q
 comes_then xs ys None (Some s) t a b c p q = absurd p
 comes_then xs ys (Some r) None t a b c p q = absurd p
@@ -167,12 +171,13 @@ or_false true = refl
 or_false false = refl
 
 -- events that touch no reply
-pub comes_still : (events : List Event) → ((x : List Reply) → Waits events x x) → ((x : List ℕ) → Streams events x x) → (s : Option Stream) (waiting : List Reply) → Comes events s s waiting waiting
-comes_still events w b None waiting = w waiting
-comes_still events w b (Some s) waiting = (told_same (Streams events) b (coming s), omega arith)
+pub comes_still : (events : List Event) → flat_map replies_to events ≡ [] → ((x : List Reply) → Waits events x x) → ((x : List ℕ) → Streams events x x) → (s : Option Stream) (waiting : List Reply)
+    → Comes events s s waiting waiting
+comes_still events n w b None waiting = w waiting
+comes_still events n w b (Some s) waiting = (n, told_same (Streams events) b (coming s), omega arith)
 
 pub wire_unread : (a : Wire) → WireRead [] a a
-wire_unread a = record { comes = comes_still [] (λ x. refl) (λ x. refl) a.stream a.waiting; taken = omega arith }
+wire_unread a = record { comes = comes_still [] refl (λ x. refl) (λ x. refl) a.stream a.waiting; taken = omega arith }
 
 pub nothing_read : (a : Outside) → HasRead [] a a
 nothing_read a = record { refused = or_false a.desk.refused; wire = wire_unread a.wire }
@@ -254,7 +259,7 @@ lacks_then : (t u : Talk) (a b c : Outside) → Goes t u a b → Lacks u b c →
 lacks_then t u a b c p l = record { between = l.between; mid = l.mid; goes = goes_then t u l.between a b l.mid p l.goes; awaits = l.awaits; put = l.put; read = l.read }
 
 unread_then : (xs : List Event) (r s t : Option Stream) (a b : List Reply) → Comes xs r s a b → CantBeRead s t → CantBeRead r t
-unread_then xs (Some r) (Some s) (Some t) a b p q = (rose_before r.faults s.faults t.faults p.1 q.0, q.1)
+unread_then xs (Some r) (Some s) (Some t) a b p q = (rose_before r.faults s.faults t.faults p.2 q.0, q.1)
 unread_then xs (Some r) (Some s) None a b p q = absurd q
 unread_then xs (Some r) None t a b p q = absurd p
 unread_then xs None (Some s) t a b p q = absurd p

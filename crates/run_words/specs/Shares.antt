@@ -10,7 +10,7 @@ use Rattle.wire_messages.specs.declared.replies.Reply.{Reply}
 use Rattle.wire_spelling.specs.Spelling.{request_frame, reply_frame}
 use Rattle.server_core.specs.Serve.{State, serve}
 use Rattle.conversation.specs.Devices.{Devices}
-use Rattle.conversation.specs.Paths.{Event, Asked, Took, Strayed, Drew, Opened, Printed, taken_in, drawn_in, outcome_in, Waits, OpensAll}
+use Rattle.conversation.specs.Paths.{Event, Asked, Took, Strayed, Drew, Opened, Printed, replies_to, taken_in, drawn_in, outcome_in, Waits, OpensAll}
 use Rattle.run_words.specs.Printing.{printed_outcome, has_refusal}
 
 -- this side: what it is lent, the text, the random bytes to come and the keys, where they are told, whether a refusal was
@@ -163,10 +163,10 @@ Streams (Drew bytes ∷ events) old new = Streams events old new
 Streams (Opened meta key ∷ events) old new = Streams events old new
 Streams (Printed comes ∷ events) old new = Streams events old new
 
--- the replies that wait are taken in order, or the frames of those that come as bytes
+-- the replies that wait are taken in order; or the frames of those that come as bytes, of which none comes with a request
 abbrev pub Comes : List Event → Option Stream → Option Stream → List Reply → List Reply → Type 0
 Comes events None None old new = Waits events old new
-Comes events (Some s) (Some t) old new = WhereTold (Streams events) (coming s) (coming t) × (s.faults ≤ t.faults)
+Comes events (Some s) (Some t) old new = (flat_map replies_to events ≡ []) × WhereTold (Streams events) (coming s) (coming t) × (s.faults ≤ t.faults)
 Comes events None (Some t) old new = ⊥
 Comes events (Some s) None old new = ⊥
 

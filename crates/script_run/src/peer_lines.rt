@@ -33,7 +33,7 @@ pub struct PeerLine<'a, T: Sink, P: Peer> {
 }
 
 /// Puts the frame of a request.
-fn put_request<T: Sink>(frame: &mut Vec<u8>, tap: &mut T, request: &Request<'_>) -> PutAll
+pub fn put_request<T: Sink>(frame: &mut Vec<u8>, tap: &mut T, request: &Request<'_>) -> PutAll
     ensures puts { PutsBytes result (request_frame request.now) (T.held tap.old) (T.held tap.new) (T.faults tap.old) (T.faults tap.new) }
     ensures same { T.names tap.new ≡ T.names tap.old }
 {

@@ -1,0 +1,35 @@
+-- The bytes of replies that came and weren't taken.
+use Rattle.std.specs.Prelude.{◌≡◌, ℕ, ◌+◌, List, [], ◌++◌, length}
+use Rattle.wire_frames.specs.Frames.{IsNotYet, IsRefused, is_reply_kind}
+use Rattle.wire_messages.specs.declared.replies.Reply.{Reply}
+use Rattle.wire_spelling.specs.Spelling.{SpellsReply, reply_frame}
+use Rattle.run_words.specs.Shares.{Begins}
+use Rattle.drive_command.specs.declared.holding.Stands.{Stands}
+use Rattle.drive_command.specs.declared.holding.Stands.TheVariants as stands
+
+-- the place of the first of them, and the bytes
+pub record Holding : Type 0 where
+  pub at : ℕ
+  pub held : List ℕ
+
+abbrev pub held_none : Holding
+held_none = record { at = 0; held = [] }
+
+-- how many bytes came in all
+abbrev pub came : Holding → ℕ
+came h = h.at + length h.held
+
+-- with a piece at the end
+abbrev pub held_more : Holding → List ℕ → Holding
+held_more h piece = record { at = h.at; held = h.held ++ piece }
+
+-- the place behind the frame of the reply that stands first
+abbrev pub IsBehind : ℕ → Holding → Type 0
+IsBehind behind h = (reply : Reply) × Begins reply h.held × (behind ≡ h.at + length (reply_frame reply))
+
+-- a reply stands first; or less than a frame does; or what is refused
+abbrev pub StandsSo : Stands → List ℕ → Type 0
+StandsSo stands.Reply held = (reply : Reply) × Begins reply held
+StandsSo stands.NotYet held = IsNotYet is_reply_kind held
+StandsSo stands.Bad held = IsRefused is_reply_kind SpellsReply held
+StandsSo stands.OutOfMemory held = Unit {0}

@@ -1,0 +1,3 @@
+pub mod Drives
+pub mod Ends
+pub mod Holding
