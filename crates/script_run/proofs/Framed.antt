@@ -21,6 +21,7 @@ use Rattle.run_words.proofs.Going.{same_state}
 use Rattle.script_run.specs.declared.lines.Sent.TheVariants as sent
 use Rattle.script_run.specs.Frames.{PutsBytes}
 use Rattle.script_run.specs.Lines.{Sends}
+use Rattle.script_run.proofs.Queued.{queued}
 
 -- one more frame
 next_frame : (replies : List Reply) (i : ℕ) (reply d : Reply) → i < length replies → reply ≡ get_or replies i d
@@ -62,12 +63,12 @@ module _ (request : Request) (replies : List Reply) (old : Wire) (log : Option (
   one_served =
       told_map (λ x y. serve x request ≡ record { replies = replies; after = y }) (Serves (Asked request replies ∷ [])) (λ x y e. (y, e, refl)) old.state state served
 
-  pub asked_whole : Adds (request_frame request ++ flat_map reply_frame replies) old.tap tap → (waiting : List Reply) → waiting ≡ old.waiting ++ replies
+  pub asked_whole : Adds (request_frame request ++ flat_map reply_frame replies) old.tap tap → (waiting : List Reply) → old.stream ≡ None → waiting ≡ old.waiting ++ replies
       → Sends sent.Whole request old (record old { names = names; tap = tap; log = log; state = state; waiting = waiting; faults = faults })
-  asked_whole h waiting w = (
+  asked_whole h waiting q w = (
     replies,
     record { names = same; tap = subst (λ w. Adds w old.tap tap) (sym (append-nil (request_frame request ++ flat_map reply_frame replies))) h; log = logged; state = one_served; count = count },
-    record { waiting = w; taken = omega arith },
+    record { comes = queued (Asked request replies ∷ []) old.stream old.waiting waiting q w; taken = omega arith },
   )
 
   pub asked_part : AddsFront (request_frame request ++ flat_map reply_frame replies) old.tap tap → (waiting : List Reply)

@@ -13,7 +13,7 @@ use Rattle.conversation.specs.Talk.{Talk, Ends}
 use Rattle.conversation.specs.declared.sessions.Session.{Session}
 use Rattle.plain_meaning.specs.Steps.{talk}
 use Rattle.run_words.specs.Shares.{Outside, Puts, HasPut}
-use Rattle.run_words.specs.Ways.{Goes, Breaks, Fails, Leads}
+use Rattle.run_words.specs.Ways.{Goes, Lacks, Breaks, Fails, Leads}
 use Rattle.run_words.specs.declared.stops.Stop.{Stop}
 use Rattle.run_words.specs.declared.stops.Stop.TheVariants as stop
 use Rattle.run_words.proofs.Going.{stay, breaks_between}
@@ -44,8 +44,16 @@ breaks_same t old new b =
     let q = put_same _ b.last b.mid new b.put in
     record { out = q.out ∙ p.out; entropy = q.entropy ∙ p.entropy; vault = q.vault ∙ p.vault; wire = q.wire ∙ p.wire }
 
+lacks_same : (t : Talk) (old new : Outside) → Lacks t old new → AreSame old new
+lacks_same t old new l =
+    let p = goes_same t l.between old l.mid l.goes in
+    let q = put_same _ _ l.mid new l.put in
+    record { out = q.out ∙ p.out; entropy = q.entropy ∙ p.entropy; vault = q.vault ∙ p.vault; wire = q.wire ∙ p.wire }
+
 fails_same : (s : Stop) (t : Talk) (old new : Outside) → Fails s t old new → AreSame old new
 fails_same (stop.BadReply place) t old new h = goes_same t h.rest old new h.goes
+fails_same stop.ReadFault t old new h = lacks_same t old new h.0
+fails_same stop.TooLong t old new h = lacks_same t old new h.0
 fails_same stop.EntropyFault t old new h = goes_same t h.0.rest old new h.0.goes
 fails_same stop.VaultFault t old new h = goes_same t h.0.rest old new h.0.goes
 fails_same stop.WriteFault t old new h = breaks_same t old new h.0

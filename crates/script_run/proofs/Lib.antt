@@ -1,10 +1,12 @@
 pub mod Awaited
 pub mod Framed
 pub mod Heeded
+pub mod Lacking
 pub mod Lent
 pub mod Passing
 pub mod Places
 pub mod Plainly
+pub mod Queued
 pub mod Tapping
 pub mod Turning
 pub mod Waiting

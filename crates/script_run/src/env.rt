@@ -10,14 +10,14 @@ ghost use Rattle.run_words.specs.declared.stops.Stop.TheVariants as stop_is;
 ghost use Rattle.script_run.specs.Frames.{PutsBytes};
 ghost use Rattle.run_words.specs.Shares.{Outside, Desk};
 ghost use Rattle.run_words.specs.Ways.{Leads};
-ghost use Rattle.script_run.specs.Breaking.{BreaksOff, shown_if};
+ghost use Rattle.script_run.specs.Breaking.{BreaksOff, is_shown, shown_if};
 ghost use Rattle.script_run.specs.Heard.{HeardAs, stop_at};
 ghost use Rattle.script_run.specs.Onward.{IsBegun, IsDescribed, IsRows, told_on};
 ghost use Rattle.script_run.specs.Desks.{desk};
 
 use crate::around::{Around, First, RowHeard};
 use crate::calls::{described_by, execute_in, replied_by};
-use crate::hearing::{first_of, is_reading, row_heard, stop_at, stop_of};
+use crate::hearing::{first_of, is_reading, is_shown, row_heard, stop_at, stop_of};
 use crate::lines::{Front, Lack, Line, Sent};
 use ae_base::sessions::SessionId;
 use ae_edge::entropies::Entropy;
@@ -223,19 +223,21 @@ impl<W: Sink, E: Entropy, V: Vault, L: Line> Around for Env<'_, W, E, V, L> {
 impl<W: Sink, E: Entropy, V: Vault, L: Line> Env<'_, W, E, V, L> {
     /// Puts what an answer came to before it broke off, and says why it did.
     fn break_off(&mut self, alloc: Global, lack: Lack, reads: bool, shown: &Listing) -> Stop
-        ensures { BreaksOff result (stop_at lack (L.wire self.old.line).taken) (shown_if reads shown.now)
-            (record { desk = desk (W.names self.old.out) (E.names self.old.entropy) (V.names self.old.vault) (W.held self.old.out) (E.to_come self.old.entropy) (V.keys self.old.vault) self.old.refused (W.faults self.old.out) (E.faults self.old.entropy) (V.faults self.old.vault); wire = L.wire self.old.line })
-            (record { desk = desk (W.names self.new.out) (E.names self.new.entropy) (V.names self.new.vault) (W.held self.new.out) (E.to_come self.new.entropy) (V.keys self.new.vault) self.new.refused (W.faults self.new.out) (E.faults self.new.entropy) (V.faults self.new.vault); wire = L.wire self.new.line }) }
+        ensures off { BreaksOff result (stop_at lack (L.wire self.old.line).taken) (shown_if (is_shown lack reads) shown.now)
+            (desk (W.names self.old.out) (E.names self.old.entropy) (V.names self.old.vault) (W.held self.old.out) (E.to_come self.old.entropy) (V.keys self.old.vault) self.old.refused (W.faults self.old.out) (E.faults self.old.entropy) (V.faults self.old.vault))
+            (desk (W.names self.new.out) (E.names self.new.entropy) (V.names self.new.vault) (W.held self.new.out) (E.to_come self.new.entropy) (V.keys self.new.vault) self.new.refused (W.faults self.new.out) (E.faults self.new.entropy) (V.faults self.new.vault)) }
+        ensures wire { L.wire self.new.line ≡ L.wire self.old.line }
     {
-        if !reads {
-            return stop_at(lack, self.line.place());
+        let why = stop_at(lack, self.line.place());
+        if !is_shown(lack, reads) {
+            return why;
         }
         let text = match listing_text(alloc, shown) {
             Ok(text) => text,
             Err(_) => return Stop::OutOfMemory,
         };
         match put_text(&mut self.out, text) {
-            PutAll::Whole => stop_at(lack, self.line.place()),
+            PutAll::Whole => why,
             PutAll::WriteFault => Stop::WriteFault,
             PutAll::OutOfMemory => Stop::OutOfMemory,
         }

@@ -6,6 +6,7 @@ ghost use Rattle.conversation.specs.declared.faults.Halt.{Halt};
 ghost use Rattle.conversation.specs.declared.sessions.Session.{Session};
 ghost use Rattle.conversation.specs.Sessions.{Tells};
 ghost use Rattle.conversation.specs.Talk.{heard_answer};
+ghost use Rattle.script_run.specs.Breaking.{is_shown};
 ghost use Rattle.script_run.specs.Heard.{IsOfFirst, FirstIs, HeardAs, is_reading, is_skipping, stop_at, stop_of};
 
 use crate::around::{First, RowHeard};
@@ -67,6 +68,16 @@ pub fn stop_at(lack: Lack, place: u64) -> Stop
         Lack::ReadFault => Stop::ReadFault,
         Lack::TooLong => Stop::TooLong,
         Lack::OutOfMemory => Stop::OutOfMemory,
+    }
+}
+
+/// Whether the rows that are read are shown where an answer breaks off.
+pub fn is_shown(lack: Lack, reads: bool) -> bool
+    ensures { result ≡ is_shown lack reads }
+{
+    match lack {
+        Lack::BadReply | Lack::ReadFault | Lack::TooLong => reads,
+        Lack::OutOfMemory => false,
     }
 }
 
