@@ -3,3 +3,4 @@ mod KeyPaths
 mod Progress
 mod Reading
 pub mod Told
+pub mod Whole
