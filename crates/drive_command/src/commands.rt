@@ -1,5 +1,13 @@
 //! The command `drive`: a script is read whole, and its steps are run against recorded replies.
 
+ghost use Rattle.std.specs.Prelude.{◌≡◌, ◌≤◌, ◌⊎◌, ℕ, List, IfSome, length};
+ghost use Rattle.ae_edge.specs.Devices.{Rose, WhereTold};
+ghost use Rattle.run_words.specs.declared.stops.Stop.TheVariants as stop;
+ghost use Rattle.script_run.specs.declared.runs.Ran.TheVariants as ran;
+ghost use Rattle.script_run.specs.declared.runs.Unread.TheVariants as unread;
+ghost use Rattle.script_run.specs.Ends.{IsRead, TakesScript, most_script_bytes};
+ghost use Rattle.drive_command.specs.Ends.{DrivesScript};
+
 use crate::drives::drive_over;
 use ae_base::blobs::Blob;
 use ae_edge::entropies::Entropy;
@@ -21,6 +29,11 @@ fn drive_bytes<V: Vault, E: Entropy, L: Source, W: Sink, T: Sink>(
     out: &mut W,
     tap: &mut T,
 ) -> Ran
+    requires within { length script.now ≤ most_script_bytes }
+    ensures content { DrivesScript result script.now
+        (record { out = W.held out.old; tap = T.held tap.old; entropy = E.to_come entropy.old; keys = V.keys vault.old; replies = L.left replies.old; out_faults = W.faults out.old; tap_faults = T.faults tap.old; entropy_faults = E.faults entropy.old; vault_faults = V.faults vault.old; reply_faults = L.faults replies.old })
+        (record { out = W.held out.new; tap = T.held tap.new; entropy = E.to_come entropy.new; keys = V.keys vault.new; replies = L.left replies.new; out_faults = W.faults out.new; tap_faults = T.faults tap.new; entropy_faults = E.faults entropy.new; vault_faults = V.faults vault.new; reply_faults = L.faults replies.new }) }
+    ensures read { IsRead result }
 {
     match read_script(alloc, script.as_slice()) {
         Ok(steps) => drive_over(alloc, steps.as_slice(), vault, entropy, replies, out, tap),
@@ -46,6 +59,19 @@ pub fn drive<S: Source, V: Vault, E: Entropy, L: Source, W: Sink, T: Sink>(
     out: &mut W,
     tap: &mut T,
 ) -> Ran
+    // There are bytes, the script's where it tells them, of which this is what driving comes to: how far its conversation was followed,
+    // what each device has of it, how the replies were read, and why no further.
+    ensures content { (bytes : List ℕ) × IfSome (S.left script.old) (λ left. bytes ≡ left) × DrivesScript result bytes
+        (record { out = W.held out.old; tap = T.held tap.old; entropy = E.to_come entropy.old; keys = V.keys vault.old; replies = L.left replies.old; out_faults = W.faults out.old; tap_faults = T.faults tap.old; entropy_faults = E.faults entropy.old; vault_faults = V.faults vault.old; reply_faults = L.faults replies.old })
+        (record { out = W.held out.new; tap = T.held tap.new; entropy = E.to_come entropy.new; keys = V.keys vault.new; replies = L.left replies.new; out_faults = W.faults out.new; tap_faults = T.faults tap.new; entropy_faults = E.faults entropy.new; vault_faults = V.faults vault.new; reply_faults = L.faults replies.new }) }
+    // What was taken of the script, by how it ended.
+    ensures taken { WhereTold (TakesScript result) (S.left script.old) (S.left script.new) }
+    // The faults of the outside come only where a count rose.
+    ensures read { result ≡ ran.Unread unread.ReadFault → Rose (S.faults script.old) (S.faults script.new) }
+    ensures read_replies { result ≡ ran.Stopped stop.ReadFault → Rose (L.faults replies.old) (L.faults replies.new) }
+    ensures write { result ≡ ran.Stopped stop.WriteFault → Rose (W.faults out.old) (W.faults out.new) ⊎ Rose (T.faults tap.old) (T.faults tap.new) }
+    ensures entropy { result ≡ ran.Stopped stop.EntropyFault → Rose (E.faults entropy.old) (E.faults entropy.new) }
+    ensures vault { result ≡ ran.Stopped stop.VaultFault → Rose (V.faults vault.old) (V.faults vault.new) }
 {
     match read_all(script, alloc, MOST_SCRIPT_BYTES) {
         ReadAll::Whole(bytes) => drive_bytes(alloc, &bytes, vault, entropy, replies, out, tap),

@@ -29,6 +29,21 @@ fn drive_lent<W: Sink, T: Sink, E: Entropy, V: Vault, L: Source>(
     sessions: &mut Vec<Session>,
     steps: &[Step],
 ) -> Result<(), Stop>
+    requires count { length sessions.old.items ≡ 64 }
+    requires of_vault { IsOf (V.keys env.old.vault.now) (env.old.store.now) }
+    ensures same_out { env.new.out.ghost_name ≡ env.old.out.ghost_name }
+    ensures same_entropy { env.new.entropy.ghost_name ≡ env.old.entropy.ghost_name }
+    ensures same_vault { env.new.vault.ghost_name ≡ env.old.vault.ghost_name }
+    ensures same_tap { env.new.line.tap.ghost_name ≡ env.old.line.tap.ghost_name }
+    ensures same_replies { env.new.line.source.ghost_name ≡ env.old.line.source.ghost_name }
+    ensures read { IfOk result (λ _. (env.new.line.holding.now.held ≡ []) × IfSome (L.left env.new.line.source.now) (λ left. left ≡ [])) }
+    ensures leads { Leads result (talk steps.now sessions.old.items) (λ _. Ends sessions.new.items)
+        (outside (env.old.out.ghost_name ∷ []) (env.old.entropy.ghost_name ∷ []) (env.old.vault.ghost_name ∷ []) ((env.old.line.tap.ghost_name ∷ []) ∷ (env.old.line.source.ghost_name ∷ []) ∷ [])
+        env.old.refused env.old.line.holding.now.held env.old.line.holding.now.at
+        (record { out = W.held env.old.out.now; tap = T.held env.old.line.tap.now; entropy = E.to_come env.old.entropy.now; keys = V.keys env.old.vault.now; replies = L.left env.old.line.source.now; out_faults = W.faults env.old.out.now; tap_faults = T.faults env.old.line.tap.now; entropy_faults = E.faults env.old.entropy.now; vault_faults = V.faults env.old.vault.now; reply_faults = L.faults env.old.line.source.now }))
+        (outside (env.new.out.ghost_name ∷ []) (env.new.entropy.ghost_name ∷ []) (env.new.vault.ghost_name ∷ []) ((env.new.line.tap.ghost_name ∷ []) ∷ (env.new.line.source.ghost_name ∷ []) ∷ [])
+        env.new.refused env.new.line.holding.now.held env.new.line.holding.now.at
+        (record { out = W.held env.new.out.now; tap = T.held env.new.line.tap.now; entropy = E.to_come env.new.entropy.now; keys = V.keys env.new.vault.now; replies = L.left env.new.line.source.now; out_faults = W.faults env.new.out.now; tap_faults = T.faults env.new.line.tap.now; entropy_faults = E.faults env.new.entropy.now; vault_faults = V.faults env.new.vault.now; reply_faults = L.faults env.new.line.source.now })) }
 {
     run_all(alloc, env, sessions, steps)
 }
@@ -44,6 +59,9 @@ pub fn drive_over<W: Sink, T: Sink, E: Entropy, V: Vault, L: Source>(
     out: &mut W,
     tap: &mut T,
 ) -> Ran
+    ensures { DrivesTo result steps.now
+        (record { out = W.held out.old; tap = T.held tap.old; entropy = E.to_come entropy.old; keys = V.keys vault.old; replies = L.left replies.old; out_faults = W.faults out.old; tap_faults = T.faults tap.old; entropy_faults = E.faults entropy.old; vault_faults = V.faults vault.old; reply_faults = L.faults replies.old })
+        (record { out = W.held out.new; tap = T.held tap.new; entropy = E.to_come entropy.new; keys = V.keys vault.new; replies = L.left replies.new; out_faults = W.faults out.new; tap_faults = T.faults tap.new; entropy_faults = E.faults entropy.new; vault_faults = V.faults vault.new; reply_faults = L.faults replies.new }) }
 {
     let mut sessions = match nobody(alloc) {
         Ok(sessions) => sessions,

@@ -71,14 +71,22 @@ impl Holding {
         MOST_REPLY_BYTES.saturating_sub(self.came)
     }
 
-    /// Takes the next piece. For want of memory nothing changes.
+    /// Takes the next piece. There is no memory for more than one byte past the limit. For want of
+    /// memory nothing changes.
     pub fn push(&mut self, piece: &[u8]) -> Result<(), AllocError>
-        requires within { came self.old + length piece.now ≤ most_reply_bytes + 1 }
-        ensures { OnOk result (self.new ≡ held_more self.old piece.now) }
+        ensures pushed { OnOk result (self.new ≡ held_more self.old piece.now) }
+        ensures within { OnOk result (came self.new ≤ most_reply_bytes + 1) }
     {
-        self.feed.feed(piece)?;
-        self.came += piece.len() as u64;
-        Ok(())
+        if piece.len() as u64 > MOST_REPLY_BYTES + 1 - self.came {
+            return Err(AllocError);
+        }
+        match self.feed.feed(piece) {
+            Ok(()) => {
+                self.came += piece.len() as u64;
+                Ok(())
+            }
+            Err(error) => Err(error),
+        }
     }
 
     /// Whether nothing is held.

@@ -164,8 +164,37 @@ or_none false false = refl
 twice_nil : (xs : List ℕ) → (xs ++ []) ++ [] ≡ xs
 twice_nil xs = append-nil (xs ++ []) ∙ append-nil xs
 
-wire_printed : (comes : Outcome) (w : Wire) → WirePut Adds (Printed comes ∷ []) w w
+pub wire_printed : (comes : Outcome) (w : Wire) → WirePut Adds (Printed comes ∷ []) w w
 wire_printed comes w = record { names = refl; tap = adds_none w.tap; log = adds_none w.log; state = told_same (Serves (Printed comes ∷ [])) (λ x. refl) w.state; count = omega arith }
+
+module _ (comes : Outcome) (d : Desk) (out : Option (List ℕ)) (faults : ℕ) (names : List GName) (same : names ≡ d.out_names) (count : d.out_faults ≤ faults) where
+  pub desk_printed : Adds (printed_outcome comes) d.out out → (refused : Bool) → DeskPut Adds (Printed comes ∷ []) d (record d { out_names = names; out = out; refused = refused; out_faults = faults })
+  desk_printed h refused = record {
+    out_same = same;
+    entropy_same = refl;
+    vault_same = refl;
+    out = subst (λ w. Adds w d.out out) (sym (twice_nil (printed_outcome comes))) h;
+    entropy = removes_none d.entropy;
+    keys = refl;
+    opened = keys_printed comes d.keys;
+    out_count = count;
+    entropy_count = omega arith;
+    vault_count = omega arith;
+  }
+
+  pub desk_cut : AddsFront (printed_outcome comes) d.out out → DeskPut AddsFront (Printed comes ∷ []) d (record d { out_names = names; out = out; out_faults = faults })
+  desk_cut h = record {
+    out_same = same;
+    entropy_same = refl;
+    vault_same = refl;
+    out = subst (λ w. AddsFront w d.out out) (sym (twice_nil (printed_outcome comes))) h;
+    entropy = removes_none d.entropy;
+    keys = refl;
+    opened = keys_printed comes d.keys;
+    out_count = count;
+    entropy_count = omega arith;
+    vault_count = omega arith;
+  }
 
 pub printed_read : (comes : Outcome) (w : Wire) → WireRead (Printed comes ∷ []) w w
 printed_read comes w = record { comes = comes_still (Printed comes ∷ []) refl (λ x. refl) (λ x. refl) w.stream w.waiting; taken = omega arith }
@@ -178,18 +207,7 @@ module _ (comes : Outcome) (t u : Talk) (follows : Follows t (Printed comes ∷ 
     events = Printed comes ∷ [];
     follows = follows;
     put = record {
-      desk = record {
-        out_same = same;
-        entropy_same = refl;
-        vault_same = refl;
-        out = subst (λ w. Adds w old.desk.out out) (sym (twice_nil (printed_outcome comes))) h;
-        entropy = removes_none old.desk.entropy;
-        keys = refl;
-        opened = keys_printed comes old.desk.keys;
-        out_count = count;
-        entropy_count = omega arith;
-        vault_count = omega arith;
-      };
+      desk = desk_printed comes old.desk out faults names same count h refused;
       wire = wire_printed comes old.wire;
     };
     read = record { refused = r ∙ sym (or_none old.desk.refused (is_refusal comes)); wire = printed_read comes old.wire };
@@ -206,18 +224,7 @@ module _ (comes : Outcome) (t u : Talk) (follows : Follows t (Printed comes ∷ 
     one = omega arith;
     follows = inl follows;
     put = record {
-      desk = record {
-        out_same = same;
-        entropy_same = refl;
-        vault_same = refl;
-        out = subst (λ w. AddsFront w old.desk.out out) (sym (twice_nil (printed_outcome comes))) h;
-        entropy = removes_none old.desk.entropy;
-        keys = refl;
-        opened = keys_printed comes old.desk.keys;
-        out_count = count;
-        entropy_count = omega arith;
-        vault_count = omega arith;
-      };
+      desk = desk_cut comes old.desk out faults names same count h;
       wire = wire_front (Printed comes ∷ []) old.wire old.wire (wire_printed comes old.wire);
     };
   }

@@ -1,5 +1,5 @@
 -- Frames on the tap, one after another; and a request that is asked, whole or in part.
-use Rattle.std.proofs.Common.{◌≡◌, ℕ, ◌+◌, ◌≤◌, ◌<◌, List, [], ◌∷◌, ◌++◌, Option, length, get_or, take, drop, refl, sym, ◌∙◌, ap, subst, append-nil, arith, inl, inr}
+use Rattle.std.proofs.Common.{◌≡◌, ℕ, ◌+◌, ◌≤◌, ◌<◌, List, [], ◌∷◌, ◌++◌, Option, None, length, get_or, take, drop, refl, sym, ◌∙◌, ap, subst, append-nil, arith, inl, inr}
 use Rattle.std.proofs.lemmas.List.{flat_map_more, take_more, take-append-drop, take_all}
 use Rattle.std.specs.Prelude.{flat_map}
 use Rattle.std.specs.Borrow.{GName}

@@ -308,7 +308,7 @@ rows_left session w shown more r a after before now says (Err s) e = tt
 
 -- more bytes were taken
 frame_some : (r : Reply) → 0 < length (reply_frame r)
-frame_some r = ?
+frame_some r = omega arith
 
 pub more_taken : (r : Reply) (old new : Wire) → TakesOne r old new → old.taken < new.taken
 more_taken r old new h =

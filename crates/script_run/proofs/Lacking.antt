@@ -1,5 +1,6 @@
 -- No reply comes that is awaited, or something is left at the end.
-use Rattle.std.proofs.Common.{◌≡◌, ℕ, ◌≤◌, List, [], ◌∷◌, Option, Some, None, Ok, Err, Bool, true, false, length, refl, sym, ◌∙◌, ap, subst, arith, ◌⊎◌, inl, inr}
+use Rattle.std.proofs.Common.{◌≡◌, ℕ, ◌≤◌, List, [], ◌∷◌, Option, Some, None, Ok, Err, Bool, true, false, length, refl, sym, ◌∙◌, ap, subst, append-nil, arith, ◌⊎◌, inl, inr}
+use Rattle.std.specs.Borrow.{GName}
 use Rattle.ae_edge.specs.Devices.{Adds, AddsFront, Rose}
 use Rattle.wire_messages.specs.declared.replies.Reply.{Reply}
 use Rattle.conversation.specs.declared.outcomes.Listing.{Listing}
@@ -11,18 +12,18 @@ use Rattle.conversation.specs.Paths.{Printed, Follows, stays, prints_last, IsStr
 use Rattle.conversation.specs.Talk.{Talk, Ends, Stops, Hears, Heard, broken}
 use Rattle.run_words.specs.Printing.{printed_listing}
 use Rattle.run_words.specs.Shares.{Desk, Stream, Wire, Outside, DeskPut, WirePut, WireRead, HasPut, HasRead}
-use Rattle.run_words.specs.Ways.{Goes, Lacks, Breaks, Fails, CantBeRead, IsTooLong, IsStreamed, IsStuck, IsStuckOn, IsLeft, IsLeftOn, IsNextOn, printed_off}
+use Rattle.run_words.specs.Ways.{Goes, Lacks, Breaks, Fails, CantBeRead, IsTooLong, IsStreamed, IsStuck, IsStuckOn, IsFirst, IsLeft, IsLeftOn, IsNextOn, printed_off}
 use Rattle.run_words.specs.declared.stops.Stop.{Stop}
 use Rattle.run_words.specs.declared.stops.Stop.TheVariants as stop
-use Rattle.run_words.proofs.Going.{stay, or_false, desk_still, desk_front, wire_still, wire_front, wire_unread, nothing_put, nothing_read, goes_then}
-use Rattle.run_words.proofs.Calls.{printed_goes, printed_breaks, wire_printed, printed_read, strayed_goes}
+use Rattle.run_words.proofs.Going.{stay, or_false, desk_still, desk_front, wire_still, wire_front, wire_unread, nothing_put, nothing_read, goes_then, fails_then}
+use Rattle.run_words.proofs.Calls.{desk_printed, desk_cut, wire_printed, printed_read, strayed_goes}
 use Rattle.script_run.specs.declared.lines.Lack.{Lack}
 use Rattle.script_run.specs.declared.lines.Lack.TheVariants as lack
 use Rattle.script_run.specs.Breaking.{shown_if, is_shown, off_by, PutsOff, CutsOff, BreaksOff}
 use Rattle.script_run.specs.Heard.{stop_at, is_reading}
 use Rattle.script_run.specs.Lines.{Rests, Fetches, Finishes}
 use Rattle.script_run.specs.Onward.{IsRows}
-use Rattle.script_run.proofs.Heeded.{rests_goes, stuck_stop}
+use Rattle.script_run.proofs.Heeded.{rests_goes, stuck_stop, missed, first_next}
 
 -- ---- what an answer came to before it broke off
 
@@ -166,6 +167,12 @@ fetch_misses session shown f x w why result place b p e h =
     (fetch_fails session shown f x w x.desk (stop_at why w.taken) why h
     (subst (λ c. BreaksOff (stop_at why w.taken) (stop_at why w.taken) c x.desk x.desk) (sym (off_none why (broken session shown) b)) (nothing_off (stop_at why w.taken) x.desk)))
 
+pub stray_misses : (session : Session) (shown : Listing) (f : Heard → Talk) (r : Reply) (x : Outside) (w : Wire) (place : ℕ) → broken session shown ≡ None → IsStray session shown (Some r)
+    → Rests x.wire w → IsFirst r w → place ≡ w.taken → Fails (stop.BadReply place) (Hears session shown f) x (record x { wire = w })
+stray_misses session shown f r x w place b s h i p =
+    fails_then (stop.BadReply place) (Hears session shown f) (Hears session shown f) x (record x { wire = w }) (record x { wire = w }) (rests_goes (Hears session shown f) x w h)
+    (missed session shown f (Some r) (record x { wire = w }) place b s (first_next r w i) p)
+
 -- ---- what is shown where rows are read
 
 pub broken_is : (session : Session) (shown : Listing) → IsRows session → broken session shown ≡ shown_if (is_reading session) shown
@@ -182,9 +189,34 @@ off_is lack.ReadFault session shown reads r e = ap (λ b. shown_if b shown) e �
 off_is lack.TooLong session shown reads r e = ap (λ b. shown_if b shown) e ∙ sym (broken_is session shown r)
 off_is lack.OutOfMemory session shown reads r e = refl
 
+pub why_is : (why : Lack) (place taken : ℕ) (result : Stop) → result ≡ stop_at why place → place ≡ taken → result ≡ stop_at why taken
+why_is why place taken result e p = e ∙ ap (stop_at why) p
+
 -- nothing is put
-pub none_off : (is : Bool) (shown : Listing) (why : Stop) (desk : Desk) → is ≡ false → BreaksOff why why (shown_if is shown) desk desk
-none_off is shown why desk e = subst (λ b. BreaksOff why why (shown_if b shown) desk desk) (sym e) (nothing_off why desk)
+pub none_off : (is : Bool) (shown : Listing) (result why : Stop) (desk : Desk) → result ≡ why → is ≡ false → BreaksOff result why (shown_if is shown) desk desk
+none_off is shown result why desk e i = rw (i, e) (nothing_off why desk)
+
+-- it is put, or a front of it
+module _ (is : Bool) (shown : Listing) (why : Stop) (x : Outside) (i : is ≡ true) (out : Option (List ℕ)) (faults : ℕ) (names : List GName) (same : names ≡ x.desk.out_names) (count : x.desk.out_faults ≤ faults) where
+  abbrev Put : Desk
+  Put = record x.desk { out_names = names; out = out; out_faults = faults }
+
+  pub all_off : (result : Stop) → result ≡ why → Adds (printed_listing shown) x.desk.out out → BreaksOff result why (shown_if is shown) x.desk Put
+  all_off result e h =
+      subst (λ b. BreaksOff result why (shown_if b shown) x.desk Put) (sym i)
+      (inl
+      (e,
+      desk_printed (outcome.Broken shown None) x.desk out faults names same count (subst (λ w. Adds w x.desk.out out) (sym (append-nil (printed_listing shown))) h) x.desk.refused,
+      or_false x.desk.refused))
+
+  part : AddsFront (printed_listing shown) x.desk.out out → DeskPut AddsFront (printed_off (Some (outcome.Broken shown None))) x.desk Put
+  part h = desk_cut (outcome.Broken shown None) x.desk out faults names same count (subst (λ w. AddsFront w x.desk.out out) (sym (append-nil (printed_listing shown))) h)
+
+  pub fault_off : AddsFront (printed_listing shown) x.desk.out out → Rose x.desk.out_faults faults → BreaksOff stop.WriteFault why (shown_if is shown) x.desk Put
+  fault_off h r = subst (λ b. BreaksOff stop.WriteFault why (shown_if b shown) x.desk Put) (sym i) (inr (inl (refl, r), part h))
+
+  pub memory_off : AddsFront (printed_listing shown) x.desk.out out → BreaksOff stop.OutOfMemory why (shown_if is shown) x.desk Put
+  memory_off h = subst (λ b. BreaksOff stop.OutOfMemory why (shown_if b shown) x.desk Put) (sym i) (inr (inr refl, part h))
 
 -- ---- at the end
 

@@ -1,4 +1,5 @@
 pub mod Awaited
+pub mod Fetched
 pub mod Framed
 pub mod Heeded
 pub mod Lacking

@@ -22,7 +22,7 @@ use Rattle.plain_meaning.specs.Laws.{EndsWith, Agrees, ServedIsPlain}
 use Rattle.plain_meaning.specs.Steps.{talk}
 use Rattle.run_words.specs.Printing.{printed_outcome, print, has_refusal}
 use Rattle.run_words.specs.Shares.{Outside, Serves, text_of}
-use Rattle.run_words.specs.Ways.{Goes, Halts, Breaks, Fails, IsStuck, IsStuckOn}
+use Rattle.run_words.specs.Ways.{Goes, Halts, Breaks, Fails, IsStuck}
 use Rattle.run_words.specs.declared.stops.Stop.{Stop}
 use Rattle.run_words.specs.declared.stops.Stop.TheVariants as stop
 use Rattle.script_run.specs.declared.runs.Ran.{Ran}
@@ -31,7 +31,7 @@ use Rattle.script_run.specs.declared.runs.Unread.TheVariants as unread
 use Rattle.script_run.specs.Ends.{Lent, outside, CameTo, RunsTo, IsScript, RunsSteps, RunsScript}
 use Rattle.script_run.specs.Plain.{meaning, PrintsPlain, IsDoneOrFault}
 use Rattle.script_run.proofs.Passing.{ahead, path_passes}
-use Rattle.script_run.proofs.Queued.{waits_of, none_after, lacks_after, follows_of, never_unread, never_long}
+use Rattle.script_run.proofs.Queued.{waits_of, lacks_after, stuck_queue, breaks_follow, never_unread, never_long}
 
 -- a conversation over a peer that serves from the empty state, with keys that are told
 pub record Starts (map : KeyMap) (old : Outside) : Type 0 where
@@ -92,7 +92,7 @@ module _ (keys : KeyMap) (steps : List Step) (wanted : List Outcome) (agrees : (
     reached : Reached u g.events new.wire.waiting
     reached =
         let v = served g.events old.wire.state new.wire.state empty_state st.state g.put.wire.state in
-        let q : Waits g.events [] new.wire.waiting = subst (λ q. Waits g.events q new.wire.waiting) st.waiting (waits_of g.events _ _ _ _ st.queue g.read.wire.comes) in
+        let q : Waits g.events [] new.wire.waiting = subst (λ q. Waits g.events q new.wire.waiting) st.waiting (waits_of g.events old.wire.stream new.wire.stream old.wire.waiting new.wire.waiting st.queue g.read.wire.comes) in
         let o : OpensAll g.events keys = subst (λ x. IfSome x (OpensAll g.events)) st.keys g.put.desk.opened in
         record {
           state = v.0;
@@ -172,11 +172,10 @@ module _ (keys : KeyMap) (steps : List Step) (wanted : List Outcome) (agrees : (
     halts_prints P h = goes_prints h.rest old new st h.goes
 
     pub breaks_prints : Breaks (talk steps nobody) old new → AddsFront (print wanted) old.desk.out new.desk.out
-    breaks_prints b = cut_prints b.between old b.mid st b.goes b.rest b.last new b.one (follows_of _ _ _ _ (none_after _ _ _ _ _ st.queue b.goes.read.wire.comes) b.follows) b.put.desk.out
+    breaks_prints b = cut_prints b.between old b.mid st b.goes b.rest b.last new b.one (breaks_follow (talk steps nobody) old new st.queue b) b.put.desk.out
 
     pub no_stray : (place : ℕ) → Fails (stop.BadReply place) (talk steps nobody) old new → ⊥
-    no_stray place h =
-        never_stuck h.rest old new st h.goes (subst (λ s. IsStuckOn h.rest s new.wire.waiting) (none_after _ _ _ _ _ st.queue h.goes.read.wire.comes) h.place.0)
+    no_stray place h = never_stuck h.rest old new st h.goes (stuck_queue (talk steps nobody) h.rest old new st.queue h.goes h.place.0)
 
 -- ---- a run of a script
 
@@ -199,7 +198,7 @@ module _ (law : ServedIsPlain) (keys : KeyMap) (steps : List Step) (limits : All
   stops_at : (s : Stop) (x y : Outside) → Starts keys x → Fails s (talk steps nobody) x y → x.desk.out ≡ old.out → y.desk.out ≡ new.out → PrintsPlain (ran.Stopped s) keys steps old.out new.out
   stops_at (stop.BadReply place) x y st h e f = no_stray keys steps (meaning keys steps) agrees_so x y st place h
   stops_at stop.ReadFault x y st h e f = never_unread _ _ st.queue h.1
-  stops_at stop.TooLong x y st h e f = never_long _ _ (lacks_after _ x y st.queue h.0) h.1
+  stops_at stop.TooLong x y st h e f = never_long _ _ (lacks_after (talk steps nobody) x y st.queue h.0) h.1
   stops_at stop.EntropyFault x y st h e f = rw (← e, ← f) (halts_prints keys steps (meaning keys steps) agrees_so x y st _ h.0)
   stops_at stop.VaultFault x y st h e f = rw (← e, ← f) (halts_prints keys steps (meaning keys steps) agrees_so x y st _ h.0)
   stops_at stop.WriteFault x y st h e f = rw (← e, ← f) (breaks_prints keys steps (meaning keys steps) agrees_so x y st h.0)

@@ -1,18 +1,35 @@
 -- The replies that wait: one is taken, from the front.
-use Rattle.std.proofs.Common.{◌≡◌, ℕ, ◌+◌, ◌<◌, List, [], ◌∷◌, ◌++◌, Option, Some, None, length, drop, refl, sym, ◌∙◌, ap, subst, append-nil, arith}
-use Rattle.std.specs.Prelude.{◌↔◌, IsSome, slice_index_or, option_to_list, flat_map}
+use Rattle.std.proofs.Common.{◌≡◌, ℕ, ◌+◌, ◌<◌, List, [], ◌∷◌, ◌++◌, Option, Some, None, Bool, true, false, length, suc, drop, refl, sym, ◌∙◌, ap, subst, append-nil, arith}
+use Rattle.std.specs.Prelude.{◌==◌, ◌↔◌, IsSome, slice_index_or, option_to_list, flat_map}
 use Rattle.std.proofs.lemmas.Bool.{false≢true}
 use Rattle.ae_edge.proofs.Told.{told_same, adds_none}
 use Rattle.wire_messages.specs.declared.replies.Reply.{Reply}
 use Rattle.wire_spelling.specs.Spelling.{reply_frame}
-use Rattle.conversation.specs.Paths.{Took}
+use Rattle.conversation.specs.Paths.{Took, next_of}
 use Rattle.run_words.specs.Shares.{Stream, Wire, Serves}
 use Rattle.run_words.specs.Ways.{IsFirstOf, IsFirst, IsLeft, TakesOne}
 use Rattle.script_run.proofs.Queued.{queued}
 
-pub front_none : (items : List Reply) (got : Option Reply) → got ≡ None → (n : ℕ) → n ≡ length items → (IsSome got ↔ (0 < n)) → items ≡ []
-front_none [] got e n l h = refl
-front_none (reply ∷ items) got e n l h = absurd (false≢true (subst IsSome e (h.1 (omega arith))))
+zero_not : (n m : ℕ) → n ≡ suc m → (n == 0) ≡ true → ⊥
+zero_not n m l e = grind (arith, l, e)
+
+zero_is : (n : ℕ) → n ≡ 0 → (n == 0) ≡ false → ⊥
+zero_is n l e = grind (arith, l, e)
+
+pub none_left : (items : List Reply) (n : ℕ) → n ≡ length items → (n == 0) ≡ true → items ≡ []
+none_left [] n l e = refl
+none_left (reply ∷ items) n l e = absurd (zero_not n (length items) l e)
+
+pub none_waits : (items : List Reply) (n : ℕ) → n ≡ length items → (n == 0) ≡ true → next_of items ≡ None
+none_waits items n l e = ap next_of (none_left items n l e)
+
+pub one_waits : (items : List Reply) (n : ℕ) → n ≡ length items → (n == 0) ≡ false → (reply : Reply) × ((rest : List Reply) × (items ≡ reply ∷ rest))
+one_waits [] n l e = absurd (zero_is n l e)
+one_waits (reply ∷ items) n l e = (reply, (items, refl))
+
+pub one_left : (items : List Reply) (n : ℕ) → n ≡ length items → (n == 0) ≡ false → IsLeft items
+one_left [] n l e = absurd (zero_is n l e)
+one_left (reply ∷ items) n l e = tt
 
 pub front_some : (items : List Reply) (reply : Reply) → 0 < length items → reply ≡ slice_index_or items 0 reply → (rest : List Reply) × (items ≡ reply ∷ rest)
 front_some [] reply h e = absurd (omega arith)

@@ -59,8 +59,9 @@ fn hear_described<L: Line>(
     ensures leads { (f : Heard → Talk) (desk : Desk) → Leads result (Hears session.old nothing_shown f) (told_on f session.new) (record { desk = desk; wire = L.wire line.old }) (record { desk = desk; wire = L.wire line.new }) }
     ensures described { IfOk result (λ answer. IsDescribed answer session.new) }
 {
-    if let Err(lack) = line.fetch(alloc) {
-        return Err(stop_at(lack, line.place()));
+    match line.fetch(alloc) {
+        Ok(()) => {}
+        Err(lack) => return Err(stop_at(lack, line.place())),
     }
     let Front { reply, behind } = match line.front(alloc) {
         Some(front) => front,
@@ -175,8 +176,9 @@ impl<W: Sink, E: Entropy, V: Vault, L: Line> Around for Env<'_, W, E, V, L> {
     }
 
     fn hear_answer(&mut self, alloc: Global, session: &mut Session) -> Result<First, Stop> {
-        if let Err(lack) = self.line.fetch(alloc) {
-            return Err(stop_at(lack, self.line.place()));
+        match self.line.fetch(alloc) {
+            Ok(()) => {}
+            Err(lack) => return Err(stop_at(lack, self.line.place())),
         }
         let Front { reply, behind } = match self.line.front(alloc) {
             Some(front) => front,
@@ -202,8 +204,9 @@ impl<W: Sink, E: Entropy, V: Vault, L: Line> Around for Env<'_, W, E, V, L> {
         shown: &mut Listing,
     ) -> Result<RowHeard, Stop> {
         let reads = is_reading(session);
-        if let Err(lack) = self.line.fetch(alloc) {
-            return Err(self.break_off(alloc, lack, reads, shown));
+        match self.line.fetch(alloc) {
+            Ok(()) => {}
+            Err(lack) => return Err(self.break_off(alloc, lack, reads, shown)),
         }
         let Front { reply, behind } = match self.line.front(alloc) {
             Some(front) => front,

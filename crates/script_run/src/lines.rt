@@ -1,6 +1,6 @@
 //! The other side of the wire.
 
-ghost use Rattle.std.specs.Prelude.{◌≡◌, ◌+◌, ℕ, IfOk, IfSome, length};
+ghost use Rattle.std.specs.Prelude.{◌≡◌, ◌<◌, ◌^◌, ◌+◌, IfOk, IfSome, length};
 ghost use Rattle.wire_messages.specs.declared.replies.Reply.{Reply};
 ghost use Rattle.wire_spelling.specs.Spelling.{reply_frame};
 ghost use Rattle.run_words.specs.Shares.{Wire};
@@ -64,7 +64,7 @@ pub trait Line {
     /// The reply that stands first, where there is memory to read it.
     fn front(&self, alloc: Global) -> Option<Front<'_>>
         requires { (reply : Reply) × IsFirst reply (wire self.now) }
-        ensures { IfSome result (λ front. IsFirst (reply_of front.reply) (wire self.now) × (front.behind ≡ (wire self.now).taken + length (reply_frame (reply_of front.reply)))) };
+        ensures { IfSome result (λ front. IsFirst (reply_of front.reply) (wire self.now) × (front.behind ≡ (wire self.now).taken + length (reply_frame (reply_of front.reply))) × (front.behind < 2 ^ 64)) };
 
     /// How many bytes the frames of the replies have that were taken.
     fn place(&self) -> u64
@@ -83,7 +83,7 @@ pub trait Line {
 /// The place behind the frame of a reply that begins at a place. There is no memory for as many
 /// bytes as 64 bits count.
 pub fn behind(alloc: Global, place: u64, reply: &Reply<'_>) -> Result<u64, AllocError>
-    ensures { IfOk result (λ n. n ≡ place + length (reply_frame reply.now)) }
+    ensures { IfOk result (λ n. (n ≡ place + length (reply_frame reply.now)) × (n < 2 ^ 64)) }
 {
     let frame = encode_reply(alloc, reply)?;
     match place.checked_add(frame.len() as u64) {
