@@ -1,28 +1,26 @@
 -- One call after another: printing, asking, hearing, and what the driver does by itself.
-use Rattle.std.proofs.Common.{◌≡◌, ℕ, ◌+◌, ◌≤◌, List, [], ◌∷◌, ◌++◌, Option, Some, None, Result, Ok, Err, Bool, true, false, ◌||◌, length, map, refl, sym, ◌∙◌, ap, subst, append_assoc, append-nil, length-append, ◌⊎◌, inl, inr, arith}
+use Rattle.std.proofs.Common.{◌≡◌, ℕ, ◌≤◌, List, [], ◌∷◌, ◌++◌, Option, Some, None, Bool, true, false, ◌||◌, length, refl, sym, ◌∙◌, ap, subst, append-nil, inl, inr, arith}
 use Rattle.std.specs.Prelude.{flat_map, IfSome}
 use Rattle.std.specs.Borrow.{GName}
 use Rattle.ae_base.specs.declared.batches.KeyMeta.{KeyMeta}
-use Rattle.ae_edge.specs.Devices.{WhereTold, Adds, AddsFront, Rose}
+use Rattle.ae_edge.specs.Devices.{WhereTold, Adds, AddsFront}
 use Rattle.ae_edge.specs.Vaults.{KeyMap}
-use Rattle.ae_edge.proofs.Told.{told_same, adds_none, adds_front_none, removes_none}
+use Rattle.ae_edge.proofs.Told.{told_same, adds_none, removes_none}
 use Rattle.wire_messages.specs.declared.requests.Request.{Request}
 use Rattle.wire_messages.specs.declared.replies.Reply.{Reply}
-use Rattle.wire_spelling.specs.Spelling.{request_frame, reply_frame}
-use Rattle.server_core.specs.Serve.{State, serve}
+use Rattle.wire_spelling.specs.Spelling.{reply_frame}
+use Rattle.server_core.specs.Serve.{State}
 use Rattle.conversation.specs.declared.outcomes.Listing.{Listing}
 use Rattle.conversation.specs.declared.outcomes.Outcome.{Outcome}
 use Rattle.conversation.specs.declared.sessions.Session.{Session}
 use Rattle.conversation.specs.Devices.{Devices, AreOwn, HasShare}
 use Rattle.conversation.specs.Devices as own
-use Rattle.conversation.specs.Paths.{Event, Asked, Took, Strayed, Drew, Opened, Printed, Follows, stays, asks, takes_more, takes_last, strays, prints_last, prints, replies_to, taken_in, drawn_in, outcome_in, Waits, OpensAll, IsStray, next_of}
-use Rattle.conversation.specs.Talk.{Talk, Ends, Stops, Asks, Hears, Draws, Opens, Prints, Heard, Hearing, More, Got, Missed, hear, broken}
+use Rattle.conversation.specs.Paths.{Event, Asked, Took, Strayed, Drew, Opened, Printed, Follows, stays, asks, takes_more, takes_last, strays, replies_to, taken_in, outcome_in, Waits, OpensAll, IsStray}
+use Rattle.conversation.specs.Talk.{Talk, Stops, Asks, Hears, Heard, More, Got, hear, broken}
 use Rattle.run_words.specs.Printing.{printed_outcome, is_refusal, has_refusal}
-use Rattle.run_words.specs.Shares.{Desk, Wire, Outside, Serves, Stream, Streams, Comes, IsNext, coming, DeskPut, WirePut, HasPut, WireRead, HasRead, text_of, frames_of, exchanges_of, devices_of, with_devices}
-use Rattle.run_words.specs.Ways.{Goes, Halts, Lacks, Breaks, Fails, Leads, GoesOn, IsStreamed, IsAtReply, off, printed_off, CantBeRead, IsTooLong, AsksInPart, TakesOne, IsFirst, IsNextOf, IsNextOn}
-use Rattle.run_words.specs.declared.stops.Stop.{Stop}
-use Rattle.run_words.specs.declared.stops.Stop.TheVariants as stop
-use Rattle.run_words.proofs.Going.{no_keys, same_state, desk_still, wire_still, comes_still, nothing_put, nothing_read, stay, or_false, desk_front, wire_front, breaks_between, goes_then}
+use Rattle.run_words.specs.Shares.{Desk, Wire, Outside, Serves, Stream, Streams, Comes, IsNext, coming, DeskPut, WirePut, WireRead, text_of, frames_of, exchanges_of, devices_of, with_devices}
+use Rattle.run_words.specs.Ways.{Goes, Halts, Breaks, AsksInPart, TakesOne, IsNextOf, IsNextOn}
+use Rattle.run_words.proofs.Going.{desk_still, comes_still, stay, or_false, desk_front, wire_front, breaks_between}
 
 -- ---- events of the driver by itself leave text, tap and replies
 

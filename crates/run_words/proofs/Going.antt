@@ -1,18 +1,15 @@
 -- One way after another, with what all that a run touches has of them.
-use Rattle.std.proofs.Common.{◌≡◌, ℕ, ◌+◌, ◌≤◌, List, [], ◌∷◌, ◌++◌, Option, Some, None, Result, Ok, Err, Bool, true, false, ◌||◌, length, map, refl, sym, ◌∙◌, ap, subst, append_assoc, append-nil, length-append, ◌⊎◌, inl, inr, arith}
-use Rattle.std.specs.Prelude.{flat_map, IfSome, min, ◌-◌, ◌^◌}
-use Rattle.std.specs.List.{list_any}
+use Rattle.std.proofs.Common.{◌≡◌, ℕ, ◌+◌, ◌≤◌, List, [], ◌∷◌, ◌++◌, Option, Some, None, Result, Ok, Err, Bool, true, false, ◌||◌, length, refl, sym, ◌∙◌, ap, subst, length-append, ◌⊎◌, inl, inr, arith}
+use Rattle.std.specs.Prelude.{flat_map, IfSome}
 use Rattle.std.proofs.lemmas.List.Folds.{list_any-append}
 use Rattle.ae_edge.specs.Devices.{Rose, WhereTold, Adds, AddsFront}
 use Rattle.ae_edge.specs.Vaults.{KeyMap}
-use Rattle.ae_edge.proofs.Told.{told_then, told_same, adds_none, adds_then, adds_front_none, removes_none, removes_then, front_of, front_same}
-use Rattle.wire_messages.specs.Exchanges.{Served}
+use Rattle.ae_edge.proofs.Told.{told_then, told_same, adds_none, adds_then, removes_none, removes_then, front_of, front_same}
 use Rattle.wire_messages.specs.declared.replies.Reply.{Reply}
 use Rattle.wire_spelling.specs.Spelling.{reply_frame}
-use Rattle.server_core.specs.Serve.{State, serve}
-use Rattle.conversation.specs.Paths.{Event, Asked, Took, Strayed, Drew, Opened, Printed, Follows, stays, replies_to, taken_in, drawn_in, outcome_in, Waits, OpensAll, next_of}
+use Rattle.server_core.specs.Serve.{State}
+use Rattle.conversation.specs.Paths.{Event, Asked, Took, Strayed, Drew, Opened, Printed, stays, replies_to, taken_in, drawn_in, outcome_in, Waits, OpensAll}
 use Rattle.conversation.specs.Talk.{Talk}
-use Rattle.conversation.specs.declared.outcomes.Outcome.{Outcome}
 use Rattle.conversation.proofs.Going.{flat_append, follows_then, opens_then}
 use Rattle.run_words.specs.Printing.{is_refusal, has_refusal}
 use Rattle.run_words.specs.Shares.{Desk, Wire, Outside, Serves, Stream, Streams, Comes, coming, DeskPut, WirePut, HasPut, WireRead, HasRead, text_of, frames_of, exchanges_of}
@@ -42,8 +39,7 @@ comes_then : (xs ys : List Event) (r s t : Option Stream) (a b c : List Reply) �
 comes_then xs ys None None None a b c p q = waits_then xs ys a b c p q
 comes_then xs ys (Some r) (Some s) (Some t) a b c p q =
     let x = p.2 in
-    let y = q.2 in
-    (
+    let y = q.2 in (
       flat_append replies_to xs ys ∙ ap (λ w. w ++ flat_map replies_to ys) p.0 ∙ q.0,
       told_then (Streams xs) (Streams ys) (Streams (xs ++ ys)) (streams_then xs ys) (coming r) (coming s) (coming t) p.1 q.1,
       omega arith,

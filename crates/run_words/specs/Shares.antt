@@ -1,11 +1,10 @@
 -- What is told of all that a run touches, and what each device has of the events of a conversation.
-use Rattle.std.specs.Prelude.{◌≡◌, ℕ, ◌+◌, ◌≤◌, List, [], ◌∷◌, ◌++◌, length, flat_map, map, Option, Some, None, IfSome, Bool, ◌||◌}
+use Rattle.std.specs.Prelude.{◌≡◌, ℕ, ◌+◌, ◌≤◌, List, [], ◌∷◌, ◌++◌, length, flat_map, Option, Some, None, IfSome, Bool, ◌||◌}
 use Rattle.std.specs.Borrow.{GName}
 use Rattle.ae_edge.specs.Devices.{WhereTold, Adds}
 use Rattle.ae_edge.specs.Vaults.{KeyMap}
 use Rattle.wire_messages.specs.Conditions.{IsReply}
 use Rattle.wire_messages.specs.Exchanges.{Exchange}
-use Rattle.wire_messages.specs.declared.requests.Request.{Request}
 use Rattle.wire_messages.specs.declared.replies.Reply.{Reply}
 use Rattle.wire_spelling.specs.Spelling.{request_frame, reply_frame}
 use Rattle.server_core.specs.Serve.{State, serve}

@@ -1,5 +1,5 @@
 -- A reply is heard that was fetched before.
-use Rattle.std.proofs.Common.{◌≡◌, ℕ, ◌+◌, ◌≤◌, List, [], ◌∷◌, Option, Some, None, Result, Ok, Err, Bool, length, refl, sym, ◌∙◌, ap, subst, append-nil, arith}
+use Rattle.std.proofs.Common.{◌≡◌, ℕ, ◌+◌, [], ◌∷◌, Some, Result, Ok, Err, Bool, length, sym, ap, subst, append-nil, arith}
 use Rattle.std.specs.Prelude.{◌<◌, IfOk, MatchResult, flat_map}
 use Rattle.wire_messages.specs.declared.replies.Reply.{Reply}
 use Rattle.wire_spelling.specs.Spelling.{reply_frame}

@@ -7,7 +7,7 @@ use Rattle.ae_edge.specs.Devices.{WhereTold, Adds, AddsFront, IsFront, Rose}
 use Rattle.ae_edge.specs.Streams.{PutsAll}
 use Rattle.ae_edge.specs.declared.streams.PutAll.{PutAll}
 use Rattle.ae_edge.specs.declared.streams.PutAll.TheVariants as put
-use Rattle.ae_edge.proofs.Told.{told_map, adds_none, adds_then, adds_then_front, adds_front_then, adds_front_none, front_behind, front_longer}
+use Rattle.ae_edge.proofs.Told.{told_map, adds_none, adds_then, adds_then_front, adds_front_then, adds_front_none}
 use Rattle.wire_messages.specs.Exchanges.{Exchange}
 use Rattle.wire_messages.specs.declared.replies.Reply.{Reply}
 use Rattle.wire_messages.specs.declared.requests.Request.{Request}
@@ -15,7 +15,7 @@ use Rattle.wire_spelling.specs.Spelling.{request_frame, reply_frame}
 use Rattle.server_core.specs.Serve.{State, serve}
 use Rattle.conversation.specs.Paths.{Asked}
 use Rattle.conversation.proofs.Going.{flat_append}
-use Rattle.run_words.specs.Shares.{Wire, WirePut, WireRead, Serves, frames_of}
+use Rattle.run_words.specs.Shares.{Wire, Serves}
 use Rattle.run_words.specs.Ways.{AsksInPart}
 use Rattle.run_words.proofs.Going.{same_state}
 use Rattle.script_run.specs.declared.lines.Sent.TheVariants as sent

@@ -1,8 +1,6 @@
 -- A reply is heard, or it isn't awaited.
-use Rattle.std.proofs.Common.{◌≡◌, ℕ, ◌+◌, ◌≤◌, List, [], ◌∷◌, ◌++◌, Option, Some, None, Result, Ok, Err, Bool, true, false, length, refl, sym, ◌∙◌, ap, subst, append-nil, append_assoc, arith, ◌⊎◌, inl, inr}
+use Rattle.std.proofs.Common.{◌≡◌, ℕ, List, [], ◌∷◌, ◌++◌, Option, Some, None, Result, Ok, Err, length, refl, sym, ◌∙◌, ap, subst, append-nil, append_assoc, arith, inl}
 use Rattle.std.specs.Prelude.{◌<◌, flat_map, IfOk, IfSome, MatchResult}
-use Rattle.std.specs.Borrow.{GName}
-use Rattle.ae_edge.specs.Devices.{Adds, AddsFront, Rose}
 use Rattle.ae_edge.proofs.Told.{told_map, front_of, front_same}
 use Rattle.hmac_kdf.specs.Keys.{Keys}
 use Rattle.wire_messages.specs.Messages.{Header}
@@ -22,30 +20,26 @@ use Rattle.conversation.specs.declared.outcomes.Listing.{Listing}
 use Rattle.conversation.specs.declared.outcomes.Outcome.{Outcome}
 use Rattle.conversation.specs.declared.outcomes.Outcome.TheVariants as outcome
 use Rattle.conversation.specs.declared.sessions.Session.{Session}
-use Rattle.conversation.specs.declared.sessions.Session.TheVariants.{Idle, Begun, Pending, Sent, Reading, Skipping}
+use Rattle.conversation.specs.declared.sessions.Session.TheVariants.{Idle, Sent, Reading, Skipping}
 use Rattle.conversation.specs.Devices.{Devices}
 use Rattle.conversation.specs.Devices as own
-use Rattle.conversation.specs.Paths.{Event, Took, Printed, Follows, stays, prints_last, IsStray, next_of, taken_in}
-use Rattle.conversation.specs.Sessions.{described, Told, Tells, Shows, Stray, replied, sent_ended, titles_of, types_of}
-use Rattle.conversation.specs.Talk.{Talk, Ends, Stops, Hears, Prints, Heard, Said, Shown, Hearing, More, Got, Missed, hear, heard_answer, broken, nothing_shown, described_outcome}
-use Rattle.conversation.specs.Turns.{opening, reading, answered_on, rows_on, rested}
+use Rattle.conversation.specs.Paths.{Took, stays, IsStray, next_of}
+use Rattle.conversation.specs.Sessions.{Tells, Stray, replied, sent_ended, titles_of, types_of}
+use Rattle.conversation.specs.Talk.{Talk, Stops, Hears, Prints, Heard, Said, Shown, Got, hear, heard_answer, broken, nothing_shown, described_outcome}
+use Rattle.conversation.specs.Turns.{reading, answered_on, rows_on, rested}
 use Rattle.driver.specs.Calls.{SaysAs, ShowsAs, HaltsAs, IsSent, Replies}
-use Rattle.run_words.specs.Printing.{printed_listing}
-use Rattle.run_words.specs.Shares.{Desk, Stream, Wire, Outside, Serves, Begins, IsNext, coming_behind, DeskPut, WirePut, WireRead, HasPut, devices_of, with_devices}
-use Rattle.run_words.specs.Ways.{Goes, Halts, Breaks, Fails, Leads, Lacks, IsStuckOn, IsFirstOf, IsFirst, IsLeft, IsLeftOn, IsNextOf, IsNextOn, CantBeRead, IsTooLong, off, printed_off, TakesOne}
+use Rattle.run_words.specs.Shares.{Stream, Wire, Outside, Serves, Begins, IsNext, coming_behind, devices_of, with_devices}
+use Rattle.run_words.specs.Ways.{Goes, Breaks, Fails, Leads, IsStuckOn, IsFirstOf, IsFirst, IsNextOf, IsNextOn, TakesOne}
 use Rattle.run_words.specs.declared.stops.Stop.{Stop}
 use Rattle.run_words.specs.declared.stops.Stop.TheVariants as stop
-use Rattle.run_words.proofs.Going.{stay, or_false, desk_still, desk_front, wire_still, wire_front, wire_unread, breaks_between, breaks_then, goes_then, fails_then}
-use Rattle.run_words.proofs.Calls.{own_goes, own_halts, own_breaks, wire_printed, printed_read, heard_more, heard_last, strayed_goes}
+use Rattle.run_words.proofs.Going.{stay, or_false, desk_still, desk_front, wire_still, wire_unread, breaks_between, goes_then, fails_then}
+use Rattle.run_words.proofs.Calls.{own_goes, own_halts, own_breaks, heard_more, heard_last, strayed_goes}
 use Rattle.script_run.specs.declared.around.First.{First}
 use Rattle.script_run.specs.declared.around.First.TheVariants as first
 use Rattle.script_run.specs.declared.around.RowHeard.{RowHeard}
 use Rattle.script_run.specs.declared.around.RowHeard.TheVariants as row
-use Rattle.script_run.specs.declared.lines.Lack.{Lack}
-use Rattle.script_run.specs.declared.lines.Lack.TheVariants as lack
-use Rattle.script_run.specs.Breaking.{off_by, PutsOff, CutsOff, BreaksOff}
-use Rattle.script_run.specs.Heard.{FirstIs, HeardAs, stop_at, stop_of}
-use Rattle.script_run.specs.Lines.{Rests, Fetches, Finishes}
+use Rattle.script_run.specs.Heard.{FirstIs, HeardAs, stop_of}
+use Rattle.script_run.specs.Lines.{Rests}
 use Rattle.script_run.specs.Onward.{IsRows, RowsStay, shown_first, first_on, row_on}
 use Rattle.script_run.proofs.Awaited.{TellsRows, tells_rows, says_told, halts_told, hears_rows, rows_stay}
 

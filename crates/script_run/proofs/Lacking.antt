@@ -1,5 +1,5 @@
 -- No reply comes that is awaited, or something is left at the end.
-use Rattle.std.proofs.Common.{◌≡◌, ℕ, ◌≤◌, List, [], ◌∷◌, Option, Some, None, Ok, Err, Bool, true, false, length, refl, sym, ◌∙◌, ap, subst, append-nil, arith, ◌⊎◌, inl, inr}
+use Rattle.std.proofs.Common.{◌≡◌, ℕ, ◌≤◌, List, [], ◌∷◌, Option, Some, None, Err, Bool, true, false, length, refl, sym, ◌∙◌, ap, subst, append-nil, arith, ◌⊎◌, inl, inr}
 use Rattle.std.specs.Borrow.{GName}
 use Rattle.ae_edge.specs.Devices.{Adds, AddsFront, Rose}
 use Rattle.wire_messages.specs.declared.replies.Reply.{Reply}
@@ -8,10 +8,10 @@ use Rattle.conversation.specs.declared.outcomes.Outcome.{Outcome}
 use Rattle.conversation.specs.declared.outcomes.Outcome.TheVariants as outcome
 use Rattle.conversation.specs.declared.sessions.Session.{Session}
 use Rattle.conversation.specs.declared.sessions.Session.TheVariants.{Idle, Begun, Pending, Sent, Reading, Skipping}
-use Rattle.conversation.specs.Paths.{Printed, Follows, stays, prints_last, IsStray}
+use Rattle.conversation.specs.Paths.{Follows, stays, prints_last, IsStray}
 use Rattle.conversation.specs.Talk.{Talk, Ends, Stops, Hears, Heard, broken}
 use Rattle.run_words.specs.Printing.{printed_listing}
-use Rattle.run_words.specs.Shares.{Desk, Stream, Wire, Outside, DeskPut, WirePut, WireRead, HasPut, HasRead}
+use Rattle.run_words.specs.Shares.{Desk, Stream, Wire, Outside, DeskPut, WirePut, WireRead, HasPut}
 use Rattle.run_words.specs.Ways.{Goes, Lacks, Breaks, Fails, CantBeRead, IsTooLong, IsStreamed, IsStuck, IsStuckOn, IsFirst, IsLeft, IsLeftOn, IsNextOn, printed_off}
 use Rattle.run_words.specs.declared.stops.Stop.{Stop}
 use Rattle.run_words.specs.declared.stops.Stop.TheVariants as stop
@@ -204,10 +204,11 @@ module _ (is : Bool) (shown : Listing) (why : Stop) (x : Outside) (i : is ≡ tr
   pub all_off : (result : Stop) → result ≡ why → Adds (printed_listing shown) x.desk.out out → BreaksOff result why (shown_if is shown) x.desk Put
   all_off result e h =
       subst (λ b. BreaksOff result why (shown_if b shown) x.desk Put) (sym i)
-      (inl
-      (e,
-      desk_printed (outcome.Broken shown None) x.desk out faults names same count (subst (λ w. Adds w x.desk.out out) (sym (append-nil (printed_listing shown))) h) x.desk.refused,
-      or_false x.desk.refused))
+      (inl (
+        e,
+        desk_printed (outcome.Broken shown None) x.desk out faults names same count (subst (λ w. Adds w x.desk.out out) (sym (append-nil (printed_listing shown))) h) x.desk.refused,
+        or_false x.desk.refused,
+      ))
 
   part : AddsFront (printed_listing shown) x.desk.out out → DeskPut AddsFront (printed_off (Some (outcome.Broken shown None))) x.desk Put
   part h = desk_cut (outcome.Broken shown None) x.desk out faults names same count (subst (λ w. AddsFront w x.desk.out out) (sym (append-nil (printed_listing shown))) h)

@@ -1,6 +1,5 @@
 -- What a run leaves of what it was lent.
-use Rattle.std.proofs.Common.{◌≡◌, ℕ, ◌+◌, ◌≤◌, List, [], ◌∷◌, ◌++◌, Option, Some, None, Result, Ok, Err, Bool, true, false, length, ◌⊎◌, refl, sym, ◌∙◌, ap, subst, append-nil, arith}
-use Rattle.std.specs.Prelude.{IfSome, IfOk}
+use Rattle.std.proofs.Common.{◌≡◌, ℕ, List, [], ◌∷◌, ◌++◌, Option, Result, Ok, Err, Bool, false, ◌⊎◌, sym, ◌∙◌, ap, subst, append-nil, arith}
 use Rattle.std.specs.List.{All}
 use Rattle.std.specs.Borrow.{GName}
 use Rattle.ae_edge.specs.Devices.{Rose, WhereTold}
@@ -9,8 +8,7 @@ use Rattle.ae_edge.specs.Streams.{ReadsAll}
 use Rattle.ae_edge.specs.declared.streams.ReadAll.TheVariants as read
 use Rattle.conversation.specs.Paths.{Event}
 use Rattle.conversation.specs.Sessions.{nobody}
-use Rattle.conversation.specs.Talk.{Talk, Ends}
-use Rattle.conversation.specs.declared.sessions.Session.{Session}
+use Rattle.conversation.specs.Talk.{Talk}
 use Rattle.plain_meaning.specs.Steps.{talk}
 use Rattle.run_words.specs.Shares.{Outside, Puts, HasPut}
 use Rattle.run_words.specs.Ways.{Goes, Lacks, Breaks, Fails, Leads}

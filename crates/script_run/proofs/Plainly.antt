@@ -3,14 +3,14 @@ use Rattle.std.proofs.Common.{◌≡◌, ◌≤◌, ℕ, ◌+◌, List, [], ◌�
 use Rattle.std.specs.Prelude.{flat_map, IfSome}
 use Rattle.std.specs.List.{All}
 use Rattle.aes_block.specs.Bytes.{AreBytes}
-use Rattle.ae_edge.specs.Devices.{WhereTold, Adds, AddsFront, GrewByFront, IsFront}
+use Rattle.ae_edge.specs.Devices.{WhereTold, Adds, AddsFront, IsFront}
 use Rattle.ae_edge.specs.Vaults.{KeyMap}
-use Rattle.ae_edge.proofs.Told.{told_then, told_map, front_then, front_behind, adds_then_front, adds_front_then, front_of}
+use Rattle.ae_edge.proofs.Told.{adds_then_front, adds_front_then, front_of}
 use Rattle.wire_messages.specs.declared.replies.Reply.{Reply}
 use Rattle.server_core.specs.Serve.{State, serve, empty_state}
 use Rattle.conversation.specs.declared.outcomes.Outcome.{Outcome}
 use Rattle.conversation.specs.declared.sessions.Session.{Session}
-use Rattle.conversation.specs.Drive.{End, Done, Dry, BadReply, Passed, over, end_at, stopped}
+use Rattle.conversation.specs.Drive.{End, Done, Dry, BadReply, Passed, over, end_at}
 use Rattle.conversation.specs.Paths.{Event, Asked, Took, Strayed, Drew, Opened, Printed, Follows, taken_in, drawn_in, outcome_in, Waits, OpensAll}
 use Rattle.conversation.specs.Sessions.{nobody}
 use Rattle.conversation.specs.Talk.{Talk, Ends, Stops, Asks, Hears, Draws, Opens, Prints}
@@ -46,7 +46,7 @@ flat_flat : {A B C : Type 0} (f : B → List C) (g : A → List B) (xs : List A)
 flat_flat f g [] = refl
 flat_flat f g (x ∷ xs) = ap (λ w. flat_map f (g x) ++ w) (flat_flat f g xs) ∙ sym (flat_append f (g x) (flat_map g xs))
 
-text_is : (events : List Event) → flat_map text_of events ≡ print (flat_map outcome_in events)
+pub text_is : (events : List Event) → flat_map text_of events ≡ print (flat_map outcome_in events)
 text_is events = flat_flat printed_outcome outcome_in events
 
 text_front : (outcomes wanted : List Outcome) → IsFront outcomes wanted → IsFront (print outcomes) (print wanted)

@@ -1,5 +1,5 @@
 -- Replies that wait in memory: none come as bytes.
-use Rattle.std.proofs.Common.{◌≡◌, ℕ, List, Option, Some, None, subst, ◌⊎◌, inl, inr}
+use Rattle.std.proofs.Common.{◌≡◌, ℕ, List, Option, Some, None, subst, inl, inr}
 use Rattle.wire_messages.specs.declared.replies.Reply.{Reply}
 use Rattle.conversation.specs.Paths.{Event, Follows, Waits}
 use Rattle.conversation.specs.Talk.{Talk}

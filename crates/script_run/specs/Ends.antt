@@ -1,5 +1,5 @@
 -- How a run ends, in words of what it was lent.
-use Rattle.std.specs.Prelude.{◌≡◌, ℕ, ◌≤◌, ◌<◌, ◌+◌, List, [], ◌∷◌, length, Option, None, Result, Ok, Err, Bool, true, false, IfOk}
+use Rattle.std.specs.Prelude.{◌≡◌, ℕ, ◌≤◌, ◌<◌, ◌+◌, List, [], length, Option, None, Result, Ok, Err, Bool, true, false, IfOk}
 use Rattle.std.specs.List.{All}
 use Rattle.std.specs.Borrow.{GName}
 use Rattle.ae_edge.specs.Streams.{HasTaken}

@@ -1,5 +1,5 @@
 -- What the driver's answers say.
-use Rattle.std.specs.Prelude.{◌≡◌, ℕ, Some, None, Bool, true, false}
+use Rattle.std.specs.Prelude.{◌≡◌, ℕ, Bool, true, false}
 use Rattle.conversation.specs.declared.answers.ReplyAnswer.{ReplyAnswer}
 use Rattle.conversation.specs.declared.answers.ReplyAnswer.TheVariants as answer
 use Rattle.conversation.specs.declared.faults.Halt.{Halt}

@@ -1,8 +1,7 @@
 -- How a conversation goes on behind what was heard, and what is known of the session after it.
-use Rattle.std.specs.Prelude.{◌≡◌, List, [], ◌∷◌, Option}
+use Rattle.std.specs.Prelude.{◌≡◌, [], Option}
 use Rattle.conversation.specs.declared.answers.DescribeAnswer.{DescribeAnswer}
 use Rattle.conversation.specs.declared.answers.DescribeAnswer.TheVariants as describe_answer
-use Rattle.conversation.specs.declared.faults.DriverFault.{DriverFault}
 use Rattle.conversation.specs.declared.outcomes.Listing.{Listing}
 use Rattle.conversation.specs.declared.outcomes.Outcome.{Outcome}
 use Rattle.conversation.specs.declared.outcomes.Outcome.TheVariants.{Failed}

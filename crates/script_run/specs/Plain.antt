@@ -1,5 +1,5 @@
 -- What a run prints over a server that serves from the empty state: what its script means over plain values.
-use Rattle.std.specs.Prelude.{◌≡◌, ℕ, List, Option, Some, true, false}
+use Rattle.std.specs.Prelude.{◌≡◌, ℕ, List, Option, true, false}
 use Rattle.ae_edge.specs.Devices.{Adds, AddsFront}
 use Rattle.ae_edge.specs.Vaults.{KeyMap}
 use Rattle.server_core.specs.Serve.{empty_state}

@@ -1,5 +1,4 @@
 -- By what stands first, and what it says.
-use Rattle.std.proofs.Common.{refl}
 use Rattle.run_words.proofs.Going.{breaks_between}
 use Rattle.script_run.specs.Lines.{reply_of}
 use Rattle.script_run.proofs.Heeded.{rests_goes, rows_left, kept_so}
