@@ -1,9 +1,15 @@
 -- The bytes of replies that came and weren't taken.
-use Rattle.std.specs.Prelude.{◌≡◌, ℕ, ◌+◌, List, [], ◌++◌, length}
+use Rattle.std.specs.Prelude.{◌≡◌, ℕ, ◌+◌, List, [], ◌++◌, length, Option, Some, None}
 use Rattle.wire_frames.specs.Frames.{IsNotYet, IsRefused, is_reply_kind}
 use Rattle.wire_messages.specs.declared.replies.Reply.{Reply}
 use Rattle.wire_spelling.specs.Spelling.{SpellsReply, reply_frame}
 use Rattle.run_words.specs.Shares.{Begins}
+use Rattle.frame_feed.specs.declared.feeds.Next.{Next}
+use Rattle.frame_feed.specs.declared.feeds.Next.TheVariants as next
+use Rattle.frame_feed.specs.declared.messages.Message.{Message}
+use Rattle.frame_feed.specs.declared.messages.Message.TheVariants.{Tells}
+use Rattle.script_run.specs.Lines.{reply_of}
+use Rattle.script_run.specs.declared.lines.Front.{Front}
 use Rattle.drive_command.specs.declared.holding.Stands.{Stands}
 use Rattle.drive_command.specs.declared.holding.Stands.TheVariants as stands
 
@@ -33,3 +39,15 @@ StandsSo stands.Reply held = (reply : Reply) × Begins reply held
 StandsSo stands.NotYet held = IsNotYet is_reply_kind held
 StandsSo stands.Bad held = IsRefused is_reply_kind SpellsReply held
 StandsSo stands.OutOfMemory held = Unit {0}
+
+-- what a feed gives next
+abbrev pub kind_of : Next → Stands
+kind_of (next.One place used message) = stands.Reply
+kind_of next.NotYet = stands.NotYet
+kind_of (next.Bad place) = stands.Bad
+kind_of next.OutOfMemory = stands.OutOfMemory
+
+-- the reply that the message is is lent, with the place behind its frame
+abbrev pub IsReadFront : Option Front → Message → ℕ → Type 0
+IsReadFront (Some front) message behind = (message ≡ Tells (reply_of front.reply)) × (front.behind ≡ behind)
+IsReadFront None message behind = Unit {0}

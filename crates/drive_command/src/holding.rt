@@ -1,12 +1,12 @@
 //! The bytes of replies that came and weren't taken.
 
-ghost use Rattle.std.specs.Prelude.{◌≡◌, ◌≤◌, ◌+◌, ◌-◌, ◌++◌, ℕ, [], false, true, OnOk, IfSome, length};
+ghost use Rattle.std.specs.Prelude.{◌≡◌, ◌≤◌, ◌<◌, ◌+◌, ◌-◌, ◌^◌, [], false, true, OnOk, IfSome, length};
 ghost use Rattle.wire_messages.specs.declared.replies.Reply.{Reply};
 ghost use Rattle.wire_spelling.specs.Spelling.{reply_frame};
 ghost use Rattle.run_words.specs.Shares.{Begins};
 ghost use Rattle.run_words.specs.Ways.{most_reply_bytes};
 ghost use Rattle.script_run.specs.Lines.{reply_of};
-ghost use Rattle.drive_command.specs.Holding.{StandsSo, IsBehind, came, held_more, held_none};
+ghost use Rattle.drive_command.specs.Holding.{IsReadFront, StandsSo, IsBehind, came, held_more, held_none, kind_of};
 
 use frame_feed::{FrameFeed, Message, Next};
 use script_run::lines::{Front, Lent};
@@ -28,6 +28,33 @@ pub enum Stands {
     Bad,
     /// A frame for whose reply no memory is left.
     OutOfMemory,
+}
+
+fn kind_of(next: &Next<'_>) -> Stands
+    ensures { result ≡ kind_of next.now }
+{
+    match next {
+        Next::One { .. } => Stands::Reply,
+        Next::NotYet => Stands::NotYet,
+        Next::Bad { .. } => Stands::Bad,
+        Next::OutOfMemory => Stands::OutOfMemory,
+    }
+}
+
+/// A reply that was read, and the place behind its frame.
+fn read_front(message: Message<'_>, behind: u64) -> Option<Front<'_>>
+    ensures { IsReadFront result message.entry behind }
+{
+    match message {
+        Message::Tells(reply) => Some(Front {
+            reply: Lent::Read(reply),
+            behind,
+        }),
+        Message::Asks(request) => {
+            drop(request);
+            None
+        }
+    }
 }
 
 /// The bytes of replies that came and weren't taken. Contracts see the place of the first of them,
@@ -101,29 +128,24 @@ impl Holding {
     pub fn stands(&self, alloc: Global) -> Stands
         ensures { StandsSo result self.now.held }
     {
-        match self.feed.front(alloc) {
-            Next::One { .. } => Stands::Reply,
-            Next::NotYet => Stands::NotYet,
-            Next::Bad { .. } => Stands::Bad,
-            Next::OutOfMemory => Stands::OutOfMemory,
-        }
+        let next = self.feed.front(alloc);
+        let stands = kind_of(&next);
+        drop(next);
+        stands
     }
 
     /// The reply that stands first, where there is memory to read it. It borrows from the bytes.
     pub fn front(&self, alloc: Global) -> Option<Front<'_>>
         requires { (reply : Reply) × Begins reply self.now.held }
-        ensures { IfSome result (λ front. Begins (reply_of front.reply) self.now.held × (front.behind ≡ self.now.at + length (reply_frame (reply_of front.reply)))) }
+        ensures { IfSome result (λ front. Begins (reply_of front.reply) self.now.held × (front.behind ≡ self.now.at + length (reply_frame (reply_of front.reply))) × (front.behind < 2 ^ 64)) }
     {
         match self.feed.front(alloc) {
             Next::One {
                 place,
                 used,
-                message: Message::Tells(reply),
-            } => Some(Front {
-                reply: Lent::Read(reply),
-                behind: place + used as u64,
-            }),
-            _ => None,
+                message,
+            } => read_front(message, place + used as u64),
+            Next::NotYet | Next::Bad { .. } | Next::OutOfMemory => None,
         }
     }
 

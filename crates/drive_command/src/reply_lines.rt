@@ -1,7 +1,7 @@
 //! A stream of replies behind a tap.
 
-ghost use Rattle.std.specs.Prelude.{◌≡◌, ◌∷◌, ◌≤◌, [], None, Some};
-ghost use Rattle.drive_command.specs.Reading.{ReadsMore};
+ghost use Rattle.std.specs.Prelude.{◌≡◌};
+ghost use Rattle.drive_command.specs.Reading.{FetchesReply, FinishesReplies, ReadsMore};
 
 use crate::holding::{Holding, Stands};
 use ae_edge::sinks::Sink;
@@ -10,6 +10,7 @@ use ae_edge::streams::PutAll;
 use script_run::lines::{Front, Lack, Line, Sent};
 use script_run::peer_lines::put_request;
 use std::alloc::Global;
+use wire_frames::{frames_are_read_back, streams_are_read_once};
 use wire_messages::requests::Request;
 
 /// The most bytes that are taken at once.
@@ -43,17 +44,55 @@ fn read_more<L: Source>(alloc: Global, source: &mut L, holding: &mut Holding) ->
     }
 }
 
+/// Takes pieces of the stream until a reply stands first.
+fn fetch_reply<L: Source>(
+    alloc: Global,
+    source: &mut L,
+    holding: &mut Holding,
+) -> Result<(), Lack>
+    ensures reads { FetchesReply result holding.old holding.new (L.left source.old) (L.left source.new) (L.faults source.old) (L.faults source.new) }
+    ensures same { L.names source.new ≡ L.names source.old }
+{
+    streams_are_read_once();
+    frames_are_read_back();
+    'pieces: loop {
+        match holding.stands(alloc) {
+            Stands::Reply => return Ok(()),
+            Stands::NotYet => {}
+            Stands::Bad => return Err(Lack::BadReply),
+            Stands::OutOfMemory => return Err(Lack::OutOfMemory),
+        }
+        match read_more(alloc, source, holding) {
+            Ok(true) => {}
+            Ok(false) => return Err(Lack::BadReply),
+            Err(lack) => return Err(lack),
+        }
+    }
+}
+
+/// Whether the stream is at its end, with nothing held.
+fn finish_replies<L: Source>(
+    alloc: Global,
+    source: &mut L,
+    holding: &mut Holding,
+) -> Result<(), Lack>
+    ensures reads { FinishesReplies result holding.old holding.new (L.left source.old) (L.left source.new) (L.faults source.old) (L.faults source.new) }
+    ensures same { L.names source.new ≡ L.names source.old }
+{
+    if !holding.is_empty() {
+        return Err(Lack::BadReply);
+    }
+    match read_more(alloc, source, holding) {
+        Ok(true) => Err(Lack::BadReply),
+        Ok(false) => Ok(()),
+        Err(lack) => Err(lack),
+    }
+}
+
 impl<T: Sink, L: Source> Line for ReplyLine<'_, T, L> {
-    ghost wire = { λ l. record {
-      names = T.names l.tap ∷ L.names l.source ∷ [];
-      tap = T.held l.tap;
-      log = None;
-      state = None;
-      waiting = [];
-      stream = Some (record { held = l.holding.now.held; left = L.left l.source; faults = L.faults l.source });
-      taken = l.holding.now.at;
-      faults = T.faults l.tap;
-    } };
+    ghost use Rattle.drive_command.specs.Reading.{wire_of};
+
+    ghost wire = { λ l. wire_of (T.names l.tap) (L.names l.source) (T.held l.tap) (T.faults l.tap) (L.left l.source) (L.faults l.source) l.holding.now };
 
     fn ask(&mut self, alloc: Global, request: &Request<'_>) -> Sent {
         let mut frame = Vec::new(alloc);
@@ -65,19 +104,7 @@ impl<T: Sink, L: Source> Line for ReplyLine<'_, T, L> {
     }
 
     fn fetch(&mut self, alloc: Global) -> Result<(), Lack> {
-        'pieces: loop {
-            match self.holding.stands(alloc) {
-                Stands::Reply => return Ok(()),
-                Stands::NotYet => {}
-                Stands::Bad => return Err(Lack::BadReply),
-                Stands::OutOfMemory => return Err(Lack::OutOfMemory),
-            }
-            match read_more(alloc, &mut self.source, self.holding) {
-                Ok(true) => {}
-                Ok(false) => return Err(Lack::BadReply),
-                Err(lack) => return Err(lack),
-            }
-        }
+        fetch_reply(alloc, &mut self.source, self.holding)
     }
 
     fn front(&self, alloc: Global) -> Option<Front<'_>> {
@@ -93,13 +120,6 @@ impl<T: Sink, L: Source> Line for ReplyLine<'_, T, L> {
     }
 
     fn finish(&mut self, alloc: Global) -> Result<(), Lack> {
-        if !self.holding.is_empty() {
-            return Err(Lack::BadReply);
-        }
-        match read_more(alloc, &mut self.source, self.holding) {
-            Ok(true) => Err(Lack::BadReply),
-            Ok(false) => Ok(()),
-            Err(lack) => Err(lack),
-        }
+        finish_replies(alloc, &mut self.source, self.holding)
     }
 }
