@@ -20,7 +20,7 @@ use Rattle.script_lang.specs.Limits.{IsProperStep, IsWithinLimits}
 use Rattle.script_run.specs.declared.runs.Ran.{Ran}
 use Rattle.script_run.specs.declared.runs.Ran.TheVariants as ran
 use Rattle.script_run.specs.declared.runs.Unread.TheVariants as unread
-use Rattle.script_run.specs.Ends.{Lent, outside, CameTo, RunsTo, RunsScript, TakesScript, IsScript, IsRead, most_script_bytes}
+use Rattle.script_run.specs.Ends.{Lent, outside, CameTo, RunsTo, RunsScript, TakesScript, IsScript, IsOfPeer, IsRead, most_script_bytes}
 
 -- ---- the same is lent after it
 
@@ -125,6 +125,19 @@ takes_whole r bytes old new w h = told_map (ReadsAll most_script_bytes (read.Who
 
 pub read_it : (r : Ran) → IsRead r → r ≡ ran.Unread unread.ReadFault → ⊥
 read_it r w e = subst IsRead e w
+
+-- a peer has no stream of replies
+pub of_peer : (r : Ran) (bytes : List ℕ) (old new : Lent) → RunsScript r bytes old new → IsOfPeer r
+of_peer ran.Done bytes old new h = tt
+of_peer ran.Refusals bytes old new h = tt
+of_peer (ran.Stopped (stop.BadReply place)) bytes old new h = tt
+of_peer (ran.Stopped stop.ReadFault) bytes old new h = let c = h.runs.1.leads in c.1
+of_peer (ran.Stopped stop.TooLong) bytes old new h = let c = h.runs.1.leads in c.1
+of_peer (ran.Stopped stop.EntropyFault) bytes old new h = tt
+of_peer (ran.Stopped stop.VaultFault) bytes old new h = tt
+of_peer (ran.Stopped stop.WriteFault) bytes old new h = tt
+of_peer (ran.Stopped stop.OutOfMemory) bytes old new h = tt
+of_peer (ran.Unread why) bytes old new h = tt
 
 -- ---- a count rose
 

@@ -8,7 +8,7 @@ ghost use Rattle.script_lang.specs.declared.steps.Step.{Step};
 ghost use Rattle.run_words.specs.declared.stops.Stop.TheVariants as stop;
 ghost use Rattle.script_run.specs.declared.runs.Ran.TheVariants as ran;
 ghost use Rattle.script_run.specs.declared.runs.Unread.TheVariants as unread;
-ghost use Rattle.script_run.specs.Ends.{IsRead, IsScript, RunsScript, TakesScript, most_script_bytes};
+ghost use Rattle.script_run.specs.Ends.{IsOfPeer, IsRead, IsScript, RunsScript, TakesScript, most_script_bytes};
 ghost use Rattle.script_run.specs.Plain.{PrintsPlain, IsDoneOrFault};
 ghost use Rattle.script_run.specs.Transcript.{TapsTranscript};
 
@@ -104,6 +104,8 @@ pub fn run<S: Source, V: Vault, E: Entropy, W: Sink, T: Sink, P: Peer>(
     // There a good script is run to its end, unless memory or a device fails: each reply is awaited.
     ensures complete { (keys : KeyMap) (bytes : List ℕ) (steps : List Step) → P.state peer.old ≡ Some empty_state → V.keys vault.old ≡ Some keys → S.left script.old ≡ Some bytes → IsScript bytes steps
         → IsDoneOrFault result }
+    // A peer has no stream of replies, so it stops for no fault of one.
+    ensures of_peer { IsOfPeer result }
     // What was taken of the script, by how it ended.
     ensures taken { WhereTold (TakesScript result) (S.left script.old) (S.left script.new) }
     // The faults of the outside come only where a count rose.

@@ -1,10 +1,14 @@
 -- Over a server that serves from the empty state it is what its script means.
+use Rattle.script_run.proofs.Lent.{of_peer}
 use Rattle.script_run.proofs.Plainly.{runs_plain, runs_whole, told_bytes}
 use Rattle.script_run.proofs.Tapping.{runs_tap}
 use Rattle.script_run.proofs.programs.run.Goals as goal
 
 pub returns-clause-content : goal.returns-clause-content
 returns-clause-content g c = c.run_source.ensures.content
+
+pub returns-clause-of_peer : goal.returns-clause-of_peer
+returns-clause-of_peer g c = let h = c.run_source.ensures.content in of_peer _ h.0 _ _ h.2
 
 pub returns-clause-taken : goal.returns-clause-taken
 returns-clause-taken g c = c.run_source.ensures.taken
