@@ -31,7 +31,7 @@ both None None (Some z) p q = absurd q
 pub moved_more : (a b c : Holding) (piece : List ℕ) (l m n : Option (List ℕ)) → Moved a b l m → Moves piece b c m n → Moved a c l n
 moved_more a b c piece l m n p q =
     let e = q.held in
-    let r : Moved a (held_more b piece) l n = (p.0, both (coming_behind a.held l) (coming_behind b.held m) (coming_behind (b.held ++ piece) n) p.1 (comes_same b.held piece m n q.left)) in
+    let r : Moved a (held_more b piece) l n = (p.0, both (coming_behind a.held l) (coming_behind b.held m) (coming_behind (b.held ++ piece) n) p.1 (comes_same b.held piece m n q.gone)) in
     subst (λ h. Moved a h l n) (sym e) r
 
 ends_same : (held : List ℕ) (m n : Option (List ℕ)) → Ends m n → WhereTold (λ a b. b ≡ a) (coming_behind held m) (coming_behind held n)

@@ -12,7 +12,7 @@ use Rattle.drive_command.specs.Holding.{Holding, came, held_more}
 -- a piece is held that was left, or nothing changes
 pub record Moves (piece : List ℕ) (old new : Holding) (left after : Option (List ℕ)) : Type 0 where
   pub held : new ≡ held_more old piece
-  pub left : Removes piece left after
+  pub gone : Removes piece left after
 
 -- nothing is left
 abbrev pub Ends : Option (List ℕ) → Option (List ℕ) → Type 0
