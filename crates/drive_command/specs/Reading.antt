@@ -23,7 +23,7 @@ abbrev pub ReadsMore : Result Bool Lack → Holding → Holding → (left after 
 ReadsMore (Ok true) old new left after before now = (before ≤ now) × (came new ≤ most_reply_bytes) × ((piece : List ℕ) × (0 < length piece) × Moves piece old new left after)
 ReadsMore (Ok false) old new left after before now = (before ≤ now) × (new ≡ old) × Ends left after
 ReadsMore (Err lack.BadReply) old new left after before now = ⊥
-ReadsMore (Err lack.ReadFault) old new left after before now = Rose before now × Moves [] old new left after
+ReadsMore (Err lack.ReadFault) old new left after before now = (before ≤ now) × Rose before now × Moves [] old new left after
 ReadsMore (Err lack.TooLong) old new left after before now = (before ≤ now) × (came old ≡ most_reply_bytes) × ((byte : ℕ) × Moves (byte ∷ []) old new left after)
 ReadsMore (Err lack.OutOfMemory) old new left after before now = Unit {0}
 
@@ -37,7 +37,7 @@ Moved old new left after = (new.at ≡ old.at) × WhereTold (λ a b. b ≡ a) (c
 abbrev pub FetchesReply : Result (Unit {0}) Lack → Holding → Holding → (left after : Option (List ℕ)) → (before now : ℕ) → Type 0
 FetchesReply (Ok o) old new left after before now = Moved old new left after × (before ≤ now) × ((reply : Reply) × Begins reply new.held)
 FetchesReply (Err lack.BadReply) old new left after before now = Moved old new left after × (before ≤ now) × IfSome (coming_behind new.held after) (IsNext None)
-FetchesReply (Err lack.ReadFault) old new left after before now = Moved old new left after × Rose before now × IsNext None new.held
+FetchesReply (Err lack.ReadFault) old new left after before now = Moved old new left after × (before ≤ now) × Rose before now × IsNext None new.held
 FetchesReply (Err lack.TooLong) old new left after before now = Moved old new left after × (before ≤ now) × IsPast new.at new.held
 FetchesReply (Err lack.OutOfMemory) old new left after before now = Unit {0}
 
@@ -45,7 +45,7 @@ FetchesReply (Err lack.OutOfMemory) old new left after before now = Unit {0}
 abbrev pub FinishesReplies : Result (Unit {0}) Lack → Holding → Holding → (left after : Option (List ℕ)) → (before now : ℕ) → Type 0
 FinishesReplies (Ok o) old new left after before now = Moved old new left after × (before ≤ now) × (new.held ≡ []) × IfSome after (λ bytes. bytes ≡ [])
 FinishesReplies (Err lack.BadReply) old new left after before now = Moved old new left after × (before ≤ now) × IsLeft new.held
-FinishesReplies (Err lack.ReadFault) old new left after before now = Moved old new left after × Rose before now × IsNext None new.held
+FinishesReplies (Err lack.ReadFault) old new left after before now = Moved old new left after × (before ≤ now) × Rose before now × IsNext None new.held
 FinishesReplies (Err lack.TooLong) old new left after before now = Moved old new left after × (before ≤ now) × IsPast new.at new.held
 FinishesReplies (Err lack.OutOfMemory) old new left after before now = Unit {0}
 
