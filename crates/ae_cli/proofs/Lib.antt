@@ -1,2 +1,3 @@
+pub mod NotStray
 pub mod TwoWords
 pub mod Unread

@@ -1,6 +1,8 @@
 -- The words of the command line.
-use Rattle.std.specs.Prelude.{◌≡◌, ℕ, List, [], ◌∷◌, ◌++◌, codes, encode_utf8_all, Option, Some, None, Bool, false, if◌then◌else◌}
+use Rattle.std.specs.Prelude.{◌≡◌, ◌⊎◌, ℕ, List, [], ◌∷◌, ◌++◌, codes, encode_utf8_all, Option, Some, None, Bool, false, if◌then◌else◌}
 use Rattle.std.specs.Str.{bytes_eq}
+use Rattle.script_run.specs.Statuses.{status_of}
+use Rattle.script_run.specs.declared.runs.Ran.{Ran}
 use Rattle.script_run.specs.declared.status.Status.{Status}
 use Rattle.script_run.specs.declared.status.Status.TheVariants as status
 
@@ -29,32 +31,8 @@ usage_lines = codes "usage: ae run < SCRIPT" ++ 10 ∷ codes "       ae wrap PAT
 
 -- the words are no command, and it is said how they are written, or there was no memory to say so
 abbrev pub IsRefusedUsage : Status → Type 0
-IsRefusedUsage (status.Usage text) = encode_utf8_all text ≡ usage_lines
-IsRefusedUsage status.OutOfMemory = Unit {0}
-IsRefusedUsage status.Done = ⊥
-IsRefusedUsage status.Refusals = ⊥
-IsRefusedUsage status.ReadFault = ⊥
-IsRefusedUsage status.WriteFault = ⊥
-IsRefusedUsage status.EntropyFault = ⊥
-IsRefusedUsage status.VaultFault = ⊥
-IsRefusedUsage (status.BadScript line) = ⊥
-IsRefusedUsage status.TooLong = ⊥
-IsRefusedUsage (status.BadFrame place) = ⊥
-IsRefusedUsage (status.BadReply place) = ⊥
-IsRefusedUsage (status.NoMasterKey path) = ⊥
+IsRefusedUsage s = ((text : List ℕ) × (s ≡ status.Usage text) × (encode_utf8_all text ≡ usage_lines)) ⊎ (s ≡ status.OutOfMemory)
 
--- the statuses that a run can have
+-- the status of a run
 abbrev pub IsOfRun : Status → Type 0
-IsOfRun status.Done = Unit {0}
-IsOfRun status.Refusals = Unit {0}
-IsOfRun status.ReadFault = Unit {0}
-IsOfRun status.WriteFault = Unit {0}
-IsOfRun status.OutOfMemory = Unit {0}
-IsOfRun status.EntropyFault = Unit {0}
-IsOfRun status.VaultFault = Unit {0}
-IsOfRun (status.BadScript line) = Unit {0}
-IsOfRun status.TooLong = Unit {0}
-IsOfRun (status.BadReply place) = Unit {0}
-IsOfRun (status.Usage text) = ⊥
-IsOfRun (status.BadFrame place) = ⊥
-IsOfRun (status.NoMasterKey path) = ⊥
+IsOfRun s = (ran : Ran) × (s ≡ status_of ran)

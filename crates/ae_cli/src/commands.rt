@@ -6,14 +6,11 @@ ghost use Rattle.ae_cli.specs.Wraps.{status_of_wrapping};
 ghost use Rattle.wrap_command.specs.Wrapping.{Takes, Wraps};
 ghost use Rattle.wrap_command.specs.declared.commands.Wrapped.{Wrapped};
 ghost use Rattle.ae_edge.specs.Devices.{Rose, WhereTold};
-ghost use Rattle.ae_edge.specs.Vaults.{KeyMap};
-ghost use Rattle.script_lang.specs.declared.steps.Step.{Step};
 ghost use Rattle.server_core.specs.Serve.{empty_state};
 ghost use Rattle.script_run.specs.declared.runs.Ran.{Ran};
-ghost use Rattle.script_run.specs.Ends.{IsScript, RunsScript, TakesScript};
-ghost use Rattle.script_run.specs.Plain.{IsDoneOrFault, PrintsPlain};
+ghost use Rattle.script_run.specs.Ends.{TakesScript};
+ghost use Rattle.script_run.specs.RunOf.{IsRunOf};
 ghost use Rattle.script_run.specs.Statuses.{status_of};
-ghost use Rattle.script_run.specs.Transcript.{TapsTranscript};
 
 use crate::words::{is_run, usage, wrap_path};
 use crate::wrapping::wrap_key;
@@ -51,21 +48,16 @@ pub fn ae_main<S: Source, V: Vault, E: Entropy, L: Source, W: Sink, T: Sink, P: 
     ensures usage { AreNoCommand words.now → IsRefusedUsage result × (script.new ≡ script.old) × (vault.new ≡ vault.old) × (entropy.new ≡ entropy.old) × (out.new ≡ out.old) × (tap.new ≡ tap.old) × (peer.new ≡ peer.old) }
     // A run has no other status than these.
     ensures named { is_run words.now ≡ true → IsOfRun result }
-    // A run over any peer: there are bytes, the script's where it tells them, of which this is a run: how far its conversation was
-    // followed, what each device has of it, and why it was followed no further.
-    ensures content { is_run words.now ≡ true → (ran : Ran) × (result ≡ status_of ran) × (bytes : List ℕ) × IfSome (S.left script.old) (λ left. bytes ≡ left) × RunsScript ran bytes
+    // A run: there are bytes, the script's where it tells them, of which this is a run. Over any peer: how far its conversation was
+    // followed, what each device has of it, and why it was followed no further (`content`). Over a peer that serves from the empty
+    // state: a good script is run to its end, unless memory or a device fails (`complete`); and with keys that are told, the text is
+    // plain SQL's over the same values, whatever columns are protected (`plain`), and the tap has the frames of the conversation over
+    // that server, with the cells sealed under the random bytes that were drawn (`transcript`).
+    ensures run { is_run words.now ≡ true → (ran : Ran) × (result ≡ status_of ran) × (bytes : List ℕ) × IfSome (S.left script.old) (λ left. bytes ≡ left) × IsRunOf ran bytes
         (record { out = W.held out.old; tap = T.held tap.old; entropy = E.to_come entropy.old; keys = V.keys vault.old; log = P.log peer.old; state = P.state peer.old; out_faults = W.faults out.old; tap_faults = T.faults tap.old; entropy_faults = E.faults entropy.old; vault_faults = V.faults vault.old })
         (record { out = W.held out.new; tap = T.held tap.new; entropy = E.to_come entropy.new; keys = V.keys vault.new; log = P.log peer.new; state = P.state peer.new; out_faults = W.faults out.new; tap_faults = T.faults tap.new; entropy_faults = E.faults entropy.new; vault_faults = V.faults vault.new }) }
-    // A run over a peer that serves from the empty state, with keys that are told: the text is plain SQL's over the same values,
-    // whatever columns are protected.
-    ensures plain { is_run words.now ≡ true → P.state peer.old ≡ Some empty_state → (keys : KeyMap) (bytes : List ℕ) (steps : List Step) → V.keys vault.old ≡ Some keys → S.left script.old ≡ Some bytes → IsScript bytes steps
-        → (ran : Ran) × (result ≡ status_of ran) × PrintsPlain ran keys steps (W.held out.old) (W.held out.new) }
-    // And the tap has the frames of the conversation over that server, with the cells sealed under the random bytes that were drawn.
-    ensures transcript { is_run words.now ≡ true → P.state peer.old ≡ Some empty_state → (keys : KeyMap) (bytes : List ℕ) (steps : List Step) → V.keys vault.old ≡ Some keys → S.left script.old ≡ Some bytes → IsScript bytes steps
-        → (ran : Ran) × (result ≡ status_of ran) × TapsTranscript ran keys steps (E.to_come entropy.old) (E.to_come entropy.new) (T.held tap.old) (T.held tap.new) }
-    // There a good script is run to its end, unless memory or a device fails.
-    ensures complete { is_run words.now ≡ true → P.state peer.old ≡ Some empty_state → (keys : KeyMap) (bytes : List ℕ) (steps : List Step) → V.keys vault.old ≡ Some keys → S.left script.old ≡ Some bytes → IsScript bytes steps
-        → (ran : Ran) × (result ≡ status_of ran) × IsDoneOrFault ran }
+    // A run over a peer that serves from the empty state isn't stopped by a reply, whatever the devices tell.
+    ensures awaited { is_run words.now ≡ true → P.state peer.old ≡ Some empty_state → (place : ℕ) → ¬ (result ≡ Status.BadReply place) }
     // What was taken of the script, by how the run ended.
     ensures taken { is_run words.now ≡ true → (ran : Ran) × (result ≡ status_of ran) × WhereTold (TakesScript ran) (S.left script.old) (S.left script.new) }
     // A wrapping: there are bytes, the script's where it tells them, of which it is what the command makes; nothing else is touched.

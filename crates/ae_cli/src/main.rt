@@ -8,7 +8,7 @@ mod tests;
 mod words;
 mod wrapping;
 
-ghost use Rattle.std.specs.Prelude.{◌≡◌, true};
+ghost use Rattle.std.specs.Prelude.{◌≡◌, ℕ, true};
 ghost use Rattle.ae_cli.specs.Words.{AreNoCommand, IsOfRun, IsRefusedUsage, is_run};
 
 use ae_base::lists::Seq;
@@ -49,6 +49,8 @@ fn words_of(rt: &HostRuntime) -> io::Result<Seq<Txt>> {
 fn status_of(rt: &HostRuntime, words: &[Txt]) -> Status
     ensures usage { AreNoCommand words.now → IsRefusedUsage result }
     ensures run { is_run words.now ≡ true → IsOfRun result }
+    // The server in this process gives no reply that isn't awaited.
+    ensures awaited { is_run words.now ≡ true → (place : ℕ) → ¬ (result ≡ Status.BadReply place) }
 {
     let alloc = rt.alloc();
     let Ok(mut vault) = FolderVault::new(alloc, rt, "keys") else {

@@ -103,7 +103,7 @@ printed comes (BadReply n) outs wanted h = absurd h
 
 -- ---- small facts
 
-types_sent : (columns : List ResultColumn) → map (λ (c : SentColumn). let t : ColumnType = record { ty = c.ty; enc = c.enc } in t) (map sent_column columns) ≡ types_shown columns
+pub types_sent : (columns : List ResultColumn) → map (λ (c : SentColumn). let t : ColumnType = record { ty = c.ty; enc = c.enc } in t) (map sent_column columns) ≡ types_shown columns
 types_sent [] = refl
 types_sent (c ∷ cs) = ap (λ ts. record { ty = c.ty; enc = c.enc } ∷ ts) (types_sent cs)
 
@@ -111,14 +111,14 @@ titles_sent : (columns : List ResultColumn) → map (λ (c : SentColumn). c.titl
 titles_sent [] = refl
 titles_sent (c ∷ cs) = ap (λ ts. c.title ∷ ts) (titles_sent cs)
 
-whole_count : (rows : List (List Atom)) → length rows ≡ 0 + length rows
+pub whole_count : (rows : List (List Atom)) → length rows ≡ 0 + length rows
 whole_count rows = omega arith
 
 stays : (w : World) (r : Result engine.Done SqlFault) (f : SqlFault) → (engine.outcome w r).answer ≡ Err f → (engine.outcome w r).world ≡ w
 stays w (Ok done) f e = absurd cc
 stays w (Err g) f e = refl
 
-has_master : (catalog : Catalog) (s : BoundStatement) → ((name master wrapped : List ℕ) → s ≡ bound.CreateKey name master wrapped → IsSome (master_named catalog master)) → HasMaster catalog s
+pub has_master : (catalog : Catalog) (s : BoundStatement) → ((name master wrapped : List ℕ) → s ≡ bound.CreateKey name master wrapped → IsSome (master_named catalog master)) → HasMaster catalog s
 has_master catalog (bound.CreateMaster name path) h = tt
 has_master catalog (bound.CreateKey name master wrapped) h = h name master wrapped refl
 has_master catalog (bound.CreateTable table) h = tt

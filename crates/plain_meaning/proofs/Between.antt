@@ -94,7 +94,7 @@ none_held catalog (suc n) = (tt, none_held catalog n)
 
 -- ---- from the beginning
 
-nothing_kept : IsCatalog nothing_defined
+pub nothing_kept : IsCatalog nothing_defined
 nothing_kept = record {
   masters_differ = λ i j d lt within. absurd (omega arith);
   keys_differ = λ i j d lt within. absurd (omega arith);

@@ -1,4 +1,6 @@
 mod Agreement
+mod Awaiting
+mod ItsOwn
 mod Between
 mod Growing
 mod History

@@ -72,7 +72,7 @@ within_so (datum.Bin bytes) ty.BigInt h = absurd cc
 within_so (datum.Bin bytes) (ty.NVarChar most) h = absurd cc
 within_so (datum.Bin bytes) (ty.VarBinary most) h = grind (arith, nat_tests)
 
-of_type : (t : Ty) (d : Datum) → is_within d t ≡ true → IsOfType t d
+pub of_type : (t : Ty) (d : Datum) → is_within d t ≡ true → IsOfType t d
 of_type ty.Int (datum.Num n) h = within_32 n h
 of_type ty.Int (datum.Text characters) h = absurd cc
 of_type ty.Int (datum.Bin bytes) h = absurd cc

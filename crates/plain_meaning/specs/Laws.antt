@@ -11,6 +11,7 @@ use Rattle.conversation.specs.Sessions.{nobody}
 use Rattle.conversation.specs.declared.outcomes.Outcome.{Outcome}
 use Rattle.script_lang.specs.Limits.{IsProperStep, IsWithinLimits}
 use Rattle.script_lang.specs.declared.steps.Step.{Step}
+use Rattle.plain_meaning.specs.Awaits.{Awaits}
 use Rattle.plain_meaning.specs.Reference.{reference}
 use Rattle.plain_meaning.specs.Steps.{talk}
 
@@ -27,3 +28,7 @@ Agrees p wanted = EndsWith p.end p.outcomes wanted
 abbrev pub ServedIsPlain : Type 0
 ServedIsPlain = (keys : KeyMap) (steps : List Step) → All IsWithinLimits steps → All IsProperStep steps → (entropy : List ℕ) → AreBytes entropy
     → Agrees (over serve keys (talk steps nobody) 0 entropy empty_state []) (reference keys steps nobody empty_world)
+
+-- over the server each reply of a script's conversation is awaited, whatever keys are opened and whatever bytes are drawn
+abbrev pub RepliesAreAwaited : Type 0
+RepliesAreAwaited = (steps : List Step) → All IsWithinLimits steps → Awaits serve (talk steps nobody) empty_state []

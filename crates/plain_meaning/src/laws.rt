@@ -1,6 +1,6 @@
-//! The law of the plaintext meaning: a function that does nothing, whose contract is the law.
+//! The laws of the plaintext meaning: functions that do nothing, whose contracts are the laws.
 
-ghost use Rattle.plain_meaning.specs.Laws.{ServedIsPlain};
+ghost use Rattle.plain_meaning.specs.Laws.{RepliesAreAwaited, ServedIsPlain};
 
 use catalog::laws::{definitions_are_followed, ids_are_not_reused, keys_are_told};
 use cell_codec::{derived_keys_are_keys, sealing_is_read_back, sealing_makes_cells};
@@ -34,4 +34,16 @@ pub fn served_is_plain()
     derived_keys_are_keys();
     norm_is_bounded();
     value_of_is_the_one();
+}
+
+/// Over a fresh server each reply of a script's conversation is awaited, and none is left, whatever
+/// keys are opened, or refused, and whatever bytes are drawn.
+pub fn replies_are_awaited()
+    ensures { RepliesAreAwaited }
+{
+    bound_statements_are();
+    typings_are_of_columns();
+    typed_statements_are_admitted();
+    step_keeps_worlds();
+    step_simulates();
 }

@@ -4,10 +4,12 @@ pub mod Framed
 pub mod Heeded
 pub mod Lacking
 pub mod Lent
+pub mod NoStray
 pub mod Passing
 pub mod Places
 pub mod Plainly
 pub mod Queued
+pub mod RunsAre
 pub mod Tapping
 pub mod Turning
 pub mod Waiting

@@ -29,7 +29,7 @@ use Rattle.script_run.specs.declared.runs.Ran.{Ran}
 use Rattle.script_run.specs.declared.runs.Ran.TheVariants as ran
 use Rattle.script_run.specs.declared.runs.Unread.TheVariants as unread
 use Rattle.script_run.specs.Ends.{Lent, outside, CameTo, RunsTo, IsScript, RunsSteps, RunsScript}
-use Rattle.script_run.specs.Plain.{meaning, PrintsPlain, IsDoneOrFault}
+use Rattle.script_run.specs.Plain.{meaning, PrintsPlain}
 use Rattle.script_run.proofs.Passing.{ahead, path_passes}
 use Rattle.script_run.proofs.Queued.{waits_of, lacks_after, stuck_queue, breaks_follow, never_unread, never_long}
 
@@ -54,7 +54,7 @@ text_front outcomes wanted h = record { rest = print h.rest; is = ap print h.is 
 
 -- ---- where it stands
 
-served : (events : List Event) (a b : Option State) (s : State) → a ≡ Some s → WhereTold (Serves events) a b → (v : State) × Serves events s v
+pub served : (events : List Event) (a b : Option State) (s : State) → a ≡ Some s → WhereTold (Serves events) a b → (v : State) × Serves events s v
 served events a (Some v) s e h = (v, subst (λ x. WhereTold (Serves events) x (Some v)) e h)
 served events a None s e h = let g : ⊥ = subst (λ x. WhereTold (Serves events) x None) e h in absurd g
 
@@ -233,23 +233,3 @@ runs_plain law (ran.Unread unread.ReadFault) keys bytes steps old new w k s h = 
 runs_plain law (ran.Unread unread.TooLong) keys bytes steps old new w k s h = ap (λ (x : Lent). x.out) h.1
 runs_plain law (ran.Unread (unread.BadLine line)) keys bytes steps old new w k s h = ap (λ (x : Lent). x.out) h.2
 runs_plain law (ran.Unread unread.OutOfMemory) keys bytes steps old new w k s h = ap (λ (x : Lent). x.out) h
-
-pub runs_whole : (law : ServedIsPlain) (r : Ran) (keys : KeyMap) (bytes : List ℕ) (steps : List Step) (old new : Lent) → old.state ≡ Some empty_state → old.keys ≡ Some keys
-    → IsScript bytes steps → RunsScript r bytes old new → IsDoneOrFault r
-runs_whole law ran.Done keys bytes steps old new w k s h = tt
-runs_whole law ran.Refusals keys bytes steps old new w k s h = tt
-runs_whole law (ran.Stopped (stop.BadReply place)) keys bytes steps old new w k s h = runs_plain law (ran.Stopped (stop.BadReply place)) keys bytes steps old new w k s h
-runs_whole law (ran.Stopped stop.ReadFault) keys bytes steps old new w k s h = runs_plain law (ran.Stopped stop.ReadFault) keys bytes steps old new w k s h
-runs_whole law (ran.Stopped stop.TooLong) keys bytes steps old new w k s h = runs_plain law (ran.Stopped stop.TooLong) keys bytes steps old new w k s h
-runs_whole law (ran.Stopped stop.EntropyFault) keys bytes steps old new w k s h = tt
-runs_whole law (ran.Stopped stop.VaultFault) keys bytes steps old new w k s h = tt
-runs_whole law (ran.Stopped stop.WriteFault) keys bytes steps old new w k s h = tt
-runs_whole law (ran.Stopped stop.OutOfMemory) keys bytes steps old new w k s h = tt
-runs_whole law (ran.Unread unread.ReadFault) keys bytes steps old new w k s h = tt
-runs_whole law (ran.Unread unread.TooLong) keys bytes steps old new w k s h = let a = s.within in let b = h.0 in absurd (omega arith)
-runs_whole law (ran.Unread (unread.BadLine line)) keys bytes steps old new w k s h = let a = s.read in let b = h.1 in cc
-runs_whole law (ran.Unread unread.OutOfMemory) keys bytes steps old new w k s h = tt
-
--- of the bytes that the source tells
-pub told_bytes : (left : Option (List ℕ)) (bytes given : List ℕ) → left ≡ Some bytes → IfSome left (λ xs. given ≡ xs) → given ≡ bytes
-told_bytes left bytes given e h = subst (λ w. IfSome w (λ xs. given ≡ xs)) e h

@@ -6,5 +6,6 @@ pub mod Heard
 pub mod Lines
 pub mod Onward
 pub mod Plain
+pub mod RunOf
 pub mod Statuses
 pub mod Transcript

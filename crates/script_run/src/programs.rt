@@ -2,15 +2,12 @@
 
 ghost use Rattle.std.specs.Prelude.{◌≡◌, ◌≤◌, ◌⊎◌, ℕ, List, Some, IfSome, length};
 ghost use Rattle.ae_edge.specs.Devices.{Rose, WhereTold};
-ghost use Rattle.ae_edge.specs.Vaults.{KeyMap};
 ghost use Rattle.server_core.specs.Serve.{empty_state};
-ghost use Rattle.script_lang.specs.declared.steps.Step.{Step};
 ghost use Rattle.run_words.specs.declared.stops.Stop.TheVariants as stop;
 ghost use Rattle.script_run.specs.declared.runs.Ran.TheVariants as ran;
 ghost use Rattle.script_run.specs.declared.runs.Unread.TheVariants as unread;
-ghost use Rattle.script_run.specs.Ends.{IsRead, IsScript, RunsScript, TakesScript, most_script_bytes};
-ghost use Rattle.script_run.specs.Plain.{PrintsPlain, IsDoneOrFault};
-ghost use Rattle.script_run.specs.Transcript.{TapsTranscript};
+ghost use Rattle.script_run.specs.Ends.{IsRead, RunsScript, TakesScript, most_script_bytes};
+ghost use Rattle.script_run.specs.RunOf.{IsRunOf};
 
 use crate::runs::{Ran, Unread, run_over};
 use ae_base::blobs::Blob;
@@ -19,7 +16,7 @@ use ae_edge::sinks::Sink;
 use ae_edge::sources::Source;
 use ae_edge::streams::{ReadAll, read_all};
 use ae_edge::vaults::Vault;
-use plain_meaning::laws::served_is_plain;
+use plain_meaning::laws::{replies_are_awaited, served_is_plain};
 use script_lang::scripts::{ScriptFault, read_script};
 use server_core::peers::Peer;
 use std::alloc::Global;
@@ -89,21 +86,16 @@ pub fn run<S: Source, V: Vault, E: Entropy, W: Sink, T: Sink, P: Peer>(
     tap: &mut T,
     peer: &mut P,
 ) -> Ran
-    // For every peer there are bytes, the source's where it tells them, of which this is a run: how far its conversation was followed,
-    // what stands at the text, at the tap, at the peer and at the other devices of it, and why it was followed no further.
-    ensures content { (bytes : List ℕ) × IfSome (S.left script.old) (λ left. bytes ≡ left) × RunsScript result bytes
+    // There are bytes, the source's where it tells them, of which this is a run. Over any peer: how far its conversation was followed,
+    // what stands at the text, at the tap, at the peer and at the other devices of it, and why it was followed no further (`content`).
+    // Over a peer that serves from the empty state: a good script is run to its end, unless memory or a device fails (`complete`); and
+    // with keys that are told, the text is plain SQL's over the same values, whatever columns are protected (`plain`), and the tap has
+    // the frames of the conversation over that server, with the cells sealed under the random bytes that were drawn (`transcript`).
+    ensures run { (bytes : List ℕ) × IfSome (S.left script.old) (λ left. bytes ≡ left) × IsRunOf result bytes
         (record { out = W.held out.old; tap = T.held tap.old; entropy = E.to_come entropy.old; keys = V.keys vault.old; log = P.log peer.old; state = P.state peer.old; out_faults = W.faults out.old; tap_faults = T.faults tap.old; entropy_faults = E.faults entropy.old; vault_faults = V.faults vault.old })
         (record { out = W.held out.new; tap = T.held tap.new; entropy = E.to_come entropy.new; keys = V.keys vault.new; log = P.log peer.new; state = P.state peer.new; out_faults = W.faults out.new; tap_faults = T.faults tap.new; entropy_faults = E.faults entropy.new; vault_faults = V.faults vault.new }) }
-    // Over a peer that serves from the empty state, with keys that are told, the text is plain SQL's over the same values, whatever
-    // columns are protected.
-    ensures plain { (keys : KeyMap) (bytes : List ℕ) (steps : List Step) → P.state peer.old ≡ Some empty_state → V.keys vault.old ≡ Some keys → S.left script.old ≡ Some bytes → IsScript bytes steps
-        → PrintsPlain result keys steps (W.held out.old) (W.held out.new) }
-    // And the tap has the frames of the conversation over that server, with the cells sealed under the random bytes that were drawn.
-    ensures transcript { (keys : KeyMap) (bytes : List ℕ) (steps : List Step) → P.state peer.old ≡ Some empty_state → V.keys vault.old ≡ Some keys → S.left script.old ≡ Some bytes → IsScript bytes steps
-        → TapsTranscript result keys steps (E.to_come entropy.old) (E.to_come entropy.new) (T.held tap.old) (T.held tap.new) }
-    // There a good script is run to its end, unless memory or a device fails: each reply is awaited.
-    ensures complete { (keys : KeyMap) (bytes : List ℕ) (steps : List Step) → P.state peer.old ≡ Some empty_state → V.keys vault.old ≡ Some keys → S.left script.old ≡ Some bytes → IsScript bytes steps
-        → IsDoneOrFault result }
+    // There each reply is awaited, whatever the devices tell.
+    ensures awaited { P.state peer.old ≡ Some empty_state → (place : ℕ) → ¬ (result ≡ ran.Stopped (stop.BadReply place)) }
     // What was taken of the script, by how it ended.
     ensures taken { WhereTold (TakesScript result) (S.left script.old) (S.left script.new) }
     // The faults of the outside come only where a count rose.
@@ -113,5 +105,6 @@ pub fn run<S: Source, V: Vault, E: Entropy, W: Sink, T: Sink, P: Peer>(
     ensures vault { result ≡ ran.Stopped stop.VaultFault → Rose (V.faults vault.old) (V.faults vault.new) }
 {
     served_is_plain();
+    replies_are_awaited();
     run_source(alloc, script, vault, entropy, out, tap, peer)
 }

@@ -1,4 +1,4 @@
-use Rattle.std.proofs.Common.{◌≡◌, refl, ap, ◌∙◌, encode_utf8_all}
+use Rattle.std.proofs.Common.{◌≡◌, refl, ap, ◌∙◌, encode_utf8_all, inl}
 use Rattle.std.specs.Str.{chars}
 use lib.Utf8.{encode}
 use Rattle.ae_cli.specs.Words.{usage_lines}
@@ -9,4 +9,4 @@ unfolding encode chars
 usage-characters = refl
 
 pub returns-in-Ok : goal.returns-in-Ok
-returns-in-Ok c = ap encode_utf8_all c.in-Ok.ensures ∙ usage-characters
+returns-in-Ok c = inl (_, refl, ap encode_utf8_all c.in-Ok.ensures ∙ usage-characters)

@@ -1,0 +1,104 @@
+-- A conversation that awaits each reply is never stuck on its way.
+use Rattle.std.proofs.Common.{◌≡◌, ℕ, ◌≤◌, List, [], ◌∷◌, ◌++◌, Option, Some, None, Err, Bool, false, refl, sym, subst, arith}
+use Rattle.std.specs.List.{All}
+use Rattle.ae_edge.specs.Devices.{WhereTold}
+use Rattle.wire_messages.specs.Exchanges.{Served}
+use Rattle.wire_messages.specs.declared.replies.Reply.{Reply}
+use Rattle.server_core.specs.Serve.{State, serve, empty_state}
+use Rattle.conversation.specs.Paths.{Event, Follows, stays, asks, takes_more, takes_last, strays, prints_last, draws, opens, prints, IsStray, Waits, next_of}
+use Rattle.conversation.specs.Sessions.{nobody}
+use Rattle.conversation.specs.Talk.{Talk, Ends, Stops, Asks, Hears, Draws, Opens, Prints, Heard, hear}
+use Rattle.conversation.specs.declared.outcomes.Listing.{Listing}
+use Rattle.conversation.specs.declared.sessions.Session.{Session}
+use Rattle.script_lang.specs.declared.steps.Step.{Step}
+use Rattle.plain_meaning.specs.Awaits.{IsHeardBy, IsHeard, Awaits}
+use Rattle.plain_meaning.specs.Laws.{RepliesAreAwaited}
+use Rattle.plain_meaning.specs.Steps.{talk}
+use Rattle.run_words.specs.Shares.{Outside, Serves}
+use Rattle.run_words.specs.Ways.{Fails, IsStuck}
+use Rattle.run_words.specs.declared.stops.Stop.TheVariants as stop
+use Rattle.script_run.specs.declared.runs.Ran.{Ran}
+use Rattle.script_run.specs.declared.runs.Ran.TheVariants as ran
+use Rattle.script_run.specs.declared.runs.Unread.TheVariants as unread
+use Rattle.script_run.specs.Ends.{Lent, outside, IsScript, RunsScript}
+use Rattle.script_run.specs.Plain.{IsDoneOrFault}
+use Rattle.script_run.proofs.Plainly.{served}
+use Rattle.script_run.proofs.Queued.{waits_of, lacks_after, stuck_queue, never_unread, never_long}
+
+heard_first : (P : Heard → List Reply → Type 0) (queue rest : List Reply) (reply : Reply) (session : Session) (shown : Listing) → queue ≡ reply ∷ rest → IsHeard P queue session shown
+    → IsHeardBy (λ after more. IsHeard P rest after more) (λ heard. P heard rest) (hear session shown reply)
+heard_first P queue rest reply session shown e a = subst (λ q. IsHeard P q session shown) e a
+
+none_stray : (P : Heard → List Reply → Type 0) (queue : List Reply) (next : Option Reply) (session : Session) (shown : Listing) → next_of queue ≡ next → IsStray session shown next → IsHeard P queue session shown → ⊥
+none_stray P [] next session shown e s a = a
+none_stray P (reply ∷ rest) next session shown e s a =
+    let m = subst (λ n. IsStray session shown n) (sym e) s in
+    subst (IsHeardBy (λ after more. IsHeard P rest after more) (λ heard. P heard rest)) m a
+
+-- what awaits each reply does so wherever it came
+pub path_awaits : (t u : Talk) (events : List Event) → Follows t events u → (queue left : List Reply) → Waits events queue left → (state after : State) → Serves events state after
+    → Awaits serve t state queue → Awaits serve u after left
+path_awaits _ _ _ (stays t) queue left q state after v a = rw (q, v) a
+path_awaits _ _ _ (asks request replies t u events h) queue left q state after v a =
+    path_awaits t u events h (queue ++ replies) left q v.0 after v.2 (subst (λ (s : Served State). Awaits serve t s.after (queue ++ s.replies)) v.1 a)
+path_awaits _ _ _ (takes_more session heard shown next f reply u events e h) queue left q state after v a =
+    let P : Heard → List Reply → Type 0 = λ heard left. Awaits serve (f heard) state left in
+    let b = subst (IsHeardBy (λ after more. IsHeard P q.0 after more) (λ heard. P heard q.0)) e (heard_first P queue q.0 reply session shown q.1 a) in
+    path_awaits (Hears heard next f) u events h q.0 left q.2 state after v b
+path_awaits _ _ _ (takes_last session shown f reply heard u events e h) queue left q state after v a =
+    let P : Heard → List Reply → Type 0 = λ heard left. Awaits serve (f heard) state left in
+    let b = subst (IsHeardBy (λ after more. IsHeard P q.0 after more) (λ heard. P heard q.0)) e (heard_first P queue q.0 reply session shown q.1 a) in
+    path_awaits (f heard) u events h q.0 left q.2 state after v b
+path_awaits _ _ _ (strays session shown f next u events s h) queue left q state after v a =
+    absurd (none_stray (λ heard left. Awaits serve (f heard) state left) queue next session shown q.0 s a)
+path_awaits _ _ _ (prints_last comes u events h) queue left q state after v a = absurd a
+path_awaits _ _ _ (draws f bytes u events n b h) queue left q state after v a = path_awaits (f bytes) u events h queue left q state after v (a bytes n b)
+path_awaits _ _ _ (opens meta f key u events h) queue left q state after v a = path_awaits (f key) u events h queue left q state after v (a key)
+path_awaits _ _ _ (prints comes t u events h) queue left q state after v a = path_awaits t u events h queue left q state after v a
+
+awaits_on : (t : Talk) (state : State) (left : List Reply) → Awaits serve t state left → IsStuck t left → ⊥
+awaits_on (Stops None) state left a h = a
+awaits_on (Stops (Some comes)) state left a h = h
+awaits_on (Ends sessions) state [] a h = h
+awaits_on (Ends sessions) state (reply ∷ left) a h = absurd cc
+awaits_on (Asks request t) state left a h = h
+awaits_on (Hears session shown f) state left a h = h
+awaits_on (Draws f) state left a h = h
+awaits_on (Opens meta f) state left a h = h
+awaits_on (Prints comes t) state left a h = h
+
+-- over a peer that serves from the empty state it isn't stopped by a reply
+none_bad : (steps : List Step) → Awaits serve (talk steps nobody) empty_state [] → (place : ℕ) (old new : Outside) → old.wire.state ≡ Some empty_state → old.wire.waiting ≡ [] → old.wire.stream ≡ None
+    → Fails (stop.BadReply place) (talk steps nobody) old new → ⊥
+none_bad steps a place old new w q n h =
+    let g = h.goes in
+    let v = served g.events old.wire.state new.wire.state empty_state w g.put.wire.state in
+    let waits : Waits g.events [] new.wire.waiting = subst (λ x. Waits g.events x new.wire.waiting) q (waits_of g.events old.wire.stream new.wire.stream old.wire.waiting new.wire.waiting n g.read.wire.comes) in
+    awaits_on h.rest v.0 new.wire.waiting (path_awaits (talk steps nobody) h.rest g.events g.follows [] new.wire.waiting waits empty_state v.0 v.1 a) (stuck_queue (talk steps nobody) h.rest old new n g h.place.0)
+
+pub runs_awaited : (law : RepliesAreAwaited) (place : ℕ) (bytes : List ℕ) (old new : Lent) → old.state ≡ Some empty_state → RunsScript (ran.Stopped (stop.BadReply place)) bytes old new → ⊥
+runs_awaited law place bytes old new w h =
+    let c = h.runs.1 in
+    none_bad h.steps (law h.steps h.limits) place (outside c.out c.entropy c.vault c.wire false [] 0 old)
+    (outside c.out_after c.entropy_after c.vault_after c.wire_after h.runs.0 c.waiting c.taken new) w refl refl c.leads
+
+pub never_bad : (law : RepliesAreAwaited) (r : Ran) (place : ℕ) (bytes : List ℕ) (old new : Lent) → old.state ≡ Some empty_state → RunsScript r bytes old new → ¬ (r ≡ ran.Stopped (stop.BadReply place))
+never_bad law r place bytes old new w h e = runs_awaited law place bytes old new w (subst (λ r. RunsScript r bytes old new) e h)
+
+-- a good script is run to its end, or memory or a device fails
+pub runs_whole : (law : RepliesAreAwaited) (r : Ran) (bytes : List ℕ) (steps : List Step) (old new : Lent) → old.state ≡ Some empty_state → IsScript bytes steps → RunsScript r bytes old new → IsDoneOrFault r
+runs_whole law ran.Done bytes steps old new w s h = tt
+runs_whole law ran.Refusals bytes steps old new w s h = tt
+runs_whole law (ran.Stopped (stop.BadReply place)) bytes steps old new w s h = runs_awaited law place bytes old new w h
+runs_whole law (ran.Stopped stop.ReadFault) bytes steps old new w s h = never_unread _ _ refl h.runs.1.leads.1
+runs_whole law (ran.Stopped stop.TooLong) bytes steps old new w s h =
+    let c = h.runs.1 in
+    never_long _ _ (lacks_after (talk h.steps nobody) (outside c.out c.entropy c.vault c.wire false [] 0 old) (outside c.out_after c.entropy_after c.vault_after c.wire_after h.runs.0 c.waiting c.taken new) refl c.leads.0) c.leads.1
+runs_whole law (ran.Stopped stop.EntropyFault) bytes steps old new w s h = tt
+runs_whole law (ran.Stopped stop.VaultFault) bytes steps old new w s h = tt
+runs_whole law (ran.Stopped stop.WriteFault) bytes steps old new w s h = tt
+runs_whole law (ran.Stopped stop.OutOfMemory) bytes steps old new w s h = tt
+runs_whole law (ran.Unread unread.ReadFault) bytes steps old new w s h = tt
+runs_whole law (ran.Unread unread.TooLong) bytes steps old new w s h = let a = s.within in let b = h.0 in absurd (omega arith)
+runs_whole law (ran.Unread (unread.BadLine line)) bytes steps old new w s h = let a = s.read in let b = h.1 in cc
+runs_whole law (ran.Unread unread.OutOfMemory) bytes steps old new w s h = tt
