@@ -89,12 +89,12 @@ fn recorded(alloc: Global, script: &str) -> Result<MemSink, AllocError> {
 
 /// The frames of the requests that pass, and those of the replies.
 #[derive(Drop)]
-pub struct Passed {
+pub struct Recording {
     pub requests: Vec<u8>,
     pub replies: Vec<u8>,
 }
 
-fn apart(alloc: Global, frames: &[u8]) -> Result<Passed, AllocError> {
+fn apart(alloc: Global, frames: &[u8]) -> Result<Recording, AllocError> {
     let mut requests = Vec::new(alloc);
     let mut replies = Vec::new(alloc);
     let mut rest = frames;
@@ -110,11 +110,11 @@ fn apart(alloc: Global, frames: &[u8]) -> Result<Passed, AllocError> {
         frames.extend_from_slice(body)?;
         rest = behind.get(length..).unwrap_or(&[]);
     }
-    Ok(Passed { requests, replies })
+    Ok(Recording { requests, replies })
 }
 
 /// What passes when a script is run.
-pub fn passed(alloc: Global, script: &str) -> Result<Passed, AllocError> {
+pub fn passed(alloc: Global, script: &str) -> Result<Recording, AllocError> {
     let tap = recorded(alloc, script)?;
     apart(alloc, tap.bytes())
 }
