@@ -1,28 +1,26 @@
 -- One call after another: printing, asking, hearing, and what the driver does by itself.
-use Rattle.std.proofs.Common.{◌≡◌, ℕ, ◌+◌, ◌≤◌, List, [], ◌∷◌, ◌++◌, Option, Some, None, Result, Ok, Err, Bool, true, false, ◌||◌, length, map, refl, sym, ◌∙◌, ap, subst, append_assoc, append-nil, length-append, ◌⊎◌, inl, inr, arith}
+use Rattle.std.proofs.Common.{◌≡◌, ℕ, ◌≤◌, List, [], ◌∷◌, ◌++◌, Option, Some, None, Bool, true, false, ◌||◌, length, refl, sym, ◌∙◌, ap, subst, append-nil, inl, inr, arith}
 use Rattle.std.specs.Prelude.{flat_map, IfSome}
 use Rattle.std.specs.Borrow.{GName}
 use Rattle.ae_base.specs.declared.batches.KeyMeta.{KeyMeta}
-use Rattle.ae_edge.specs.Devices.{WhereTold, Adds, AddsFront, Rose}
+use Rattle.ae_edge.specs.Devices.{WhereTold, Adds, AddsFront}
 use Rattle.ae_edge.specs.Vaults.{KeyMap}
-use Rattle.ae_edge.proofs.Told.{told_same, adds_none, adds_front_none, removes_none}
+use Rattle.ae_edge.proofs.Told.{told_same, adds_none, removes_none}
 use Rattle.wire_messages.specs.declared.requests.Request.{Request}
 use Rattle.wire_messages.specs.declared.replies.Reply.{Reply}
-use Rattle.wire_spelling.specs.Spelling.{request_frame, reply_frame}
-use Rattle.server_core.specs.Serve.{State, serve}
+use Rattle.wire_spelling.specs.Spelling.{reply_frame}
+use Rattle.server_core.specs.Serve.{State}
 use Rattle.conversation.specs.declared.outcomes.Listing.{Listing}
 use Rattle.conversation.specs.declared.outcomes.Outcome.{Outcome}
 use Rattle.conversation.specs.declared.sessions.Session.{Session}
 use Rattle.conversation.specs.Devices.{Devices, AreOwn, HasShare}
 use Rattle.conversation.specs.Devices as own
-use Rattle.conversation.specs.Paths.{Event, Asked, Took, Strayed, Drew, Opened, Printed, Follows, stays, asks, takes_more, takes_last, strays, prints_last, prints, taken_in, drawn_in, outcome_in, Waits, OpensAll, IsStray, next_of}
-use Rattle.conversation.specs.Talk.{Talk, Ends, Stops, Asks, Hears, Draws, Opens, Prints, Heard, Hearing, More, Got, Missed, hear, broken}
+use Rattle.conversation.specs.Paths.{Event, Asked, Took, Strayed, Drew, Opened, Printed, Follows, stays, asks, takes_more, takes_last, strays, replies_to, taken_in, outcome_in, Waits, OpensAll, IsStray}
+use Rattle.conversation.specs.Talk.{Talk, Stops, Asks, Hears, Heard, More, Got, hear, broken}
 use Rattle.run_words.specs.Printing.{printed_outcome, is_refusal, has_refusal}
-use Rattle.run_words.specs.Shares.{Desk, Wire, Outside, Serves, DeskPut, WirePut, HasPut, WireRead, HasRead, text_of, frames_of, exchanges_of, devices_of, with_devices}
-use Rattle.run_words.specs.Ways.{Goes, Halts, Breaks, Fails, Leads, AsksInPart, TakesOne, IsFirst}
-use Rattle.run_words.specs.declared.stops.Stop.{Stop}
-use Rattle.run_words.specs.declared.stops.Stop.TheVariants as stop
-use Rattle.run_words.proofs.Going.{no_keys, same_state, desk_still, wire_still, nothing_put, nothing_read, stay, or_false, desk_front, wire_front, breaks_between, goes_then}
+use Rattle.run_words.specs.Shares.{Desk, Wire, Outside, Serves, Stream, Streams, Comes, IsNext, coming, DeskPut, WirePut, WireRead, text_of, frames_of, exchanges_of, devices_of, with_devices}
+use Rattle.run_words.specs.Ways.{Goes, Halts, Breaks, AsksInPart, TakesOne, IsNextOf, IsNextOn}
+use Rattle.run_words.proofs.Going.{desk_still, comes_still, stay, or_false, desk_front, wire_front, breaks_between}
 
 -- ---- events of the driver by itself leave text, tap and replies
 
@@ -87,6 +85,24 @@ own_waits (Took reply ∷ xs) h x = absurd h
 own_waits (Strayed next ∷ xs) h x = absurd h
 own_waits (Printed comes ∷ xs) h x = absurd h
 
+none_come : (xs : List Event) → AreOwn xs → flat_map replies_to xs ≡ []
+none_come [] h = refl
+none_come (Drew bytes ∷ xs) h = none_come xs h
+none_come (Opened meta key ∷ xs) h = none_come xs h
+none_come (Asked request replies ∷ xs) h = absurd h
+none_come (Took reply ∷ xs) h = absurd h
+none_come (Strayed next ∷ xs) h = absurd h
+none_come (Printed comes ∷ xs) h = absurd h
+
+own_streams : (xs : List Event) → AreOwn xs → (x : List ℕ) → Streams xs x x
+own_streams [] h x = refl
+own_streams (Drew bytes ∷ xs) h x = own_streams xs h x
+own_streams (Opened meta key ∷ xs) h x = own_streams xs h x
+own_streams (Asked request replies ∷ xs) h x = absurd h
+own_streams (Took reply ∷ xs) h x = absurd h
+own_streams (Strayed next ∷ xs) h x = absurd h
+own_streams (Printed comes ∷ xs) h x = absurd h
+
 added_none : {A : Type 0} (xs : List A) (a : Option (List A)) → xs ≡ [] → Adds xs a a
 added_none xs a e = subst (λ w. Adds w a a) (sym e) (adds_none a)
 
@@ -119,7 +135,7 @@ own_goes t u old x g = record {
   read = record {
     refused = or_false old.desk.refused ∙ ap (λ w. old.desk.refused || has_refusal w) (sym (no_outcomes g.events g.own));
     wire = record {
-      waiting = own_waits g.events g.own old.wire.waiting;
+      comes = comes_still g.events (none_come g.events g.own) (own_waits g.events g.own) (own_streams g.events g.own) old.wire.stream old.wire.waiting;
       taken = let e : length (flat_map reply_frame (flat_map taken_in g.events)) ≡ 0 = ap (λ w. length (flat_map reply_frame w)) (none_taken g.events g.own) in omega arith;
     };
   };
@@ -146,8 +162,40 @@ or_none false false = refl
 twice_nil : (xs : List ℕ) → (xs ++ []) ++ [] ≡ xs
 twice_nil xs = append-nil (xs ++ []) ∙ append-nil xs
 
-wire_printed : (comes : Outcome) (w : Wire) → WirePut Adds (Printed comes ∷ []) w w
+pub wire_printed : (comes : Outcome) (w : Wire) → WirePut Adds (Printed comes ∷ []) w w
 wire_printed comes w = record { names = refl; tap = adds_none w.tap; log = adds_none w.log; state = told_same (Serves (Printed comes ∷ [])) (λ x. refl) w.state; count = omega arith }
+
+module _ (comes : Outcome) (d : Desk) (out : Option (List ℕ)) (faults : ℕ) (names : List GName) (same : names ≡ d.out_names) (count : d.out_faults ≤ faults) where
+  pub desk_printed : Adds (printed_outcome comes) d.out out → (refused : Bool) → DeskPut Adds (Printed comes ∷ []) d (record d { out_names = names; out = out; refused = refused; out_faults = faults })
+  desk_printed h refused = record {
+    out_same = same;
+    entropy_same = refl;
+    vault_same = refl;
+    out = subst (λ w. Adds w d.out out) (sym (twice_nil (printed_outcome comes))) h;
+    entropy = removes_none d.entropy;
+    keys = refl;
+    opened = keys_printed comes d.keys;
+    out_count = count;
+    entropy_count = omega arith;
+    vault_count = omega arith;
+  }
+
+  pub desk_cut : AddsFront (printed_outcome comes) d.out out → DeskPut AddsFront (Printed comes ∷ []) d (record d { out_names = names; out = out; out_faults = faults })
+  desk_cut h = record {
+    out_same = same;
+    entropy_same = refl;
+    vault_same = refl;
+    out = subst (λ w. AddsFront w d.out out) (sym (twice_nil (printed_outcome comes))) h;
+    entropy = removes_none d.entropy;
+    keys = refl;
+    opened = keys_printed comes d.keys;
+    out_count = count;
+    entropy_count = omega arith;
+    vault_count = omega arith;
+  }
+
+pub printed_read : (comes : Outcome) (w : Wire) → WireRead (Printed comes ∷ []) w w
+printed_read comes w = record { comes = comes_still (Printed comes ∷ []) refl (λ x. refl) (λ x. refl) w.stream w.waiting; taken = omega arith }
 
 module _ (comes : Outcome) (t u : Talk) (follows : Follows t (Printed comes ∷ []) u) (old : Outside) (out : Option (List ℕ)) (faults : ℕ) (names : List GName)
     (same : names ≡ old.desk.out_names) (count : old.desk.out_faults ≤ faults) where
@@ -157,21 +205,10 @@ module _ (comes : Outcome) (t u : Talk) (follows : Follows t (Printed comes ∷ 
     events = Printed comes ∷ [];
     follows = follows;
     put = record {
-      desk = record {
-        out_same = same;
-        entropy_same = refl;
-        vault_same = refl;
-        out = subst (λ w. Adds w old.desk.out out) (sym (twice_nil (printed_outcome comes))) h;
-        entropy = removes_none old.desk.entropy;
-        keys = refl;
-        opened = keys_printed comes old.desk.keys;
-        out_count = count;
-        entropy_count = omega arith;
-        vault_count = omega arith;
-      };
+      desk = desk_printed comes old.desk out faults names same count h refused;
       wire = wire_printed comes old.wire;
     };
-    read = record { refused = r ∙ sym (or_none old.desk.refused (is_refusal comes)); wire = record { waiting = refl; taken = omega arith } };
+    read = record { refused = r ∙ sym (or_none old.desk.refused (is_refusal comes)); wire = printed_read comes old.wire };
   }
 
   pub printed_breaks : AddsFront (printed_outcome comes) old.desk.out out
@@ -183,20 +220,9 @@ module _ (comes : Outcome) (t u : Talk) (follows : Follows t (Printed comes ∷ 
     last = Printed comes ∷ [];
     goes = stay t old;
     one = omega arith;
-    follows = follows;
+    follows = inl follows;
     put = record {
-      desk = record {
-        out_same = same;
-        entropy_same = refl;
-        vault_same = refl;
-        out = subst (λ w. AddsFront w old.desk.out out) (sym (twice_nil (printed_outcome comes))) h;
-        entropy = removes_none old.desk.entropy;
-        keys = refl;
-        opened = keys_printed comes old.desk.keys;
-        out_count = count;
-        entropy_count = omega arith;
-        vault_count = omega arith;
-      };
+      desk = desk_cut comes old.desk out faults names same count h;
       wire = wire_front (Printed comes ∷ []) old.wire old.wire (wire_printed comes old.wire);
     };
   }
@@ -240,7 +266,7 @@ asked_breaks request t old wire (inl h) = record {
   last = [];
   goes = stay (Asks request t) old;
   one = omega arith;
-  follows = stays (Asks request t);
+  follows = inl (stays (Asks request t));
   put = record { desk = desk_front [] old.desk old.desk (desk_still old.desk); wire = h };
 }
 asked_breaks request t old wire (inr h) = record {
@@ -250,7 +276,7 @@ asked_breaks request t old wire (inr h) = record {
   last = Asked request h.0 ∷ [];
   goes = stay (Asks request t) old;
   one = omega arith;
-  follows = asks request h.0 t t [] (stays t);
+  follows = inl (asks request h.0 t t [] (stays t));
   put = record { desk = desk_front (Asked request h.0 ∷ []) old.desk old.desk (desk_asked request h.0 old.desk); wire = h.1 };
 }
 
@@ -298,9 +324,17 @@ keys_strayed : (next : Option Reply) (keys : Option KeyMap) → IfSome keys (Ope
 keys_strayed next None = tt
 keys_strayed next (Some keys) = tt
 
+streams_strayed : (next : Option Reply) (bytes : Option (List ℕ)) → IfSome bytes (IsNext next) → WhereTold (Streams (Strayed next ∷ [])) bytes bytes
+streams_strayed next None h = tt
+streams_strayed next (Some bytes) h = (h, refl)
+
+comes_strayed : (next : Option Reply) (s : Option Stream) (waiting : List Reply) → IsNextOf next s waiting → Comes (Strayed next ∷ []) s s waiting waiting
+comes_strayed next None waiting h = (h, refl)
+comes_strayed next (Some s) waiting h = (refl, streams_strayed next (coming s) h, omega arith)
+
 -- the next reply isn't awaited, or none is there
 pub strayed_goes : (session : Session) (shown : Listing) (f : Heard → Talk) (next : Option Reply) (old : Outside)
-    → IsStray session shown next → next_of old.wire.waiting ≡ next → Goes (Hears session shown f) (Stops (broken session shown)) old old
+    → IsStray session shown next → IsNextOn next old.wire → Goes (Hears session shown f) (Stops (broken session shown)) old old
 strayed_goes session shown f next old s e = record {
   events = Strayed next ∷ [];
   follows = strays session shown f next (Stops (broken session shown)) [] s (stays (Stops (broken session shown)));
@@ -319,5 +353,5 @@ strayed_goes session shown f next old s e = record {
     };
     wire = record { names = refl; tap = adds_none old.wire.tap; log = adds_none old.wire.log; state = told_same (Serves (Strayed next ∷ [])) (λ x. refl) old.wire.state; count = omega arith };
   };
-  read = record { refused = or_false old.desk.refused; wire = record { waiting = (e, refl); taken = omega arith } };
+  read = record { refused = or_false old.desk.refused; wire = record { comes = comes_strayed next old.wire.stream old.wire.waiting e; taken = omega arith } };
 }

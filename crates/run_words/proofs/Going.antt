@@ -1,22 +1,19 @@
 -- One way after another, with what all that a run touches has of them.
-use Rattle.std.proofs.Common.{◌≡◌, ℕ, ◌+◌, ◌≤◌, List, [], ◌∷◌, ◌++◌, Option, Some, None, Result, Ok, Err, Bool, true, false, ◌||◌, length, map, refl, sym, ◌∙◌, ap, subst, append_assoc, append-nil, length-append, ◌⊎◌, inl, inr, arith}
-use Rattle.std.specs.Prelude.{flat_map, IfSome, min, ◌-◌, ◌^◌}
-use Rattle.std.specs.List.{list_any}
+use Rattle.std.proofs.Common.{◌≡◌, ℕ, ◌+◌, ◌≤◌, List, [], ◌∷◌, ◌++◌, Option, Some, None, Result, Ok, Err, Bool, true, false, ◌||◌, length, refl, sym, ◌∙◌, ap, subst, length-append, ◌⊎◌, inl, inr, arith}
+use Rattle.std.specs.Prelude.{flat_map, IfSome}
 use Rattle.std.proofs.lemmas.List.Folds.{list_any-append}
 use Rattle.ae_edge.specs.Devices.{Rose, WhereTold, Adds, AddsFront}
 use Rattle.ae_edge.specs.Vaults.{KeyMap}
-use Rattle.ae_edge.proofs.Told.{told_then, told_same, adds_none, adds_then, adds_front_none, removes_none, removes_then, front_of, front_same}
-use Rattle.wire_messages.specs.Exchanges.{Served}
+use Rattle.ae_edge.proofs.Told.{told_then, told_same, adds_none, adds_then, removes_none, removes_then, front_of, front_same}
 use Rattle.wire_messages.specs.declared.replies.Reply.{Reply}
 use Rattle.wire_spelling.specs.Spelling.{reply_frame}
-use Rattle.server_core.specs.Serve.{State, serve}
-use Rattle.conversation.specs.Paths.{Event, Asked, Took, Strayed, Drew, Opened, Printed, Follows, stays, taken_in, drawn_in, outcome_in, Waits, OpensAll, next_of}
+use Rattle.server_core.specs.Serve.{State}
+use Rattle.conversation.specs.Paths.{Event, Asked, Took, Strayed, Drew, Opened, Printed, stays, replies_to, taken_in, drawn_in, outcome_in, Waits, OpensAll}
 use Rattle.conversation.specs.Talk.{Talk}
-use Rattle.conversation.specs.declared.outcomes.Outcome.{Outcome}
 use Rattle.conversation.proofs.Going.{flat_append, follows_then, opens_then}
 use Rattle.run_words.specs.Printing.{is_refusal, has_refusal}
-use Rattle.run_words.specs.Shares.{Desk, Wire, Outside, Serves, DeskPut, WirePut, HasPut, WireRead, HasRead, text_of, frames_of, exchanges_of}
-use Rattle.run_words.specs.Ways.{Goes, Halts, Breaks, Fails, Leads}
+use Rattle.run_words.specs.Shares.{Desk, Wire, Outside, Serves, Stream, Streams, Comes, coming, DeskPut, WirePut, HasPut, WireRead, HasRead, text_of, frames_of, exchanges_of}
+use Rattle.run_words.specs.Ways.{Goes, Halts, Lacks, Breaks, Fails, Leads, CantBeRead}
 use Rattle.run_words.specs.declared.stops.Stop.{Stop}
 use Rattle.run_words.specs.declared.stops.Stop.TheVariants as stop
 
@@ -28,6 +25,29 @@ waits_then (Strayed next ∷ xs) ys a b c p q = (p.0, waits_then xs ys a b c p.1
 waits_then (Drew bytes ∷ xs) ys a b c p q = waits_then xs ys a b c p q
 waits_then (Opened meta key ∷ xs) ys a b c p q = waits_then xs ys a b c p q
 waits_then (Printed comes ∷ xs) ys a b c p q = waits_then xs ys a b c p q
+
+streams_then : (xs ys : List Event) (a b c : List ℕ) → Streams xs a b → Streams ys b c → Streams (xs ++ ys) a c
+streams_then [] ys a b c p q = subst (λ w. Streams ys w c) p q
+streams_then (Asked request replies ∷ xs) ys a b c p q = streams_then xs ys a b c p q
+streams_then (Took reply ∷ xs) ys a b c p q = (p.0, streams_then xs ys p.0.rest b c p.1 q)
+streams_then (Strayed next ∷ xs) ys a b c p q = (p.0, streams_then xs ys a b c p.1 q)
+streams_then (Drew bytes ∷ xs) ys a b c p q = streams_then xs ys a b c p q
+streams_then (Opened meta key ∷ xs) ys a b c p q = streams_then xs ys a b c p q
+streams_then (Printed comes ∷ xs) ys a b c p q = streams_then xs ys a b c p q
+
+comes_then : (xs ys : List Event) (r s t : Option Stream) (a b c : List Reply) → Comes xs r s a b → Comes ys s t b c → Comes (xs ++ ys) r t a c
+comes_then xs ys None None None a b c p q = waits_then xs ys a b c p q
+comes_then xs ys (Some r) (Some s) (Some t) a b c p q =
+    let x = p.2 in
+    let y = q.2 in (
+      flat_append replies_to xs ys ∙ ap (λ w. w ++ flat_map replies_to ys) p.0 ∙ q.0,
+      told_then (Streams xs) (Streams ys) (Streams (xs ++ ys)) (streams_then xs ys) (coming r) (coming s) (coming t) p.1 q.1,
+      omega arith,
+    )
+comes_then xs ys None None (Some t) a b c p q = absurd q
+comes_then xs ys None (Some s) t a b c p q = absurd p
+comes_then xs ys (Some r) None t a b c p q = absurd p
+comes_then xs ys (Some r) (Some s) None a b c p q = absurd q
 
 serves_then : (xs ys : List Event) (a b c : State) → Serves xs a b → Serves ys b c → Serves (xs ++ ys) a c
 serves_then [] ys a b c p q = subst (λ w. Serves ys w c) p q
@@ -93,7 +113,7 @@ taken_then xs ys =
 
 wire_read_then : (xs ys : List Event) (a b c : Wire) → WireRead xs a b → WireRead ys b c → WireRead (xs ++ ys) a c
 wire_read_then xs ys a b c p q = record {
-  waiting = waits_then xs ys a.waiting b.waiting c.waiting p.waiting q.waiting;
+  comes = comes_then xs ys a.stream b.stream c.stream a.waiting b.waiting c.waiting p.comes q.comes;
   taken =
       let e : c.taken ≡ (a.taken + taken_bytes xs) + taken_bytes ys = q.taken ∙ ap (λ n. n + taken_bytes ys) p.taken in
       let f = taken_then xs ys in
@@ -146,8 +166,17 @@ pub or_false : (a : Bool) → a ≡ a || false
 or_false true = refl
 or_false false = refl
 
+-- events that touch no reply
+pub comes_still : (events : List Event) → flat_map replies_to events ≡ [] → ((x : List Reply) → Waits events x x) → ((x : List ℕ) → Streams events x x) → (s : Option Stream) (waiting : List Reply)
+    → Comes events s s waiting waiting
+comes_still events n w b None waiting = w waiting
+comes_still events n w b (Some s) waiting = (n, told_same (Streams events) b (coming s), omega arith)
+
+pub wire_unread : (a : Wire) → WireRead [] a a
+wire_unread a = record { comes = comes_still [] refl (λ x. refl) (λ x. refl) a.stream a.waiting; taken = omega arith }
+
 pub nothing_read : (a : Outside) → HasRead [] a a
-nothing_read a = record { refused = or_false a.desk.refused; wire = record { waiting = refl; taken = omega arith } }
+nothing_read a = record { refused = or_false a.desk.refused; wire = wire_unread a.wire }
 
 pub stay : (t : Talk) (a : Outside) → Goes t t a a
 stay t a = record { events = []; follows = stays t; put = nothing_put a; read = nothing_read a }
@@ -211,7 +240,7 @@ breaks_between t u a b p = record {
   last = [];
   goes = p;
   one = omega arith;
-  follows = stays u;
+  follows = inl (stays u);
   put = record { desk = desk_front [] b.desk b.desk (desk_still b.desk); wire = wire_front [] b.wire b.wire (wire_still b.wire) };
 }
 
@@ -222,8 +251,21 @@ either_rose : (a b c x y z : ℕ) → a ≤ b → x ≤ y → Rose b c ⊎ Rose 
 either_rose a b c x y z p q (inl r) = inl (rose_before a b c p r)
 either_rose a b c x y z p q (inr r) = inr (rose_before x y z q r)
 
+lacks_then : (t u : Talk) (a b c : Outside) → Goes t u a b → Lacks u b c → Lacks t a c
+lacks_then t u a b c p l = record { between = l.between; mid = l.mid; goes = goes_then t u l.between a b l.mid p l.goes; awaits = l.awaits; put = l.put; read = l.read }
+
+unread_then : (xs : List Event) (r s t : Option Stream) (a b : List Reply) → Comes xs r s a b → CantBeRead s t → CantBeRead r t
+unread_then xs (Some r) (Some s) (Some t) a b p q = (rose_before r.faults s.faults t.faults p.2 q.0, q.1)
+unread_then xs (Some r) (Some s) None a b p q = absurd q
+unread_then xs (Some r) None t a b p q = absurd p
+unread_then xs None (Some s) t a b p q = absurd p
+unread_then xs None None (Some t) a b p q = absurd q
+unread_then xs None None None a b p q = absurd q
+
 pub fails_then : (s : Stop) (t u : Talk) (a b c : Outside) → Goes t u a b → Fails s u b c → Fails s t a c
 fails_then (stop.BadReply place) t u a b c p f = halts_then _ t u a b c p f
+fails_then stop.ReadFault t u a b c p f = (lacks_then t u a b c p f.0, unread_then p.events a.wire.stream b.wire.stream c.wire.stream a.wire.waiting b.wire.waiting p.read.wire.comes f.1)
+fails_then stop.TooLong t u a b c p f = (lacks_then t u a b c p f.0, f.1)
 fails_then stop.EntropyFault t u a b c p f = (halts_then _ t u a b c p f.0, rose_before a.desk.entropy_faults b.desk.entropy_faults c.desk.entropy_faults p.put.desk.entropy_count f.1)
 fails_then stop.VaultFault t u a b c p f = (halts_then _ t u a b c p f.0, rose_before a.desk.vault_faults b.desk.vault_faults c.desk.vault_faults p.put.desk.vault_count f.1)
 fails_then stop.WriteFault t u a b c p f = (

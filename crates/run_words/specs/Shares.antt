@@ -1,15 +1,15 @@
 -- What is told of all that a run touches, and what each device has of the events of a conversation.
-use Rattle.std.specs.Prelude.{◌≡◌, ℕ, ◌+◌, ◌≤◌, List, [], ◌∷◌, ◌++◌, length, flat_map, map, Option, IfSome, Bool, ◌||◌}
+use Rattle.std.specs.Prelude.{◌≡◌, ℕ, ◌+◌, ◌≤◌, List, [], ◌∷◌, ◌++◌, length, flat_map, Option, Some, None, IfSome, Bool, ◌||◌}
 use Rattle.std.specs.Borrow.{GName}
 use Rattle.ae_edge.specs.Devices.{WhereTold, Adds}
 use Rattle.ae_edge.specs.Vaults.{KeyMap}
+use Rattle.wire_messages.specs.Conditions.{IsReply}
 use Rattle.wire_messages.specs.Exchanges.{Exchange}
-use Rattle.wire_messages.specs.declared.requests.Request.{Request}
 use Rattle.wire_messages.specs.declared.replies.Reply.{Reply}
 use Rattle.wire_spelling.specs.Spelling.{request_frame, reply_frame}
 use Rattle.server_core.specs.Serve.{State, serve}
 use Rattle.conversation.specs.Devices.{Devices}
-use Rattle.conversation.specs.Paths.{Event, Asked, Took, Strayed, Drew, Opened, Printed, taken_in, drawn_in, outcome_in, Waits, OpensAll}
+use Rattle.conversation.specs.Paths.{Event, Asked, Took, Strayed, Drew, Opened, Printed, replies_to, taken_in, drawn_in, outcome_in, Waits, OpensAll}
 use Rattle.run_words.specs.Printing.{printed_outcome, has_refusal}
 
 -- this side: what it is lent, the text, the random bytes to come and the keys, where they are told, whether a refusal was
@@ -48,14 +48,22 @@ with_devices d x = record d {
   vault_names = x.vault_names;
 }
 
+-- replies that come as bytes: those that are held, those that are left, where they are told, and how often they couldn't be read
+pub record Stream : Type 0 where
+  pub held : List ℕ
+  pub left : Option (List ℕ)
+  pub faults : ℕ
+
 -- the other side: what it is lent, its frames, what was asked and answered and the state that it serves by, where they are
--- told; the replies that wait, how many bytes the frames of those that were taken have, and the count of faults
+-- told; the replies that wait, or the stream as which they come; how many bytes the frames of those that were taken have, and the count
+-- of faults
 pub record Wire : Type 0 where
   pub names : List (List GName)
   pub tap : Option (List ℕ)
   pub log : Option (List Exchange)
   pub state : Option State
   pub waiting : List Reply
+  pub stream : Option Stream
   pub taken : ℕ
   pub faults : ℕ
 
@@ -123,10 +131,48 @@ pub record HasPut (P : Puts) (events : List Event) (old new : Outside) : Type 0 
   pub desk : DeskPut P events old.desk new.desk
   pub wire : WirePut P events old.wire new.wire
 
+-- ---- replies that come as bytes
+
+-- all bytes that are to come, where they are told
+abbrev pub coming_behind : List ℕ → Option (List ℕ) → Option (List ℕ)
+coming_behind held (Some left) = Some (held ++ left)
+coming_behind held None = None
+
+abbrev pub coming : Stream → Option (List ℕ)
+coming s = coming_behind s.held s.left
+
+-- the frame of the reply stands first
+pub record Begins (reply : Reply) (bytes : List ℕ) : Type 0 where
+  pub rest : List ℕ
+  pub meets : IsReply reply
+  pub is : bytes ≡ reply_frame reply ++ rest
+
+-- the next reply's frame stands first, or that of none does
+abbrev pub IsNext : Option Reply → List ℕ → Type 0
+IsNext (Some reply) bytes = Begins reply bytes
+IsNext None bytes = (reply : Reply) → ¬ Begins reply bytes
+
+-- the frames of the replies are taken in order
+abbrev pub Streams : List Event → List ℕ → List ℕ → Type 0
+Streams [] old new = new ≡ old
+Streams (Took reply ∷ events) old new = (b : Begins reply old) × Streams events b.rest new
+Streams (Strayed next ∷ events) old new = IsNext next old × Streams events old new
+Streams (Asked request replies ∷ events) old new = Streams events old new
+Streams (Drew bytes ∷ events) old new = Streams events old new
+Streams (Opened meta key ∷ events) old new = Streams events old new
+Streams (Printed comes ∷ events) old new = Streams events old new
+
+-- the replies that wait are taken in order; or the frames of those that come as bytes, of which none comes with a request
+abbrev pub Comes : List Event → Option Stream → Option Stream → List Reply → List Reply → Type 0
+Comes events None None old new = Waits events old new
+Comes events (Some s) (Some t) old new = (flat_map replies_to events ≡ []) × WhereTold (Streams events) (coming s) (coming t) × (s.faults ≤ t.faults)
+Comes events None (Some t) old new = ⊥
+Comes events (Some s) None old new = ⊥
+
 -- ---- what was read: the replies in order, and the bytes of their frames; and whether a refusal was printed
 
 pub record WireRead (events : List Event) (old new : Wire) : Type 0 where
-  pub waiting : Waits events old.waiting new.waiting
+  pub comes : Comes events old.stream new.stream old.waiting new.waiting
   pub taken : new.taken ≡ old.taken + length (flat_map reply_frame (flat_map taken_in events))
 
 pub record HasRead (events : List Event) (old new : Outside) : Type 0 where

@@ -3,6 +3,10 @@
 pub enum Stop {
     /// The reply at this place among the bytes of the reply frames isn't awaited.
     BadReply(u64),
+    /// The replies couldn't be read.
+    ReadFault,
+    /// The replies are past their limit.
+    TooLong,
     /// The source of random bytes failed.
     EntropyFault,
     /// The vault failed.

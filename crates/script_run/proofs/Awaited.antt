@@ -1,5 +1,5 @@
 -- What is known of a session by what it answers.
-use Rattle.std.proofs.Common.{◌≡◌, ℕ, List, [], ◌∷◌, Option, Some, None, Result, Ok, Err, Bool, true, false, refl, sym, ◌∙◌, ap, subst}
+use Rattle.std.proofs.Common.{◌≡◌, ℕ, List, Option, Some, None, Result, Ok, Err, Bool, true, false, refl, sym, ◌∙◌, ap, subst}
 use Rattle.std.specs.Prelude.{IfSome, ◌+◌, ◌==◌, if◌then◌else◌}
 use Rattle.ae_base.specs.declared.batches.Batch.{Batch}
 use Rattle.ae_base.specs.declared.types.Enc.{Enc}
@@ -20,7 +20,6 @@ use Rattle.conversation.specs.declared.outcomes.Outcome.TheVariants as outcome
 use Rattle.conversation.specs.declared.sessions.ColumnType.{ColumnType}
 use Rattle.conversation.specs.declared.sessions.Session.{Session}
 use Rattle.conversation.specs.declared.sessions.Session.TheVariants.{Idle, Begun, Pending, Sent, Reading, Skipping}
-use Rattle.conversation.specs.declared.sessions.Turn.{Turn}
 use Rattle.conversation.specs.Cells.{is_row_of, read_atoms}
 use Rattle.conversation.specs.Devices.{Devices}
 use Rattle.conversation.specs.Sessions.{described, described_as, encs_of, Told, Tells, Shows, Stray, replied, sent_ended, rows_ended, row_read}

@@ -1,5 +1,5 @@
 -- Frames on the tap, one after another; and a request that is asked, whole or in part.
-use Rattle.std.proofs.Common.{◌≡◌, ℕ, ◌+◌, ◌≤◌, ◌<◌, List, [], ◌∷◌, ◌++◌, Option, length, get_or, take, drop, refl, sym, ◌∙◌, ap, subst, append-nil, arith, inl, inr}
+use Rattle.std.proofs.Common.{◌≡◌, ℕ, ◌+◌, ◌≤◌, ◌<◌, List, [], ◌∷◌, ◌++◌, Option, None, length, get_or, take, drop, refl, sym, ◌∙◌, ap, subst, append-nil, arith, inl, inr}
 use Rattle.std.proofs.lemmas.List.{flat_map_more, take_more, take-append-drop, take_all}
 use Rattle.std.specs.Prelude.{flat_map}
 use Rattle.std.specs.Borrow.{GName}
@@ -7,7 +7,7 @@ use Rattle.ae_edge.specs.Devices.{WhereTold, Adds, AddsFront, IsFront, Rose}
 use Rattle.ae_edge.specs.Streams.{PutsAll}
 use Rattle.ae_edge.specs.declared.streams.PutAll.{PutAll}
 use Rattle.ae_edge.specs.declared.streams.PutAll.TheVariants as put
-use Rattle.ae_edge.proofs.Told.{told_map, adds_none, adds_then, adds_then_front, adds_front_then, adds_front_none, front_behind, front_longer}
+use Rattle.ae_edge.proofs.Told.{told_map, adds_none, adds_then, adds_then_front, adds_front_then, adds_front_none}
 use Rattle.wire_messages.specs.Exchanges.{Exchange}
 use Rattle.wire_messages.specs.declared.replies.Reply.{Reply}
 use Rattle.wire_messages.specs.declared.requests.Request.{Request}
@@ -15,12 +15,13 @@ use Rattle.wire_spelling.specs.Spelling.{request_frame, reply_frame}
 use Rattle.server_core.specs.Serve.{State, serve}
 use Rattle.conversation.specs.Paths.{Asked}
 use Rattle.conversation.proofs.Going.{flat_append}
-use Rattle.run_words.specs.Shares.{Wire, WirePut, WireRead, Serves, frames_of}
+use Rattle.run_words.specs.Shares.{Wire, Serves}
 use Rattle.run_words.specs.Ways.{AsksInPart}
 use Rattle.run_words.proofs.Going.{same_state}
 use Rattle.script_run.specs.declared.lines.Sent.TheVariants as sent
 use Rattle.script_run.specs.Frames.{PutsBytes}
 use Rattle.script_run.specs.Lines.{Sends}
+use Rattle.script_run.proofs.Queued.{queued}
 
 -- one more frame
 next_frame : (replies : List Reply) (i : ℕ) (reply d : Reply) → i < length replies → reply ≡ get_or replies i d
@@ -62,12 +63,12 @@ module _ (request : Request) (replies : List Reply) (old : Wire) (log : Option (
   one_served =
       told_map (λ x y. serve x request ≡ record { replies = replies; after = y }) (Serves (Asked request replies ∷ [])) (λ x y e. (y, e, refl)) old.state state served
 
-  pub asked_whole : Adds (request_frame request ++ flat_map reply_frame replies) old.tap tap → (waiting : List Reply) → waiting ≡ old.waiting ++ replies
+  pub asked_whole : Adds (request_frame request ++ flat_map reply_frame replies) old.tap tap → (waiting : List Reply) → old.stream ≡ None → waiting ≡ old.waiting ++ replies
       → Sends sent.Whole request old (record old { names = names; tap = tap; log = log; state = state; waiting = waiting; faults = faults })
-  asked_whole h waiting w = (
+  asked_whole h waiting q w = (
     replies,
     record { names = same; tap = subst (λ w. Adds w old.tap tap) (sym (append-nil (request_frame request ++ flat_map reply_frame replies))) h; log = logged; state = one_served; count = count },
-    record { waiting = w; taken = omega arith },
+    record { comes = queued (Asked request replies ∷ []) old.stream old.waiting waiting q w; taken = omega arith },
   )
 
   pub asked_part : AddsFront (request_frame request ++ flat_map reply_frame replies) old.tap tap → (waiting : List Reply)

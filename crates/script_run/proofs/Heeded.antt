@@ -1,11 +1,10 @@
 -- A reply is heard, or it isn't awaited.
-use Rattle.std.proofs.Common.{◌≡◌, ℕ, ◌+◌, ◌≤◌, List, [], ◌∷◌, ◌++◌, Option, Some, None, Result, Ok, Err, Bool, true, false, length, refl, sym, ◌∙◌, ap, subst, append-nil, arith}
-use Rattle.std.specs.Prelude.{◌<◌, IfOk, MatchResult}
-use Rattle.std.specs.Borrow.{GName}
-use Rattle.ae_edge.specs.Devices.{Adds, AddsFront, Rose}
+use Rattle.std.proofs.Common.{◌≡◌, ℕ, List, [], ◌∷◌, ◌++◌, Option, Some, None, Result, Ok, Err, length, refl, sym, ◌∙◌, ap, subst, append-nil, append_assoc, arith, inl}
+use Rattle.std.specs.Prelude.{◌<◌, flat_map, IfOk, IfSome, MatchResult}
 use Rattle.ae_edge.proofs.Told.{told_map, front_of, front_same}
 use Rattle.hmac_kdf.specs.Keys.{Keys}
 use Rattle.wire_messages.specs.Messages.{Header}
+use Rattle.wire_spelling.specs.Spelling.{reply_frame}
 use Rattle.wire_messages.specs.declared.replies.Done.{Done}
 use Rattle.wire_messages.specs.declared.replies.Done.TheVariants as done
 use Rattle.wire_messages.specs.declared.requests.Request.{Request}
@@ -21,73 +20,62 @@ use Rattle.conversation.specs.declared.outcomes.Listing.{Listing}
 use Rattle.conversation.specs.declared.outcomes.Outcome.{Outcome}
 use Rattle.conversation.specs.declared.outcomes.Outcome.TheVariants as outcome
 use Rattle.conversation.specs.declared.sessions.Session.{Session}
-use Rattle.conversation.specs.declared.sessions.Session.TheVariants.{Idle, Begun, Pending, Sent, Reading, Skipping}
+use Rattle.conversation.specs.declared.sessions.Session.TheVariants.{Idle, Sent, Reading, Skipping}
 use Rattle.conversation.specs.Devices.{Devices}
 use Rattle.conversation.specs.Devices as own
-use Rattle.conversation.specs.Paths.{Event, Took, Printed, Follows, stays, prints_last, IsStray, next_of}
-use Rattle.conversation.specs.Sessions.{described, Told, Tells, Shows, Stray, replied, sent_ended, titles_of, types_of}
-use Rattle.conversation.specs.Talk.{Talk, Ends, Stops, Hears, Prints, Heard, Said, Shown, Hearing, More, Got, Missed, hear, heard_answer, broken, nothing_shown, described_outcome}
-use Rattle.conversation.specs.Turns.{opening, reading, answered_on, rows_on, rested}
+use Rattle.conversation.specs.Paths.{Took, stays, IsStray, next_of}
+use Rattle.conversation.specs.Sessions.{Tells, Stray, replied, sent_ended, titles_of, types_of}
+use Rattle.conversation.specs.Talk.{Talk, Stops, Hears, Prints, Heard, Said, Shown, Got, hear, heard_answer, broken, nothing_shown, described_outcome}
+use Rattle.conversation.specs.Turns.{reading, answered_on, rows_on, rested}
 use Rattle.driver.specs.Calls.{SaysAs, ShowsAs, HaltsAs, IsSent, Replies}
-use Rattle.run_words.specs.Printing.{printed_listing}
-use Rattle.run_words.specs.Shares.{Desk, Wire, Outside, Serves, DeskPut, WirePut, HasPut, devices_of, with_devices}
-use Rattle.run_words.specs.Ways.{Goes, Halts, Breaks, Fails, Leads, IsStuck, IsFirst, TakesOne}
+use Rattle.run_words.specs.Shares.{Stream, Wire, Outside, Serves, Begins, IsNext, coming_behind, devices_of, with_devices}
+use Rattle.run_words.specs.Ways.{Goes, Breaks, Fails, Leads, IsStuckOn, IsFirstOf, IsFirst, IsNextOf, IsNextOn, TakesOne}
 use Rattle.run_words.specs.declared.stops.Stop.{Stop}
 use Rattle.run_words.specs.declared.stops.Stop.TheVariants as stop
-use Rattle.run_words.proofs.Going.{stay, or_false, desk_still, desk_front, breaks_between, breaks_then, goes_then, fails_then}
-use Rattle.run_words.proofs.Calls.{own_goes, own_halts, own_breaks, printed_goes, printed_breaks, heard_more, heard_last, strayed_goes}
+use Rattle.run_words.proofs.Going.{stay, or_false, desk_still, desk_front, wire_still, wire_unread, breaks_between, goes_then, fails_then}
+use Rattle.run_words.proofs.Calls.{own_goes, own_halts, own_breaks, heard_more, heard_last, strayed_goes}
 use Rattle.script_run.specs.declared.around.First.{First}
 use Rattle.script_run.specs.declared.around.First.TheVariants as first
 use Rattle.script_run.specs.declared.around.RowHeard.{RowHeard}
 use Rattle.script_run.specs.declared.around.RowHeard.TheVariants as row
 use Rattle.script_run.specs.Heard.{FirstIs, HeardAs, stop_of}
-use Rattle.script_run.specs.Onward.{IsRows, IsLeft, RowsStay, shown_first, first_on, row_on}
+use Rattle.script_run.specs.Lines.{Rests}
+use Rattle.script_run.specs.Onward.{IsRows, RowsStay, shown_first, first_on, row_on}
 use Rattle.script_run.proofs.Awaited.{TellsRows, tells_rows, says_told, halts_told, hears_rows, rows_stay}
 
-pub none_next : (waiting : List Reply) → waiting ≡ [] → next_of waiting ≡ None
-none_next waiting e = ap next_of e
+-- ---- the reply that stands first
 
-pub first_next : (r : Reply) (waiting : List Reply) → IsFirst r waiting → next_of waiting ≡ Some r
-first_next r waiting h = ap next_of h.1
+begins_next : (r : Reply) (held : List ℕ) (left : Option (List ℕ)) → Begins r held → IfSome (coming_behind held left) (IsNext (Some r))
+begins_next r held (Some left) b = record { rest = b.rest ++ left; meets = b.meets; is = ap (λ w. w ++ left) b.is ∙ append_assoc (reply_frame r) b.rest left }
+begins_next r held None b = tt
+
+first_of_next : (r : Reply) (s : Option Stream) (waiting : List Reply) → IsFirstOf r s waiting → IsNextOf (Some r) s waiting
+first_of_next r None waiting h = ap next_of h.1
+first_of_next r (Some s) waiting h = begins_next r s.held s.left h
+
+pub first_next : (r : Reply) (wire : Wire) → IsFirst r wire → IsNextOn (Some r) wire
+first_next r wire h = first_of_next r wire.stream wire.waiting h
+
+-- the wire rests
+pub rests_goes : (t : Talk) (x : Outside) (wire : Wire) → Rests x.wire wire → Goes t t x (record x { wire = wire })
+rests_goes t x wire r = record { events = []; follows = stays t; put = record { desk = desk_still x.desk; wire = r.0 }; read = record { refused = or_false x.desk.refused; wire = r.1 } }
+
+pub rests_same : (wire : Wire) → Rests wire wire
+rests_same wire = (wire_still wire, wire_unread wire)
 
 -- ---- it isn't awaited, and nothing was shown
 
+pub stuck_stop : (s : Option Stream) (waiting : List Reply) → IsStuckOn (Stops None) s waiting
+stuck_stop None waiting = tt
+stuck_stop (Some s) waiting = tt
+
 pub missed : (session : Session) (shown : Listing) (f : Heard → Talk) (next : Option Reply) (x : Outside) (place : ℕ)
-    → broken session shown ≡ None → IsStray session shown next → next_of x.wire.waiting ≡ next → place ≡ x.wire.taken → Fails (stop.BadReply place) (Hears session shown f) x x
+    → broken session shown ≡ None → IsStray session shown next → IsNextOn next x.wire → place ≡ x.wire.taken → Fails (stop.BadReply place) (Hears session shown f) x x
 missed session shown f next x place b s e p = record {
   rest = Stops (broken session shown);
   goes = strayed_goes session shown f next x s e;
-  place = (subst (λ w. IsStuck (Stops w) x.wire.waiting) (sym b) tt, sym p);
+  place = (subst (λ w. IsStuckOn (Stops w) x.wire.stream x.wire.waiting) (sym b) (stuck_stop x.wire.stream x.wire.waiting), sym p);
 }
-
--- ---- or what was shown is printed
-
-module _ (session : Session) (shown : Listing) (f : Heard → Talk) (next : Option Reply) (x : Outside)
-    (b : broken session shown ≡ Some (outcome.Broken shown None)) (s : IsStray session shown next) (e : next_of x.wire.waiting ≡ next)
-    (out : Option (List ℕ)) (faults : ℕ) (names : List GName) (same : names ≡ x.desk.out_names) (count : x.desk.out_faults ≤ faults) where
-  away : Goes (Hears session shown f) (Stops (Some (outcome.Broken shown None))) x x
-  away = subst (λ w. Goes (Hears session shown f) (Stops w) x x) b (strayed_goes session shown f next x s e)
-
-  last : Follows (Stops (Some (outcome.Broken shown None))) (Printed (outcome.Broken shown None) ∷ []) (Stops None)
-  last = prints_last (outcome.Broken shown None) (Stops None) [] (stays (Stops None))
-
-  pub shown_printed : Adds (printed_listing shown) x.desk.out out → (place : ℕ) → place ≡ x.wire.taken
-      → Fails (stop.BadReply place) (Hears session shown f) x (record x { desk = record x.desk { out_names = names; out = out; out_faults = faults } })
-  shown_printed h place p = record {
-    rest = Stops None;
-    goes =
-        goes_then _ _ _ _ _ _ away
-        (printed_goes (outcome.Broken shown None) (Stops (Some (outcome.Broken shown None))) (Stops None) last x out faults names same count
-        (subst (λ w. Adds w x.desk.out out) (sym (append-nil (printed_listing shown))) h) x.desk.refused (or_false x.desk.refused));
-    place = (tt, sym p);
-  }
-
-  pub shown_cut : AddsFront (printed_listing shown) x.desk.out out
-      → Breaks (Hears session shown f) x (record x { desk = record x.desk { out_names = names; out = out; out_faults = faults } })
-  shown_cut h =
-      breaks_then _ _ _ _ _ away
-      (printed_breaks (outcome.Broken shown None) (Stops (Some (outcome.Broken shown None))) (Stops None) last x out faults names same count
-      (subst (λ w. AddsFront w x.desk.out out) (sym (append-nil (printed_listing shown))) h))
 
 -- ---- a description
 
@@ -183,7 +171,7 @@ took_breaks r t x wire h = record {
   last = [];
   goes = stay t x;
   one = omega arith;
-  follows = stays t;
+  follows = inl (stays t);
   put = record {
     desk = desk_front [] x.desk x.desk (desk_still x.desk);
     wire = record {
@@ -234,14 +222,6 @@ answer_halts k halt.OutOfMemory r x wire now old new one p = answer_fails k halt
 answer_halts k halt.VaultFault r x wire now old new one p = answer_fails k halt.VaultFault r x wire now one p.1
 answer_halts k halt.EntropyFault r x wire now old new one p = absurd p
 
-left_stuck : (sessions : List Session) (waiting : List Reply) → IsLeft waiting → IsStuck (Ends sessions) waiting
-left_stuck sessions [] h = absurd h
-left_stuck sessions (r ∷ waiting) h = tt
-
--- the conversation is at its end, and a reply is left
-pub stuck_at : (sessions : List Session) (t : Talk) (x y : Outside) (place : ℕ) → Goes t (Ends sessions) x y → IsLeft y.wire.waiting × (place ≡ y.wire.taken) → Fails (stop.BadReply place) t x y
-stuck_at sessions t x y place g h = record { rest = Ends sessions; goes = g; place = (left_stuck sessions y.wire.waiting h.0, sym h.1) }
-
 -- ---- the session after it
 
 pub is_sent : (answer : Result Request DriverFault) (after : Session) → IsSent (Ok answer) after → IfOk answer (λ request. after ≡ Sent)
@@ -279,7 +259,7 @@ first_rows (reply.Described d) a y after before now s e = absurd s
 pub after_same : (s : Stop) (t : Talk) (x y : Outside) (now : Devices) → now ≡ devices_of x.desk → Fails s t (record x { desk = with_devices x.desk now }) y → Fails s t x y
 after_same s t x y now e f = subst (λ w. Fails s t (record x { desk = with_devices x.desk w }) y) e f
 
-pub sent_stray : (k : Session → Talk) (r : Reply) (x : Outside) (now : Devices) (place : ℕ) → replied Sent r ≡ Stray → now ≡ devices_of x.desk → next_of x.wire.waiting ≡ Some r → place ≡ x.wire.taken
+pub sent_stray : (k : Session → Talk) (r : Reply) (x : Outside) (now : Devices) (place : ℕ) → replied Sent r ≡ Stray → now ≡ devices_of x.desk → IsNextOn (Some r) x.wire → place ≡ x.wire.taken
     → Fails (stop.BadReply place) (Hears Sent nothing_shown (answered_on k)) x (record x { desk = with_devices x.desk now })
 sent_stray k r x now place s d e p =
     subst (λ w. Fails (stop.BadReply place) (Hears Sent nothing_shown (answered_on k)) x (record x { desk = with_devices x.desk w })) (sym d)
@@ -320,16 +300,16 @@ rows_left session w shown more r a after before now says (Ok heard) e =
     rows_stay heard a after shown more (subst TellsRows d.0 (tells_rows session w r)) e
 rows_left session w shown more r a after before now says (Err s) e = tt
 
-one_less : (r : Reply) (old new : Wire) → TakesOne r old new → length new.waiting < length old.waiting
-one_less r old new h =
-    let q = h.read.waiting in
-    let a = ap length q.1 in
-    let b = ap length q.2 in
-    omega arith
+-- more bytes were taken
+frame_some : (r : Reply) → 0 < length (reply_frame r)
+frame_some r = omega arith
 
-pub less_left : {A : Type 0} (result : Result A Stop) (r : Reply) (old new : Wire) → TakesOne r old new → IfOk result (λ o. length new.waiting < length old.waiting)
-less_left (Ok x) r old new h = one_less r old new h
-less_left (Err s) r old new h = tt
+pub more_taken : (r : Reply) (old new : Wire) → TakesOne r old new → old.taken < new.taken
+more_taken r old new h =
+    let f = frame_some r in
+    let e = h.read.taken in
+    let l : length (flat_map reply_frame (r ∷ [])) ≡ length (reply_frame r) = ap length (append-nil (reply_frame r)) in
+    omega (arith, e, l, f)
 
 pub kept_so : {A : Type 0} (result : Result A Stop) (P : Type 0) → P → IfOk result (λ o. P)
 kept_so (Ok x) P p = p

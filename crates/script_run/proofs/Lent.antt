@@ -1,6 +1,5 @@
 -- What a run leaves of what it was lent.
-use Rattle.std.proofs.Common.{◌≡◌, ℕ, ◌+◌, ◌≤◌, List, [], ◌∷◌, ◌++◌, Option, Some, None, Result, Ok, Err, Bool, true, false, length, ◌⊎◌, refl, sym, ◌∙◌, ap, subst, append-nil, arith}
-use Rattle.std.specs.Prelude.{IfSome, IfOk}
+use Rattle.std.proofs.Common.{◌≡◌, ℕ, List, [], ◌∷◌, ◌++◌, Option, Result, Ok, Err, Bool, false, ◌⊎◌, sym, ◌∙◌, ap, subst, append-nil, arith}
 use Rattle.std.specs.List.{All}
 use Rattle.std.specs.Borrow.{GName}
 use Rattle.ae_edge.specs.Devices.{Rose, WhereTold}
@@ -9,11 +8,10 @@ use Rattle.ae_edge.specs.Streams.{ReadsAll}
 use Rattle.ae_edge.specs.declared.streams.ReadAll.TheVariants as read
 use Rattle.conversation.specs.Paths.{Event}
 use Rattle.conversation.specs.Sessions.{nobody}
-use Rattle.conversation.specs.Talk.{Talk, Ends}
-use Rattle.conversation.specs.declared.sessions.Session.{Session}
+use Rattle.conversation.specs.Talk.{Talk}
 use Rattle.plain_meaning.specs.Steps.{talk}
 use Rattle.run_words.specs.Shares.{Outside, Puts, HasPut}
-use Rattle.run_words.specs.Ways.{Goes, Breaks, Fails, Leads}
+use Rattle.run_words.specs.Ways.{Goes, Lacks, Breaks, Fails, Leads}
 use Rattle.run_words.specs.declared.stops.Stop.{Stop}
 use Rattle.run_words.specs.declared.stops.Stop.TheVariants as stop
 use Rattle.run_words.proofs.Going.{stay, breaks_between}
@@ -22,7 +20,7 @@ use Rattle.script_lang.specs.Limits.{IsProperStep, IsWithinLimits}
 use Rattle.script_run.specs.declared.runs.Ran.{Ran}
 use Rattle.script_run.specs.declared.runs.Ran.TheVariants as ran
 use Rattle.script_run.specs.declared.runs.Unread.TheVariants as unread
-use Rattle.script_run.specs.Ends.{Lent, outside, CameTo, RunsTo, RunsScript, TakesScript, IsScript, IsRead, most_script_bytes}
+use Rattle.script_run.specs.Ends.{Lent, outside, CameTo, RunsTo, RunsScript, TakesScript, IsScript, IsOfPeer, IsRead, most_script_bytes}
 
 -- ---- the same is lent after it
 
@@ -44,8 +42,16 @@ breaks_same t old new b =
     let q = put_same _ b.last b.mid new b.put in
     record { out = q.out ∙ p.out; entropy = q.entropy ∙ p.entropy; vault = q.vault ∙ p.vault; wire = q.wire ∙ p.wire }
 
+lacks_same : (t : Talk) (old new : Outside) → Lacks t old new → AreSame old new
+lacks_same t old new l =
+    let p = goes_same t l.between old l.mid l.goes in
+    let q = put_same _ _ l.mid new l.put in
+    record { out = q.out ∙ p.out; entropy = q.entropy ∙ p.entropy; vault = q.vault ∙ p.vault; wire = q.wire ∙ p.wire }
+
 fails_same : (s : Stop) (t : Talk) (old new : Outside) → Fails s t old new → AreSame old new
 fails_same (stop.BadReply place) t old new h = goes_same t h.rest old new h.goes
+fails_same stop.ReadFault t old new h = lacks_same t old new h.0
+fails_same stop.TooLong t old new h = lacks_same t old new h.0
 fails_same stop.EntropyFault t old new h = goes_same t h.0.rest old new h.0.goes
 fails_same stop.VaultFault t old new h = goes_same t h.0.rest old new h.0.goes
 fails_same stop.WriteFault t old new h = breaks_same t old new h.0
@@ -119,6 +125,19 @@ takes_whole r bytes old new w h = told_map (ReadsAll most_script_bytes (read.Who
 
 pub read_it : (r : Ran) → IsRead r → r ≡ ran.Unread unread.ReadFault → ⊥
 read_it r w e = subst IsRead e w
+
+-- a peer has no stream of replies
+pub of_peer : (r : Ran) (bytes : List ℕ) (old new : Lent) → RunsScript r bytes old new → IsOfPeer r
+of_peer ran.Done bytes old new h = tt
+of_peer ran.Refusals bytes old new h = tt
+of_peer (ran.Stopped (stop.BadReply place)) bytes old new h = tt
+of_peer (ran.Stopped stop.ReadFault) bytes old new h = let c = h.runs.1.leads in c.1
+of_peer (ran.Stopped stop.TooLong) bytes old new h = let c = h.runs.1.leads in c.1
+of_peer (ran.Stopped stop.EntropyFault) bytes old new h = tt
+of_peer (ran.Stopped stop.VaultFault) bytes old new h = tt
+of_peer (ran.Stopped stop.WriteFault) bytes old new h = tt
+of_peer (ran.Stopped stop.OutOfMemory) bytes old new h = tt
+of_peer (ran.Unread why) bytes old new h = tt
 
 -- ---- a count rose
 

@@ -1,11 +1,14 @@
 pub mod Awaited
+pub mod Fetched
 pub mod Framed
 pub mod Heeded
+pub mod Lacking
 pub mod Lent
 pub mod NoStray
 pub mod Passing
 pub mod Places
 pub mod Plainly
+pub mod Queued
 pub mod RunsAre
 pub mod Tapping
 pub mod Turning

@@ -23,6 +23,7 @@ use Rattle.script_run.specs.declared.runs.Unread.TheVariants as unread
 use Rattle.script_run.specs.Ends.{Lent, outside, IsScript, RunsScript}
 use Rattle.script_run.specs.Plain.{IsDoneOrFault}
 use Rattle.script_run.proofs.Plainly.{served}
+use Rattle.script_run.proofs.Queued.{waits_of, lacks_after, stuck_queue, never_unread, never_long}
 
 heard_first : (P : Heard → List Reply → Type 0) (queue rest : List Reply) (reply : Reply) (session : Session) (shown : Listing) → queue ≡ reply ∷ rest → IsHeard P queue session shown
     → IsHeardBy (λ after more. IsHeard P rest after more) (λ heard. P heard rest) (hear session shown reply)
@@ -67,19 +68,19 @@ awaits_on (Opens meta f) state left a h = h
 awaits_on (Prints comes t) state left a h = h
 
 -- over a peer that serves from the empty state it isn't stopped by a reply
-none_bad : (steps : List Step) → Awaits serve (talk steps nobody) empty_state [] → (place : ℕ) (old new : Outside) → old.wire.state ≡ Some empty_state → old.wire.waiting ≡ []
+none_bad : (steps : List Step) → Awaits serve (talk steps nobody) empty_state [] → (place : ℕ) (old new : Outside) → old.wire.state ≡ Some empty_state → old.wire.waiting ≡ [] → old.wire.stream ≡ None
     → Fails (stop.BadReply place) (talk steps nobody) old new → ⊥
-none_bad steps a place old new w q h =
+none_bad steps a place old new w q n h =
     let g = h.goes in
     let v = served g.events old.wire.state new.wire.state empty_state w g.put.wire.state in
-    let waits : Waits g.events [] new.wire.waiting = subst (λ x. Waits g.events x new.wire.waiting) q g.read.wire.waiting in
-    awaits_on h.rest v.0 new.wire.waiting (path_awaits (talk steps nobody) h.rest g.events g.follows [] new.wire.waiting waits empty_state v.0 v.1 a) h.place.0
+    let waits : Waits g.events [] new.wire.waiting = subst (λ x. Waits g.events x new.wire.waiting) q (waits_of g.events old.wire.stream new.wire.stream old.wire.waiting new.wire.waiting n g.read.wire.comes) in
+    awaits_on h.rest v.0 new.wire.waiting (path_awaits (talk steps nobody) h.rest g.events g.follows [] new.wire.waiting waits empty_state v.0 v.1 a) (stuck_queue (talk steps nobody) h.rest old new n g h.place.0)
 
 pub runs_awaited : (law : RepliesAreAwaited) (place : ℕ) (bytes : List ℕ) (old new : Lent) → old.state ≡ Some empty_state → RunsScript (ran.Stopped (stop.BadReply place)) bytes old new → ⊥
 runs_awaited law place bytes old new w h =
     let c = h.runs.1 in
     none_bad h.steps (law h.steps h.limits) place (outside c.out c.entropy c.vault c.wire false [] 0 old)
-    (outside c.out_after c.entropy_after c.vault_after c.wire_after h.runs.0 c.waiting c.taken new) w refl c.leads
+    (outside c.out_after c.entropy_after c.vault_after c.wire_after h.runs.0 c.waiting c.taken new) w refl refl c.leads
 
 pub never_bad : (law : RepliesAreAwaited) (r : Ran) (place : ℕ) (bytes : List ℕ) (old new : Lent) → old.state ≡ Some empty_state → RunsScript r bytes old new → ¬ (r ≡ ran.Stopped (stop.BadReply place))
 never_bad law r place bytes old new w h e = runs_awaited law place bytes old new w (subst (λ r. RunsScript r bytes old new) e h)
@@ -89,6 +90,10 @@ pub runs_whole : (law : RepliesAreAwaited) (r : Ran) (bytes : List ℕ) (steps :
 runs_whole law ran.Done bytes steps old new w s h = tt
 runs_whole law ran.Refusals bytes steps old new w s h = tt
 runs_whole law (ran.Stopped (stop.BadReply place)) bytes steps old new w s h = runs_awaited law place bytes old new w h
+runs_whole law (ran.Stopped stop.ReadFault) bytes steps old new w s h = never_unread _ _ refl h.runs.1.leads.1
+runs_whole law (ran.Stopped stop.TooLong) bytes steps old new w s h =
+    let c = h.runs.1 in
+    never_long _ _ (lacks_after (talk h.steps nobody) (outside c.out c.entropy c.vault c.wire false [] 0 old) (outside c.out_after c.entropy_after c.vault_after c.wire_after h.runs.0 c.waiting c.taken new) refl c.leads.0) c.leads.1
 runs_whole law (ran.Stopped stop.EntropyFault) bytes steps old new w s h = tt
 runs_whole law (ran.Stopped stop.VaultFault) bytes steps old new w s h = tt
 runs_whole law (ran.Stopped stop.WriteFault) bytes steps old new w s h = tt

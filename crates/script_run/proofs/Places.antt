@@ -1,16 +1,14 @@
 -- The steps that are left.
-use Rattle.std.proofs.Common.{◌≡◌, ℕ, ◌+◌, ◌-◌, ◌<◌, ◌≤◌, List, [], ◌∷◌, length, get_or, ◌++◌, drop, replicate, length-append, Result, Ok, Err, refl, sym, ◌∙◌, ap, subst, set-set, drop-cons, suc, add-one, arith}
+use Rattle.std.proofs.Common.{◌≡◌, ℕ, ◌+◌, ◌<◌, ◌≤◌, List, [], ◌∷◌, length, get_or, ◌++◌, drop, replicate, length-append, sym, ◌∙◌, ap, subst, drop-cons, suc, add-one}
 use Rattle.std.proofs.lemmas.List.{replicate_more}
 use Rattle.std.proofs.Math.ListN.{drop_of_length-le}
 use Rattle.conversation.specs.declared.sessions.Session.{Session}
 use Rattle.conversation.specs.declared.sessions.Session.TheVariants.{Idle}
-use Rattle.conversation.specs.Sessions.{session_at, with_session}
 use Rattle.conversation.specs.Talk.{Talk, Ends}
 use Rattle.run_words.specs.Shares.{Outside}
-use Rattle.run_words.specs.Ways.{Goes, Leads}
-use Rattle.run_words.specs.declared.stops.Stop.{Stop}
+use Rattle.run_words.specs.Ways.{Goes}
 use Rattle.script_lang.specs.declared.steps.Step.{Step}
-use Rattle.plain_meaning.specs.Steps.{number_of, turn, talk}
+use Rattle.plain_meaning.specs.Steps.{talk}
 
 split : (steps : List Step) (i : ℕ) (step d : Step) → i < length steps → step ≡ get_or steps i d → drop i steps ≡ step ∷ drop (i + 1) steps
 split steps i step d lt e = rw add-one (drop-cons steps i d lt ∙ ap (λ s. s ∷ drop (suc i) steps) (sym e))

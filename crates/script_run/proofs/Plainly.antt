@@ -3,14 +3,14 @@ use Rattle.std.proofs.Common.{◌≡◌, ◌≤◌, ℕ, ◌+◌, List, [], ◌�
 use Rattle.std.specs.Prelude.{flat_map, IfSome}
 use Rattle.std.specs.List.{All}
 use Rattle.aes_block.specs.Bytes.{AreBytes}
-use Rattle.ae_edge.specs.Devices.{WhereTold, Adds, AddsFront, GrewByFront, IsFront}
+use Rattle.ae_edge.specs.Devices.{WhereTold, Adds, AddsFront, IsFront}
 use Rattle.ae_edge.specs.Vaults.{KeyMap}
-use Rattle.ae_edge.proofs.Told.{told_then, told_map, front_then, front_behind, adds_then_front, adds_front_then, front_of}
+use Rattle.ae_edge.proofs.Told.{adds_then_front, adds_front_then, front_of}
 use Rattle.wire_messages.specs.declared.replies.Reply.{Reply}
 use Rattle.server_core.specs.Serve.{State, serve, empty_state}
 use Rattle.conversation.specs.declared.outcomes.Outcome.{Outcome}
 use Rattle.conversation.specs.declared.sessions.Session.{Session}
-use Rattle.conversation.specs.Drive.{End, Done, Dry, BadReply, Passed, over, end_at, stopped}
+use Rattle.conversation.specs.Drive.{End, Done, Dry, BadReply, Passed, over, end_at}
 use Rattle.conversation.specs.Paths.{Event, Asked, Took, Strayed, Drew, Opened, Printed, Follows, taken_in, drawn_in, outcome_in, Waits, OpensAll}
 use Rattle.conversation.specs.Sessions.{nobody}
 use Rattle.conversation.specs.Talk.{Talk, Ends, Stops, Asks, Hears, Draws, Opens, Prints}
@@ -31,12 +31,14 @@ use Rattle.script_run.specs.declared.runs.Unread.TheVariants as unread
 use Rattle.script_run.specs.Ends.{Lent, outside, CameTo, RunsTo, IsScript, RunsSteps, RunsScript}
 use Rattle.script_run.specs.Plain.{meaning, PrintsPlain}
 use Rattle.script_run.proofs.Passing.{ahead, path_passes}
+use Rattle.script_run.proofs.Queued.{waits_of, lacks_after, stuck_queue, breaks_follow, never_unread, never_long}
 
 -- a conversation over a peer that serves from the empty state, with keys that are told
 pub record Starts (map : KeyMap) (old : Outside) : Type 0 where
   pub state : old.wire.state ≡ Some empty_state
   pub keys : old.desk.keys ≡ Some map
   pub waiting : old.wire.waiting ≡ []
+  pub queue : old.wire.stream ≡ None
 
 -- ---- what was printed
 
@@ -44,7 +46,7 @@ flat_flat : {A B C : Type 0} (f : B → List C) (g : A → List B) (xs : List A)
 flat_flat f g [] = refl
 flat_flat f g (x ∷ xs) = ap (λ w. flat_map f (g x) ++ w) (flat_flat f g xs) ∙ sym (flat_append f (g x) (flat_map g xs))
 
-text_is : (events : List Event) → flat_map text_of events ≡ print (flat_map outcome_in events)
+pub text_is : (events : List Event) → flat_map text_of events ≡ print (flat_map outcome_in events)
 text_is events = flat_flat printed_outcome outcome_in events
 
 text_front : (outcomes wanted : List Outcome) → IsFront outcomes wanted → IsFront (print outcomes) (print wanted)
@@ -90,7 +92,7 @@ module _ (keys : KeyMap) (steps : List Step) (wanted : List Outcome) (agrees : (
     reached : Reached u g.events new.wire.waiting
     reached =
         let v = served g.events old.wire.state new.wire.state empty_state st.state g.put.wire.state in
-        let q : Waits g.events [] new.wire.waiting = subst (λ q. Waits g.events q new.wire.waiting) st.waiting g.read.wire.waiting in
+        let q : Waits g.events [] new.wire.waiting = subst (λ q. Waits g.events q new.wire.waiting) st.waiting (waits_of g.events old.wire.stream new.wire.stream old.wire.waiting new.wire.waiting st.queue g.read.wire.comes) in
         let o : OpensAll g.events keys = subst (λ x. IfSome x (OpensAll g.events)) st.keys g.put.desk.opened in
         record {
           state = v.0;
@@ -170,10 +172,10 @@ module _ (keys : KeyMap) (steps : List Step) (wanted : List Outcome) (agrees : (
     halts_prints P h = goes_prints h.rest old new st h.goes
 
     pub breaks_prints : Breaks (talk steps nobody) old new → AddsFront (print wanted) old.desk.out new.desk.out
-    breaks_prints b = cut_prints b.between old b.mid st b.goes b.rest b.last new b.one b.follows b.put.desk.out
+    breaks_prints b = cut_prints b.between old b.mid st b.goes b.rest b.last new b.one (breaks_follow (talk steps nobody) old new st.queue b) b.put.desk.out
 
     pub no_stray : (place : ℕ) → Fails (stop.BadReply place) (talk steps nobody) old new → ⊥
-    no_stray place h = never_stuck h.rest old new st h.goes h.place.0
+    no_stray place h = never_stuck h.rest old new st h.goes (stuck_queue (talk steps nobody) h.rest old new st.queue h.goes h.place.0)
 
 -- ---- a run of a script
 
@@ -182,7 +184,7 @@ module _ (law : ServedIsPlain) (keys : KeyMap) (steps : List Step) (limits : All
   agrees_so entropy are = law keys steps limits proper entropy are
 
   starts : (ended : Result (Unit {0}) Stop) (refused : Bool) (c : CameTo ended refused steps old new) → Starts keys (outside c.out c.entropy c.vault c.wire false [] 0 old)
-  starts ended refused c = record { state = state; keys = told; waiting = refl }
+  starts ended refused c = record { state = state; keys = told; waiting = refl; queue = refl }
 
   ends : (refused : Bool) → CameTo (Ok tt) refused steps old new → Adds (print (meaning keys steps)) old.out new.out × (has_refusal (meaning keys steps) ≡ refused)
   ends refused c =
@@ -195,6 +197,8 @@ module _ (law : ServedIsPlain) (keys : KeyMap) (steps : List Step) (limits : All
 
   stops_at : (s : Stop) (x y : Outside) → Starts keys x → Fails s (talk steps nobody) x y → x.desk.out ≡ old.out → y.desk.out ≡ new.out → PrintsPlain (ran.Stopped s) keys steps old.out new.out
   stops_at (stop.BadReply place) x y st h e f = no_stray keys steps (meaning keys steps) agrees_so x y st place h
+  stops_at stop.ReadFault x y st h e f = never_unread _ _ st.queue h.1
+  stops_at stop.TooLong x y st h e f = never_long _ _ (lacks_after (talk steps nobody) x y st.queue h.0) h.1
   stops_at stop.EntropyFault x y st h e f = rw (← e, ← f) (halts_prints keys steps (meaning keys steps) agrees_so x y st _ h.0)
   stops_at stop.VaultFault x y st h e f = rw (← e, ← f) (halts_prints keys steps (meaning keys steps) agrees_so x y st _ h.0)
   stops_at stop.WriteFault x y st h e f = rw (← e, ← f) (breaks_prints keys steps (meaning keys steps) agrees_so x y st h.0)

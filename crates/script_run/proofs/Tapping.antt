@@ -27,6 +27,7 @@ use Rattle.script_run.specs.Ends.{Lent, outside, CameTo, RunsTo, IsScript, RunsS
 use Rattle.script_run.specs.Transcript.{exchange_frames, transcript, TapsWhole, TapsFront, TapsTranscript}
 use Rattle.script_run.proofs.Passing.{ahead, path_passes}
 use Rattle.script_run.proofs.Plainly.{Starts, one_script}
+use Rattle.script_run.proofs.Queued.{waits_of, lacks_after, breaks_follow, never_unread, never_long}
 
 frames_are : (events : List Event) → flat_map frames_of events ≡ flat_map exchange_frames (flat_map exchanges_of events)
 frames_are [] = refl
@@ -59,7 +60,7 @@ module _ (keys : KeyMap) (steps : List Step) where
     reached : Reached u g.events new.wire.state new.wire.waiting
     reached =
         let v = served_so g.events old.wire.state new.wire.state empty_state st.state g.put.wire.state in
-        let q : Waits g.events [] new.wire.waiting = subst (λ q. Waits g.events q new.wire.waiting) st.waiting g.read.wire.waiting in
+        let q : Waits g.events [] new.wire.waiting = subst (λ q. Waits g.events q new.wire.waiting) st.waiting (waits_of g.events old.wire.stream new.wire.stream old.wire.waiting new.wire.waiting st.queue g.read.wire.comes) in
         let o : OpensAll g.events keys = subst (λ x. IfSome x (OpensAll g.events)) st.keys g.put.desk.opened in
         record {
           state = v.0;
@@ -143,7 +144,7 @@ module _ (keys : KeyMap) (steps : List Step) where
           drawn = flat_map drawn_in events ++ flat_map drawn_in b.last;
           share = both_drew (flat_map drawn_in events) (flat_map drawn_in b.last) old.desk.entropy b.mid.desk.entropy new.desk.entropy b.goes.put.desk.entropy b.put.desk.entropy;
           tap = λ more.
-              let f = last_front b.between old b.mid st b.goes b.rest b.last new.wire.state b.one b.follows b.put.wire.state (flat_map drawn_in b.last ++ more) in
+              let f = last_front b.between old b.mid st b.goes b.rest b.last new.wire.state b.one (breaks_follow (talk steps nobody) old new st.queue b) b.put.wire.state (flat_map drawn_in b.last ++ more) in
               adds_front_then (flat_map frames_of events ++ flat_map frames_of b.last) _ old.wire.tap new.wire.tap
               (adds_then_front (flat_map frames_of events) (flat_map frames_of b.last) old.wire.tap b.mid.wire.tap new.wire.tap b.goes.put.wire.tap b.put.wire.tap)
               (subst (λ d. IsFront (flat_map frames_of events ++ flat_map frames_of b.last) (transcript keys steps d)) (sym (append_assoc (flat_map drawn_in events) (flat_map drawn_in b.last) more)) f);
@@ -151,6 +152,8 @@ module _ (keys : KeyMap) (steps : List Step) where
 
     fails_taps : (why : Stop) → Fails why (talk steps nobody) old new → TapsFront keys steps old.desk.entropy new.desk.entropy old.wire.tap new.wire.tap
     fails_taps (stop.BadReply place) h = halts_taps _ h
+    fails_taps stop.ReadFault h = absurd (never_unread _ _ st.queue h.1)
+    fails_taps stop.TooLong h = absurd (never_long _ _ (lacks_after (talk steps nobody) old new st.queue h.0) h.1)
     fails_taps stop.EntropyFault h = halts_taps _ h.0
     fails_taps stop.VaultFault h = halts_taps _ h.0
     fails_taps stop.WriteFault h = breaks_taps h.0
@@ -160,7 +163,7 @@ module _ (keys : KeyMap) (steps : List Step) where
 
 module _ (keys : KeyMap) (steps : List Step) (old new : Lent) (state : old.state ≡ Some empty_state) (told : old.keys ≡ Some keys) where
   starts : (ended : Result (Unit {0}) Stop) (refused : Bool) (c : CameTo ended refused steps old new) → Starts keys (outside c.out c.entropy c.vault c.wire false [] 0 old)
-  starts ended refused c = record { state = state; keys = told; waiting = refl }
+  starts ended refused c = record { state = state; keys = told; waiting = refl; queue = refl }
 
   ends : (refused : Bool) → CameTo (Ok tt) refused steps old new → TapsWhole keys steps old.entropy new.entropy old.tap new.tap
   ends refused c =

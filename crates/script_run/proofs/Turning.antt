@@ -1,11 +1,8 @@
 -- One call after another in a turn.
-use Rattle.std.proofs.Common.{◌≡◌, ℕ, List, [], ◌∷◌, Option, Some, None, Result, Ok, Err, Bool, true, false, refl, sym, ◌∙◌, ap, subst}
+use Rattle.std.proofs.Common.{◌≡◌, ℕ, List, Option, Result, Ok, Err, true, false, refl, sym, ◌∙◌, ap, subst}
 use Rattle.std.specs.Prelude.{IfOk}
 use Rattle.ae_base.specs.declared.batches.Batch.{Batch}
-use Rattle.ae_base.specs.declared.faults.SqlFault.{SqlFault}
 use Rattle.wire_messages.specs.declared.requests.Request.{Request}
-use Rattle.conversation.specs.declared.answers.DescribeAnswer.{DescribeAnswer}
-use Rattle.conversation.specs.declared.answers.DescribeAnswer.TheVariants as describe_answer
 use Rattle.conversation.specs.declared.faults.DriverFault.{DriverFault}
 use Rattle.conversation.specs.declared.outcomes.DescribedParam.{DescribedParam}
 use Rattle.conversation.specs.declared.outcomes.Listing.{Listing}
@@ -18,12 +15,12 @@ use Rattle.conversation.specs.Batches.{fitted}
 use Rattle.conversation.specs.Pending as told
 use Rattle.conversation.specs.Pending.{uses_of}
 use Rattle.conversation.specs.Sessions.{begin, begun, described_params}
-use Rattle.conversation.specs.Talk.{Talk, Hears, Prints, Heard, Said, printing, nothing_shown, described_outcome}
-use Rattle.conversation.specs.Turns.{rested, rows_on, over_on, described_on, pending_on, executing}
+use Rattle.conversation.specs.Talk.{Talk, Hears, Prints, Heard, Said, printing, nothing_shown}
+use Rattle.conversation.specs.Turns.{rested, over_on, pending_on, executing}
 use Rattle.run_words.specs.Shares.{Outside}
-use Rattle.run_words.specs.Ways.{Goes, Fails, Leads}
+use Rattle.run_words.specs.Ways.{Goes, Leads}
 use Rattle.run_words.specs.declared.stops.Stop.{Stop}
-use Rattle.run_words.proofs.Going.{stay, goes_then, fails_then, leads_then}
+use Rattle.run_words.proofs.Going.{leads_then}
 use Rattle.script_run.specs.declared.turns.Described.TheVariants as described
 use Rattle.script_run.specs.Heard.{is_skipping}
 use Rattle.script_run.specs.Onward.{IsBegun, IsRows, IsReady, PrintsThen}

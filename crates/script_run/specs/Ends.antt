@@ -1,5 +1,5 @@
 -- How a run ends, in words of what it was lent.
-use Rattle.std.specs.Prelude.{◌≡◌, ℕ, ◌≤◌, ◌<◌, ◌+◌, List, [], ◌∷◌, length, Option, Result, Ok, Err, Bool, true, false, IfOk}
+use Rattle.std.specs.Prelude.{◌≡◌, ℕ, ◌≤◌, ◌<◌, ◌+◌, List, [], length, Option, None, Result, Ok, Err, Bool, true, false, IfOk}
 use Rattle.std.specs.List.{All}
 use Rattle.std.specs.Borrow.{GName}
 use Rattle.ae_edge.specs.Streams.{HasTaken}
@@ -13,6 +13,7 @@ use Rattle.conversation.specs.Talk as talks
 use Rattle.run_words.specs.Shares.{Outside}
 use Rattle.run_words.specs.Ways.{Leads}
 use Rattle.run_words.specs.declared.stops.Stop.{Stop}
+use Rattle.run_words.specs.declared.stops.Stop.TheVariants as stop
 use Rattle.script_lang.specs.declared.steps.Step.{Step}
 use Rattle.script_lang.specs.Limits.{IsProperStep, IsWithinLimits}
 use Rattle.script_lang.specs.Script.{steps_of}
@@ -51,7 +52,7 @@ outside out_names entropy_names vault_names wire_names refused waiting taken l =
     entropy_faults = l.entropy_faults;
     vault_faults = l.vault_faults;
   };
-  wire = record { names = wire_names; tap = l.tap; log = l.log; state = l.state; waiting = waiting; taken = taken; faults = l.tap_faults };
+  wire = record { names = wire_names; tap = l.tap; log = l.log; state = l.state; waiting = waiting; stream = None; taken = taken; faults = l.tap_faults };
 }
 
 -- from 64 idle sessions the script's conversation was followed to its end, with no reply left, or stopped
@@ -125,3 +126,16 @@ IsRead (ran.Unread unread.ReadFault) = ⊥
 IsRead (ran.Unread unread.TooLong) = ⊥
 IsRead (ran.Unread (unread.BadLine line)) = Unit {0}
 IsRead (ran.Unread unread.OutOfMemory) = Unit {0}
+
+-- it stopped for no fault of a stream of replies
+abbrev pub IsOfPeer : Ran → Type 0
+IsOfPeer ran.Done = Unit {0}
+IsOfPeer ran.Refusals = Unit {0}
+IsOfPeer (ran.Stopped (stop.BadReply place)) = Unit {0}
+IsOfPeer (ran.Stopped stop.ReadFault) = ⊥
+IsOfPeer (ran.Stopped stop.TooLong) = ⊥
+IsOfPeer (ran.Stopped stop.EntropyFault) = Unit {0}
+IsOfPeer (ran.Stopped stop.VaultFault) = Unit {0}
+IsOfPeer (ran.Stopped stop.WriteFault) = Unit {0}
+IsOfPeer (ran.Stopped stop.OutOfMemory) = Unit {0}
+IsOfPeer (ran.Unread why) = Unit {0}

@@ -1,5 +1,5 @@
 -- What the driver's answers say.
-use Rattle.std.specs.Prelude.{◌≡◌, Some, None, Bool, true, false}
+use Rattle.std.specs.Prelude.{◌≡◌, ℕ, Bool, true, false}
 use Rattle.conversation.specs.declared.answers.ReplyAnswer.{ReplyAnswer}
 use Rattle.conversation.specs.declared.answers.ReplyAnswer.TheVariants as answer
 use Rattle.conversation.specs.declared.faults.Halt.{Halt}
@@ -11,6 +11,8 @@ use Rattle.conversation.specs.declared.sessions.Session.TheVariants.{Idle, Begun
 use Rattle.conversation.specs.Talk.{Hearing, More, Got, Said}
 use Rattle.run_words.specs.declared.stops.Stop.{Stop}
 use Rattle.run_words.specs.declared.stops.Stop.TheVariants as stop
+use Rattle.script_run.specs.declared.lines.Lack.{Lack}
+use Rattle.script_run.specs.declared.lines.Lack.TheVariants as lack
 use Rattle.script_run.specs.declared.around.First.{First}
 use Rattle.script_run.specs.declared.around.First.TheVariants as first
 use Rattle.script_run.specs.declared.around.RowHeard.{RowHeard}
@@ -38,6 +40,13 @@ stop_of halt.EntropyFault = stop.EntropyFault
 stop_of halt.VaultFault = stop.VaultFault
 stop_of halt.OutOfMemory = stop.OutOfMemory
 stop_of halt.BadReply = stop.OutOfMemory
+
+-- why the run stops where the replies aren't as they are awaited, at this place
+abbrev pub stop_at : Lack → ℕ → Stop
+stop_at lack.BadReply place = stop.BadReply place
+stop_at lack.ReadFault place = stop.ReadFault
+stop_at lack.TooLong place = stop.TooLong
+stop_at lack.OutOfMemory place = stop.OutOfMemory
 
 -- an answer to the first reply to an execution
 abbrev pub IsOfFirst : ReplyAnswer → Type 0

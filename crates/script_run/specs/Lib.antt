@@ -1,3 +1,4 @@
+pub mod Breaking
 pub mod Desks
 pub mod Ends
 pub mod Frames

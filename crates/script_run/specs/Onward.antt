@@ -1,9 +1,7 @@
 -- How a conversation goes on behind what was heard, and what is known of the session after it.
-use Rattle.std.specs.Prelude.{◌≡◌, List, [], ◌∷◌, Option}
-use Rattle.wire_messages.specs.declared.replies.Reply.{Reply}
+use Rattle.std.specs.Prelude.{◌≡◌, [], Option}
 use Rattle.conversation.specs.declared.answers.DescribeAnswer.{DescribeAnswer}
 use Rattle.conversation.specs.declared.answers.DescribeAnswer.TheVariants as describe_answer
-use Rattle.conversation.specs.declared.faults.DriverFault.{DriverFault}
 use Rattle.conversation.specs.declared.outcomes.Listing.{Listing}
 use Rattle.conversation.specs.declared.outcomes.Outcome.{Outcome}
 use Rattle.conversation.specs.declared.outcomes.Outcome.TheVariants.{Failed}
@@ -43,11 +41,6 @@ IsRows Sent = ⊥
 abbrev pub IsDescribed : DescribeAnswer → Session → Type 0
 IsDescribed (describe_answer.Ready params) after = (p : told.Pending) × (after ≡ Pending p) × (params ≡ described_params p.keys (uses_of p))
 IsDescribed (describe_answer.Refused f) after = after ≡ Idle
-
--- a reply waits
-abbrev pub IsLeft : List Reply → Type 0
-IsLeft [] = ⊥
-IsLeft (reply ∷ waiting) = Unit {0}
 
 -- where rows are shown, they are awaited
 abbrev pub shown_first : Session → First → Type 0

@@ -1,5 +1,5 @@
 -- What a run prints over a server that serves from the empty state: what its script means over plain values.
-use Rattle.std.specs.Prelude.{◌≡◌, ℕ, List, Option, Some, true, false}
+use Rattle.std.specs.Prelude.{◌≡◌, ℕ, List, Option, true, false}
 use Rattle.ae_edge.specs.Devices.{Adds, AddsFront}
 use Rattle.ae_edge.specs.Vaults.{KeyMap}
 use Rattle.server_core.specs.Serve.{empty_state}
@@ -22,6 +22,8 @@ abbrev pub PrintsPlain : Ran → KeyMap → List Step → Option (List ℕ) → 
 PrintsPlain ran.Done keys steps old new = Adds (print (meaning keys steps)) old new × (has_refusal (meaning keys steps) ≡ false)
 PrintsPlain ran.Refusals keys steps old new = Adds (print (meaning keys steps)) old new × (has_refusal (meaning keys steps) ≡ true)
 PrintsPlain (ran.Stopped (stop.BadReply place)) keys steps old new = ⊥
+PrintsPlain (ran.Stopped stop.ReadFault) keys steps old new = ⊥
+PrintsPlain (ran.Stopped stop.TooLong) keys steps old new = ⊥
 PrintsPlain (ran.Stopped stop.EntropyFault) keys steps old new = AddsFront (print (meaning keys steps)) old new
 PrintsPlain (ran.Stopped stop.VaultFault) keys steps old new = AddsFront (print (meaning keys steps)) old new
 PrintsPlain (ran.Stopped stop.WriteFault) keys steps old new = AddsFront (print (meaning keys steps)) old new
@@ -33,6 +35,8 @@ abbrev pub IsDoneOrFault : Ran → Type 0
 IsDoneOrFault ran.Done = Unit {0}
 IsDoneOrFault ran.Refusals = Unit {0}
 IsDoneOrFault (ran.Stopped (stop.BadReply place)) = ⊥
+IsDoneOrFault (ran.Stopped stop.ReadFault) = ⊥
+IsDoneOrFault (ran.Stopped stop.TooLong) = ⊥
 IsDoneOrFault (ran.Stopped stop.EntropyFault) = Unit {0}
 IsDoneOrFault (ran.Stopped stop.VaultFault) = Unit {0}
 IsDoneOrFault (ran.Stopped stop.WriteFault) = Unit {0}

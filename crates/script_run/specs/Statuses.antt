@@ -45,6 +45,8 @@ abbrev pub status_of : Ran → Status
 status_of ran.Done = status.Done
 status_of ran.Refusals = status.Refusals
 status_of (ran.Stopped (stop.BadReply place)) = status.BadReply place
+status_of (ran.Stopped stop.ReadFault) = status.ReadFault
+status_of (ran.Stopped stop.TooLong) = status.TooLong
 status_of (ran.Stopped stop.EntropyFault) = status.EntropyFault
 status_of (ran.Stopped stop.VaultFault) = status.VaultFault
 status_of (ran.Stopped stop.WriteFault) = status.WriteFault

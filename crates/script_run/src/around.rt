@@ -1,6 +1,6 @@
 //! All that a turn touches, in one trait.
 
-ghost use Rattle.std.specs.Prelude.{◌≡◌, ◌<◌, ℕ, [], List, Result, IfOk, MatchOption, length};
+ghost use Rattle.std.specs.Prelude.{◌≡◌, ◌<◌, ◌^◌, ℕ, List, Result, IfOk};
 ghost use Rattle.ae_edge.specs.Vaults.{KeyMap};
 ghost use Rattle.key_store.specs.Stores.{IsOf};
 ghost use Rattle.key_store.specs.declared.origins.Origin.{Origin};
@@ -8,11 +8,11 @@ ghost use Rattle.wire_messages.specs.declared.requests.Request.{Request};
 ghost use Rattle.conversation.specs.declared.faults.DriverFault.{DriverFault};
 ghost use Rattle.conversation.specs.declared.sessions.Session.{Session};
 ghost use Rattle.conversation.specs.declared.sessions.Session.TheVariants as session_of;
-ghost use Rattle.conversation.specs.Talk.{Talk, Asks, Hears, Prints, Heard, nothing_shown};
+ghost use Rattle.conversation.specs.Talk.{Talk, Ends, Asks, Hears, Prints, Heard, nothing_shown};
 ghost use Rattle.conversation.specs.Turns as turns;
 ghost use Rattle.run_words.specs.Shares.{Outside};
-ghost use Rattle.run_words.specs.Ways.{Leads};
-ghost use Rattle.script_run.specs.Onward.{IsBegun, IsRows, IsDescribed, RowsStay, IsLeft, shown_first, told_on, first_on, row_on};
+ghost use Rattle.run_words.specs.Ways.{IsReadOut, Leads};
+ghost use Rattle.script_run.specs.Onward.{IsBegun, IsRows, IsDescribed, RowsStay, shown_first, told_on, first_on, row_on};
 
 use ae_base::lists::Seq;
 use ae_base::names::Title;
@@ -58,9 +58,10 @@ pub trait Around {
         ensures leads { (t : Talk) → Leads result (Asks request.now t) (λ _. t) (outside self.old) (outside self.new) }
         ensures of_vault { IfOk result (λ _. IsOf (outside self.new).desk.keys (kept self.new)) };
 
-    /// The place of a reply that is left.
-    fn left(&self) -> Option<u64>
-        ensures { MatchOption result ((outside self.now).wire.waiting ≡ []) (λ place. IsLeft (outside self.now).wire.waiting × (place ≡ (outside self.now).wire.taken)) };
+    /// Looks whether any reply is left. None may be.
+    fn finish(&mut self, alloc: Global) -> Result<(), Stop>
+        ensures leads { (sessions : List Session) → Leads result (Ends sessions) (λ _. Ends sessions) (outside self.old) (outside self.new) }
+        ensures read { IfOk result (λ _. IsReadOut (outside self.new).wire.stream (outside self.new).wire.waiting) };
 
     /// Prints an outcome.
     fn print(&mut self, alloc: Global, outcome: &Outcome) -> Result<(), Stop>
@@ -111,6 +112,6 @@ pub trait Around {
         requires of_vault { IsOf (outside self.old).desk.keys (kept self.old) }
         ensures leads { (f : Heard → Talk) → Leads result (Hears session.old shown.old f) (row_on f session.new shown.new) (outside self.old) (outside self.new) }
         ensures rows { IfOk result (RowsStay session.new) }
-        ensures less { IfOk result (λ _. length (outside self.new).wire.waiting < length (outside self.old).wire.waiting) }
+        ensures more { IfOk result (λ _. ((outside self.old).wire.taken < (outside self.new).wire.taken) × ((outside self.new).wire.taken < 2 ^ 64)) }
         ensures of_vault { IfOk result (λ _. IsOf (outside self.new).desk.keys (kept self.new)) };
 }

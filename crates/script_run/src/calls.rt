@@ -5,7 +5,9 @@ ghost use Rattle.key_store.specs.Stores.{IsOf};
 ghost use Rattle.conversation.specs.Devices.{Devices, devices, with_vault};
 ghost use Rattle.conversation.specs.Sessions as held;
 ghost use Rattle.driver.specs.Calls.{Comes, Describes, Executes, IsSent, Replies};
+ghost use Rattle.script_run.specs.Lines.{reply_of};
 
+use crate::lines::Lent;
 use ae_base::batches::Batch;
 use ae_base::sessions::SessionId;
 use ae_edge::entropies::Entropy;
@@ -35,7 +37,7 @@ pub fn begin_in<'r>(
 }
 
 /// Takes the reply to the request to describe a batch.
-pub fn described_in(
+fn described_in(
     alloc: Global,
     session: &mut Session,
     reply: &Reply<'_>,
@@ -45,6 +47,20 @@ pub fn described_in(
     let Turn { answer, after } = described(alloc, mem::replace(session, Session::Idle), reply);
     *session = after;
     answer
+}
+
+/// Takes a reply that is lent to the request to describe a batch.
+pub fn described_by(
+    alloc: Global,
+    session: &mut Session,
+    reply: Lent<'_>,
+) -> Result<DescribeAnswer, Halt>
+    ensures { Describes result (held.described session.old (reply_of reply.entry)) session.old session.new }
+{
+    match reply {
+        Lent::Kept(reply) => described_in(alloc, session, reply),
+        Lent::Read(reply) => described_in(alloc, session, &reply),
+    }
 }
 
 /// Executes what is pending: the request.
@@ -68,7 +84,7 @@ pub fn execute_in<'r, V: Vault, E: Entropy>(
 }
 
 /// Takes a reply to the execution of a batch.
-pub fn replied_in<V: Vault>(
+fn replied_in<V: Vault>(
     alloc: Global,
     store: &mut KeyStore,
     vault: &mut V,
@@ -83,4 +99,22 @@ pub fn replied_in<V: Vault>(
     let Turn { answer, after } = replied(alloc, store, vault, before, reply);
     *session = after;
     answer
+}
+
+/// Takes a reply that is lent to the execution of a batch.
+pub fn replied_by<V: Vault>(
+    alloc: Global,
+    store: &mut KeyStore,
+    vault: &mut V,
+    session: &mut Session,
+    reply: Lent<'_>,
+) -> Result<ReplyAnswer, Halt>
+    requires { IsOf (V.keys vault.old) store.old }
+    ensures replies { (beside : Devices) → Replies result (held.replied session.old (reply_of reply.entry)) session.old session.new (with_vault beside (V.keys vault.old) (V.faults vault.old) (V.names vault.old)) (with_vault beside (V.keys vault.new) (V.faults vault.new) (V.names vault.new)) }
+    ensures of_vault { IsOf (V.keys vault.new) store.new }
+{
+    match reply {
+        Lent::Kept(reply) => replied_in(alloc, store, vault, session, reply),
+        Lent::Read(reply) => replied_in(alloc, store, vault, session, &reply),
+    }
 }

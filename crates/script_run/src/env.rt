@@ -1,26 +1,24 @@
 //! All that a run touches.
 
-ghost use Rattle.std.specs.Prelude.{◌≡◌, ◌+◌, ◌||◌, Option, IfOk, MatchResult, length, string_bytes};
+ghost use Rattle.std.specs.Prelude.{◌≡◌, ◌||◌, IfOk, MatchResult, string_bytes};
 ghost use Rattle.key_store.specs.Stores.{IsOf};
-ghost use Rattle.wire_messages.specs.declared.replies.Reply.{Reply};
 ghost use Rattle.conversation.specs.declared.sessions.Session.{Session};
-ghost use Rattle.conversation.specs.Paths.{IsStray, next_of};
 ghost use Rattle.conversation.specs.Sessions.{Tells};
 ghost use Rattle.conversation.specs.Talk.{Talk, Hears, Heard, heard_answer, nothing_shown};
 ghost use Rattle.run_words.specs.Printing as printing;
 ghost use Rattle.run_words.specs.declared.stops.Stop.TheVariants as stop_is;
-ghost use Rattle.wire_spelling.specs.Spelling.{reply_frame};
 ghost use Rattle.script_run.specs.Frames.{PutsBytes};
 ghost use Rattle.run_words.specs.Shares.{Outside, Desk};
-ghost use Rattle.run_words.specs.Ways.{Fails, Leads};
-ghost use Rattle.script_run.specs.Heard.{HeardAs, is_reading};
+ghost use Rattle.run_words.specs.Ways.{Leads};
+ghost use Rattle.script_run.specs.Breaking.{BreaksOff, is_shown, shown_if};
+ghost use Rattle.script_run.specs.Heard.{HeardAs, stop_at};
 ghost use Rattle.script_run.specs.Onward.{IsBegun, IsDescribed, IsRows, told_on};
 ghost use Rattle.script_run.specs.Desks.{desk};
 
 use crate::around::{Around, First, RowHeard};
-use crate::calls::{described_in, execute_in, replied_in};
-use crate::hearing::{first_of, is_reading, row_heard, stop_of};
-use crate::lines::{Line, Sent, behind};
+use crate::calls::{described_by, execute_in, replied_by};
+use crate::hearing::{first_of, is_reading, is_shown, row_heard, stop_at, stop_of};
+use crate::lines::{Front, Lack, Line, Sent};
 use ae_base::sessions::SessionId;
 use ae_edge::entropies::Entropy;
 use ae_edge::sinks::Sink;
@@ -33,8 +31,7 @@ use conversation::sessions::Session;
 use key_store::KeyStore;
 use run_words::stops::Stop;
 use run_words::texts::{is_refusal, listing_text, text_of};
-use std::alloc::{AllocError, Global};
-use wire_messages::replies::Reply;
+use std::alloc::Global;
 use wire_messages::requests::Request;
 
 /// Puts a text.
@@ -52,13 +49,6 @@ fn or_refusal(refused: bool, outcome: &Outcome) -> bool
     refused || is_refusal(outcome)
 }
 
-/// The place behind the frame of the reply that is taken next.
-fn next_place<L: Line>(alloc: Global, line: &L, reply: &Reply<'_>) -> Result<u64, AllocError>
-    ensures { IfOk result (λ n. n ≡ (L.wire line.now).taken + length (reply_frame reply.now)) }
-{
-    behind(alloc, line.place(), reply)
-}
-
 /// Hears the description of a batch, which touches the wire alone.
 fn hear_described<L: Line>(
     alloc: Global,
@@ -69,17 +59,17 @@ fn hear_described<L: Line>(
     ensures leads { (f : Heard → Talk) (desk : Desk) → Leads result (Hears session.old nothing_shown f) (told_on f session.new) (record { desk = desk; wire = L.wire line.old }) (record { desk = desk; wire = L.wire line.new }) }
     ensures described { IfOk result (λ answer. IsDescribed answer session.new) }
 {
-    let reply = match line.front() {
-        Some(reply) => reply,
-        None => return Err(Stop::BadReply(line.place())),
+    match line.fetch(alloc) {
+        Ok(()) => {}
+        Err(lack) => return Err(stop_at(lack, line.place())),
+    }
+    let Front { reply, behind } = match line.front(alloc) {
+        Some(front) => front,
+        None => return Err(Stop::OutOfMemory),
     };
-    let place = match next_place(alloc, line, reply) {
-        Ok(place) => place,
-        Err(_) => return Err(Stop::OutOfMemory),
-    };
-    match described_in(alloc, session, reply) {
+    match described_by(alloc, session, reply) {
         Ok(answer) => {
-            line.take(place);
+            line.take(behind);
             Ok(answer)
         }
         Err(Halt::BadReply) => Err(Stop::BadReply(line.place())),
@@ -136,10 +126,10 @@ impl<W: Sink, E: Entropy, V: Vault, L: Line> Around for Env<'_, W, E, V, L> {
         }
     }
 
-    fn left(&self) -> Option<u64> {
-        match self.line.front() {
-            Some(_) => Some(self.line.place()),
-            None => None,
+    fn finish(&mut self, alloc: Global) -> Result<(), Stop> {
+        match self.line.finish(alloc) {
+            Ok(()) => Ok(()),
+            Err(lack) => Err(stop_at(lack, self.line.place())),
         }
     }
 
@@ -186,22 +176,22 @@ impl<W: Sink, E: Entropy, V: Vault, L: Line> Around for Env<'_, W, E, V, L> {
     }
 
     fn hear_answer(&mut self, alloc: Global, session: &mut Session) -> Result<First, Stop> {
-        let reply = match self.line.front() {
-            Some(reply) => reply,
-            None => return Err(Stop::BadReply(self.line.place())),
+        match self.line.fetch(alloc) {
+            Ok(()) => {}
+            Err(lack) => return Err(stop_at(lack, self.line.place())),
+        }
+        let Front { reply, behind } = match self.line.front(alloc) {
+            Some(front) => front,
+            None => return Err(Stop::OutOfMemory),
         };
-        let place = match next_place(alloc, &self.line, reply) {
-            Ok(place) => place,
-            Err(_) => return Err(Stop::OutOfMemory),
-        };
-        match replied_in(alloc, self.store, &mut self.vault, session, reply) {
+        match replied_by(alloc, self.store, &mut self.vault, session, reply) {
             Ok(answer) => {
-                self.line.take(place);
+                self.line.take(behind);
                 Ok(first_of(answer))
             }
             Err(Halt::BadReply) => Err(Stop::BadReply(self.line.place())),
             Err(halt) => {
-                self.line.take(place);
+                self.line.take(behind);
                 Err(stop_of(halt))
             }
         }
@@ -214,44 +204,43 @@ impl<W: Sink, E: Entropy, V: Vault, L: Line> Around for Env<'_, W, E, V, L> {
         shown: &mut Listing,
     ) -> Result<RowHeard, Stop> {
         let reads = is_reading(session);
-        let reply = match self.line.front() {
-            Some(reply) => reply,
-            None => return Err(self.stray(alloc, reads, shown)),
+        match self.line.fetch(alloc) {
+            Ok(()) => {}
+            Err(lack) => return Err(self.break_off(alloc, lack, reads, shown)),
+        }
+        let Front { reply, behind } = match self.line.front(alloc) {
+            Some(front) => front,
+            None => return Err(Stop::OutOfMemory),
         };
-        let place = match next_place(alloc, &self.line, reply) {
-            Ok(place) => place,
-            Err(_) => return Err(Stop::OutOfMemory),
-        };
-        match replied_in(alloc, self.store, &mut self.vault, session, reply) {
+        match replied_by(alloc, self.store, &mut self.vault, session, reply) {
             Ok(answer) => {
-                self.line.take(place);
+                self.line.take(behind);
                 row_or_stop(alloc, answer, shown)
             }
-            Err(Halt::BadReply) => Err(self.stray(alloc, reads, shown)),
+            Err(Halt::BadReply) => Err(self.break_off(alloc, Lack::BadReply, reads, shown)),
             Err(_) => Err(Stop::OutOfMemory),
         }
     }
 }
 
 impl<W: Sink, E: Entropy, V: Vault, L: Line> Env<'_, W, E, V, L> {
-    /// Puts what an answer came to before it broke off, and says where the reply begins that isn't
-    /// awaited.
-    fn stray(&mut self, alloc: Global, reads: bool, shown: &Listing) -> Stop
-        ensures { (session : Session) (f : Heard → Talk) (next : Option Reply) → IsRows session → reads ≡ is_reading session → IsStray session shown.now next
-            → next_of (L.wire self.old.line).waiting ≡ next
-            → Fails result (Hears session shown.now f)
-            (record { desk = desk (W.names self.old.out) (E.names self.old.entropy) (V.names self.old.vault) (W.held self.old.out) (E.to_come self.old.entropy) (V.keys self.old.vault) self.old.refused (W.faults self.old.out) (E.faults self.old.entropy) (V.faults self.old.vault); wire = L.wire self.old.line })
-            (record { desk = desk (W.names self.new.out) (E.names self.new.entropy) (V.names self.new.vault) (W.held self.new.out) (E.to_come self.new.entropy) (V.keys self.new.vault) self.new.refused (W.faults self.new.out) (E.faults self.new.entropy) (V.faults self.new.vault); wire = L.wire self.new.line }) }
+    /// Puts what an answer came to before it broke off, and says why it did.
+    fn break_off(&mut self, alloc: Global, lack: Lack, reads: bool, shown: &Listing) -> Stop
+        ensures off { BreaksOff result (stop_at lack (L.wire self.old.line).taken) (shown_if (is_shown lack reads) shown.now)
+            (desk (W.names self.old.out) (E.names self.old.entropy) (V.names self.old.vault) (W.held self.old.out) (E.to_come self.old.entropy) (V.keys self.old.vault) self.old.refused (W.faults self.old.out) (E.faults self.old.entropy) (V.faults self.old.vault))
+            (desk (W.names self.new.out) (E.names self.new.entropy) (V.names self.new.vault) (W.held self.new.out) (E.to_come self.new.entropy) (V.keys self.new.vault) self.new.refused (W.faults self.new.out) (E.faults self.new.entropy) (V.faults self.new.vault)) }
+        ensures wire { L.wire self.new.line ≡ L.wire self.old.line }
     {
-        if !reads {
-            return Stop::BadReply(self.line.place());
+        let why = stop_at(lack, self.line.place());
+        if !is_shown(lack, reads) {
+            return why;
         }
         let text = match listing_text(alloc, shown) {
             Ok(text) => text,
             Err(_) => return Stop::OutOfMemory,
         };
         match put_text(&mut self.out, text) {
-            PutAll::Whole => Stop::BadReply(self.line.place()),
+            PutAll::Whole => why,
             PutAll::WriteFault => Stop::WriteFault,
             PutAll::OutOfMemory => Stop::OutOfMemory,
         }

@@ -6,9 +6,11 @@ ghost use Rattle.conversation.specs.declared.faults.Halt.{Halt};
 ghost use Rattle.conversation.specs.declared.sessions.Session.{Session};
 ghost use Rattle.conversation.specs.Sessions.{Tells};
 ghost use Rattle.conversation.specs.Talk.{heard_answer};
-ghost use Rattle.script_run.specs.Heard.{IsOfFirst, FirstIs, HeardAs, is_reading, is_skipping, stop_of};
+ghost use Rattle.script_run.specs.Breaking.{is_shown};
+ghost use Rattle.script_run.specs.Heard.{IsOfFirst, FirstIs, HeardAs, is_reading, is_skipping, stop_at, stop_of};
 
 use crate::around::{First, RowHeard};
+use crate::lines::Lack;
 use ae_base::lists::Seq;
 use conversation::answers::ReplyAnswer;
 use conversation::faults::Halt;
@@ -54,6 +56,28 @@ pub fn stop_of(halt: Halt) -> Stop
         Halt::EntropyFault => Stop::EntropyFault,
         Halt::VaultFault => Stop::VaultFault,
         Halt::OutOfMemory | Halt::BadReply => Stop::OutOfMemory,
+    }
+}
+
+/// Why a run stops where the replies aren't as they are awaited, at this place.
+pub fn stop_at(lack: Lack, place: u64) -> Stop
+    ensures { result ≡ stop_at lack place }
+{
+    match lack {
+        Lack::BadReply => Stop::BadReply(place),
+        Lack::ReadFault => Stop::ReadFault,
+        Lack::TooLong => Stop::TooLong,
+        Lack::OutOfMemory => Stop::OutOfMemory,
+    }
+}
+
+/// Whether the rows that are read are shown where an answer breaks off.
+pub fn is_shown(lack: Lack, reads: bool) -> bool
+    ensures { result ≡ is_shown lack reads }
+{
+    match lack {
+        Lack::BadReply | Lack::ReadFault | Lack::TooLong => reads,
+        Lack::OutOfMemory => false,
     }
 }
 

@@ -1,11 +1,11 @@
 //! The other side of the wire.
 
-ghost use Rattle.std.specs.Prelude.{◌≡◌, ◌+◌, [], IfOk, MatchOption, length};
+ghost use Rattle.std.specs.Prelude.{◌≡◌, ◌<◌, ◌^◌, ◌+◌, IfOk, IfSome, length};
 ghost use Rattle.wire_messages.specs.declared.replies.Reply.{Reply};
 ghost use Rattle.wire_spelling.specs.Spelling.{reply_frame};
 ghost use Rattle.run_words.specs.Shares.{Wire};
 ghost use Rattle.run_words.specs.Ways.{IsFirst, TakesOne};
-ghost use Rattle.script_run.specs.Lines.{Sends};
+ghost use Rattle.script_run.specs.Lines.{Fetches, Finishes, IsBehindFirst, Sends, reply_of};
 
 use std::alloc::{AllocError, Global};
 use wire_messages::replies::Reply;
@@ -21,6 +21,34 @@ pub enum Sent {
     OutOfMemory,
 }
 
+/// Why the replies aren't as they are awaited.
+#[derive(Clone, Copy, PartialEq, Eq, Debug)]
+pub enum Lack {
+    /// None comes, or what no reply begins with; or one is left.
+    BadReply,
+    /// The replies couldn't be read.
+    ReadFault,
+    /// They are past their limit.
+    TooLong,
+    OutOfMemory,
+}
+
+/// A reply that is lent.
+#[derive(Drop)]
+pub enum Lent<'a> {
+    /// It is kept.
+    Kept(&'a Reply<'static>),
+    /// It was read from bytes, which it borrows.
+    Read(Reply<'a>),
+}
+
+/// The reply that stands first, and the place behind its frame.
+#[derive(Drop)]
+pub struct Front<'a> {
+    pub reply: Lent<'a>,
+    pub behind: u64,
+}
+
 /// The other side of the wire.
 pub trait Line {
     ghost wire: { Self → Wire };
@@ -29,23 +57,33 @@ pub trait Line {
     fn ask(&mut self, alloc: Global, request: &Request<'_>) -> Sent
         ensures { Sends result request.now (wire self.old) (wire self.new) };
 
-    /// The reply that waits first.
-    fn front(&self) -> Option<&Reply<'static>>
-        ensures { MatchOption result ((wire self.now).waiting ≡ []) (λ reply. IsFirst reply.now (wire self.now).waiting) };
+    /// Waits until a reply stands first.
+    fn fetch(&mut self, alloc: Global) -> Result<(), Lack>
+        ensures { Fetches result (wire self.old) (wire self.new) };
+
+    /// The reply that stands first, where there is memory to read it.
+    fn front(&self, alloc: Global) -> Option<Front<'_>>
+        requires { (reply : Reply) × IsFirst reply (wire self.now) }
+        ensures { IfSome result (λ front. IsFirst (reply_of front.reply) (wire self.now) × (front.behind ≡ (wire self.now).taken + length (reply_frame (reply_of front.reply))) × (front.behind < 2 ^ 64)) };
 
     /// How many bytes the frames of the replies have that were taken.
     fn place(&self) -> u64
         ensures { result ≡ (wire self.now).taken };
 
-    /// Takes the reply that waits first; `behind` is the place behind its frame.
+    /// Takes the reply that stands first; `behind` is the place behind its frame.
     fn take(&mut self, behind: u64)
-        ensures { (reply : Reply) → IsFirst reply (wire self.old).waiting → behind ≡ (wire self.old).taken + length (reply_frame reply) → TakesOne reply (wire self.old) (wire self.new) };
+        requires { IsBehindFirst behind (wire self.old) }
+        ensures { (reply : Reply) → IsFirst reply (wire self.old) → behind ≡ (wire self.old).taken + length (reply_frame reply) → TakesOne reply (wire self.old) (wire self.new) };
+
+    /// Looks whether anything is left. Nothing may be.
+    fn finish(&mut self, alloc: Global) -> Result<(), Lack>
+        ensures { Finishes result (wire self.old) (wire self.new) };
 }
 
 /// The place behind the frame of a reply that begins at a place. There is no memory for as many
 /// bytes as 64 bits count.
 pub fn behind(alloc: Global, place: u64, reply: &Reply<'_>) -> Result<u64, AllocError>
-    ensures { IfOk result (λ n. n ≡ place + length (reply_frame reply.now)) }
+    ensures { IfOk result (λ n. (n ≡ place + length (reply_frame reply.now)) × (n < 2 ^ 64)) }
 {
     let frame = encode_reply(alloc, reply)?;
     match place.checked_add(frame.len() as u64) {

@@ -1,12 +1,12 @@
 //! A peer behind a tap.
 
-ghost use Rattle.std.specs.Prelude.{◌≡◌, ◌++◌, ◌∷◌, ◌≤◌, [], List, ℕ, OnOk, flat_map};
+ghost use Rattle.std.specs.Prelude.{◌≡◌, ◌++◌, ◌∷◌, ◌≤◌, [], List, ℕ, None, OnOk, flat_map};
 ghost use Rattle.ae_edge.specs.Devices.{Adds, AddsFront, Rose};
 ghost use Rattle.wire_spelling.specs.Spelling.{request_frame, reply_frame};
 ghost use Rattle.run_words.specs.Shares.{Wire};
 ghost use Rattle.script_run.specs.Frames.{PutsBytes};
 
-use crate::lines::{Line, Sent};
+use crate::lines::{Front, Lack, Lent, Line, Sent, behind};
 use ae_base::lists::Seq;
 use ae_edge::sinks::Sink;
 use ae_edge::streams::{PutAll, put_all};
@@ -33,7 +33,7 @@ pub struct PeerLine<'a, T: Sink, P: Peer> {
 }
 
 /// Puts the frame of a request.
-fn put_request<T: Sink>(frame: &mut Vec<u8>, tap: &mut T, request: &Request<'_>) -> PutAll
+pub fn put_request<T: Sink>(frame: &mut Vec<u8>, tap: &mut T, request: &Request<'_>) -> PutAll
     ensures puts { PutsBytes result (request_frame request.now) (T.held tap.old) (T.held tap.new) (T.faults tap.old) (T.faults tap.new) }
     ensures same { T.names tap.new ≡ T.names tap.old }
 {
@@ -96,6 +96,7 @@ impl<T: Sink, P: Peer> Line for PeerLine<'_, T, P> {
       log = P.log l.peer;
       state = P.state l.peer;
       waiting = l.waiting.now.replies.items;
+      stream = None;
       taken = l.taken;
       faults = T.faults l.tap;
     } };
@@ -117,10 +118,25 @@ impl<T: Sink, P: Peer> Line for PeerLine<'_, T, P> {
         }
     }
 
-    fn front(&self) -> Option<&Reply<'static>> {
-        match self.waiting.replies.front() {
-            Some(reply) => Some(reply),
-            None => None,
+    fn fetch(&mut self, alloc: Global) -> Result<(), Lack> {
+        if self.waiting.replies.is_empty() {
+            Err(Lack::BadReply)
+        } else {
+            Ok(())
+        }
+    }
+
+    fn front(&self, alloc: Global) -> Option<Front<'_>> {
+        let reply = match self.waiting.replies.front() {
+            Some(reply) => reply,
+            None => return None,
+        };
+        match behind(alloc, self.taken, reply) {
+            Ok(behind) => Some(Front {
+                reply: Lent::Kept(reply),
+                behind,
+            }),
+            Err(_) => None,
         }
     }
 
@@ -131,5 +147,13 @@ impl<T: Sink, P: Peer> Line for PeerLine<'_, T, P> {
     fn take(&mut self, behind: u64) {
         self.taken = behind;
         let _ = self.waiting.replies.pop_front();
+    }
+
+    fn finish(&mut self, alloc: Global) -> Result<(), Lack> {
+        if self.waiting.replies.is_empty() {
+            Ok(())
+        } else {
+            Err(Lack::BadReply)
+        }
     }
 }

@@ -6,7 +6,7 @@ ghost use Rattle.server_core.specs.Serve.{empty_state};
 ghost use Rattle.run_words.specs.declared.stops.Stop.TheVariants as stop;
 ghost use Rattle.script_run.specs.declared.runs.Ran.TheVariants as ran;
 ghost use Rattle.script_run.specs.declared.runs.Unread.TheVariants as unread;
-ghost use Rattle.script_run.specs.Ends.{IsRead, RunsScript, TakesScript, most_script_bytes};
+ghost use Rattle.script_run.specs.Ends.{IsOfPeer, IsRead, RunsScript, TakesScript, most_script_bytes};
 ghost use Rattle.script_run.specs.RunOf.{IsRunOf};
 
 use crate::runs::{Ran, Unread, run_over};
@@ -96,6 +96,8 @@ pub fn run<S: Source, V: Vault, E: Entropy, W: Sink, T: Sink, P: Peer>(
         (record { out = W.held out.new; tap = T.held tap.new; entropy = E.to_come entropy.new; keys = V.keys vault.new; log = P.log peer.new; state = P.state peer.new; out_faults = W.faults out.new; tap_faults = T.faults tap.new; entropy_faults = E.faults entropy.new; vault_faults = V.faults vault.new }) }
     // There each reply is awaited, whatever the devices tell.
     ensures awaited { P.state peer.old ≡ Some empty_state → (place : ℕ) → ¬ (result ≡ ran.Stopped (stop.BadReply place)) }
+    // A peer has no stream of replies, so it stops for no fault of one.
+    ensures of_peer { IsOfPeer result }
     // What was taken of the script, by how it ended.
     ensures taken { WhereTold (TakesScript result) (S.left script.old) (S.left script.new) }
     // The faults of the outside come only where a count rose.

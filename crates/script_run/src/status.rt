@@ -69,6 +69,8 @@ impl From<Ran> for Status {
             Ran::Done => Status::Done,
             Ran::Refusals => Status::Refusals,
             Ran::Stopped(Stop::BadReply(place)) => Status::BadReply(place),
+            Ran::Stopped(Stop::ReadFault) => Status::ReadFault,
+            Ran::Stopped(Stop::TooLong) => Status::TooLong,
             Ran::Stopped(Stop::EntropyFault) => Status::EntropyFault,
             Ran::Stopped(Stop::VaultFault) => Status::VaultFault,
             Ran::Stopped(Stop::WriteFault) => Status::WriteFault,

@@ -1,11 +1,11 @@
 //! The steps of a script, each a turn of its session.
 
-ghost use Rattle.std.specs.Prelude.{◌≡◌, ◌<◌, ◌-◌, ◌∷◌, [], List, IfOk, length};
+ghost use Rattle.std.specs.Prelude.{◌≡◌, ◌<◌, ◌-◌, ◌∷◌, List, IfOk, length};
 ghost use Rattle.key_store.specs.Stores.{IsOf};
 ghost use Rattle.conversation.specs.Sessions.{nobody};
 ghost use Rattle.conversation.specs.Talk.{Talk, Ends};
 ghost use Rattle.conversation.specs.declared.sessions.Session.{Session};
-ghost use Rattle.run_words.specs.Ways.{Leads};
+ghost use Rattle.run_words.specs.Ways.{IsReadOut, Leads};
 ghost use Rattle.script_lang.specs.declared.steps.Step.{Step};
 ghost use Rattle.plain_meaning.specs.Steps as steps_of;
 ghost use Rattle.plain_meaning.specs.Steps.{talk};
@@ -128,14 +128,10 @@ pub fn run_all<A: Around>(
     requires count { length sessions.old.items ≡ 64 }
     requires of_vault { IsOf (A.outside env.old).desk.keys (A.kept env.old) }
     ensures leads { Leads result (talk steps.now sessions.old.items) (λ _. Ends sessions.new.items) (A.outside env.old) (A.outside env.new) }
-    ensures read { IfOk result (λ _. (A.outside env.new).wire.waiting ≡ []) }
+    ensures read { IfOk result (λ _. IsReadOut (A.outside env.new).wire.stream (A.outside env.new).wire.waiting) }
 {
     match run_steps(alloc, env, sessions, steps) {
-        Ok(()) => {}
-        Err(stop) => return Err(stop),
-    }
-    match env.left() {
-        None => Ok(()),
-        Some(place) => Err(Stop::BadReply(place)),
+        Ok(()) => env.finish(alloc),
+        Err(stop) => Err(stop),
     }
 }

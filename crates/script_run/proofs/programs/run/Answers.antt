@@ -1,4 +1,5 @@
 -- Over a server that serves from the empty state it is what its script means.
+use Rattle.script_run.proofs.Lent.{of_peer}
 use Rattle.script_run.proofs.NoStray.{never_bad}
 use Rattle.script_run.proofs.RunsAre.{run_of}
 use Rattle.script_run.proofs.programs.run.Goals as goal
@@ -8,6 +9,9 @@ returns-clause-run g c = let h = c.run_source.ensures.content in (h.0, h.1, run_
 
 pub returns-clause-awaited : goal.returns-clause-awaited
 returns-clause-awaited g c = λ w place e. let h = c.run_source.ensures.content in never_bad c.replies_are_awaited.ensures _ place h.0 _ _ w h.2 e
+
+pub returns-clause-of_peer : goal.returns-clause-of_peer
+returns-clause-of_peer g c = let h = c.run_source.ensures.content in of_peer _ h.0 _ _ h.2
 
 pub returns-clause-taken : goal.returns-clause-taken
 returns-clause-taken g c = c.run_source.ensures.taken

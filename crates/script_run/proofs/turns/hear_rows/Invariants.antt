@@ -1,5 +1,5 @@
 -- Rows were heard so far, and more are awaited.
-use Rattle.std.proofs.Common.{length}
+use Rattle.std.proofs.Common.{◌-◌}
 use Rattle.key_store.specs.Stores.{IsOf}
 use Rattle.conversation.specs.Talk.{Talk, Hears, Heard}
 use Rattle.run_words.specs.Ways.{Goes}
@@ -14,4 +14,4 @@ invariant-replies g l = record {
 }
 
 abbrev pub decreases-replies : goal.decreases-replies
-decreases-replies g l = let o = g.A.Around.outside l.env in length o.wire.waiting
+decreases-replies g l = let o = g.A.Around.outside l.env in 18446744073709551616 - o.wire.taken

@@ -1,0 +1,73 @@
+-- Pieces of a stream of replies, one after another.
+use Rattle.std.proofs.Common.{◌≡◌, ℕ, ◌+◌, ◌≤◌, List, [], ◌∷◌, ◌++◌, Option, Some, None, length, refl, sym, ◌∙◌, ap, subst, arith, append-nil, append_assoc, length-append}
+use Rattle.std.specs.Prelude.{◌<◌, IfSome}
+use Rattle.ae_edge.specs.Devices.{WhereTold, Removes}
+use Rattle.ae_edge.proofs.Told.{told_same}
+use Rattle.wire_messages.specs.declared.replies.Reply.{Reply}
+use Rattle.wire_spelling.specs.Spelling.{reply_frame}
+use Rattle.run_words.specs.Shares.{Begins, IsNext, coming_behind}
+use Rattle.run_words.specs.Ways.{IsLeft, IsPast, most_reply_bytes}
+use Rattle.drive_command.specs.Holding.{Holding, came, held_more}
+use Rattle.drive_command.specs.Reading.{Moves, Moved, Ends}
+
+pub moved_still : (h : Holding) (left : Option (List ℕ)) → Moved h h left left
+moved_still h left = (refl, told_same (λ a b. b ≡ a) (λ x. refl) (coming_behind h.held left))
+
+comes_same : (held piece : List ℕ) (left after : Option (List ℕ)) → Removes piece left after → WhereTold (λ a b. b ≡ a) (coming_behind held left) (coming_behind (held ++ piece) after)
+comes_same held piece (Some x) (Some y) e = append_assoc held piece y ∙ ap (λ w. held ++ w) (sym e)
+comes_same held piece None None e = tt
+comes_same held piece (Some x) None e = absurd e
+comes_same held piece None (Some y) e = absurd e
+
+both : (a b c : Option (List ℕ)) → WhereTold (λ x y. y ≡ x) a b → WhereTold (λ x y. y ≡ x) b c → WhereTold (λ x y. y ≡ x) a c
+both (Some x) (Some y) (Some z) p q = q ∙ p
+both None None None p q = tt
+both (Some x) None c p q = absurd p
+both None (Some y) c p q = absurd p
+both (Some x) (Some y) None p q = absurd q
+both None None (Some z) p q = absurd q
+
+-- one more piece
+pub moved_more : (a b c : Holding) (piece : List ℕ) (l m n : Option (List ℕ)) → Moved a b l m → Moves piece b c m n → Moved a c l n
+moved_more a b c piece l m n p q =
+    let e = q.held in
+    let r : Moved a (held_more b piece) l n = (p.0, both (coming_behind a.held l) (coming_behind b.held m) (coming_behind (b.held ++ piece) n) p.1 (comes_same b.held piece m n q.gone)) in
+    subst (λ h. Moved a h l n) (sym e) r
+
+ends_same : (held : List ℕ) (m n : Option (List ℕ)) → Ends m n → WhereTold (λ a b. b ≡ a) (coming_behind held m) (coming_behind held n)
+ends_same held (Some x) (Some y) e = ap (λ w. held ++ w) (e.1 ∙ sym e.0)
+ends_same held None None e = tt
+ends_same held (Some x) None e = absurd e
+ends_same held None (Some y) e = absurd e
+
+-- the end
+pub moved_end : (a b c : Holding) (l m n : Option (List ℕ)) → Moved a b l m → c ≡ b → Ends m n → Moved a c l n
+moved_end a b c l m n p e q = subst (λ h. Moved a h l n) (sym e) (p.0, both (coming_behind a.held l) (coming_behind b.held m) (coming_behind b.held n) p.1 (ends_same b.held m n q))
+
+pub none_at_end : (held : List ℕ) (m n : Option (List ℕ)) → Ends m n → IsNext None held → IfSome (coming_behind held n) (IsNext None)
+none_at_end held m None e h = tt
+none_at_end held (Some x) (Some y) e h = subst (IsNext None) (sym (ap (λ w. held ++ w) e.1 ∙ append-nil held)) h
+none_at_end held None (Some y) e h = absurd e
+
+pub left_at_end : (m n : Option (List ℕ)) → Ends m n → IfSome n (λ bytes. bytes ≡ [])
+left_at_end m None e = tt
+left_at_end (Some x) (Some y) e = e.1
+left_at_end None (Some y) e = absurd e
+
+-- no frame is in no bytes
+pub none_in_none : IsNext None []
+none_in_none = λ r b. let e = ap length b.is in let l = length-append (reply_frame r) b.rest in omega (arith, e, l)
+
+-- one byte past the limit
+pub is_past : (b c : Holding) (byte : ℕ) (l m : Option (List ℕ)) → Moves (byte ∷ []) b c l m → came b ≡ most_reply_bytes → IsNext None b.held → IsPast c.at c.held
+is_past b c byte l m q e n =
+    let i = q.held in
+    subst (λ h. IsPast h.at h.held) (sym i) (record { within = b.held; byte = byte; is = refl; limit = e; none = n })
+
+left_behind : (xs ys : List ℕ) → 0 < length ys → IsLeft (xs ++ ys)
+left_behind [] [] n = absurd (omega (arith, n))
+left_behind [] (y ∷ ys) n = tt
+left_behind (x ∷ xs) ys n = tt
+
+pub some_left : (b c : Holding) (piece : List ℕ) (l m : Option (List ℕ)) → Moves piece b c l m → 0 < length piece → IsLeft c.held
+some_left b c piece l m q n = let i = q.held in subst (λ h. IsLeft h.held) (sym i) (left_behind b.held piece n)

@@ -1,0 +1,4 @@
+pub mod Beginning
+pub mod Fetching
+pub mod Holdings
+pub mod Wires

@@ -1,0 +1,30 @@
+-- The same is lent after it.
+use Rattle.script_run.proofs.Lent.{leads_same, only_same, tap_same, peer_same}
+use Rattle.drive_command.proofs.drives.drive_lent.Goals as goal
+
+pub run_all-requires-clause-count : goal.run_all-requires-clause-count
+run_all-requires-clause-count g c = c.requires.count
+
+pub run_all-requires-clause-of_vault : goal.run_all-requires-clause-of_vault
+run_all-requires-clause-of_vault g c = c.requires.of_vault
+
+pub returns-clause-leads : goal.returns-clause-leads
+returns-clause-leads g c = c.run_all.ensures.leads
+
+pub returns-clause-read : goal.returns-clause-read
+returns-clause-read g c = c.run_all.ensures.read
+
+pub returns-clause-same_out : goal.returns-clause-same_out
+returns-clause-same_out g c = let l = leads_same _ _ _ _ _ c.run_all.ensures.leads in only_same _ _ l.out
+
+pub returns-clause-same_entropy : goal.returns-clause-same_entropy
+returns-clause-same_entropy g c = let l = leads_same _ _ _ _ _ c.run_all.ensures.leads in only_same _ _ l.entropy
+
+pub returns-clause-same_vault : goal.returns-clause-same_vault
+returns-clause-same_vault g c = let l = leads_same _ _ _ _ _ c.run_all.ensures.leads in only_same _ _ l.vault
+
+pub returns-clause-same_tap : goal.returns-clause-same_tap
+returns-clause-same_tap g c = let l = leads_same _ _ _ _ _ c.run_all.ensures.leads in tap_same _ _ _ _ l.wire
+
+pub returns-clause-same_replies : goal.returns-clause-same_replies
+returns-clause-same_replies g c = let l = leads_same _ _ _ _ _ c.run_all.ensures.leads in peer_same _ _ _ _ l.wire

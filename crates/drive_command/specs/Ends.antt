@@ -1,0 +1,99 @@
+-- How driving a script ends, in words of what it was lent.
+use Rattle.std.specs.Prelude.{◌≡◌, ℕ, ◌<◌, ◌≤◌, List, [], length, Option, Some, None, Result, Ok, Err, Bool, true, false, IfOk, IfSome}
+use Rattle.std.specs.Borrow.{GName}
+use Rattle.ae_edge.specs.Vaults.{KeyMap}
+use Rattle.conversation.specs.declared.sessions.Session.{Session}
+use Rattle.conversation.specs.Sessions.{nobody}
+use Rattle.conversation.specs.Talk as talks
+use Rattle.run_words.specs.Shares.{Outside}
+use Rattle.run_words.specs.Ways.{Leads}
+use Rattle.run_words.specs.declared.stops.Stop.{Stop}
+use Rattle.script_lang.specs.declared.steps.Step.{Step}
+use Rattle.script_lang.specs.Script.{steps_of}
+use Rattle.plain_meaning.specs.Steps.{talk}
+use Rattle.script_run.specs.declared.runs.Ran.{Ran}
+use Rattle.script_run.specs.declared.runs.Ran.TheVariants as ran
+use Rattle.script_run.specs.declared.runs.Unread.TheVariants as unread
+use Rattle.script_run.specs.Ends.{IsScript, most_script_bytes}
+
+-- what is told of all that driving is lent: text and tap, the random bytes to come, the keys, the replies that are left, and the counts of
+-- faults
+pub record Lent : Type 0 where
+  pub out : Option (List ℕ)
+  pub tap : Option (List ℕ)
+  pub entropy : Option (List ℕ)
+  pub keys : Option KeyMap
+  pub replies : Option (List ℕ)
+  pub out_faults : ℕ
+  pub tap_faults : ℕ
+  pub entropy_faults : ℕ
+  pub vault_faults : ℕ
+  pub reply_faults : ℕ
+
+-- with the names of what is lent, and what is kept: whether a refusal was printed, the bytes of replies that are held, and how many
+-- bytes those have that were taken
+abbrev pub outside : List GName → List GName → List GName → List (List GName) → Bool → List ℕ → ℕ → Lent → Outside
+outside out_names entropy_names vault_names wire_names refused held taken l = record {
+  desk = record {
+    out_names = out_names;
+    entropy_names = entropy_names;
+    vault_names = vault_names;
+    out = l.out;
+    entropy = l.entropy;
+    keys = l.keys;
+    refused = refused;
+    out_faults = l.out_faults;
+    entropy_faults = l.entropy_faults;
+    vault_faults = l.vault_faults;
+  };
+  wire = record {
+    names = wire_names;
+    tap = l.tap;
+    log = None;
+    state = None;
+    waiting = [];
+    stream = Some (record { held = held; left = l.replies; faults = l.reply_faults });
+    taken = taken;
+    faults = l.tap_faults;
+  };
+}
+
+-- from 64 idle sessions the script's conversation was followed to its end, with all replies read, or stopped
+pub record CameTo (ended : Result (Unit {0}) Stop) (refused : Bool) (steps : List Step) (old new : Lent) : Type 0 where
+  pub sessions : List Session
+  pub held : List ℕ
+  pub taken : ℕ
+  pub out : List GName
+  pub entropy : List GName
+  pub vault : List GName
+  pub wire : List (List GName)
+  pub out_after : List GName
+  pub entropy_after : List GName
+  pub vault_after : List GName
+  pub wire_after : List (List GName)
+  pub leads : Leads ended (talk steps nobody) (λ o. talks.Ends sessions) (outside out entropy vault wire false [] 0 old) (outside out_after entropy_after vault_after wire_after refused held taken new)
+  pub read : IfOk ended (λ o. (held ≡ []) × IfSome new.replies (λ left. left ≡ []))
+
+-- what driving these steps leaves, by how it ended
+abbrev pub DrivesTo : Ran → List Step → Lent → Lent → Type 0
+DrivesTo ran.Done steps old new = CameTo (Ok tt) false steps old new
+DrivesTo ran.Refusals steps old new = CameTo (Ok tt) true steps old new
+DrivesTo (ran.Stopped stop) steps old new = (refused : Bool) × CameTo (Err stop) refused steps old new
+DrivesTo (ran.Unread why) steps old new = ⊥
+
+-- ---- scripts
+
+pub record DrivesSteps (r : Ran) (bytes : List ℕ) (old new : Lent) : Type 0 where
+  pub steps : List Step
+  pub script : IsScript bytes steps
+  pub drives : DrivesTo r steps old new
+
+-- what driving a script's bytes leaves, by how it ended; a script that is refused or can't be read leaves everything as it was
+abbrev pub DrivesScript : Ran → List ℕ → Lent → Lent → Type 0
+DrivesScript ran.Done bytes old new = DrivesSteps ran.Done bytes old new
+DrivesScript ran.Refusals bytes old new = DrivesSteps ran.Refusals bytes old new
+DrivesScript (ran.Stopped stop) bytes old new = DrivesSteps (ran.Stopped stop) bytes old new
+DrivesScript (ran.Unread unread.ReadFault) bytes old new = new ≡ old
+DrivesScript (ran.Unread unread.TooLong) bytes old new = (most_script_bytes < length bytes) × (new ≡ old)
+DrivesScript (ran.Unread (unread.BadLine line)) bytes old new = (length bytes ≤ most_script_bytes) × (steps_of bytes ≡ Err line) × (new ≡ old)
+DrivesScript (ran.Unread unread.OutOfMemory) bytes old new = new ≡ old

@@ -1,0 +1,4 @@
+pub mod Drives
+pub mod Ends
+pub mod Holding
+pub mod Reading

@@ -1,0 +1,65 @@
+-- Reading the next piece of a stream of replies.
+use Rattle.std.specs.Prelude.{◌≡◌, ℕ, ◌≤◌, ◌<◌, List, [], ◌∷◌, ◌++◌, length, Option, Some, None, IfSome, Result, Ok, Err, Bool, true, false}
+use Rattle.ae_edge.specs.Devices.{Rose, Removes, WhereTold}
+use Rattle.std.specs.Borrow.{GName}
+use Rattle.wire_messages.specs.declared.replies.Reply.{Reply}
+use Rattle.run_words.specs.Shares.{Begins, IsNext, Wire, coming_behind}
+use Rattle.run_words.specs.Ways.{IsLeft, IsPast, most_reply_bytes}
+use Rattle.script_run.specs.declared.lines.Lack.{Lack}
+use Rattle.script_run.specs.declared.lines.Lack.TheVariants as lack
+use Rattle.drive_command.specs.Holding.{Holding, came, held_more}
+
+-- a piece is held that was left, or nothing changes
+pub record Moves (piece : List ℕ) (old new : Holding) (left after : Option (List ℕ)) : Type 0 where
+  pub held : new ≡ held_more old piece
+  pub gone : Removes piece left after
+
+-- nothing is left
+abbrev pub Ends : Option (List ℕ) → Option (List ℕ) → Type 0
+Ends = WhereTold (λ old new. (old ≡ []) × (new ≡ []))
+
+-- a piece came, or the end; or it couldn't be read, or it is past its limit
+abbrev pub ReadsMore : Result Bool Lack → Holding → Holding → (left after : Option (List ℕ)) → (before now : ℕ) → Type 0
+ReadsMore (Ok true) old new left after before now = (before ≤ now) × (came new ≤ most_reply_bytes) × ((piece : List ℕ) × (0 < length piece) × Moves piece old new left after)
+ReadsMore (Ok false) old new left after before now = (before ≤ now) × (new ≡ old) × Ends left after
+ReadsMore (Err lack.BadReply) old new left after before now = ⊥
+ReadsMore (Err lack.ReadFault) old new left after before now = (before ≤ now) × Rose before now × Moves [] old new left after
+ReadsMore (Err lack.TooLong) old new left after before now = (before ≤ now) × (came old ≡ most_reply_bytes) × ((byte : ℕ) × Moves (byte ∷ []) old new left after)
+ReadsMore (Err lack.OutOfMemory) old new left after before now = Unit {0}
+
+-- ---- a reply, or that none is left
+
+-- bytes may have come, of which none was lost
+abbrev pub Moved : Holding → Holding → Option (List ℕ) → Option (List ℕ) → Type 0
+Moved old new left after = (new.at ≡ old.at) × WhereTold (λ a b. b ≡ a) (coming_behind old.held left) (coming_behind new.held after)
+
+-- a reply stands first, or none does, by its cause
+abbrev pub FetchesReply : Result (Unit {0}) Lack → Holding → Holding → (left after : Option (List ℕ)) → (before now : ℕ) → Type 0
+FetchesReply (Ok o) old new left after before now = Moved old new left after × (before ≤ now) × ((reply : Reply) × Begins reply new.held)
+FetchesReply (Err lack.BadReply) old new left after before now = Moved old new left after × (before ≤ now) × IfSome (coming_behind new.held after) (IsNext None)
+FetchesReply (Err lack.ReadFault) old new left after before now = Moved old new left after × (before ≤ now) × Rose before now × IsNext None new.held
+FetchesReply (Err lack.TooLong) old new left after before now = Moved old new left after × (before ≤ now) × IsPast new.at new.held
+FetchesReply (Err lack.OutOfMemory) old new left after before now = Unit {0}
+
+-- nothing is left, or something is, or that can't be known
+abbrev pub FinishesReplies : Result (Unit {0}) Lack → Holding → Holding → (left after : Option (List ℕ)) → (before now : ℕ) → Type 0
+FinishesReplies (Ok o) old new left after before now = Moved old new left after × (before ≤ now) × (new.held ≡ []) × IfSome after (λ bytes. bytes ≡ [])
+FinishesReplies (Err lack.BadReply) old new left after before now = Moved old new left after × (before ≤ now) × IsLeft new.held
+FinishesReplies (Err lack.ReadFault) old new left after before now = Moved old new left after × (before ≤ now) × Rose before now × IsNext None new.held
+FinishesReplies (Err lack.TooLong) old new left after before now = Moved old new left after × (before ≤ now) × IsPast new.at new.held
+FinishesReplies (Err lack.OutOfMemory) old new left after before now = Unit {0}
+
+-- ---- the wire
+
+-- a stream of replies behind a tap
+abbrev pub wire_of : List GName → List GName → Option (List ℕ) → ℕ → Option (List ℕ) → ℕ → Holding → Wire
+wire_of tap_names source_names tap tap_faults left read_faults holding = record {
+  names = tap_names ∷ source_names ∷ [];
+  tap = tap;
+  log = None;
+  state = None;
+  waiting = [];
+  stream = Some (record { held = holding.held; left = left; faults = read_faults });
+  taken = holding.at;
+  faults = tap_faults;
+}

@@ -1,0 +1,82 @@
+//! The command `drive`: a script is read whole, and its steps are run against recorded replies.
+
+ghost use Rattle.std.specs.Prelude.{◌≡◌, ◌≤◌, ◌⊎◌, ℕ, List, IfSome, length};
+ghost use Rattle.ae_edge.specs.Devices.{Rose, WhereTold};
+ghost use Rattle.run_words.specs.declared.stops.Stop.TheVariants as stop;
+ghost use Rattle.script_run.specs.declared.runs.Ran.TheVariants as ran;
+ghost use Rattle.script_run.specs.declared.runs.Unread.TheVariants as unread;
+ghost use Rattle.script_run.specs.Ends.{IsRead, TakesScript, most_script_bytes};
+ghost use Rattle.drive_command.specs.Ends.{DrivesScript};
+
+use crate::drives::drive_over;
+use ae_base::blobs::Blob;
+use ae_edge::entropies::Entropy;
+use ae_edge::sinks::Sink;
+use ae_edge::sources::Source;
+use ae_edge::streams::{ReadAll, read_all};
+use ae_edge::vaults::Vault;
+use script_lang::scripts::{ScriptFault, read_script};
+use script_run::programs::MOST_SCRIPT_BYTES;
+use script_run::runs::{Ran, Unread};
+use std::alloc::Global;
+
+fn drive_bytes<V: Vault, E: Entropy, L: Source, W: Sink, T: Sink>(
+    alloc: Global,
+    script: &Blob,
+    vault: &mut V,
+    entropy: &mut E,
+    replies: &mut L,
+    out: &mut W,
+    tap: &mut T,
+) -> Ran
+    requires within { length script.now ≤ most_script_bytes }
+    ensures content { DrivesScript result script.now
+        (record { out = W.held out.old; tap = T.held tap.old; entropy = E.to_come entropy.old; keys = V.keys vault.old; replies = L.left replies.old; out_faults = W.faults out.old; tap_faults = T.faults tap.old; entropy_faults = E.faults entropy.old; vault_faults = V.faults vault.old; reply_faults = L.faults replies.old })
+        (record { out = W.held out.new; tap = T.held tap.new; entropy = E.to_come entropy.new; keys = V.keys vault.new; replies = L.left replies.new; out_faults = W.faults out.new; tap_faults = T.faults tap.new; entropy_faults = E.faults entropy.new; vault_faults = V.faults vault.new; reply_faults = L.faults replies.new }) }
+    ensures read { IsRead result }
+{
+    match read_script(alloc, script.as_slice()) {
+        Ok(steps) => drive_over(alloc, steps.as_slice(), vault, entropy, replies, out, tap),
+        Err(ScriptFault::BadLine(line)) => Ran::Unread(Unread::BadLine(line)),
+        Err(ScriptFault::OutOfMemory) => Ran::Unread(Unread::OutOfMemory),
+    }
+}
+
+/// Reads a script to its end and runs its steps against recorded replies, which come as the bytes of
+/// their frames: the frame of each request goes to `tap`, and the text to `out`, a step's frames
+/// before its text. After the last step the replies are read to their end. A script that can't be
+/// read, has a bad line or is too long leaves everything as it was.
+///
+/// It stops with `BadReply` and the place of the byte where a reply isn't awaited, where none comes,
+/// and where bytes are left after the last step; with `TooLong` where more than 1,073,741,824 bytes
+/// of replies were taken; with `ReadFault` where they couldn't be read.
+pub fn drive<S: Source, V: Vault, E: Entropy, L: Source, W: Sink, T: Sink>(
+    alloc: Global,
+    script: &mut S,
+    vault: &mut V,
+    entropy: &mut E,
+    replies: &mut L,
+    out: &mut W,
+    tap: &mut T,
+) -> Ran
+    // There are bytes, the script's where it tells them, of which this is what driving comes to: how far its conversation was followed,
+    // what each device has of it, how the replies were read, and why no further.
+    ensures content { (bytes : List ℕ) × IfSome (S.left script.old) (λ left. bytes ≡ left) × DrivesScript result bytes
+        (record { out = W.held out.old; tap = T.held tap.old; entropy = E.to_come entropy.old; keys = V.keys vault.old; replies = L.left replies.old; out_faults = W.faults out.old; tap_faults = T.faults tap.old; entropy_faults = E.faults entropy.old; vault_faults = V.faults vault.old; reply_faults = L.faults replies.old })
+        (record { out = W.held out.new; tap = T.held tap.new; entropy = E.to_come entropy.new; keys = V.keys vault.new; replies = L.left replies.new; out_faults = W.faults out.new; tap_faults = T.faults tap.new; entropy_faults = E.faults entropy.new; vault_faults = V.faults vault.new; reply_faults = L.faults replies.new }) }
+    // What was taken of the script, by how it ended.
+    ensures taken { WhereTold (TakesScript result) (S.left script.old) (S.left script.new) }
+    // The faults of the outside come only where a count rose.
+    ensures read { result ≡ ran.Unread unread.ReadFault → Rose (S.faults script.old) (S.faults script.new) }
+    ensures read_replies { result ≡ ran.Stopped stop.ReadFault → Rose (L.faults replies.old) (L.faults replies.new) }
+    ensures write { result ≡ ran.Stopped stop.WriteFault → Rose (W.faults out.old) (W.faults out.new) ⊎ Rose (T.faults tap.old) (T.faults tap.new) }
+    ensures entropy { result ≡ ran.Stopped stop.EntropyFault → Rose (E.faults entropy.old) (E.faults entropy.new) }
+    ensures vault { result ≡ ran.Stopped stop.VaultFault → Rose (V.faults vault.old) (V.faults vault.new) }
+{
+    match read_all(script, alloc, MOST_SCRIPT_BYTES) {
+        ReadAll::Whole(bytes) => drive_bytes(alloc, &bytes, vault, entropy, replies, out, tap),
+        ReadAll::TooLong => Ran::Unread(Unread::TooLong),
+        ReadAll::ReadFault => Ran::Unread(Unread::ReadFault),
+        ReadAll::OutOfMemory => Ran::Unread(Unread::OutOfMemory),
+    }
+}

@@ -1,0 +1,246 @@
+-- No reply comes that is awaited, or something is left at the end.
+use Rattle.std.proofs.Common.{◌≡◌, ℕ, ◌≤◌, List, [], ◌∷◌, Option, Some, None, Err, Bool, true, false, length, refl, sym, ◌∙◌, ap, subst, append-nil, arith, ◌⊎◌, inl, inr}
+use Rattle.std.specs.Borrow.{GName}
+use Rattle.ae_edge.specs.Devices.{Adds, AddsFront, Rose}
+use Rattle.wire_messages.specs.declared.replies.Reply.{Reply}
+use Rattle.conversation.specs.declared.outcomes.Listing.{Listing}
+use Rattle.conversation.specs.declared.outcomes.Outcome.{Outcome}
+use Rattle.conversation.specs.declared.outcomes.Outcome.TheVariants as outcome
+use Rattle.conversation.specs.declared.sessions.Session.{Session}
+use Rattle.conversation.specs.declared.sessions.Session.TheVariants.{Idle, Begun, Pending, Sent, Reading, Skipping}
+use Rattle.conversation.specs.Paths.{Follows, stays, prints_last, IsStray}
+use Rattle.conversation.specs.Talk.{Talk, Ends, Stops, Hears, Heard, broken}
+use Rattle.run_words.specs.Printing.{printed_listing}
+use Rattle.run_words.specs.Shares.{Desk, Stream, Wire, Outside, DeskPut, WirePut, WireRead, HasPut}
+use Rattle.run_words.specs.Ways.{Goes, Lacks, Breaks, Fails, CantBeRead, IsTooLong, IsStreamed, IsStuck, IsStuckOn, IsFirst, IsLeft, IsLeftOn, IsNextOn, printed_off}
+use Rattle.run_words.specs.declared.stops.Stop.{Stop}
+use Rattle.run_words.specs.declared.stops.Stop.TheVariants as stop
+use Rattle.run_words.proofs.Going.{stay, or_false, desk_still, desk_front, wire_still, wire_front, wire_unread, nothing_put, nothing_read, goes_then, fails_then}
+use Rattle.run_words.proofs.Calls.{desk_printed, desk_cut, wire_printed, printed_read, strayed_goes}
+use Rattle.script_run.specs.declared.lines.Lack.{Lack}
+use Rattle.script_run.specs.declared.lines.Lack.TheVariants as lack
+use Rattle.script_run.specs.Breaking.{shown_if, is_shown, off_by, PutsOff, CutsOff, BreaksOff}
+use Rattle.script_run.specs.Heard.{stop_at, is_reading}
+use Rattle.script_run.specs.Lines.{Rests, Fetches, Finishes}
+use Rattle.script_run.specs.Onward.{IsRows}
+use Rattle.script_run.proofs.Heeded.{rests_goes, stuck_stop, missed, first_next}
+
+-- ---- what an answer came to before it broke off
+
+off_follows : (comes : Option Outcome) → Follows (Stops comes) (printed_off comes) (Stops None)
+off_follows (Some comes) = prints_last comes (Stops None) [] (stays (Stops None))
+off_follows None = stays (Stops None)
+
+off_one : (comes : Option Outcome) → length (printed_off comes) ≤ 1
+off_one (Some comes) = omega arith
+off_one None = omega arith
+
+wire_off : (comes : Option Outcome) (w : Wire) → WirePut Adds (printed_off comes) w w
+wire_off (Some comes) w = wire_printed comes w
+wire_off None w = wire_still w
+
+read_off : (comes : Option Outcome) (w : Wire) → WireRead (printed_off comes) w w
+read_off (Some comes) w = printed_read comes w
+read_off None w = wire_unread w
+
+-- why a front of it alone was put
+abbrev Cut : Stop → Desk → Desk → Type 0
+Cut result old new = ((result ≡ stop.WriteFault) × Rose old.out_faults new.out_faults) ⊎ (result ≡ stop.OutOfMemory)
+
+cut_by : (t : Talk) (x z : Outside) (result : Stop) → Breaks t x z → Cut result x.desk z.desk → Fails result t x z
+cut_by t x z result b (inl h) = subst (λ s. Fails s t x z) (sym h.0) (b, inl h.1)
+cut_by t x z result b (inr e) = subst (λ s. Fails s t x z) (sym e) b
+
+streamed_read : (s t : Option Stream) → CantBeRead s t → IsStreamed t
+streamed_read s (Some t) h = tt
+streamed_read (Some s) None h = absurd h
+streamed_read None None h = absurd h
+
+streamed_long : (taken : ℕ) (s : Option Stream) → IsTooLong taken s → IsStreamed s
+streamed_long taken (Some s) h = tt
+streamed_long taken None h = absurd h
+
+-- nothing was put, and it broke off
+halted_so : (t : Talk) (x : Outside) (w : Wire) (desk : Desk) → WirePut AddsFront [] x.wire w → DeskPut AddsFront [] x.desk desk → Breaks t x (record { desk = desk; wire = w })
+halted_so t x w desk h d = record { between = t; rest = t; mid = x; last = []; goes = stay t x; one = omega arith; follows = inl (stays t); put = record { desk = d; wire = h } }
+
+module _ (session : Session) (shown : Listing) (f : Heard → Talk) (x : Outside) (w : Wire) (desk : Desk) (result : Stop) where
+  abbrev After : Outside
+  After = record { desk = desk; wire = w }
+
+  put_off : (comes : Option Outcome) → DeskPut Adds (printed_off comes) x.desk desk → HasPut Adds (printed_off comes) (record x { wire = w }) After
+  put_off comes d = record { desk = d; wire = wire_off comes w }
+
+  cut_off : (comes : Option Outcome) → DeskPut AddsFront (printed_off comes) x.desk desk → HasPut AddsFront (printed_off comes) (record x { wire = w }) After
+  cut_off comes d = record { desk = d; wire = wire_front (printed_off comes) w w (wire_off comes w) }
+
+  -- the next reply isn't awaited, or none is there
+  module _ (next : Option Reply) (s : IsStray session shown next) (r : Rests x.wire w) (n : IsNextOn next w) where
+    away : Goes (Hears session shown f) (Stops (broken session shown)) x (record x { wire = w })
+    away = goes_then _ _ _ _ _ _ (rests_goes (Hears session shown f) x w r) (strayed_goes session shown f next (record x { wire = w }) s n)
+
+    pub strays_off : BreaksOff result (stop.BadReply w.taken) (broken session shown) x.desk desk → Fails result (Hears session shown f) x After
+    strays_off (inl h) =
+        let g : Goes (Stops (broken session shown)) (Stops None) (record x { wire = w }) After =
+        record {
+          events = printed_off (broken session shown);
+          follows = off_follows (broken session shown);
+          put = put_off (broken session shown) h.1;
+          read = record { refused = h.2; wire = read_off (broken session shown) w };
+        } in
+        subst (λ s. Fails s (Hears session shown f) x After) (sym h.0)
+        (record { rest = Stops None; goes = goes_then _ _ _ _ _ _ away g; place = (stuck_stop w.stream w.waiting, refl) })
+    strays_off (inr h) =
+        cut_by (Hears session shown f) x After result
+        (record {
+          between = Stops (broken session shown);
+          rest = Stops None;
+          mid = record x { wire = w };
+          last = printed_off (broken session shown);
+          goes = away;
+          one = off_one (broken session shown);
+          follows = inl (off_follows (broken session shown));
+          put = cut_off (broken session shown) h.1;
+        })
+        h.0
+
+  -- a stream of replies can't be read further
+  module _ (r : Rests x.wire w) where
+    lacks : (why : Stop) → PutsOff result why (broken session shown) x.desk desk → Lacks (Hears session shown f) x After
+    lacks why h = record {
+      between = Hears session shown f;
+      mid = record x { wire = w };
+      goes = rests_goes (Hears session shown f) x w r;
+      awaits = tt;
+      put = put_off (broken session shown) h.1;
+      read = record { refused = h.2; wire = read_off (broken session shown) w };
+    }
+
+    cut_lacks : IsStreamed w.stream → CutsOff result (broken session shown) x.desk desk → Fails result (Hears session shown f) x After
+    cut_lacks i h =
+        cut_by (Hears session shown f) x After result
+        (record {
+          between = Hears session shown f;
+          rest = Stops None;
+          mid = record x { wire = w };
+          last = printed_off (broken session shown);
+          goes = rests_goes (Hears session shown f) x w r;
+          one = off_one (broken session shown);
+          follows = inr (i, tt, refl);
+          put = cut_off (broken session shown) h.1;
+        })
+        h.0
+
+    unread_fails : CantBeRead x.wire.stream w.stream → BreaksOff result stop.ReadFault (broken session shown) x.desk desk → Fails result (Hears session shown f) x After
+    unread_fails c (inl h) = subst (λ s. Fails s (Hears session shown f) x After) (sym h.0) (lacks stop.ReadFault h, c)
+    unread_fails c (inr h) = cut_lacks (streamed_read x.wire.stream w.stream c) h
+
+    long_fails : IsTooLong w.taken w.stream → BreaksOff result stop.TooLong (broken session shown) x.desk desk → Fails result (Hears session shown f) x After
+    long_fails c (inl h) = subst (λ s. Fails s (Hears session shown f) x After) (sym h.0) (lacks stop.TooLong h, c)
+    long_fails c (inr h) = cut_lacks (streamed_long w.taken w.stream c) h
+
+  memory_fails : WirePut AddsFront [] x.wire w → BreaksOff result stop.OutOfMemory None x.desk desk → Fails result (Hears session shown f) x After
+  memory_fails h (inl b) = subst (λ s. Fails s (Hears session shown f) x After) (sym b.0) (halted_so (Hears session shown f) x w desk h (desk_front [] x.desk desk b.1))
+  memory_fails h (inr b) = cut_by (Hears session shown f) x After result (halted_so (Hears session shown f) x w desk h b.1) b.0
+
+  -- none comes, by its cause
+  pub fetch_fails : (why : Lack) → Fetches (Err why) x.wire w → BreaksOff result (stop_at why w.taken) (off_by why (broken session shown)) x.desk desk → Fails result (Hears session shown f) x After
+  fetch_fails lack.BadReply h b = strays_off None tt h.0 h.1 b
+  fetch_fails lack.ReadFault h b = unread_fails h.0 h.1 b
+  fetch_fails lack.TooLong h b = long_fails h.0 h.1 b
+  fetch_fails lack.OutOfMemory h b = memory_fails h b
+
+-- nothing was shown
+off_none : (why : Lack) (comes : Option Outcome) → comes ≡ None → off_by why comes ≡ None
+off_none lack.BadReply comes e = e
+off_none lack.ReadFault comes e = e
+off_none lack.TooLong comes e = e
+off_none lack.OutOfMemory comes e = refl
+
+nothing_off : (why : Stop) (desk : Desk) → BreaksOff why why None desk desk
+nothing_off why desk = inl (refl, desk_still desk, or_false desk.refused)
+
+pub fetch_misses : (session : Session) (shown : Listing) (f : Heard → Talk) (x : Outside) (w : Wire) (why : Lack) (result : Stop) (place : ℕ) → broken session shown ≡ None → place ≡ w.taken → result ≡ stop_at why place
+    → Fetches (Err why) x.wire w → Fails result (Hears session shown f) x (record x { wire = w })
+fetch_misses session shown f x w why result place b p e h =
+    subst (λ s. Fails s (Hears session shown f) x (record x { wire = w })) (sym (e ∙ ap (stop_at why) p))
+    (fetch_fails session shown f x w x.desk (stop_at why w.taken) why h
+    (subst (λ c. BreaksOff (stop_at why w.taken) (stop_at why w.taken) c x.desk x.desk) (sym (off_none why (broken session shown) b)) (nothing_off (stop_at why w.taken) x.desk)))
+
+pub stray_misses : (session : Session) (shown : Listing) (f : Heard → Talk) (r : Reply) (x : Outside) (w : Wire) (place : ℕ) → broken session shown ≡ None → IsStray session shown (Some r)
+    → Rests x.wire w → IsFirst r w → place ≡ w.taken → Fails (stop.BadReply place) (Hears session shown f) x (record x { wire = w })
+stray_misses session shown f r x w place b s h i p =
+    fails_then (stop.BadReply place) (Hears session shown f) (Hears session shown f) x (record x { wire = w }) (record x { wire = w }) (rests_goes (Hears session shown f) x w h)
+    (missed session shown f (Some r) (record x { wire = w }) place b s (first_next r w i) p)
+
+-- ---- what is shown where rows are read
+
+pub broken_is : (session : Session) (shown : Listing) → IsRows session → broken session shown ≡ shown_if (is_reading session) shown
+broken_is (Reading columns keys count) shown r = refl
+broken_is (Skipping columns count) shown r = refl
+broken_is Idle shown r = absurd r
+broken_is (Begun batch) shown r = absurd r
+broken_is (Pending pending) shown r = absurd r
+broken_is Sent shown r = absurd r
+
+pub off_is : (why : Lack) (session : Session) (shown : Listing) (reads : Bool) → IsRows session → reads ≡ is_reading session → shown_if (is_shown why reads) shown ≡ off_by why (broken session shown)
+off_is lack.BadReply session shown reads r e = ap (λ b. shown_if b shown) e ∙ sym (broken_is session shown r)
+off_is lack.ReadFault session shown reads r e = ap (λ b. shown_if b shown) e ∙ sym (broken_is session shown r)
+off_is lack.TooLong session shown reads r e = ap (λ b. shown_if b shown) e ∙ sym (broken_is session shown r)
+off_is lack.OutOfMemory session shown reads r e = refl
+
+pub why_is : (why : Lack) (place taken : ℕ) (result : Stop) → result ≡ stop_at why place → place ≡ taken → result ≡ stop_at why taken
+why_is why place taken result e p = e ∙ ap (stop_at why) p
+
+-- nothing is put
+pub none_off : (is : Bool) (shown : Listing) (result why : Stop) (desk : Desk) → result ≡ why → is ≡ false → BreaksOff result why (shown_if is shown) desk desk
+none_off is shown result why desk e i = rw (i, e) (nothing_off why desk)
+
+-- it is put, or a front of it
+module _ (is : Bool) (shown : Listing) (why : Stop) (x : Outside) (i : is ≡ true) (out : Option (List ℕ)) (faults : ℕ) (names : List GName) (same : names ≡ x.desk.out_names) (count : x.desk.out_faults ≤ faults) where
+  abbrev Put : Desk
+  Put = record x.desk { out_names = names; out = out; out_faults = faults }
+
+  pub all_off : (result : Stop) → result ≡ why → Adds (printed_listing shown) x.desk.out out → BreaksOff result why (shown_if is shown) x.desk Put
+  all_off result e h =
+      subst (λ b. BreaksOff result why (shown_if b shown) x.desk Put) (sym i)
+      (inl (
+        e,
+        desk_printed (outcome.Broken shown None) x.desk out faults names same count (subst (λ w. Adds w x.desk.out out) (sym (append-nil (printed_listing shown))) h) x.desk.refused,
+        or_false x.desk.refused,
+      ))
+
+  part : AddsFront (printed_listing shown) x.desk.out out → DeskPut AddsFront (printed_off (Some (outcome.Broken shown None))) x.desk Put
+  part h = desk_cut (outcome.Broken shown None) x.desk out faults names same count (subst (λ w. AddsFront w x.desk.out out) (sym (append-nil (printed_listing shown))) h)
+
+  pub fault_off : AddsFront (printed_listing shown) x.desk.out out → Rose x.desk.out_faults faults → BreaksOff stop.WriteFault why (shown_if is shown) x.desk Put
+  fault_off h r = subst (λ b. BreaksOff stop.WriteFault why (shown_if b shown) x.desk Put) (sym i) (inr (inl (refl, r), part h))
+
+  pub memory_off : AddsFront (printed_listing shown) x.desk.out out → BreaksOff stop.OutOfMemory why (shown_if is shown) x.desk Put
+  memory_off h = subst (λ b. BreaksOff stop.OutOfMemory why (shown_if b shown) x.desk Put) (sym i) (inr (inr refl, part h))
+
+-- ---- at the end
+
+left_stuck : {A : Type 0} (sessions : List Session) (xs : List A) → IsLeft xs → IsStuck (Ends sessions) xs
+left_stuck sessions [] h = absurd h
+left_stuck sessions (x ∷ xs) h = tt
+
+left_on : (sessions : List Session) (s : Option Stream) (waiting : List Reply) → IsLeftOn s waiting → IsStuckOn (Ends sessions) s waiting
+left_on sessions None waiting h = left_stuck sessions waiting h
+left_on sessions (Some s) waiting h = left_stuck sessions s.held h
+
+ends_lacking : (sessions : List Session) (x : Outside) (w : Wire) → Rests x.wire w → Lacks (Ends sessions) x (record x { wire = w })
+ends_lacking sessions x w r = record {
+  between = Ends sessions;
+  mid = record x { wire = w };
+  goes = rests_goes (Ends sessions) x w r;
+  awaits = tt;
+  put = nothing_put (record x { wire = w });
+  read = nothing_read (record x { wire = w });
+}
+
+pub finish_fails : (sessions : List Session) (x : Outside) (w : Wire) (why : Lack) (place : ℕ) → place ≡ w.taken → Finishes (Err why) x.wire w → Fails (stop_at why place) (Ends sessions) x (record x { wire = w })
+finish_fails sessions x w lack.BadReply place p h = record { rest = Ends sessions; goes = rests_goes (Ends sessions) x w h.0; place = (left_on sessions w.stream w.waiting h.1, sym p) }
+finish_fails sessions x w lack.ReadFault place p h = (ends_lacking sessions x w h.0, h.1)
+finish_fails sessions x w lack.TooLong place p h = (ends_lacking sessions x w h.0, h.1)
+finish_fails sessions x w lack.OutOfMemory place p h = halted_so (Ends sessions) x w x.desk h (desk_front [] x.desk x.desk (desk_still x.desk))
