@@ -2,14 +2,14 @@
 
 ghost use Rattle.std.specs.Prelude.{◌≡◌, IfOk};
 
-use crate::atoms::AtomPart;
-use crate::copies::{ToOwn, own_parts};
-use crate::texts::ParamNamePart;
 use ae_base::batches::ParamDecl;
 use ae_base::params::{Named, ParamList};
 use ae_base::types::{Enc, Ty};
 use std::alloc::{AllocError, Global};
 use std::marker::Model;
+use wire_parts::atoms::AtomPart;
+use wire_parts::copies::{ToOwn, own_parts};
+use wire_parts::texts::ParamNamePart;
 
 /// A parameter's declaration, which contracts see as a `ParamDecl`.
 #[derive(Drop)]

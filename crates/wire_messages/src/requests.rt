@@ -3,9 +3,9 @@
 ghost use Rattle.std.specs.Prelude.{◌≡◌, IfOk};
 
 use crate::params::{DeclarationParts, SentParams, own_declarations, own_sent_params};
-use crate::texts::StatementPart;
 use ae_base::sessions::SessionId;
 use std::alloc::{AllocError, Global};
+use wire_parts::texts::StatementPart;
 
 /// What the driver asks. Each request has a frame, since each part meets its condition by its type.
 #[derive(Drop)]

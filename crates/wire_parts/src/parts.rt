@@ -24,7 +24,7 @@ pub struct TxtPart<'a> {
 
 impl<'a> Model for TxtPart<'a> {
     ghost use Rattle.std.specs.Prelude.{List, ℕ};
-    ghost use Rattle.wire_messages.specs.Sources.{text_of};
+    ghost use Rattle.wire_parts.specs.Sources.{text_of};
 
     ghost Value = { List ℕ };
 
@@ -105,7 +105,7 @@ pub struct BlobPart<'a> {
 
 impl<'a> Model for BlobPart<'a> {
     ghost use Rattle.std.specs.Prelude.{List, ℕ};
-    ghost use Rattle.wire_messages.specs.Sources.{blob_of};
+    ghost use Rattle.wire_parts.specs.Sources.{blob_of};
 
     ghost Value = { List ℕ };
 
@@ -180,7 +180,7 @@ pub struct CellPart<'a> {
 
 impl<'a> Model for CellPart<'a> {
     ghost use Rattle.std.specs.Prelude.{List, ℕ};
-    ghost use Rattle.wire_messages.specs.Sources.{cell_of};
+    ghost use Rattle.wire_parts.specs.Sources.{cell_of};
 
     ghost Value = { List ℕ };
 

@@ -4,7 +4,7 @@ ghost use Rattle.std.specs.Prelude.{◌≡◌, IfOk, IfSome, IsSome, ◌↔◌, 
 ghost use Rattle.std.specs.Str.{chars, all_scalars};
 ghost use Rattle.ae_base.specs.Names.{IsName, IsParamName, IsTitle};
 ghost use Rattle.ae_base.specs.Keys.{IsKeyPath};
-ghost use Rattle.wire_messages.specs.Texts.{IsStatementText};
+ghost use Rattle.wire_parts.specs.Texts.{IsStatementText};
 
 use crate::parts::TxtPart;
 use ae_base::keys::KeyPath;
@@ -24,7 +24,7 @@ pub struct StatementPart<'a> {
 
 impl<'a> Model for StatementPart<'a> {
     ghost use Rattle.std.specs.Prelude.{List, ℕ};
-    ghost use Rattle.wire_messages.specs.Texts.{IsStatementText};
+    ghost use Rattle.wire_parts.specs.Texts.{IsStatementText};
 
     ghost Value = { List ℕ };
 

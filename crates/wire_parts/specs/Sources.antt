@@ -1,12 +1,12 @@
 -- What an own and a borrowed part stand for.
 use Rattle.std.specs.Prelude.{List, ℕ}
 use Rattle.std.specs.Str.{chars}
-use Rattle.wire_messages.specs.declared.parts.TxtSource.{TxtSource}
-use Rattle.wire_messages.specs.declared.parts.TxtSource.TheVariants as text
-use Rattle.wire_messages.specs.declared.parts.BlobSource.{BlobSource}
-use Rattle.wire_messages.specs.declared.parts.BlobSource.TheVariants as blob
-use Rattle.wire_messages.specs.declared.parts.CellSource.{CellSource}
-use Rattle.wire_messages.specs.declared.parts.CellSource.TheVariants as cell
+use Rattle.wire_parts.specs.declared.parts.TxtSource.{TxtSource}
+use Rattle.wire_parts.specs.declared.parts.TxtSource.TheVariants as text
+use Rattle.wire_parts.specs.declared.parts.BlobSource.{BlobSource}
+use Rattle.wire_parts.specs.declared.parts.BlobSource.TheVariants as blob
+use Rattle.wire_parts.specs.declared.parts.CellSource.{CellSource}
+use Rattle.wire_parts.specs.declared.parts.CellSource.TheVariants as cell
 
 -- the characters
 abbrev pub text_of : TxtSource → List ℕ

@@ -3,8 +3,8 @@
 ghost use Rattle.std.specs.Prelude.{◌≡◌, ◌≤◌, ◌↔◌, IfOk, IfSome, IsSome, length, encode_utf8_all};
 ghost use Rattle.ae_base.specs.declared.atoms.AtomOf.TheVariants as atom;
 ghost use Rattle.ae_base.specs.declared.values.Datum.TheVariants.{Num, Text, Bin};
-ghost use Rattle.wire_messages.specs.Atoms.{atom_of};
-ghost use Rattle.wire_messages.specs.AtomBounds.{IsSendable};
+ghost use Rattle.wire_parts.specs.Atoms.{atom_of};
+ghost use Rattle.wire_parts.specs.AtomBounds.{IsSendable};
 
 use crate::copies::ToOwn;
 use crate::parts::{BlobPart, CellPart, TxtPart};
@@ -43,8 +43,8 @@ pub struct AtomPart<'a> {
 impl<'a> Model for AtomPart<'a> {
     ghost use Rattle.std.specs.Prelude.{List, ℕ};
     ghost use Rattle.ae_base.specs.declared.atoms.AtomOf.{AtomOf};
-    ghost use Rattle.wire_messages.specs.Atoms.{atom_of};
-    ghost use Rattle.wire_messages.specs.AtomBounds.{IsSendable};
+    ghost use Rattle.wire_parts.specs.Atoms.{atom_of};
+    ghost use Rattle.wire_parts.specs.AtomBounds.{IsSendable};
 
     ghost Value = { AtomOf (List ℕ) };
 
