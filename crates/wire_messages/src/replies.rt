@@ -6,7 +6,7 @@ ghost use Rattle.wire_messages.specs.Messages.{IsFew};
 
 use crate::columns::SentColumn;
 use crate::key_lists::are_the_keys_of;
-use crate::params::{UsedParams, own_used_params};
+use crate::params::{UsedParams, own_params};
 use ae_base::faults::SqlFault;
 use ae_base::lists::{Duplicate, Seq};
 use std::alloc::{AllocError, Global};
@@ -105,7 +105,7 @@ impl<'a> Description<'a> {
         Ok(Description {
             version: self.version,
             keys: own_parts(alloc, self.keys.as_slice())?,
-            params: own_used_params(alloc, &self.params)?,
+            params: own_params(alloc, &self.params)?,
         })
     }
 }

@@ -2,7 +2,7 @@
 
 ghost use Rattle.std.specs.Prelude.{◌≡◌, IfOk};
 
-use crate::params::{DeclarationParts, SentParams, own_declarations, own_sent_params};
+use crate::params::{DeclarationParts, SentParams, own_params};
 use ae_base::sessions::SessionId;
 use std::alloc::{AllocError, Global};
 use wire_parts::texts::StatementPart;
@@ -38,7 +38,7 @@ impl<'a> Request<'a> {
             } => Ok(Request::Describe {
                 session: *session,
                 text: text.to_own(alloc)?,
-                declarations: own_declarations(alloc, declarations)?,
+                declarations: own_params(alloc, declarations)?,
             }),
             Request::Execute {
                 session,
@@ -49,7 +49,7 @@ impl<'a> Request<'a> {
                 session: *session,
                 version: *version,
                 text: text.to_own(alloc)?,
-                params: own_sent_params(alloc, params)?,
+                params: own_params(alloc, params)?,
             }),
         }
     }

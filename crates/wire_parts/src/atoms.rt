@@ -164,20 +164,6 @@ impl<'a> AtomPart<'a> {
         };
         Ok(Atom::new(case))
     }
-
-    /// The atom, whose text or bytes are copied where they are borrowed.
-    pub fn into_atom(self, alloc: Global) -> Result<Atom<Cell>, AllocError>
-        ensures { IfOk result (λ own. own ≡ self.entry) }
-    {
-        let case = match self.case {
-            AtomCase::Null => AtomOf::Null,
-            AtomCase::Num(n) => AtomOf::Plain(Datum::Num(n)),
-            AtomCase::Text(text) => AtomOf::Plain(Datum::Text(text.into_txt(alloc)?)),
-            AtomCase::Bin(bytes) => AtomOf::Plain(Datum::Bin(bytes.into_blob(alloc)?)),
-            AtomCase::Sealed(cell) => AtomOf::Sealed(cell.into_cell(alloc)?),
-        };
-        Ok(Atom::new(case))
-    }
 }
 
 impl<'a, 'b> ToOwn<AtomPart<'b>> for AtomPart<'a> {

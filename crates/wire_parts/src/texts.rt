@@ -1,6 +1,6 @@
 //! Texts that meet a condition, own or borrowed, which contracts see as the list of their characters.
 
-ghost use Rattle.std.specs.Prelude.{◌≡◌, IfOk, IfSome, IsSome, ◌↔◌, IsTrue, encode_utf8_all};
+ghost use Rattle.std.specs.Prelude.{◌≡◌, IfOk, IfSome, IsSome, ◌↔◌, IsTrue, List, ℕ, encode_utf8_all};
 ghost use Rattle.std.specs.Str.{chars, all_scalars};
 ghost use Rattle.ae_base.specs.Names.{IsName, IsParamName, IsTitle};
 ghost use Rattle.ae_base.specs.Keys.{IsKeyPath};
@@ -9,40 +9,114 @@ ghost use Rattle.wire_parts.specs.Texts.{IsStatementText};
 use crate::parts::TxtPart;
 use ae_base::keys::KeyPath;
 use ae_base::names::{Name, ParamName, Title, has_param_chars};
-use ae_base::texts::{Txt, char_count};
+use ae_base::texts::char_count;
 use std::alloc::{AllocError, Global};
-use std::marker::Model;
+use std::marker::{Model, PhantomData};
 
 /// The most bytes of a statement's text.
 pub const MOST_STATEMENT_BYTES: usize = 65_536;
 
-/// The text of a statement, of at most 65,536 bytes.
-#[derive(Drop)]
-pub struct StatementPart<'a> {
-    text: TxtPart<'a>,
+/// A condition on texts.
+pub trait TextRule: Drop {
+    /// The condition.
+    ghost Asks: { List ℕ → Type 0 };
+
+    /// Whether a text meets it.
+    fn is_met(text: &TxtPart<'_>) -> bool
+        ensures { IsTrue result ↔ Asks text.now };
 }
 
-impl<'a> Model for StatementPart<'a> {
+/// The rule that a statement's text has at most 65,536 bytes.
+#[derive(Drop)]
+pub struct StatementRule;
+
+impl TextRule for StatementRule {
+    ghost Asks = { IsStatementText };
+
+    fn is_met(text: &TxtPart<'_>) -> bool {
+        text.as_str().len() <= MOST_STATEMENT_BYTES
+    }
+}
+
+impl TextRule for Name {
+    ghost Asks = { IsName };
+
+    fn is_met(text: &TxtPart<'_>) -> bool {
+        let count = char_count(text.as_str());
+        count != 0 && count <= Name::MOST_CHARACTERS
+    }
+}
+
+impl TextRule for ParamName {
+    ghost Asks = { IsParamName };
+
+    fn is_met(text: &TxtPart<'_>) -> bool {
+        Name::is_met(text) && has_param_chars(text.as_str())
+    }
+}
+
+impl TextRule for Title {
+    ghost Asks = { IsTitle };
+
+    fn is_met(text: &TxtPart<'_>) -> bool {
+        char_count(text.as_str()) <= Name::MOST_CHARACTERS
+    }
+}
+
+impl TextRule for KeyPath {
+    ghost Asks = { IsKeyPath };
+
+    fn is_met(text: &TxtPart<'_>) -> bool {
+        let count = text.as_str().len();
+        count != 0 && count <= KeyPath::MOST_BYTES
+    }
+}
+
+/// A text that meets a condition, own or borrowed.
+#[derive(Drop)]
+pub struct TextPart<'a, R: TextRule> {
+    text: TxtPart<'a>,
+    rule: PhantomData<R>,
+}
+
+/// The text of a statement, of at most 65,536 bytes.
+pub type StatementPart<'a> = TextPart<'a, StatementRule>;
+
+/// An identifier of 1 to 128 characters.
+pub type NamePart<'a> = TextPart<'a, Name>;
+
+/// A parameter's name, without its `@`.
+pub type ParamNamePart<'a> = TextPart<'a, ParamName>;
+
+/// The name of a result's column, of at most 128 characters.
+pub type TitlePart<'a> = TextPart<'a, Title>;
+
+/// The path of a master key, of 1 to 1,024 bytes.
+pub type PathPart<'a> = TextPart<'a, KeyPath>;
+
+impl<'a, R: TextRule> Model for TextPart<'a, R> {
     ghost use Rattle.std.specs.Prelude.{List, ℕ};
-    ghost use Rattle.wire_parts.specs.Texts.{IsStatementText};
 
     ghost Value = { List ℕ };
 
     ghost view = { λ t. t.text };
 
-    ghost invariant = { λ t. IsStatementText t.text };
+    ghost invariant = { λ t. R.Asks t.text };
 }
 
-impl<'a> StatementPart<'a> {
+impl<'a, R: TextRule> TextPart<'a, R> {
     /// The text that it is, where it is one. It takes no memory.
-    pub fn from_part(text: TxtPart<'a>) -> Option<StatementPart<'a>>
+    pub fn from_part(text: TxtPart<'a>) -> Option<TextPart<'a, R>>
         ensures text { IfSome result (λ part. part ≡ text.entry) }
-        ensures exactly { IsSome result ↔ IsStatementText text.entry }
+        ensures exactly { IsSome result ↔ R.Asks text.entry }
     {
-        if text.as_str().len() > MOST_STATEMENT_BYTES {
+        if !R::is_met(&text) {
             return None;
         }
-        Some(StatementPart { text })
+        Some(TextPart {
+            text,
+            rule: PhantomData,
+        })
     }
 
     /// The text, in UTF-8.
@@ -50,59 +124,30 @@ impl<'a> StatementPart<'a> {
         ensures bytes { result.now ≡ encode_utf8_all self.now }
         ensures characters { chars result.now ≡ self.now }
         ensures scalars { IsTrue (all_scalars self.now) }
-        ensures condition { IsStatementText self.now }
+        ensures condition { R.Asks self.now }
     {
         self.text.as_str()
     }
 
-    /// An own copy of the text.
-    pub fn to_txt(&self, alloc: Global) -> Result<Txt, AllocError>
-        ensures { IfOk result (λ copy. copy ≡ self.now) }
-    {
-        self.text.to_txt(alloc)
-    }
-
-    /// The text, which is copied where it is borrowed.
-    pub fn into_txt(self, alloc: Global) -> Result<Txt, AllocError>
-        ensures { IfOk result (λ text. text ≡ self.entry) }
-    {
-        self.text.into_txt(alloc)
-    }
-
     /// A copy that borrows nothing.
-    pub fn to_own<'b>(&self, alloc: Global) -> Result<StatementPart<'b>, AllocError>
+    pub fn to_own<'b>(&self, alloc: Global) -> Result<TextPart<'b, R>, AllocError>
         ensures { IfOk result (λ copy. copy ≡ self.now) }
     {
-        Ok(StatementPart {
+        Ok(TextPart {
             text: self.text.to_own(alloc)?,
+            rule: PhantomData,
         })
     }
 }
 
-/// An identifier of 1 to 128 characters.
-#[derive(Drop)]
-pub struct NamePart<'a> {
-    text: TxtPart<'a>,
-}
-
-impl<'a> Model for NamePart<'a> {
-    ghost use Rattle.std.specs.Prelude.{List, ℕ};
-    ghost use Rattle.ae_base.specs.Names.{IsName};
-
-    ghost Value = { List ℕ };
-
-    ghost view = { λ t. t.text };
-
-    ghost invariant = { λ t. IsName t.text };
-}
-
-impl<'a> NamePart<'a> {
+impl<'a> TextPart<'a, Name> {
     /// A name of one's own. It takes no memory.
     pub fn own(name: Name) -> NamePart<'a>
         ensures { result ≡ name }
     {
-        NamePart {
+        TextPart {
             text: TxtPart::own(name.into_txt()),
+            rule: PhantomData,
         }
     }
 
@@ -110,31 +155,10 @@ impl<'a> NamePart<'a> {
     pub fn lent(name: &'a Name) -> NamePart<'a>
         ensures { result ≡ name.now }
     {
-        NamePart {
+        TextPart {
             text: TxtPart::lent(name.as_str()),
+            rule: PhantomData,
         }
-    }
-
-    /// The text that it is, where it is one. It takes no memory.
-    pub fn from_part(text: TxtPart<'a>) -> Option<NamePart<'a>>
-        ensures text { IfSome result (λ part. part ≡ text.entry) }
-        ensures exactly { IsSome result ↔ IsName text.entry }
-    {
-        let count = char_count(text.as_str());
-        if count == 0 || count > Name::MOST_CHARACTERS {
-            return None;
-        }
-        Some(NamePart { text })
-    }
-
-    /// The text, in UTF-8.
-    pub fn as_str(&self) -> &str
-        ensures bytes { result.now ≡ encode_utf8_all self.now }
-        ensures characters { chars result.now ≡ self.now }
-        ensures scalars { IsTrue (all_scalars self.now) }
-        ensures condition { IsName self.now }
-    {
-        self.text.as_str()
     }
 
     /// An own copy of the name.
@@ -146,41 +170,16 @@ impl<'a> NamePart<'a> {
             None => unreachable!(),
         }
     }
-
-    /// A copy that borrows nothing.
-    pub fn to_own<'b>(&self, alloc: Global) -> Result<NamePart<'b>, AllocError>
-        ensures { IfOk result (λ copy. copy ≡ self.now) }
-    {
-        Ok(NamePart {
-            text: self.text.to_own(alloc)?,
-        })
-    }
 }
 
-/// A parameter's name, without its `@`.
-#[derive(Drop)]
-pub struct ParamNamePart<'a> {
-    name: NamePart<'a>,
-}
-
-impl<'a> Model for ParamNamePart<'a> {
-    ghost use Rattle.std.specs.Prelude.{List, ℕ};
-    ghost use Rattle.ae_base.specs.Names.{IsParamName};
-
-    ghost Value = { List ℕ };
-
-    ghost view = { λ t. t.name };
-
-    ghost invariant = { λ t. IsParamName t.name };
-}
-
-impl<'a> ParamNamePart<'a> {
+impl<'a> TextPart<'a, ParamName> {
     /// A name of one's own. It takes no memory.
     pub fn own(name: ParamName) -> ParamNamePart<'a>
         ensures { result ≡ name }
     {
-        ParamNamePart {
-            name: NamePart::own(name.into_name()),
+        TextPart {
+            text: TxtPart::own(name.into_name().into_txt()),
+            rule: PhantomData,
         }
     }
 
@@ -188,8 +187,9 @@ impl<'a> ParamNamePart<'a> {
     pub fn lent(name: &'a ParamName) -> ParamNamePart<'a>
         ensures { result ≡ name.now }
     {
-        ParamNamePart {
-            name: NamePart::lent(name.as_name()),
+        TextPart {
+            text: TxtPart::lent(name.as_str()),
+            rule: PhantomData,
         }
     }
 
@@ -198,66 +198,31 @@ impl<'a> ParamNamePart<'a> {
         ensures name { IfSome result (λ part. part ≡ name.entry) }
         ensures exactly { IsSome result ↔ IsParamName name.entry }
     {
-        if !has_param_chars(name.as_str()) {
-            return None;
-        }
-        Some(ParamNamePart { name })
-    }
-
-    /// The text, in UTF-8.
-    pub fn as_str(&self) -> &str
-        ensures bytes { result.now ≡ encode_utf8_all self.now }
-        ensures characters { chars result.now ≡ self.now }
-        ensures scalars { IsTrue (all_scalars self.now) }
-        ensures condition { IsParamName self.now }
-    {
-        self.name.as_str()
+        TextPart::from_part(name.text)
     }
 
     /// An own copy of the name.
     pub fn to_param_name(&self, alloc: Global) -> Result<ParamName, AllocError>
         ensures { IfOk result (λ copy. copy ≡ self.now) }
     {
-        match ParamName::from_name(self.name.to_name(alloc)?) {
+        let Some(name) = Name::from_txt(self.text.to_txt(alloc)?) else {
+            unreachable!()
+        };
+        match ParamName::from_name(name) {
             Some(param_name) => Ok(param_name),
             None => unreachable!(),
         }
     }
-
-    /// A copy that borrows nothing.
-    pub fn to_own<'b>(&self, alloc: Global) -> Result<ParamNamePart<'b>, AllocError>
-        ensures { IfOk result (λ copy. copy ≡ self.now) }
-    {
-        Ok(ParamNamePart {
-            name: self.name.to_own(alloc)?,
-        })
-    }
 }
 
-/// The name of a result's column, of at most 128 characters.
-#[derive(Drop)]
-pub struct TitlePart<'a> {
-    text: TxtPart<'a>,
-}
-
-impl<'a> Model for TitlePart<'a> {
-    ghost use Rattle.std.specs.Prelude.{List, ℕ};
-    ghost use Rattle.ae_base.specs.Names.{IsTitle};
-
-    ghost Value = { List ℕ };
-
-    ghost view = { λ t. t.text };
-
-    ghost invariant = { λ t. IsTitle t.text };
-}
-
-impl<'a> TitlePart<'a> {
+impl<'a> TextPart<'a, Title> {
     /// A title of one's own. It takes no memory.
     pub fn own(title: Title) -> TitlePart<'a>
         ensures { result ≡ title }
     {
-        TitlePart {
+        TextPart {
             text: TxtPart::own(title.into_txt()),
+            rule: PhantomData,
         }
     }
 
@@ -265,30 +230,10 @@ impl<'a> TitlePart<'a> {
     pub fn lent(title: &'a Title) -> TitlePart<'a>
         ensures { result ≡ title.now }
     {
-        TitlePart {
+        TextPart {
             text: TxtPart::lent(title.as_str()),
+            rule: PhantomData,
         }
-    }
-
-    /// The text that it is, where it is one. It takes no memory.
-    pub fn from_part(text: TxtPart<'a>) -> Option<TitlePart<'a>>
-        ensures text { IfSome result (λ part. part ≡ text.entry) }
-        ensures exactly { IsSome result ↔ IsTitle text.entry }
-    {
-        if char_count(text.as_str()) > Name::MOST_CHARACTERS {
-            return None;
-        }
-        Some(TitlePart { text })
-    }
-
-    /// The text, in UTF-8.
-    pub fn as_str(&self) -> &str
-        ensures bytes { result.now ≡ encode_utf8_all self.now }
-        ensures characters { chars result.now ≡ self.now }
-        ensures scalars { IsTrue (all_scalars self.now) }
-        ensures condition { IsTitle self.now }
-    {
-        self.text.as_str()
     }
 
     /// An own copy of the title.
@@ -300,41 +245,16 @@ impl<'a> TitlePart<'a> {
             None => unreachable!(),
         }
     }
-
-    /// A copy that borrows nothing.
-    pub fn to_own<'b>(&self, alloc: Global) -> Result<TitlePart<'b>, AllocError>
-        ensures { IfOk result (λ copy. copy ≡ self.now) }
-    {
-        Ok(TitlePart {
-            text: self.text.to_own(alloc)?,
-        })
-    }
 }
 
-/// The path of a master key, of 1 to 1,024 bytes.
-#[derive(Drop)]
-pub struct PathPart<'a> {
-    text: TxtPart<'a>,
-}
-
-impl<'a> Model for PathPart<'a> {
-    ghost use Rattle.std.specs.Prelude.{List, ℕ};
-    ghost use Rattle.ae_base.specs.Keys.{IsKeyPath};
-
-    ghost Value = { List ℕ };
-
-    ghost view = { λ t. t.text };
-
-    ghost invariant = { λ t. IsKeyPath t.text };
-}
-
-impl<'a> PathPart<'a> {
+impl<'a> TextPart<'a, KeyPath> {
     /// A path of one's own. It takes no memory.
     pub fn own(path: KeyPath) -> PathPart<'a>
         ensures { result ≡ path }
     {
-        PathPart {
+        TextPart {
             text: TxtPart::own(path.into_txt()),
+            rule: PhantomData,
         }
     }
 
@@ -342,31 +262,10 @@ impl<'a> PathPart<'a> {
     pub fn lent(path: &'a KeyPath) -> PathPart<'a>
         ensures { result ≡ path.now }
     {
-        PathPart {
+        TextPart {
             text: TxtPart::lent(path.as_str()),
+            rule: PhantomData,
         }
-    }
-
-    /// The text that it is, where it is one. It takes no memory.
-    pub fn from_part(text: TxtPart<'a>) -> Option<PathPart<'a>>
-        ensures text { IfSome result (λ part. part ≡ text.entry) }
-        ensures exactly { IsSome result ↔ IsKeyPath text.entry }
-    {
-        let count = text.as_str().len();
-        if count == 0 || count > KeyPath::MOST_BYTES {
-            return None;
-        }
-        Some(PathPart { text })
-    }
-
-    /// The text, in UTF-8.
-    pub fn as_str(&self) -> &str
-        ensures bytes { result.now ≡ encode_utf8_all self.now }
-        ensures characters { chars result.now ≡ self.now }
-        ensures scalars { IsTrue (all_scalars self.now) }
-        ensures condition { IsKeyPath self.now }
-    {
-        self.text.as_str()
     }
 
     /// An own copy of the path.
@@ -377,14 +276,5 @@ impl<'a> PathPart<'a> {
             Some(path) => Ok(path),
             None => unreachable!(),
         }
-    }
-
-    /// A copy that borrows nothing.
-    pub fn to_own<'b>(&self, alloc: Global) -> Result<PathPart<'b>, AllocError>
-        ensures { IfOk result (λ copy. copy ≡ self.now) }
-    {
-        Ok(PathPart {
-            text: self.text.to_own(alloc)?,
-        })
     }
 }
