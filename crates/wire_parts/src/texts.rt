@@ -72,29 +72,29 @@ impl TextRule for KeyPath {
     }
 }
 
-/// A text that meets a condition, own or borrowed.
+/// A text that meets the condition of a rule, own or borrowed.
 #[derive(Drop)]
-pub struct TextPart<'a, R: TextRule> {
+pub struct RuledText<'a, R: TextRule> {
     text: TxtPart<'a>,
     rule: PhantomData<R>,
 }
 
 /// The text of a statement, of at most 65,536 bytes.
-pub type StatementPart<'a> = TextPart<'a, StatementRule>;
+pub type StatementPart<'a> = RuledText<'a, StatementRule>;
 
 /// An identifier of 1 to 128 characters.
-pub type NamePart<'a> = TextPart<'a, Name>;
+pub type NamePart<'a> = RuledText<'a, Name>;
 
 /// A parameter's name, without its `@`.
-pub type ParamNamePart<'a> = TextPart<'a, ParamName>;
+pub type ParamNamePart<'a> = RuledText<'a, ParamName>;
 
 /// The name of a result's column, of at most 128 characters.
-pub type TitlePart<'a> = TextPart<'a, Title>;
+pub type TitlePart<'a> = RuledText<'a, Title>;
 
 /// The path of a master key, of 1 to 1,024 bytes.
-pub type PathPart<'a> = TextPart<'a, KeyPath>;
+pub type PathPart<'a> = RuledText<'a, KeyPath>;
 
-impl<'a, R: TextRule> Model for TextPart<'a, R> {
+impl<'a, R: TextRule> Model for RuledText<'a, R> {
     ghost use Rattle.std.specs.Prelude.{List, ℕ};
 
     ghost Value = { List ℕ };
@@ -104,16 +104,16 @@ impl<'a, R: TextRule> Model for TextPart<'a, R> {
     ghost invariant = { λ t. R.Asks t.text };
 }
 
-impl<'a, R: TextRule> TextPart<'a, R> {
+impl<'a, R: TextRule> RuledText<'a, R> {
     /// The text that it is, where it is one. It takes no memory.
-    pub fn from_part(text: TxtPart<'a>) -> Option<TextPart<'a, R>>
+    pub fn from_part(text: TxtPart<'a>) -> Option<RuledText<'a, R>>
         ensures text { IfSome result (λ part. part ≡ text.entry) }
         ensures exactly { IsSome result ↔ R.Asks text.entry }
     {
         if !R::is_met(&text) {
             return None;
         }
-        Some(TextPart {
+        Some(RuledText {
             text,
             rule: PhantomData,
         })
@@ -130,22 +130,22 @@ impl<'a, R: TextRule> TextPart<'a, R> {
     }
 
     /// A copy that borrows nothing.
-    pub fn to_own<'b>(&self, alloc: Global) -> Result<TextPart<'b, R>, AllocError>
+    pub fn to_own<'b>(&self, alloc: Global) -> Result<RuledText<'b, R>, AllocError>
         ensures { IfOk result (λ copy. copy ≡ self.now) }
     {
-        Ok(TextPart {
+        Ok(RuledText {
             text: self.text.to_own(alloc)?,
             rule: PhantomData,
         })
     }
 }
 
-impl<'a> TextPart<'a, Name> {
+impl<'a> RuledText<'a, Name> {
     /// A name of one's own. It takes no memory.
     pub fn own(name: Name) -> NamePart<'a>
         ensures { result ≡ name }
     {
-        TextPart {
+        RuledText {
             text: TxtPart::own(name.into_txt()),
             rule: PhantomData,
         }
@@ -155,7 +155,7 @@ impl<'a> TextPart<'a, Name> {
     pub fn lent(name: &'a Name) -> NamePart<'a>
         ensures { result ≡ name.now }
     {
-        TextPart {
+        RuledText {
             text: TxtPart::lent(name.as_str()),
             rule: PhantomData,
         }
@@ -172,12 +172,12 @@ impl<'a> TextPart<'a, Name> {
     }
 }
 
-impl<'a> TextPart<'a, ParamName> {
+impl<'a> RuledText<'a, ParamName> {
     /// A name of one's own. It takes no memory.
     pub fn own(name: ParamName) -> ParamNamePart<'a>
         ensures { result ≡ name }
     {
-        TextPart {
+        RuledText {
             text: TxtPart::own(name.into_name().into_txt()),
             rule: PhantomData,
         }
@@ -187,7 +187,7 @@ impl<'a> TextPart<'a, ParamName> {
     pub fn lent(name: &'a ParamName) -> ParamNamePart<'a>
         ensures { result ≡ name.now }
     {
-        TextPart {
+        RuledText {
             text: TxtPart::lent(name.as_str()),
             rule: PhantomData,
         }
@@ -198,7 +198,7 @@ impl<'a> TextPart<'a, ParamName> {
         ensures name { IfSome result (λ part. part ≡ name.entry) }
         ensures exactly { IsSome result ↔ IsParamName name.entry }
     {
-        TextPart::from_part(name.text)
+        RuledText::from_part(name.text)
     }
 
     /// An own copy of the name.
@@ -215,12 +215,12 @@ impl<'a> TextPart<'a, ParamName> {
     }
 }
 
-impl<'a> TextPart<'a, Title> {
+impl<'a> RuledText<'a, Title> {
     /// A title of one's own. It takes no memory.
     pub fn own(title: Title) -> TitlePart<'a>
         ensures { result ≡ title }
     {
-        TextPart {
+        RuledText {
             text: TxtPart::own(title.into_txt()),
             rule: PhantomData,
         }
@@ -230,7 +230,7 @@ impl<'a> TextPart<'a, Title> {
     pub fn lent(title: &'a Title) -> TitlePart<'a>
         ensures { result ≡ title.now }
     {
-        TextPart {
+        RuledText {
             text: TxtPart::lent(title.as_str()),
             rule: PhantomData,
         }
@@ -247,12 +247,12 @@ impl<'a> TextPart<'a, Title> {
     }
 }
 
-impl<'a> TextPart<'a, KeyPath> {
+impl<'a> RuledText<'a, KeyPath> {
     /// A path of one's own. It takes no memory.
     pub fn own(path: KeyPath) -> PathPart<'a>
         ensures { result ≡ path }
     {
-        TextPart {
+        RuledText {
             text: TxtPart::own(path.into_txt()),
             rule: PhantomData,
         }
@@ -262,7 +262,7 @@ impl<'a> TextPart<'a, KeyPath> {
     pub fn lent(path: &'a KeyPath) -> PathPart<'a>
         ensures { result ≡ path.now }
     {
-        TextPart {
+        RuledText {
             text: TxtPart::lent(path.as_str()),
             rule: PhantomData,
         }
