@@ -8,13 +8,13 @@ folder=$(mktemp -d)
 trap 'rm -rf "$folder"' EXIT
 cd "$folder"
 mkdir crates
-for crate in ae_base wire_messages wire_spelling wire_frames frame_feed; do
+for crate in ae_base wire_parts wire_messages wire_spelling wire_frames frame_feed; do
     mkdir "crates/$crate"
     for part in src specs proofs; do
         cp -r "$top/crates/$crate/$part" "crates/$crate/" 2>/dev/null || true
     done
 done
-grep -E '^(ae_base|wire_messages|wire_spelling|wire_frames|frame_feed):' "$top/crates.txt" >crates.txt
+grep -E '^(ae_base|wire_parts|wire_messages|wire_spelling|wire_frames|frame_feed):' "$top/crates.txt" >crates.txt
 echo 'pieces: wire_frames frame_feed' >>crates.txt
 mkdir -p crates/pieces/src
 cat >crates/pieces/src/main.rt <<'PROGRAM'

@@ -3,7 +3,7 @@
 ghost use Rattle.std.specs.Prelude.{◌≡◌, ◌≤◌, [], IfOk, length, encode_utf8_all};
 ghost use Rattle.conversation.specs.declared.outcomes.Outcome.{Outcome};
 ghost use Rattle.plain_meaning.specs.Reference.{executed};
-ghost use Rattle.wire_messages.specs.Texts.{IsStatementText};
+ghost use Rattle.wire_parts.specs.Texts.{IsStatementText};
 ghost use Rattle.wire_messages.specs.declared.requests.Request.TheVariants as request;
 ghost use Rattle.check_command.specs.Asked.{AnswersAs, ComesTo, IsDefinition};
 
@@ -16,10 +16,10 @@ use conversation::sessions::Pending;
 use resolve::laws::prepared_alone;
 use server_core::server::Server;
 use std::alloc::{AllocError, Global};
-use wire_messages::parts::TxtPart;
 use wire_messages::replies::{Done, Reply};
 use wire_messages::requests::Request;
-use wire_messages::texts::StatementPart;
+use wire_parts::parts::TxtPart;
+use wire_parts::texts::StatementPart;
 
 /// Executes a described definition. It uses no parameter, so none is sent.
 pub fn defined(

@@ -7,7 +7,7 @@ ghost use Rattle.plain_meaning.specs.Reference.{declared};
 ghost use Rattle.run_words.specs.Printing.{printed_outcome};
 ghost use Rattle.server_core.specs.Describing.{named};
 ghost use Rattle.server_core.specs.Explaining.{Explains};
-ghost use Rattle.wire_messages.specs.Texts.{IsStatementText};
+ghost use Rattle.wire_parts.specs.Texts.{IsStatementText};
 ghost use Rattle.check_command.specs.Asked.{is_clash};
 ghost use Rattle.check_command.specs.Check.{because};
 
@@ -21,8 +21,8 @@ use run_words::texts::text_of;
 use server_core::server::Server;
 use std::alloc::{AllocError, Global};
 use std::fmt::Write;
-use wire_messages::parts::TxtPart;
-use wire_messages::texts::StatementPart;
+use wire_parts::parts::TxtPart;
+use wire_parts::texts::StatementPart;
 
 /// The printed lines of what a batch came to, and for each place of a chain `because at` it.
 pub fn text_with(alloc: Global, outcome: &Outcome, chain: &[u32]) -> Result<String, AllocError>

@@ -3,7 +3,7 @@
 ghost use Rattle.std.specs.Prelude.{◌≡◌, IfOk, None, map};
 ghost use Rattle.conversation.specs.Batches.{why_unfit};
 ghost use Rattle.wire_messages.specs.declared.requests.Request.TheVariants as request;
-ghost use Rattle.wire_messages.specs.Texts.{IsStatementText};
+ghost use Rattle.wire_parts.specs.Texts.{IsStatementText};
 
 use ae_base::batches::{Batch, Param, Params};
 use ae_base::lists::{Duplicate, Seq};
@@ -12,9 +12,9 @@ use ae_base::sessions::SessionId;
 use ae_base::texts::Txt;
 use std::alloc::{AllocError, Global};
 use wire_messages::params::{Declaration, DeclarationParts};
-use wire_messages::parts::TxtPart;
 use wire_messages::requests::Request;
-use wire_messages::texts::StatementPart;
+use wire_parts::parts::TxtPart;
+use wire_parts::texts::StatementPart;
 
 /// The request to describe a batch in a session.
 #[tactic(auto, using(conversation::proofs::Fitting::fit_is_short))]

@@ -15,8 +15,8 @@ use ae_base::lists::{Duplicate, Seq};
 use ae_base::types::{Enc, KeyId};
 use conversation::outcomes::{DescribedParam, NamedEnc};
 use std::alloc::{AllocError, Global};
-use wire_messages::keys::KeyPart;
 use wire_messages::params::UsedParam;
+use wire_parts::keys::KeyPart;
 
 /// How each declared parameter is to be encrypted, where it is used; none where the used parameters
 /// aren't declared ones in the order of their declarations.

@@ -30,10 +30,10 @@ use conversation::faults::{DriverFault, Halt};
 use conversation::sessions::{Pending, Session, Turn};
 use key_store::KeyStore;
 use std::alloc::Global;
-use wire_messages::atoms::AtomPart;
 use wire_messages::params::{SentParam, SentParams};
 use wire_messages::requests::Request;
-use wire_messages::texts::ParamNamePart;
+use wire_parts::atoms::AtomPart;
+use wire_parts::texts::ParamNamePart;
 
 fn with_atom<'r>(
     name: ParamName,

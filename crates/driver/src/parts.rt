@@ -17,8 +17,8 @@ use conversation::faults::Halt;
 use hmac_kdf::CellKeys;
 use std::alloc::{AllocError, Global};
 use value_norm::{NormError, norm_is_bounded, to_cell_bytes};
-use wire_messages::atoms::AtomPart;
-use wire_messages::parts::CellPart;
+use wire_parts::atoms::AtomPart;
+use wire_parts::parts::CellPart;
 
 /// A proof learns from this call that the sizes of a type are within their bounds.
 fn look_at(ty: &Ty)

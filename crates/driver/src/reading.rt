@@ -5,7 +5,7 @@ ghost use Rattle.ae_base.specs.declared.types.Ty.{Ty};
 ghost use Rattle.cell_codec.specs.Cells.{unsealed, UnsealsTo};
 ghost use Rattle.cell_codec.specs.declared.faults.CellFault.{CellFault};
 ghost use Rattle.value_norm.specs.Reading as norm_reading;
-ghost use Rattle.wire_messages.specs.Atoms.{atom_of};
+ghost use Rattle.wire_parts.specs.Atoms.{atom_of};
 ghost use Rattle.conversation.specs.Cells.{is_atom_of, is_encrypted, is_of_kind, is_row_of, normal, value_in, read_atom, read_atoms};
 ghost use Rattle.driver.specs.Read.{ReadsRow};
 
@@ -18,9 +18,9 @@ use conversation::sessions::ColumnType;
 use hmac_kdf::CellKeys;
 use std::alloc::Global;
 use value_norm::{ReadError, from_cell_bytes};
-use wire_messages::atoms::{AtomCase, AtomPart};
-use wire_messages::parts::CellPart;
 use wire_messages::replies::RowParts;
+use wire_parts::atoms::{AtomCase, AtomPart};
+use wire_parts::parts::CellPart;
 
 fn is_encrypted(enc: Enc) -> bool
     ensures { result ≡ is_encrypted enc }

@@ -23,7 +23,7 @@ use conversation::faults::{DriverFault, Halt};
 use hmac_kdf::CellKeys;
 use key_store::KeyStore;
 use std::alloc::Global;
-use wire_messages::atoms::AtomPart;
+use wire_parts::atoms::AtomPart;
 
 /// Draws 16 bytes.
 fn draw<E: Entropy>(entropy: &mut E) -> Result<[u8; 16], Halt>

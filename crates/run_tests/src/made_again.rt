@@ -15,8 +15,8 @@ use server_core::server::Server;
 use std::alloc::{AllocError, Global};
 use std::test::Fail;
 use wire_frames::{Decoded, decode_reply, decode_request};
-use wire_messages::atoms::AtomCase;
 use wire_messages::requests::Request;
+use wire_parts::atoms::AtomCase;
 
 const SCRIPT: &str =
     "CREATE COLUMN MASTER KEY M WITH (KEY_STORE_PROVIDER_NAME = N'KEYFILE', KEY_PATH = N'main')

@@ -33,7 +33,7 @@ use Rattle.engine.specs.declared.answers.ResultColumn.{ResultColumn}
 use Rattle.resolve.specs.Bind.{type_of}
 use Rattle.resolve.specs.Laws.{BoundStatementsAre}
 use Rattle.scalar.specs.Classes.{Class, Open, Det, Rnd, Pairing, Listing, IsOneToOne, Correspond, RowsCorrespond, BothAnswer, class_of}
-use Rattle.wire_messages.specs.AtomBounds.{IsSendable}
+use Rattle.wire_parts.specs.AtomBounds.{IsSendable}
 use Rattle.wire_messages.specs.Conditions.{IsRequest, IsSent}
 use Rattle.wire_messages.specs.Exchanges.{Served}
 use Rattle.wire_messages.specs.Messages.{Description}

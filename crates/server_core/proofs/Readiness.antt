@@ -27,7 +27,7 @@ use Rattle.enc_types.specs.declared.typed.Typed.{Typed}
 use Rattle.engine.specs.Step.{Outcome, Rows, step}
 use Rattle.engine.specs.WellTyped.{AreValuesOf, IsAnswerOf}
 use Rattle.resolve.specs.Bind.{type_of}
-use Rattle.wire_messages.specs.AtomBounds.{IsSendable}
+use Rattle.wire_parts.specs.AtomBounds.{IsSendable}
 use Rattle.wire_messages.specs.declared.params.SentParam.{SentParam}
 use Rattle.engine.specs.Worlds.{World}
 use Rattle.server_core.proofs.Suiting.{are_suited}

@@ -20,7 +20,7 @@ use Rattle.ae_base.specs.declared.values.Datum.{Datum}
 use Rattle.ae_base.specs.declared.values.Datum.TheVariants as datum
 use Rattle.engine.specs.WellTyped.{IsAtomOf, IsOfType, AreResults}
 use Rattle.engine.specs.declared.answers.ResultColumn.{ResultColumn}
-use Rattle.wire_messages.specs.AtomBounds.{IsSendable}
+use Rattle.wire_parts.specs.AtomBounds.{IsSendable}
 use Rattle.wire_messages.specs.Messages.{IsFew}
 use Rattle.server_core.specs.States.{is_short}
 

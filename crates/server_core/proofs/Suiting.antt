@@ -21,7 +21,7 @@ use Rattle.enc_types.specs.Typing.{enc_eq}
 use Rattle.operators.proofs.Collected.{collected, before, collected_more, collected_fault, came_before}
 use Rattle.engine.specs.WellTyped.{IsAtomOf, IsOfType, AreValuesOf}
 use Rattle.resolve.specs.Bind.{type_of}
-use Rattle.wire_messages.specs.AtomBounds.{IsSendable}
+use Rattle.wire_parts.specs.AtomBounds.{IsSendable}
 use Rattle.wire_messages.specs.declared.params.SentParam.{SentParam}
 use Rattle.server_core.specs.Params.{declaration_of, is_of, is_shaped, suited_atom, suited}
 use Rattle.server_core.specs.States.{is_short}

@@ -16,9 +16,9 @@ use catalog::laws::keys_are_told;
 use engine::answers::ResultColumn;
 use std::alloc::{AllocError, Global};
 use wire_messages::columns::SentColumn;
-use wire_messages::keys::KeyPart;
 use wire_messages::replies::Header;
-use wire_messages::texts::TitlePart;
+use wire_parts::keys::KeyPart;
+use wire_parts::texts::TitlePart;
 
 /// The columns of an answer, with what is told of their keys.
 pub fn header(

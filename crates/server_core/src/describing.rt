@@ -20,10 +20,10 @@ use catalog::laws::keys_are_told;
 use enc_types::laws::typings_are_of_columns;
 use enc_types::typed::Typed;
 use std::alloc::{AllocError, Global};
-use wire_messages::keys::KeyPart;
 use wire_messages::params::{DeclarationParts, UsedParam, UsedParams};
 use wire_messages::replies::Description;
-use wire_messages::texts::StatementPart;
+use wire_parts::keys::KeyPart;
+use wire_parts::texts::StatementPart;
 
 /// The description of a text with its parameters declared so, or its first fault.
 pub fn describe(

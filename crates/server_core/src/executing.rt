@@ -25,7 +25,7 @@ use engine::worlds::World;
 use std::alloc::{AllocError, Global};
 use wire_messages::params::SentParam;
 use wire_messages::replies::{Done, Reply};
-use wire_messages::texts::StatementPart;
+use wire_parts::texts::StatementPart;
 
 /// Executes a text that was described at that version of the catalog, with the values of its
 /// parameters: the replies, or the fault for which it is refused.

@@ -16,7 +16,7 @@ use enc_types::rules::Rule;
 use inference::infer::infer;
 use sql_tree::bound::Bound;
 use std::alloc::{AllocError, Global};
-use wire_messages::texts::StatementPart;
+use wire_parts::texts::StatementPart;
 
 /// The places of a chain of rules that clash, where the statement of a text has no encryption
 /// typing; none for any other text.

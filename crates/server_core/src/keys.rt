@@ -15,7 +15,7 @@ use ae_base::types::{Enc, KeyId};
 use catalog::catalogs::Catalog;
 use std::alloc::{AllocError, Global};
 use wire_messages::key_lists::Encrypted;
-use wire_messages::keys::KeyPart;
+use wire_parts::keys::KeyPart;
 
 /// What a client is told of the keys of some items.
 pub fn keys_of<T: Encrypted>(

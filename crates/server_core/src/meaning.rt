@@ -18,7 +18,7 @@ use resolve::statements::bind;
 use sql_parse::parsing::{discard, parse};
 use sql_tree::bound::Bound;
 use std::alloc::Global;
-use wire_messages::texts::StatementPart;
+use wire_parts::texts::StatementPart;
 
 /// What a text means with its parameters declared so, or its first fault: of parsing, binding,
 /// typing.

@@ -13,7 +13,7 @@ use bound_checks::uses::uses;
 use enc_types::typed::Typed;
 use std::alloc::{AllocError, Global};
 use wire_messages::params::{Declaration, SentParam, UsedParam};
-use wire_messages::texts::ParamNamePart;
+use wire_parts::texts::ParamNamePart;
 
 /// Own copies of declarations.
 pub fn declared(

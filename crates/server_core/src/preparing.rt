@@ -22,7 +22,7 @@ use enc_types::laws::typings_are_of_columns;
 use enc_types::typed::Typed;
 use std::alloc::Global;
 use wire_messages::params::SentParam;
-use wire_messages::texts::StatementPart;
+use wire_parts::texts::StatementPart;
 
 /// A typed statement, and the values of its parameters.
 #[derive(Drop)]

@@ -18,7 +18,7 @@ use std::alloc::{AllocError, Global};
 use wire_messages::params::DeclarationParts;
 use wire_messages::replies::Reply;
 use wire_messages::requests::Request;
-use wire_messages::texts::StatementPart;
+use wire_parts::texts::StatementPart;
 
 /// Serves a request: the replies to it, and the state after it. A refusal leaves the state as
 /// before, and so does want of memory.

@@ -5,7 +5,7 @@ ghost use Rattle.std.specs.List.{All};
 ghost use Rattle.catalog.specs.WellFormed.{IsCatalog, IsKeyThere};
 ghost use Rattle.engine.specs.Step.{Rows};
 ghost use Rattle.engine.specs.WellTyped.{AreResults};
-ghost use Rattle.wire_messages.specs.AtomBounds.{IsSendable};
+ghost use Rattle.wire_parts.specs.AtomBounds.{IsSendable};
 ghost use Rattle.wire_messages.specs.Messages.{IsFew};
 ghost use Rattle.wire_messages.specs.declared.replies.Done.TheVariants.{Answered};
 ghost use Rattle.wire_messages.specs.declared.replies.Reply.TheVariants.{Columns, Row, Ended};
@@ -20,8 +20,8 @@ use ae_base::lists::Seq;
 use catalog::catalogs::Catalog;
 use engine::answers::ResultColumn;
 use std::alloc::{AllocError, Global};
-use wire_messages::atoms::AtomPart;
 use wire_messages::replies::{Done, Header, Reply, RowParts};
+use wire_parts::atoms::AtomPart;
 
 /// The replies that carry an answer: its columns, its rows, and their number.
 #[tactic(auto, using(crate::proofs::Sendable::rows_sendable))]

@@ -20,7 +20,7 @@ use std::alloc::{AllocError, Global};
 use std::marker::Model;
 use wire_messages::replies::Reply;
 use wire_messages::requests::Request;
-use wire_messages::texts::StatementPart;
+use wire_parts::texts::StatementPart;
 
 /// The server's end, which contracts see as its state: the catalog, and the rows of each table.
 #[derive(Drop)]

@@ -5,7 +5,7 @@ ghost use Rattle.std.specs.List.{All};
 ghost use Rattle.ae_base.specs.Results.{Answers};
 ghost use Rattle.ae_base.specs.declared.faults.SqlFault.TheVariants as fault;
 ghost use Rattle.enc_types.specs.Typing.{enc_eq};
-ghost use Rattle.wire_messages.specs.AtomBounds.{IsSendable};
+ghost use Rattle.wire_parts.specs.AtomBounds.{IsSendable};
 ghost use Rattle.server_core.specs.Params as spec;
 
 use ae_base::atoms::{Atom, AtomOf};
@@ -17,7 +17,7 @@ use ae_base::types::{Enc, Ty};
 use cell_codec::shape_ok;
 use std::alloc::{AllocError, Global};
 use wire_messages::params::SentParam;
-use wire_messages::texts::ParamNamePart;
+use wire_parts::texts::ParamNamePart;
 
 /// The values of parameters, or the first fault, parameter by parameter: ParamClash where one isn't
 /// encrypted as the typing has it or its value isn't of that, then BadCell where its cell has

@@ -9,13 +9,13 @@ use ae_base::lists::Seq;
 use ae_base::params::{Named, ParamList};
 use ae_base::sessions::SessionId;
 use ae_base::types::{BinarySize, KeyId, TextSize};
-use wire_messages::atoms::AtomPart;
 use wire_messages::columns::SentColumn;
-use wire_messages::keys::KeyPart;
 use wire_messages::params::UsedParams;
-use wire_messages::parts::{BlobPart, CellPart, TxtPart};
 use wire_messages::replies::{Description, Header, RowParts};
-use wire_messages::texts::{NamePart, ParamNamePart, PathPart, StatementPart, TitlePart};
+use wire_parts::atoms::AtomPart;
+use wire_parts::keys::KeyPart;
+use wire_parts::parts::{BlobPart, CellPart, TxtPart};
+use wire_parts::texts::{NamePart, ParamNamePart, PathPart, StatementPart, TitlePart};
 
 pub fn session(number: u16) -> Option<SessionId>
     ensures { result ≡ read.when (read.is_within 1 64) number }

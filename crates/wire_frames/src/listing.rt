@@ -11,12 +11,12 @@ use crate::reading::{atom_of, enc_of, key_of, param_name_of, title_of, ty_of, u1
 use ae_base::lists::Seq;
 use ae_base::params::{Named, ParamList};
 use std::alloc::Global;
-use wire_messages::atoms::AtomPart;
 use wire_messages::columns::SentColumn;
-use wire_messages::keys::KeyPart;
 use wire_messages::params::{
     Declaration, DeclarationParts, SentParam, SentParams, UsedParam, UsedParams,
 };
+use wire_parts::atoms::AtomPart;
+use wire_parts::keys::KeyPart;
 
 /// A part of a message that can be read from the front of some bytes.
 pub trait ReadPart<'a>: Sized + Drop {

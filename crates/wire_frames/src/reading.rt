@@ -11,10 +11,10 @@ use crate::checks;
 use ae_base::faults::Versions;
 use ae_base::sessions::SessionId;
 use ae_base::types::{Enc, KeyId, Ty};
-use wire_messages::atoms::AtomPart;
-use wire_messages::keys::KeyPart;
 use wire_messages::replies::Done;
-use wire_messages::texts::{NamePart, ParamNamePart, PathPart, StatementPart, TitlePart};
+use wire_parts::atoms::AtomPart;
+use wire_parts::keys::KeyPart;
+use wire_parts::texts::{NamePart, ParamNamePart, PathPart, StatementPart, TitlePart};
 
 /// A number in two bytes.
 pub fn u16_of(bytes: &[u8]) -> Option<(u16, &[u8])>

@@ -1,1 +1,2 @@
+mod CopiedNames
 mod KeyOrder

@@ -2,10 +2,10 @@
 
 ghost use Rattle.std.specs.Prelude.{◌≡◌, IfOk};
 
-use crate::copies::ToOwn;
-use crate::texts::TitlePart;
 use ae_base::types::{Enc, Ty};
 use std::alloc::{AllocError, Global};
+use wire_parts::copies::ToOwn;
+use wire_parts::texts::TitlePart;
 
 /// A column of an answer: its title, its type, and how it is encrypted.
 #[derive(Drop)]

@@ -7,9 +7,9 @@ ghost use Rattle.ae_base.specs.declared.types.Enc.TheVariants as enc;
 ghost use Rattle.wire_messages.specs.KeyLists.{AreTheKeysOf, lists_from, ids_of};
 
 use crate::columns::SentColumn;
-use crate::keys::KeyPart;
 use crate::params::UsedParam;
 use ae_base::types::{Enc, KeyId};
+use wire_parts::keys::KeyPart;
 
 /// The most keys that a message lists.
 pub const MOST_KEYS: usize = 64;

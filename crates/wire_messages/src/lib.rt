@@ -2,13 +2,8 @@
 //! whoever has one can send it.
 #![tactic(auto)]
 
-pub mod atoms;
 pub mod columns;
-pub mod copies;
 pub mod key_lists;
-pub mod keys;
 pub mod params;
-pub mod parts;
 pub mod replies;
 pub mod requests;
-pub mod texts;

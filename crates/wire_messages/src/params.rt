@@ -1,15 +1,15 @@
 //! Parameters as they are declared, sent and described.
 
-ghost use Rattle.std.specs.Prelude.{◌≡◌, IfOk};
+ghost use Rattle.std.specs.Prelude.{◌≡◌, IfOk, map};
 
-use crate::atoms::AtomPart;
-use crate::copies::{ToOwn, own_parts};
-use crate::texts::ParamNamePart;
 use ae_base::batches::ParamDecl;
 use ae_base::params::{Named, ParamList};
 use ae_base::types::{Enc, Ty};
 use std::alloc::{AllocError, Global};
 use std::marker::Model;
+use wire_parts::atoms::AtomPart;
+use wire_parts::copies::{ToOwn, own_parts};
+use wire_parts::texts::ParamNamePart;
 
 /// A parameter's declaration, which contracts see as a `ParamDecl`.
 #[derive(Drop)]
@@ -163,38 +163,13 @@ impl<'a, 'b> ToOwn<UsedParam<'b>> for UsedParam<'a> {
     }
 }
 
-/// A copy of declarations that borrows nothing.
-pub fn own_declarations<'b>(
+/// A copy of parts with names that borrows nothing.
+pub fn own_params<P: Named + ToOwn<T>, T: Named>(
     alloc: Global,
-    declarations: &DeclarationParts<'_>,
-) -> Result<DeclarationParts<'b>, AllocError>
-    ensures { IfOk result (λ copy. copy ≡ declarations.now) }
-{
-    match ParamList::from_seq(own_parts(alloc, declarations.as_slice())?) {
-        Some(copy) => Ok(copy),
-        None => unreachable!(),
-    }
-}
-
-/// A copy of sent parameters that borrows nothing.
-pub fn own_sent_params<'b>(
-    alloc: Global,
-    params: &SentParams<'_>,
-) -> Result<SentParams<'b>, AllocError>
-    ensures { IfOk result (λ copy. copy ≡ params.now) }
-{
-    match ParamList::from_seq(own_parts(alloc, params.as_slice())?) {
-        Some(copy) => Ok(copy),
-        None => unreachable!(),
-    }
-}
-
-/// A copy of used parameters that borrows nothing.
-pub fn own_used_params<'b>(
-    alloc: Global,
-    params: &UsedParams<'_>,
-) -> Result<UsedParams<'b>, AllocError>
-    ensures { IfOk result (λ copy. copy ≡ params.now) }
+    params: &ParamList<P>,
+) -> Result<ParamList<T>, AllocError>
+    requires { (p : P) → T.called (P.same p) ≡ P.called p }
+    ensures { IfOk result (λ copy. copy ≡ map P.same params.now) }
 {
     match ParamList::from_seq(own_parts(alloc, params.as_slice())?) {
         Some(copy) => Ok(copy),

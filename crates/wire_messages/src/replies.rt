@@ -4,16 +4,16 @@ ghost use Rattle.std.specs.Prelude.{◌≡◌, ◌↔◌, IfOk, IfSome, IsSome};
 ghost use Rattle.wire_messages.specs.Messages as told;
 ghost use Rattle.wire_messages.specs.Messages.{IsFew};
 
-use crate::atoms::AtomPart;
 use crate::columns::SentColumn;
-use crate::copies::own_parts;
 use crate::key_lists::are_the_keys_of;
-use crate::keys::KeyPart;
-use crate::params::{UsedParams, own_used_params};
+use crate::params::{UsedParams, own_params};
 use ae_base::faults::SqlFault;
 use ae_base::lists::{Duplicate, Seq};
 use std::alloc::{AllocError, Global};
 use std::marker::Model;
+use wire_parts::atoms::AtomPart;
+use wire_parts::copies::own_parts;
+use wire_parts::keys::KeyPart;
 
 /// The most columns of an answer.
 pub const MOST_COLUMNS: usize = 512;
@@ -105,7 +105,7 @@ impl<'a> Description<'a> {
         Ok(Description {
             version: self.version,
             keys: own_parts(alloc, self.keys.as_slice())?,
-            params: own_used_params(alloc, &self.params)?,
+            params: own_params(alloc, &self.params)?,
         })
     }
 }

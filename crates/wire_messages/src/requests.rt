@@ -2,10 +2,10 @@
 
 ghost use Rattle.std.specs.Prelude.{◌≡◌, IfOk};
 
-use crate::params::{DeclarationParts, SentParams, own_declarations, own_sent_params};
-use crate::texts::StatementPart;
+use crate::params::{DeclarationParts, SentParams, own_params};
 use ae_base::sessions::SessionId;
 use std::alloc::{AllocError, Global};
+use wire_parts::texts::StatementPart;
 
 /// What the driver asks. Each request has a frame, since each part meets its condition by its type.
 #[derive(Drop)]
@@ -38,7 +38,7 @@ impl<'a> Request<'a> {
             } => Ok(Request::Describe {
                 session: *session,
                 text: text.to_own(alloc)?,
-                declarations: own_declarations(alloc, declarations)?,
+                declarations: own_params(alloc, declarations)?,
             }),
             Request::Execute {
                 session,
@@ -49,7 +49,7 @@ impl<'a> Request<'a> {
                 session: *session,
                 version: *version,
                 text: text.to_own(alloc)?,
-                params: own_sent_params(alloc, params)?,
+                params: own_params(alloc, params)?,
             }),
         }
     }

@@ -9,7 +9,7 @@ ghost use Rattle.wire_spelling.specs.Spelling as spell;
 
 use ae_base::types::{Enc, Ty};
 use std::alloc::AllocError;
-use wire_messages::texts::StatementPart;
+use wire_parts::texts::StatementPart;
 
 /// A part of a message that has a spelling of its own.
 pub trait Part {

@@ -15,7 +15,7 @@ use std::alloc::{AllocError, Global};
 use wire_messages::params::{DeclarationParts, SentParams};
 use wire_messages::replies::{Description, Header, Reply, RowParts};
 use wire_messages::requests::Request;
-use wire_messages::texts::StatementPart;
+use wire_parts::texts::StatementPart;
 
 fn push_describe(
     out: &mut Vec<u8>,

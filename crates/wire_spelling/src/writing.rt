@@ -9,11 +9,11 @@ use crate::fields::{Part, push_blob, push_enc, push_short, push_str, push_ty};
 use ae_base::faults::{SqlFault, Versions};
 use ae_base::names::{Name, ParamName};
 use std::alloc::AllocError;
-use wire_messages::atoms::{AtomCase, AtomPart};
 use wire_messages::columns::SentColumn;
-use wire_messages::keys::KeyPart;
 use wire_messages::params::{Declaration, SentParam, UsedParam};
 use wire_messages::replies::Done;
+use wire_parts::atoms::{AtomCase, AtomPart};
+use wire_parts::keys::KeyPart;
 
 impl<'a> Part for AtomPart<'a> {
     ghost spelling = { λ a. spell.atom a };

@@ -3,7 +3,7 @@ use Rattle.std.proofs.Common.{List}
 use Rattle.std.specs.List.{All}
 use Rattle.std.proofs.lemmas.List.Elements.{All-rest}
 use Rattle.ae_base.specs.Atoms.{Atom}
-use Rattle.wire_messages.specs.AtomBounds.{IsSendable}
+use Rattle.wire_parts.specs.AtomBounds.{IsSendable}
 use Rattle.wire_messages.specs.Messages.{IsFew}
 use Rattle.wire_messages.specs.declared.replies.Reply.TheVariants.{Row}
 use Rattle.server_core.proofs.Moving.{moved_as}

@@ -1,6 +1,6 @@
 -- The next atom.
 use Rattle.std.proofs.lemmas.List.Elements.{All-rest}
-use Rattle.wire_messages.specs.AtomBounds.{IsSendable}
+use Rattle.wire_parts.specs.AtomBounds.{IsSendable}
 use Rattle.server_core.proofs.Moving.{moved}
 use Rattle.server_core.proofs.rows.sent_atoms.Goals as goal
 

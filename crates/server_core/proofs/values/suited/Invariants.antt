@@ -2,7 +2,7 @@
 use Rattle.std.proofs.Common.{◌≡◌, drop}
 use Rattle.std.specs.List.{All}
 use Rattle.operators.proofs.Collected.{collected}
-use Rattle.wire_messages.specs.AtomBounds.{IsSendable}
+use Rattle.wire_parts.specs.AtomBounds.{IsSendable}
 use Rattle.server_core.specs.Params.{suited}
 use Rattle.server_core.proofs.values.suited.Given as goal
 

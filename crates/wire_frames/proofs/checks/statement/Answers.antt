@@ -2,7 +2,7 @@
 use Rattle.std.proofs.Common.{length, encode_utf8_all}
 use Rattle.std.proofs.lemmas.Bool.{leb-true, le-leb}
 use Rattle.std.specs.Str.{chars}
-use Rattle.wire_messages.specs.Texts.{IsStatementText}
+use Rattle.wire_parts.specs.Texts.{IsStatementText}
 use Rattle.wire_frames.specs.Reading.{is_text_within}
 use Rattle.wire_frames.proofs.Tested.{tested}
 use Rattle.wire_frames.proofs.checks.statement.Goals as goal

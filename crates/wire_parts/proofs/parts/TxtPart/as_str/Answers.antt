@@ -2,7 +2,7 @@
 use Rattle.std.proofs.Common.{sym, subst}
 use Rattle.std.specs.Str.{IsUtf8}
 use Rattle.std.proofs.lemmas.Str.{encodes-chars, scalars-chars}
-use Rattle.wire_messages.proofs.parts.TxtPart.as_str.Goals as goal
+use Rattle.wire_parts.proofs.parts.TxtPart.as_str.Goals as goal
 
 pub returns-in-Lent-clause-bytes : goal.returns-in-Lent-clause-bytes
 returns-in-Lent-clause-bytes c =

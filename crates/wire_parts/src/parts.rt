@@ -24,7 +24,7 @@ pub struct TxtPart<'a> {
 
 impl<'a> Model for TxtPart<'a> {
     ghost use Rattle.std.specs.Prelude.{List, ℕ};
-    ghost use Rattle.wire_messages.specs.Sources.{text_of};
+    ghost use Rattle.wire_parts.specs.Sources.{text_of};
 
     ghost Value = { List ℕ };
 
@@ -73,16 +73,6 @@ impl<'a> TxtPart<'a> {
         Txt::copied(alloc, self.as_str())
     }
 
-    /// The text, which is copied where it is borrowed.
-    pub fn into_txt(self, alloc: Global) -> Result<Txt, AllocError>
-        ensures { IfOk result (λ text. text ≡ self.entry) }
-    {
-        match self.source {
-            TxtSource::Own(text) => Ok(text),
-            TxtSource::Lent(text) => Txt::copied(alloc, text),
-        }
-    }
-
     /// A copy that borrows nothing.
     pub fn to_own<'b>(&self, alloc: Global) -> Result<TxtPart<'b>, AllocError>
         ensures { IfOk result (λ copy. copy ≡ self.now) }
@@ -92,24 +82,24 @@ impl<'a> TxtPart<'a> {
 }
 
 #[derive(Drop)]
-enum BlobSource<'a> {
-    Own(Blob),
+enum BytesSource<'a, T> {
+    Own(T),
     Lent(&'a [u8]),
 }
 
 /// Some bytes, own or borrowed, which contracts see as the list of them.
 #[derive(Drop)]
 pub struct BlobPart<'a> {
-    source: BlobSource<'a>,
+    source: BytesSource<'a, Blob>,
 }
 
 impl<'a> Model for BlobPart<'a> {
     ghost use Rattle.std.specs.Prelude.{List, ℕ};
-    ghost use Rattle.wire_messages.specs.Sources.{blob_of};
+    ghost use Rattle.wire_parts.specs.Sources.{bytes_of};
 
     ghost Value = { List ℕ };
 
-    ghost view = { λ p. blob_of p.source };
+    ghost view = { λ p. bytes_of p.source };
 }
 
 impl<'a> BlobPart<'a> {
@@ -118,7 +108,7 @@ impl<'a> BlobPart<'a> {
         ensures { result ≡ bytes }
     {
         BlobPart {
-            source: BlobSource::Own(bytes),
+            source: BytesSource::Own(bytes),
         }
     }
 
@@ -127,7 +117,7 @@ impl<'a> BlobPart<'a> {
         ensures { result ≡ bytes.now }
     {
         BlobPart {
-            source: BlobSource::Lent(bytes),
+            source: BytesSource::Lent(bytes),
         }
     }
 
@@ -136,8 +126,8 @@ impl<'a> BlobPart<'a> {
         ensures { result.now ≡ self.now }
     {
         match &self.source {
-            BlobSource::Own(bytes) => bytes.as_slice(),
-            BlobSource::Lent(bytes) => bytes,
+            BytesSource::Own(bytes) => bytes.as_slice(),
+            BytesSource::Lent(bytes) => bytes,
         }
     }
 
@@ -148,16 +138,6 @@ impl<'a> BlobPart<'a> {
         Blob::copied(alloc, self.as_slice())
     }
 
-    /// The bytes, which are copied where they are borrowed.
-    pub fn into_blob(self, alloc: Global) -> Result<Blob, AllocError>
-        ensures { IfOk result (λ bytes. bytes ≡ self.entry) }
-    {
-        match self.source {
-            BlobSource::Own(bytes) => Ok(bytes),
-            BlobSource::Lent(bytes) => Blob::copied(alloc, bytes),
-        }
-    }
-
     /// A copy that borrows nothing.
     pub fn to_own<'b>(&self, alloc: Global) -> Result<BlobPart<'b>, AllocError>
         ensures { IfOk result (λ copy. copy ≡ self.now) }
@@ -166,25 +146,19 @@ impl<'a> BlobPart<'a> {
     }
 }
 
-#[derive(Drop)]
-enum CellSource<'a> {
-    Own(Cell),
-    Lent(&'a [u8]),
-}
-
 /// A cell, own or borrowed, which contracts see as the list of its bytes.
 #[derive(Drop)]
 pub struct CellPart<'a> {
-    source: CellSource<'a>,
+    source: BytesSource<'a, Cell>,
 }
 
 impl<'a> Model for CellPart<'a> {
     ghost use Rattle.std.specs.Prelude.{List, ℕ};
-    ghost use Rattle.wire_messages.specs.Sources.{cell_of};
+    ghost use Rattle.wire_parts.specs.Sources.{bytes_of};
 
     ghost Value = { List ℕ };
 
-    ghost view = { λ p. cell_of p.source };
+    ghost view = { λ p. bytes_of p.source };
 }
 
 impl<'a> CellPart<'a> {
@@ -193,7 +167,7 @@ impl<'a> CellPart<'a> {
         ensures { result ≡ cell }
     {
         CellPart {
-            source: CellSource::Own(cell),
+            source: BytesSource::Own(cell),
         }
     }
 
@@ -202,7 +176,7 @@ impl<'a> CellPart<'a> {
         ensures { result ≡ bytes.now }
     {
         CellPart {
-            source: CellSource::Lent(bytes),
+            source: BytesSource::Lent(bytes),
         }
     }
 
@@ -211,8 +185,8 @@ impl<'a> CellPart<'a> {
         ensures { result.now ≡ self.now }
     {
         match &self.source {
-            CellSource::Own(cell) => cell.bytes(),
-            CellSource::Lent(bytes) => bytes,
+            BytesSource::Own(cell) => cell.bytes(),
+            BytesSource::Lent(bytes) => bytes,
         }
     }
 
@@ -221,16 +195,6 @@ impl<'a> CellPart<'a> {
         ensures { IfOk result (λ cell. cell ≡ self.now) }
     {
         Cell::from_bytes(alloc, self.bytes())
-    }
-
-    /// The cell, which is copied where it is borrowed.
-    pub fn into_cell(self, alloc: Global) -> Result<Cell, AllocError>
-        ensures { IfOk result (λ cell. cell ≡ self.entry) }
-    {
-        match self.source {
-            CellSource::Own(cell) => Ok(cell),
-            CellSource::Lent(bytes) => Cell::from_bytes(alloc, bytes),
-        }
     }
 
     /// A copy that borrows nothing.

@@ -3,8 +3,8 @@ use Rattle.std.specs.Prelude.{ℕ, List}
 use Rattle.ae_base.specs.declared.values.Datum.TheVariants.{Num, Text, Bin}
 use Rattle.ae_base.specs.declared.atoms.AtomOf.{AtomOf}
 use Rattle.ae_base.specs.declared.atoms.AtomOf.TheVariants as atom
-use Rattle.wire_messages.specs.declared.atoms.AtomCase.{AtomCase}
-use Rattle.wire_messages.specs.declared.atoms.AtomCase.TheVariants as part
+use Rattle.wire_parts.specs.declared.atoms.AtomCase.{AtomCase}
+use Rattle.wire_parts.specs.declared.atoms.AtomCase.TheVariants as part
 
 -- what a case stands for
 abbrev pub atom_of : AtomCase → AtomOf (List ℕ)

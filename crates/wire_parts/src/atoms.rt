@@ -3,8 +3,8 @@
 ghost use Rattle.std.specs.Prelude.{◌≡◌, ◌≤◌, ◌↔◌, IfOk, IfSome, IsSome, length, encode_utf8_all};
 ghost use Rattle.ae_base.specs.declared.atoms.AtomOf.TheVariants as atom;
 ghost use Rattle.ae_base.specs.declared.values.Datum.TheVariants.{Num, Text, Bin};
-ghost use Rattle.wire_messages.specs.Atoms.{atom_of};
-ghost use Rattle.wire_messages.specs.AtomBounds.{IsSendable};
+ghost use Rattle.wire_parts.specs.Atoms.{atom_of};
+ghost use Rattle.wire_parts.specs.AtomBounds.{IsSendable};
 
 use crate::copies::ToOwn;
 use crate::parts::{BlobPart, CellPart, TxtPart};
@@ -43,8 +43,8 @@ pub struct AtomPart<'a> {
 impl<'a> Model for AtomPart<'a> {
     ghost use Rattle.std.specs.Prelude.{List, ℕ};
     ghost use Rattle.ae_base.specs.declared.atoms.AtomOf.{AtomOf};
-    ghost use Rattle.wire_messages.specs.Atoms.{atom_of};
-    ghost use Rattle.wire_messages.specs.AtomBounds.{IsSendable};
+    ghost use Rattle.wire_parts.specs.Atoms.{atom_of};
+    ghost use Rattle.wire_parts.specs.AtomBounds.{IsSendable};
 
     ghost Value = { AtomOf (List ℕ) };
 
@@ -161,20 +161,6 @@ impl<'a> AtomPart<'a> {
             AtomCase::Text(text) => AtomOf::Plain(Datum::Text(text.to_txt(alloc)?)),
             AtomCase::Bin(bytes) => AtomOf::Plain(Datum::Bin(bytes.to_blob(alloc)?)),
             AtomCase::Sealed(cell) => AtomOf::Sealed(cell.to_cell(alloc)?),
-        };
-        Ok(Atom::new(case))
-    }
-
-    /// The atom, whose text or bytes are copied where they are borrowed.
-    pub fn into_atom(self, alloc: Global) -> Result<Atom<Cell>, AllocError>
-        ensures { IfOk result (λ own. own ≡ self.entry) }
-    {
-        let case = match self.case {
-            AtomCase::Null => AtomOf::Null,
-            AtomCase::Num(n) => AtomOf::Plain(Datum::Num(n)),
-            AtomCase::Text(text) => AtomOf::Plain(Datum::Text(text.into_txt(alloc)?)),
-            AtomCase::Bin(bytes) => AtomOf::Plain(Datum::Bin(bytes.into_blob(alloc)?)),
-            AtomCase::Sealed(cell) => AtomOf::Sealed(cell.into_cell(alloc)?),
         };
         Ok(Atom::new(case))
     }

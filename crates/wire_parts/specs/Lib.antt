@@ -1,0 +1,4 @@
+pub mod AtomBounds
+pub mod Atoms
+pub mod Sources
+pub mod Texts
