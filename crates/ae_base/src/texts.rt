@@ -1,8 +1,7 @@
-ghost use Rattle.std.specs.Prelude.{◌≡◌, ◌≤◌, ◌↔◌, List, ℕ, IfOk, IsTrue, length, string_bytes, encode_utf8_all, refl};
+ghost use Rattle.std.specs.Prelude.{◌≡◌, List, ℕ, IfOk, IsTrue, length, string_bytes, encode_utf8_all, refl};
 ghost use Rattle.std.specs.Str.{bytes_eq, chars, all_scalars};
 ghost use Rattle.std.specs.Cmp.Lexicographic.{nat_list_eq_equiv};
 ghost use Rattle.std.specs.Cmp.{partial_equiv_from_equiv};
-ghost use Rattle.ae_base.specs.Values.{units};
 
 use crate::lists::Duplicate;
 use std::alloc::{AllocError, Global};
@@ -67,21 +66,6 @@ pub fn char_count(text: &str) -> usize
     ensures { result ≡ length (chars text.now) }
 {
     text.chars().count()
-}
-
-/// Whether a text has at most so many UTF-16 units.
-pub fn has_units_within(text: &str, most: u16) -> bool
-    ensures { IsTrue result ↔ (units (chars text.now) ≤ most) }
-{
-    let mut left = most as usize;
-    for c in text.chars() {
-        let count = c.len_utf16();
-        if count > left {
-            return false;
-        }
-        left -= count;
-    }
-    true
 }
 
 impl PartialEq for Txt {

@@ -1,10 +1,11 @@
-ghost use Rattle.std.specs.Prelude.{◌≡◌, IsTrue, ◌↔◌};
-ghost use Rattle.ae_base.specs.Values.{DatumFits, Fits, is_within, value_is_within};
+ghost use Rattle.std.specs.Prelude.{◌≡◌, IsTrue, ◌↔◌, ◌≤◌};
+ghost use Rattle.std.specs.Str.{chars};
+ghost use Rattle.ae_base.specs.Values.{DatumFits, Fits, is_within, units, value_is_within};
 ghost use Rattle.ae_base.specs.declared.values.Datum.TheVariants.{Num, Text, Bin};
 
 use crate::blobs::Blob;
 use crate::lists::Duplicate;
-use crate::texts::{Txt, has_units_within};
+use crate::texts::Txt;
 use crate::types::Ty;
 use std::alloc::AllocError;
 
@@ -67,6 +68,21 @@ fn bytes_fit(bytes: &[u8], ty: Ty) -> bool
         Ty::VarBinary(most) => bytes.len() <= most.number() as usize,
         Ty::Int | Ty::BigInt | Ty::NVarChar(_) => false,
     }
+}
+
+/// Whether a text has at most so many UTF-16 units.
+pub fn has_units_within(text: &str, most: u16) -> bool
+    ensures { IsTrue result ↔ (units (chars text.now) ≤ most) }
+{
+    let mut left = most as usize;
+    for c in text.chars() {
+        let count = c.len_utf16();
+        if count > left {
+            return false;
+        }
+        left -= count;
+    }
+    true
 }
 
 impl Value {

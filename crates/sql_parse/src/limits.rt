@@ -4,7 +4,7 @@ ghost use Rattle.sql_tree.specs.Statements.{items_of, statement_of};
 ghost use Rattle.ae_base.specs.declared.values.Datum.TheVariants as datum;
 ghost use Rattle.sql_grammar.specs.Texts as spec;
 
-use ae_base::texts::has_units_within;
+use ae_base::values::has_units_within;
 use sql_conditions::operands::MOST_OPEN;
 use sql_tree::lexemes::{Lexeme, Symbol, Token};
 use sql_tree::statements::{Items, Statement, UniqueSpec};

@@ -6,7 +6,7 @@ use Rattle.std.proofs.lemmas.Iterator.Consumers.{YieldsList-turn, YieldsList-end
 use Rattle.std.specs.Str.{chars}
 use Rattle.std.proofs.lemmas.Bool.Decides.{nat_tests}
 use Rattle.ae_base.specs.Values.{units, units_of}
-use Rattle.ae_base.proofs.texts.has_units_within.Goals as goal
+use Rattle.ae_base.proofs.values.has_units_within.Goals as goal
 
 units-drop : (cs : List ℕ) (n c : ℕ) → (n < length cs) × (c ≡ get_or cs n c) → units (drop n cs) ≡ units_of c + units (drop (n + 1) cs)
 units-drop cs n c h = at_drop_more units cs n c h.0 ∙ ap (λ x. units_of x + units (drop (n + 1) cs)) (sym h.1)
