@@ -3,6 +3,7 @@ pub mod Batches
 pub mod Faults
 pub mod Keys
 pub mod Names
+pub mod Options
 pub mod Results
 pub mod Sessions
 pub mod Sizes

@@ -1,6 +1,6 @@
 -- One call after another, where contents are told; and how what is told grows.
-use Rattle.std.proofs.Common.{◌≡◌, List, [], ◌++◌, Option, Some, None, refl, sym, ap, ◌∙◌, append_assoc, append-nil}
-use Rattle.ae_edge.specs.Devices.{WhereTold, IsFront, GrewByFront, Adds, AddsFront, Removes}
+use Rattle.std.proofs.Common.{◌≡◌, ℕ, ◌≤◌, List, [], ◌++◌, Option, Some, None, refl, sym, ap, ◌∙◌, append_assoc, append-nil, arith}
+use Rattle.ae_edge.specs.Devices.{Rose, WhereTold, IsFront, GrewByFront, Adds, AddsFront, Removes}
 
 -- two calls in a row: what P and Q say of each gives what R says of both
 pub told_then : {T : Type 0} (P Q R : T → T → Type 0) → ((x y z : T) → P x y → Q y z → R x z) → (a b c : Option T) → WhereTold P a b → WhereTold Q b c → WhereTold R a c
@@ -85,3 +85,7 @@ pub removes_then : {A : Type 0} (xs ys : List A) (a b c : Option (List A)) → R
 removes_then {A} xs ys =
     told_then (λ (old new : List A). old ≡ xs ++ new) (λ (old new : List A). old ≡ ys ++ new) (λ (old new : List A). old ≡ (xs ++ ys) ++ new)
     (λ x y z p q. p ∙ ap (λ (w : List A). xs ++ w) q ∙ sym (append_assoc xs ys z))
+
+-- a count that rises later has risen since before
+pub rose_before : (a b c : ℕ) → a ≤ b → Rose b c → Rose a c
+rose_before a b c p q = omega arith

@@ -2,7 +2,7 @@
 use Rattle.std.proofs.Common.{◌≡◌, ℕ, List, [], ◌∷◌, ◌++◌, length, map, refl, ap, ◌∙◌, Option, Some, None, Bool, true, false, cond, ◌||◌, not, ◌==◌, nat_lt, is_some, Result, Ok, Err}
 use Rattle.std.specs.List.{flat_map, list_any, slice_get}
 use Rattle.std.specs.Option.{option_map}
-use Rattle.std.proofs.lemmas.Bool.{eq-eqb}
+use Rattle.std.proofs.lemmas.Bool.{eq-eqb, or_left, or_right}
 use Rattle.std.proofs.lemmas.List.{length-map}
 use Rattle.ae_base.specs.Results.{◌>>=◌}
 use Rattle.ae_base.specs.declared.types.Ty.{Ty}
@@ -25,13 +25,6 @@ use Rattle.bound_checks.specs.Clashes.{Types, kind_of, column_kind, operand_kind
 use Rattle.bound_checks.specs.Grouping.{value_counts, counts, groups, operand_ungrouped, value_ungrouped, item_ungrouped, operand_selects, value_selects, selects, key_unselected, query_ungrouped, statement_ungrouped, ungrouped}
 use Rattle.bound_checks.specs.Checks.{least, none_at, is_long_statement, is_too_long, checked}
 use Rattle.bound_checks.specs.Laws.{ChecksKeepTheUsed}
-
-or_left : (a b : Bool) → a ≡ true → a || b ≡ true
-or_left a b e = ap (λ z. z || b) e
-
-or_right : (a b : Bool) → b ≡ true → a || b ≡ true
-or_right true b e = refl
-or_right false b e = e
 
 both : (xs ys xs' ys' : List ℕ) → xs' ≡ xs → ys' ≡ ys → xs' ++ ys' ≡ xs ++ ys
 both xs ys xs' ys' e h = ap (λ z. z ++ ys') e ∙ ap (λ z. xs ++ z) h

@@ -6,6 +6,7 @@ use Rattle.std.specs.Str.{bytes_eq}
 use Rattle.std.proofs.lemmas.List.Elements.{All-nil, All-cons, All-append, All-take, All-drop}
 use Rattle.std.proofs.lemmas.List.Folds.{find-append}
 use Rattle.std.proofs.lemmas.Slice.Eq.{bytes_eq-Decides}
+use Rattle.std.proofs.lemmas.Bool.{or_parts}
 use Rattle.ae_base.specs.Results.{◌>>=◌, or_fault}
 use Rattle.ae_base.specs.declared.faults.SqlFault.{SqlFault}
 
@@ -33,14 +34,10 @@ none-found p (x ∷ xs) e =
     let n = neither (p x) x (find p xs) e in
     All-cons (λ y. p y ≡ false) x xs n.0 (none-found p xs n.1)
 
-none-or : (a b : Bool) → (a || b) ≡ false → (a ≡ false) × (b ≡ false)
-none-or true b e = cc
-none-or false b e = (refl, e)
-
 pub none-passes : {X : Type 0} (p : X → Bool) (xs : List X) → list_any p xs ≡ false → All (λ x. p x ≡ false) xs
 none-passes p [] e = All-nil (λ x. p x ≡ false)
 none-passes p (x ∷ xs) e =
-    let n = none-or (p x) (list_any p xs) e in
+    let n = or_parts (p x) (list_any p xs) e in
     All-cons (λ y. p y ≡ false) x xs n.0 (none-passes p xs n.1)
 
 -- ---- what is found stays found

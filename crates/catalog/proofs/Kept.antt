@@ -32,8 +32,8 @@ below-last v e h = grind (arith, nat_tests)
 
 -- ---- nothing is defined
 
-pub nothing-kept : IsCatalog nothing_defined
-nothing-kept = record {
+pub nothing_kept : IsCatalog nothing_defined
+nothing_kept = record {
   masters_differ = λ i j d lt within. absurd (omega arith);
   keys_differ = λ i j d lt within. absurd (omega arith);
   tables_differ = λ i j d lt within. absurd (omega arith);

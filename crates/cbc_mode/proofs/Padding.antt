@@ -3,6 +3,8 @@ use Rattle.std.proofs.Common.{◌≡◌, ℕ, suc, zero, ◌-◌, ◌%◌, ◌<�
 use Rattle.std.proofs.lemmas.List.{length-append, length-replicate, length-drop, length-take, take-append-drop, take_at, drop_at, get_or-append-add, get_or-replicate}
 use Rattle.std.proofs.lemmas.Bool.Decides.{nat_tests}
 use Rattle.std.specs.List.{list_all, concat}
+use Rattle.std.proofs.lemmas.Option.{cond_some}
+use Rattle.std.proofs.lemmas.Bool.{and_parts, leb-true}
 use Rattle.cbc_mode.specs.Cbc.{padded, unpadded, chained, blocks_of, cbc}
 
 -- bytes without the last `count`, where these are padding
@@ -11,21 +13,10 @@ unpadded_by bytes count =
     let kept = length bytes - count in
     cond (nat_le 1 count && nat_le count 16 && list_all (λ byte. byte == count) (drop kept bytes)) (Some (take kept bytes)) None
 
-from_cond : (test : Bool) (x y : List ℕ) → cond test (Some x) None ≡ Some y → (test ≡ true) × (x ≡ y)
-from_cond true x y e = (refl, cc)
-from_cond false x y e = absurd cc
-
-from_and : (a b : Bool) → a && b ≡ true → (a ≡ true) × (b ≡ true)
-from_and true b e = (refl, e)
-from_and false b e = absurd cc
-
-from_nat_le : (a b : ℕ) → nat_le a b ≡ true → a ≤ b
-from_nat_le a b e = grind (arith, nat_tests)
-
 replicate-from_all : (xs : List ℕ) (value : ℕ) → list_all (λ byte. byte == value) xs ≡ true → xs ≡ replicate (length xs) value
 replicate-from_all [] value all = refl
 replicate-from_all (x ∷ xs) value all =
-    let parts = from_and (x == value) (list_all (λ byte. byte == value) xs) all in
+    let parts = and_parts (x == value) (list_all (λ byte. byte == value) xs) all in
     let head : x ≡ value = grind (arith, nat_tests) in
     ap (λ (y : ℕ). y ∷ xs) head ∙ ap (λ (ys : List ℕ). value ∷ ys) (replicate-from_all xs value parts.1)
 
@@ -39,11 +30,11 @@ all-replicate (suc n) value =
 padded-unpadded_by : (bytes plain : List ℕ) (count : ℕ) → length bytes % 16 ≡ 0 → 0 < length bytes → unpadded_by bytes count ≡ Some plain → padded plain ≡ bytes
 padded-unpadded_by bytes plain count whole there e =
     let kept = length bytes - count in
-    let test = from_cond (nat_le 1 count && nat_le count 16 && list_all (λ byte. byte == count) (drop kept bytes)) (take kept bytes) plain e in
-    let parts = from_and (nat_le 1 count && nat_le count 16) (list_all (λ byte. byte == count) (drop kept bytes)) test.0 in
-    let bounds = from_and (nat_le 1 count) (nat_le count 16) parts.0 in
-    let least = from_nat_le 1 count bounds.0 in
-    let most = from_nat_le count 16 bounds.1 in
+    let test = cond_some (nat_le 1 count && nat_le count 16 && list_all (λ byte. byte == count) (drop kept bytes)) (take kept bytes) plain e in
+    let parts = and_parts (nat_le 1 count && nat_le count 16) (list_all (λ byte. byte == count) (drop kept bytes)) test.0 in
+    let bounds = and_parts (nat_le 1 count) (nat_le count 16) parts.0 in
+    let least = leb-true 1 count bounds.0 in
+    let most = leb-true count 16 bounds.1 in
     let back = replicate-from_all (drop kept bytes) count parts.1 in
     let back_long : length (drop kept bytes) ≡ count = omega (arith, length-drop kept bytes) in
     let front_long : length plain ≡ kept = ap length (sym test.1) ∙ length-take kept bytes ∙ omega arith in

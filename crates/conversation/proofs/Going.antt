@@ -1,9 +1,11 @@
 -- One path after another, with what the devices have of them.
 use Rattle.std.proofs.Common.{◌≡◌, ℕ, ◌≤◌, List, [], ◌∷◌, ◌++◌, Option, Some, None, Result, Ok, Err, length, refl, sym, ◌∙◌, ap, subst, append_assoc, append-nil, arith}
 use Rattle.std.specs.Prelude.{flat_map, IfSome}
+use Rattle.std.proofs.lemmas.Grind.{flat_map-append}
 use Rattle.ae_base.specs.declared.batches.KeyMeta.{KeyMeta}
 use Rattle.ae_edge.specs.Devices.{Rose, WhereTold}
 use Rattle.ae_edge.specs.Vaults.{KeyMap}
+use Rattle.ae_edge.proofs.Told.{rose_before}
 use Rattle.hmac_kdf.specs.Keys.{Keys}
 use Rattle.aes_block.specs.Bytes.{AreBytes}
 use Rattle.conversation.specs.declared.faults.DriverFault.{DriverFault}
@@ -14,10 +16,6 @@ use Rattle.conversation.specs.Talk.{Talk, Draws, Opens}
 use Rattle.conversation.specs.Paths.{Event, Asked, Took, Strayed, Drew, Opened, Printed, Follows, stays, asks, takes_more, takes_last, strays, prints_last, draws, opens, prints, OpensAll, drawn_in}
 use Rattle.conversation.specs.Turns.{each_on}
 use Rattle.conversation.specs.Devices.{Devices, AreOwn, HasShare, Goes, Halts, IsAtDraw, IsAtKey, IsAnywhere, Fails, Leads, IsOfKeys, KeyLeads}
-
-pub flat_append : {A B : Type 0} (f : A → List B) (xs ys : List A) → flat_map f (xs ++ ys) ≡ flat_map f xs ++ flat_map f ys
-flat_append f [] ys = refl
-flat_append f (x ∷ xs) ys = ap (λ zs. f x ++ zs) (flat_append f xs ys) ∙ sym (append_assoc (f x) (flat_map f xs) (flat_map f ys))
 
 pub follows_then : (t u v : Talk) (xs ys : List Event) → Follows t xs u → Follows u ys v → Follows t (xs ++ ys) v
 follows_then _ _ v _ ys (stays t) g = g
@@ -66,7 +64,7 @@ told_still None = tt
 
 share_then : (xs ys : List Event) (a b c : Devices) → HasShare xs a b → HasShare ys b c → HasShare (xs ++ ys) a c
 share_then xs ys a b c p q = record {
-  entropy = told_then (flat_map drawn_in xs) (flat_map drawn_in ys) (flat_map drawn_in (xs ++ ys)) (flat_append drawn_in xs ys) a.entropy b.entropy c.entropy p.entropy q.entropy;
+  entropy = told_then (flat_map drawn_in xs) (flat_map drawn_in ys) (flat_map drawn_in (xs ++ ys)) (flat_map-append drawn_in xs ys) a.entropy b.entropy c.entropy p.entropy q.entropy;
   keys = q.keys ∙ p.keys;
   opened = opened_then xs ys a.keys b.keys p.keys p.opened q.opened;
   entropy_count = let x = p.entropy_count in let y = q.entropy_count in omega arith;
@@ -106,9 +104,6 @@ goes_then t u v x y z g h = record {
 
 pub halts_then : (P : Talk → Type 0) (t u : Talk) (x y z : Devices) → Goes t u x y → Halts P u y z → Halts P t x z
 halts_then P t u x y z g h = record { rest = h.rest; goes = goes_then t u h.rest x y z g h.goes; place = h.place }
-
-rose_before : (a b c : ℕ) → a ≤ b → Rose b c → Rose a c
-rose_before a b c p q = omega arith
 
 pub fails_then : (h : Halt) (t u : Talk) (x y z : Devices) → Goes t u x y → Fails h u y z → Fails h t x z
 fails_then halt.EntropyFault t u x y z g f = (halts_then IsAtDraw t u x y z g f.0, rose_before x.entropy_faults y.entropy_faults z.entropy_faults g.share.entropy_count f.1)

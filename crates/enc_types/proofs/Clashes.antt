@@ -2,6 +2,7 @@
 use Rattle.std.proofs.Common.{◌≡◌, List, [], ◌∷◌, ◌++◌, refl, ap, sym, ◌∙◌, Some, None, Bool, true, false, cond, append_assoc}
 use Rattle.std.specs.List.{list_all}
 use Rattle.std.proofs.lemmas.List.{append-nil}
+use Rattle.std.proofs.lemmas.Bool.{and_from}
 use Rattle.ae_base.specs.declared.types.Ty.{Ty}
 use Rattle.sql_tree.specs.declared.bound.ColumnSite.{ColumnSite}
 use Rattle.enc_types.specs.Rules.{at_of}
@@ -9,11 +10,11 @@ use Rattle.enc_types.specs.Typing.{HasTyping}
 use Rattle.enc_types.specs.Least.{has_typing, clash_behind, clash}
 use Rattle.enc_types.specs.Clash.{IsFirstClash}
 use Rattle.enc_types.specs.declared.rules.Rule.{Rule}
-use Rattle.enc_types.proofs.Merging.{and_left, and_right, and_both, has_typing-Decides}
+use Rattle.enc_types.proofs.Merging.{and_left, and_right, has_typing-Decides}
 
 all_front : (p : Rule → Bool) (xs ys : List Rule) → list_all p (xs ++ ys) ≡ true → list_all p xs ≡ true
 all_front p [] ys h = refl
-all_front p (x ∷ xs) ys h = and_both _ _ (and_left _ _ h) (all_front p xs ys (and_right _ _ h))
+all_front p (x ∷ xs) ys h = and_from _ _ (and_left _ _ h) (all_front p xs ys (and_right _ _ h))
 
 module _ (params : List Ty) (columns : List ColumnSite) where
   abbrev typed : List Rule → Bool

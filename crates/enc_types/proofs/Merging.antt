@@ -3,6 +3,7 @@ use Rattle.std.proofs.Common.{◌≡◌, List, [], ◌∷◌, refl, ap, sym, ◌
 use Rattle.std.specs.Bool.{Decides}
 use Rattle.std.specs.List.{list_all}
 use Rattle.std.proofs.lemmas.Bool.Decides.{Decides-eqb}
+use Rattle.std.proofs.lemmas.Bool.{and_from}
 use Rattle.ae_base.specs.declared.types.Ty.{Ty}
 use Rattle.ae_base.specs.declared.types.Enc.{Enc}
 use Rattle.ae_base.specs.declared.types.Enc.TheVariants.{Plain, Det, Rnd}
@@ -35,9 +36,6 @@ and_left false b e = e
 pub and_right : (a b : Bool) → a && b ≡ true → b ≡ true
 and_right true b e = e
 and_right false b e = absurd cc
-
-pub and_both : (a b : Bool) → a ≡ true → b ≡ true → a && b ≡ true
-and_both a b e f = ap (λ z. z && b) e ∙ f
 
 -- ---- classes
 
@@ -210,18 +208,18 @@ module _ (params : List Ty) (columns : List ColumnSite) where
     each_holds (Same x y at ∷ rules) j h =
         let one = and_left _ _ h in
         let same : typing x ≡ typing y = (enc_eq-Decides (typing x) (typing y)).0 (and_left _ _ one) in
-        and_both _ _
-        (and_both _ _ ((enc_eq-Decides _ _).1 (equal x y same j.0))
+        and_from _ _
+        (and_from _ _ ((enc_eq-Decides _ _).1 (equal x y same j.0))
         (plain_or (enc_of (classes x)) (typing x) _ (weaker _ _ _ (known typing classes x agrees (stands x))) (and_right _ _ one)))
         (each_holds rules j.1 (and_right _ _ h))
     each_holds (NotRnd x at ∷ rules) j h =
-        and_both _ _ (go (weaker _ _ _ (known typing classes x agrees (stands x)))) (each_holds rules j (and_right _ _ h))
+        and_from _ _ (go (weaker _ _ _ (known typing classes x agrees (stands x)))) (each_holds rules j (and_right _ _ h))
       where
         go : (enc_of (classes x) ≡ typing x) ⊎ (enc_of (classes x) ≡ Plain) → isnt_rnd (enc_of (classes x)) ≡ true
         go (inl e) = ap isnt_rnd e ∙ and_left _ _ h
         go (inr e) = ap isnt_rnd e
     each_holds (PlainOnly x at ∷ rules) j h =
-        and_both _ _ (go (weaker _ _ _ (known typing classes x agrees (stands x)))) (each_holds rules j (and_right _ _ h))
+        and_from _ _ (go (weaker _ _ _ (known typing classes x agrees (stands x)))) (each_holds rules j (and_right _ _ h))
       where
         go : (enc_of (classes x) ≡ typing x) ⊎ (enc_of (classes x) ≡ Plain) → is_plain (enc_of (classes x)) ≡ true
         go (inl e) = ap is_plain e ∙ and_left _ _ h

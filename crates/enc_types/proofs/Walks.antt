@@ -34,9 +34,5 @@ pub flat_map-map : {A B R : Type 0} (f : A → B) (g : B → List R) (xs : List 
 flat_map-map f g [] = refl
 flat_map-map f g (x ∷ xs) = ap (λ z. g (f x) ++ z) (flat_map-map f g xs)
 
-pub flat_map-singles : {A R : Type 0} (f : A → R) (xs : List A) → flat_map (λ x. f x ∷ []) xs ≡ map f xs
-flat_map-singles f [] = refl
-flat_map-singles f (x ∷ xs) = ap (λ z. f x ∷ z) (flat_map-singles f xs)
-
 pub same_items : {A : Type 0} (xs ys : List A) (i : ℕ) (x : A) → xs ≡ ys → i < length xs → x ≡ get_or xs i x → (i < length ys) × (x ≡ get_or ys i x)
 same_items xs ys i x e lt is = let P : List _ → Type 0 = λ zs. (i < length zs) × (x ≡ get_or zs i x) in subst P e (lt, is)

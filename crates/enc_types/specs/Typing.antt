@@ -72,11 +72,6 @@ is_plain Plain = true
 is_plain (Det k) = false
 is_plain (Rnd k) = false
 
-abbrev pub is_rnd : Enc → Bool
-is_rnd Plain = false
-is_rnd (Det k) = false
-is_rnd (Rnd k) = true
-
 abbrev pub isnt_rnd : Enc → Bool
 isnt_rnd Plain = true
 isnt_rnd (Det k) = true

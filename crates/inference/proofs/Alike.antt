@@ -57,10 +57,6 @@ isnt_plain (Rnd k) n = refl
 pub true_false : {A : Type 0} (b : Bool) → b ≡ true → b ≡ false → A
 true_false b e f = let g : true ≡ false = sym e ∙ f in absurd cc
 
-pub not_true : (b : Bool) → not b ≡ true → b ≡ false
-not_true true e = sym e
-not_true false e = refl
-
 pub among_holds : (p : Rule → Bool) (rules : List Rule) (rule : Rule) → list_all p rules ≡ true → IsAmong rules rule → p rule ≡ true
 among_holds p [] rule h a = absurd a
 among_holds p (first ∷ rules) rule h (inl e) = ap p e ∙ and_left _ _ h

@@ -1,6 +1,7 @@
 -- What the steps of a trace find is forced, and where nothing is left to be found and every rule holds it is the least typing.
 use Rattle.std.proofs.Common.{◌≡◌, ℕ, ◌+◌, ◌<◌, ◌≤◌, List, [], ◌∷◌, refl, ap, sym, ◌∙◌, arith, Some, None, Bool, true, false, not, cond, ◌&&◌, ◌||◌, unwrap_or, ◌⊎◌, inl, inr}
 use Rattle.std.specs.List.{list_all}
+use Rattle.std.proofs.lemmas.Bool.{or_right, or_from, not-true}
 use Rattle.ae_base.specs.declared.types.Ty.{Ty}
 use Rattle.ae_base.specs.declared.types.Enc.{Enc}
 use Rattle.ae_base.specs.declared.types.Enc.TheVariants.{Plain}
@@ -15,7 +16,7 @@ use Rattle.enc_types.specs.declared.rules.Rule.TheVariants.{Same, NotRnd, PlainO
 use Rattle.enc_types.proofs.Merging.{enc_eq-Decides, fixed_or_open, and_left, and_right}
 use Rattle.inference.specs.Steps.{goes, is_loose, loose, traced, IsTrace}
 use Rattle.inference.specs.declared.steps.Step.{Step}
-use Rattle.inference.proofs.Alike.{plain_is, not_plain, isnt_plain, true_false, not_true, among_holds, fixed_closed}
+use Rattle.inference.proofs.Alike.{plain_is, not_plain, isnt_plain, true_false, among_holds, fixed_closed}
 
 module _ (params : List Ty) (columns : List ColumnSite) where
   abbrev alike : Site → Site → Bool
@@ -24,7 +25,7 @@ module _ (params : List Ty) (columns : List ColumnSite) where
   -- ---- what it takes for an encryption to go on
 
   pub goes_from : (typing : Typing) (from to : Site) → goes params columns typing from to ≡ true → ¬ (typing from ≡ Plain)
-  goes_from typing from to g = not_plain _ (not_true _ (and_left _ _ g))
+  goes_from typing from to g = not_plain _ (not-true _ (and_left _ _ g))
 
   pub goes_open : (typing : Typing) (from to : Site) → goes params columns typing from to ≡ true → is_open to ≡ true
   goes_open typing from to g = and_left _ _ (and_right _ _ g)
@@ -132,23 +133,16 @@ module _ (params : List Ty) (columns : List ColumnSite) where
     was_loose : (rule : Rule) → Carries rule from to → is_loose typing rule ≡ true
     was_loose (Same x y at) (inl c) =
         let p : is_plain (typing y) ≡ true = ap (λ z. is_plain (typing z)) (sym c.1) ∙ ap is_plain (goes_plain typing from to g) in or_right (is_plain (typing x)) (is_plain (typing y)) p
-      where
-        or_right : (a b : Bool) → b ≡ true → a || b ≡ true
-        or_right true b e = refl
-        or_right false b e = e
     was_loose (Same x y at) (inr c) =
         ap (λ z. z || is_plain (typing y)) (ap (λ z. is_plain (typing z)) (sym c.1) ∙ ap is_plain (goes_plain typing from to g))
     was_loose (NotRnd x at) c = absurd c
     was_loose (PlainOnly x at) c = absurd c
 
-    both_false : (a b : Bool) → a ≡ false → b ≡ false → a || b ≡ false
-    both_false a b e f = ap (λ z. z || b) e ∙ f
-
     is_tight : (rule : Rule) → Carries rule from to → is_loose next rule ≡ false
     is_tight (Same x y at) (inl c) =
-        both_false _ _ (ap is_plain (ap next (sym c.0) ∙ next_here) ∙ isnt_plain _ (goes_from typing from to g)) (ap is_plain (ap next (sym c.1) ∙ next_there) ∙ isnt_plain _ (goes_from typing from to g))
+        or_from _ _ (ap is_plain (ap next (sym c.0) ∙ next_here) ∙ isnt_plain _ (goes_from typing from to g)) (ap is_plain (ap next (sym c.1) ∙ next_there) ∙ isnt_plain _ (goes_from typing from to g))
     is_tight (Same x y at) (inr c) =
-        both_false _ _ (ap is_plain (ap next (sym c.1) ∙ next_there) ∙ isnt_plain _ (goes_from typing from to g)) (ap is_plain (ap next (sym c.0) ∙ next_here) ∙ isnt_plain _ (goes_from typing from to g))
+        or_from _ _ (ap is_plain (ap next (sym c.1) ∙ next_there) ∙ isnt_plain _ (goes_from typing from to g)) (ap is_plain (ap next (sym c.0) ∙ next_here) ∙ isnt_plain _ (goes_from typing from to g))
     is_tight (NotRnd x at) c = absurd c
     is_tight (PlainOnly x at) c = absurd c
 

@@ -1,6 +1,7 @@
 -- Where a rule doesn't hold under all that was found, the way from a fixed site to it, and on to another fixed site, is a chain.
 use Rattle.std.proofs.Common.{◌≡◌, ℕ, List, [], ◌∷◌, refl, ap, sym, subst, ◌∙◌, Some, None, Bool, true, false, not, cond, ◌||◌, unwrap_or, ◌⊎◌, inl, inr}
 use Rattle.std.specs.List.{list_all}
+use Rattle.std.proofs.lemmas.Bool.{or_right, not-true, and_from}
 use Rattle.ae_base.specs.declared.types.Ty.{Ty}
 use Rattle.ae_base.specs.declared.types.Enc.{Enc}
 use Rattle.ae_base.specs.declared.types.Enc.TheVariants.{Plain}
@@ -12,11 +13,11 @@ use Rattle.enc_types.specs.Clash.{IsAmong, NoneTwice, Carries, HasSite, Breaks, 
 use Rattle.enc_types.specs.declared.sites.Site.{Site}
 use Rattle.enc_types.specs.declared.rules.Rule.{Rule}
 use Rattle.enc_types.specs.declared.rules.Rule.TheVariants.{Same, NotRnd, PlainOnly}
-use Rattle.enc_types.proofs.Merging.{enc_eq-Decides, fixed_or_open, and_left, and_right, and_both}
+use Rattle.enc_types.proofs.Merging.{enc_eq-Decides, fixed_or_open, and_left, and_right}
 use Rattle.inference.specs.Steps.{goes, is_settled, traced, IsTrace, way_back}
 use Rattle.inference.specs.Ways.{onto, beyond, through, through_either, chain_through}
 use Rattle.inference.specs.declared.steps.Step.{Step}
-use Rattle.inference.proofs.Alike.{plain_is, not_plain, isnt_plain, true_false, not_true, among_holds, alike_comm}
+use Rattle.inference.proofs.Alike.{plain_is, not_plain, isnt_plain, true_false, among_holds, alike_comm}
 use Rattle.inference.proofs.Traces.{goes_from, goes_open, goes_plain, goes_alike, traced_fixed, traced_kept, carried_same}
 
 -- ---- no rule twice
@@ -312,24 +313,20 @@ module _ (params : List Ty) (columns : List ColumnSite) (rules : List Rule) wher
   ends_alike typing e (NotRnd x at) from to c h = absurd h
   ends_alike typing e (PlainOnly x at) from to c h = absurd h
 
-  or_right : (a b : Bool) → b ≡ true → a || b ≡ true
-  or_right true b e = refl
-  or_right false b e = e
-
   -- a rule between sites of one type and one encryption holds
   equal_holds : (typing : Typing) (rule : Rule) (from to : Site) → Carries rule from to → alike from to ≡ true → typing from ≡ typing to → holds params columns typing rule ≡ true
   equal_holds typing (Same x y at) from to (inl c) a e =
-      and_both _ _ ((enc_eq-Decides (typing x) (typing y)).1 (ap typing (sym c.0) ∙ e ∙ ap typing c.1))
+      and_from _ _ ((enc_eq-Decides (typing x) (typing y)).1 (ap typing (sym c.0) ∙ e ∙ ap typing c.1))
       (or_right _ _ (ap (λ z. alike z y) (sym c.0) ∙ ap (λ z. alike from z) (sym c.1) ∙ a))
   equal_holds typing (Same x y at) from to (inr c) a e =
-      and_both _ _ ((enc_eq-Decides (typing x) (typing y)).1 (ap typing (sym c.1) ∙ sym e ∙ ap typing c.0))
+      and_from _ _ ((enc_eq-Decides (typing x) (typing y)).1 (ap typing (sym c.1) ∙ sym e ∙ ap typing c.0))
       (or_right _ _ (alike_comm (type_of params columns x) (type_of params columns y) ∙ ap (λ z. alike z x) (sym c.0) ∙ ap (λ z. alike from z) (sym c.1) ∙ a))
   equal_holds typing (NotRnd x at) from to c a e = absurd c
   equal_holds typing (PlainOnly x at) from to c a e = absurd c
 
   settled_goes : (typing : Typing) (rule : Rule) (from to : Site) → Carries rule from to → is_settled params columns typing rule ≡ true → goes params columns typing from to ≡ false
-  settled_goes typing (Same x y at) from to (inl c) h = ap (λ z. goes params columns typing z to) c.0 ∙ ap (λ z. goes params columns typing x z) c.1 ∙ not_true _ (and_left _ _ h)
-  settled_goes typing (Same x y at) from to (inr c) h = ap (λ z. goes params columns typing z to) c.0 ∙ ap (λ z. goes params columns typing y z) c.1 ∙ not_true _ (and_right _ _ h)
+  settled_goes typing (Same x y at) from to (inl c) h = ap (λ z. goes params columns typing z to) c.0 ∙ ap (λ z. goes params columns typing x z) c.1 ∙ not-true _ (and_left _ _ h)
+  settled_goes typing (Same x y at) from to (inr c) h = ap (λ z. goes params columns typing z to) c.0 ∙ ap (λ z. goes params columns typing y z) c.1 ∙ not-true _ (and_right _ _ h)
   settled_goes typing (NotRnd x at) from to c h = absurd c
   settled_goes typing (PlainOnly x at) from to c h = absurd c
 
@@ -340,7 +337,7 @@ module _ (params : List Ty) (columns : List ColumnSite) (rules : List Rule) wher
       go : (b : Bool) → is_open to ≡ b → is_open to ≡ false
       go false e = e
       go true e =
-          true_false (goes params columns typing from to) (and_both _ _ (ap not p) (and_both _ _ e (and_both _ _ q a))) g
+          true_false (goes params columns typing from to) (and_from _ _ (ap not p) (and_from _ _ e (and_from _ _ q a))) g
 
   assemble : (steps : List Step) → Trace steps → (from : Site) → ¬ (traced columns steps from ≡ Plain) → (rule : Rule) (rest : List Rule)
       → Leads params columns from (traced columns steps from) (rule ∷ rest) → NoneTwice (rule ∷ rest)
@@ -427,7 +424,7 @@ module _ (params : List Ty) (columns : List ColumnSite) (rules : List Rule) wher
 
     plain_holds : (x y : Site) (at : ℕ) → is_plain (found x) ≡ true → is_plain (found y) ≡ true → holds params columns found (Same x y at) ≡ true
     plain_holds x y at p q =
-        and_both _ _ ((enc_eq-Decides (found x) (found y)).1 (plain_is _ p ∙ sym (plain_is _ q))) (ap (λ z. z || alike x y) p)
+        and_from _ _ ((enc_eq-Decides (found x) (found y)).1 (plain_is _ p ∙ sym (plain_is _ q))) (ap (λ z. z || alike x y) p)
 
     pub broken_chain : (rule : Rule) → IsAmong rules rule → holds params columns found rule ≡ false → IsChain params columns rules (chain_through params columns found steps rule)
     broken_chain (Same x y at) a h = go (is_plain (found x)) (is_plain (found y)) refl refl

@@ -7,6 +7,8 @@ use Rattle.std.proofs.lemmas.Slice.Eq.{bytes_eq-Decides}
 use Rattle.std.specs.List.{All, AllByRecursion, concat}
 use Rattle.std.specs.Simd.{first_chunks}
 use Rattle.std.specs.Str.{bytes_eq}
+use Rattle.std.proofs.lemmas.Option.{cond_some}
+use Rattle.std.proofs.lemmas.Bool.{and_parts}
 use Rattle.aes_block.specs.Aes.{IsKey}
 use Rattle.aes_block.specs.Bytes.{AreBytes}
 use Rattle.key_wrap.specs.Wrap.{initial_value, register, wrap_rounds, wrapped, unwrap_rounds, unwrapped_registers, unwrapped}
@@ -68,14 +70,6 @@ wrapped-IsWrapped kek key cipher k =
       are_bytes = AreBytes-concat registers all;
     }
 
-from_cond : (test : Bool) (x y : List ℕ) → cond test (Some x) None ≡ Some y → (test ≡ true) × (x ≡ y)
-from_cond true x y e = (refl, cc)
-from_cond false x y e = absurd cc
-
-from_and : (a b : Bool) → a && b ≡ true → (a ≡ true) × (b ≡ true)
-from_and true b e = (refl, e)
-from_and false b e = absurd cc
-
 -- what is known of bytes that unwrap to a key
 record IsUnwrapped (kek bytes key : List ℕ) : Type 0 where
   long : length bytes ≡ 40
@@ -86,8 +80,8 @@ unwrapped-IsUnwrapped : (kek bytes key : List ℕ) → unwrapped kek bytes ≡ S
 unfolding unwrapped
 unwrapped-IsUnwrapped kek bytes key e =
     let registers = unwrapped_registers kek bytes in
-    let parts = from_cond (length bytes == 40 && bytes_eq (register registers 0) initial_value) (concat (drop 1 registers)) key e in
-    let tests = from_and (length bytes == 40) (bytes_eq (register registers 0) initial_value) parts.0 in
+    let parts = cond_some (length bytes == 40 && bytes_eq (register registers 0) initial_value) (concat (drop 1 registers)) key e in
+    let tests = and_parts (length bytes == 40) (bytes_eq (register registers 0) initial_value) parts.0 in
     let long : length bytes == 40 ≡ true = tests.0 in
     record { long = grind (arith, nat_tests); first = (bytes_eq-Decides (register registers 0) initial_value).0 tests.1; rest = parts.1 }
 

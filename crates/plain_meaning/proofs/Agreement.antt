@@ -61,6 +61,7 @@ use Rattle.plain_meaning.specs.Reference.{Came, came, declared, pending, means, 
 use Rattle.plain_meaning.specs.Steps.{number_of, turn, talk}
 use Rattle.sql_tree.specs.Bound as bound
 use Rattle.engine.specs.Step as engine
+use Rattle.engine.proofs.Kept.{has_master}
 use Rattle.wire_messages.specs.declared.requests.Request.TheVariants as request
 use Rattle.conversation.specs.declared.outcomes.Outcome as outcomes
 use Rattle.conversation.specs.declared.outcomes.Outcome.TheVariants as outcome
@@ -120,18 +121,6 @@ whole_count rows = omega arith
 pub stays : (w : World) (r : Result engine.Done SqlFault) (f : SqlFault) → (engine.outcome w r).answer ≡ Err f → (engine.outcome w r).world ≡ w
 stays w (Ok done) f e = absurd cc
 stays w (Err g) f e = refl
-
-pub has_master : (catalog : Catalog) (s : BoundStatement) → ((name master wrapped : List ℕ) → s ≡ bound.CreateKey name master wrapped → IsSome (master_named catalog master)) → HasMaster catalog s
-has_master catalog (bound.CreateMaster name path) h = tt
-has_master catalog (bound.CreateKey name master wrapped) h = h name master wrapped refl
-has_master catalog (bound.CreateTable table) h = tt
-has_master catalog (bound.DropTable name) h = tt
-has_master catalog (bound.DropMaster name) h = tt
-has_master catalog (bound.DropKey name) h = tt
-has_master catalog (bound.Insert insert) h = tt
-has_master catalog (bound.Update update) h = tt
-has_master catalog (bound.Delete delete) h = tt
-has_master catalog (bound.Select query) h = tt
 
 first_of : (o : Option (List ℕ)) (b : Bool) → unfit_by o b ≡ None → o ≡ None
 first_of None b h = refl

@@ -31,6 +31,7 @@ use Rattle.engine.specs.Typed.{param_classes}
 use Rattle.engine.specs.WellTyped.{IsAtomOf, AreValuesOf, AreResults, IsAnswerOf}
 use Rattle.engine.specs.Worlds.{World, empty_world}
 use Rattle.engine.specs.declared.answers.ResultColumn.{ResultColumn}
+use Rattle.engine.proofs.Kept.{has_master}
 use Rattle.wire_messages.specs.Messages.{Header}
 use Rattle.wire_messages.specs.declared.params.SentParam.{SentParam}
 use Rattle.wire_messages.specs.declared.replies.Done.TheVariants.{Answered}
@@ -60,11 +61,11 @@ use Rattle.plain_meaning.specs.Awaits.{IsHeardBy, IsHeard, Awaits}
 use Rattle.plain_meaning.specs.Laws.{RepliesAreAwaited}
 use Rattle.plain_meaning.specs.Steps.{number_of, turn, talk}
 use Rattle.plain_meaning.specs.Reference.{declared}
-use Rattle.plain_meaning.proofs.Agreement.{types_sent, whole_count, has_master}
-use Rattle.plain_meaning.proofs.Between.{nothing_kept}
+use Rattle.plain_meaning.proofs.Agreement.{types_sent, whole_count}
 use Rattle.plain_meaning.proofs.ItsOwn.{any_cell, own_cell, own_is_one_to_one, own_is_within, are_own, IsOwnWorld}
 use Rattle.plain_meaning.proofs.Sending.{encs_found, told_among}
 use Rattle.plain_meaning.proofs.Talk.{kind_of_type, types_shown}
+use Rattle.catalog.proofs.Kept.{nothing_kept}
 
 -- the laws of the layers below
 pub record Laws : Type 0 where

@@ -6,6 +6,7 @@ use Rattle.ae_base.specs.declared.batches.Param.{Param}
 use Rattle.ae_edge.specs.Vaults.{KeyMap}
 use Rattle.catalog.specs.Catalogs.{Catalog, nothing_defined}
 use Rattle.catalog.specs.WellFormed.{IsCatalog}
+use Rattle.catalog.proofs.Kept.{nothing_kept}
 use Rattle.enc_types.specs.UsedAlone.{used_among, is_used}
 use Rattle.engine.specs.Worlds.{World, empty_world}
 use Rattle.server_core.specs.Describing.{Meant, understood, keys_of}
@@ -93,22 +94,6 @@ none_held catalog zero = tt
 none_held catalog (suc n) = (tt, none_held catalog n)
 
 -- ---- from the beginning
-
-pub nothing_kept : IsCatalog nothing_defined
-nothing_kept = record {
-  masters_differ = λ i j d lt within. absurd (omega arith);
-  keys_differ = λ i j d lt within. absurd (omega arith);
-  tables_differ = λ i j d lt within. absurd (omega arith);
-  ids_ascend = λ i j d lt within. absurd (omega arith);
-  ids_lie_below = λ k d lt. absurd (omega arith);
-  masters_there = λ k d lt. absurd (omega arith);
-  keys_there = λ k d lt. absurd (omega arith);
-  few_masters = omega arith;
-  few_keys = omega arith;
-  few_tables = omega arith;
-  next_id = (omega arith, omega arith);
-  version = omega arith;
-}
 
 pub empty_stands : (keys : KeyMap) → StandsFor keys [] empty_world []
 empty_stands keys = record {

@@ -8,7 +8,7 @@ use Rattle.std.proofs.lemmas.Bool.{eqb-true}
 use Rattle.std.proofs.lemmas.Bool.Decides.{nat_tests}
 use Rattle.std.proofs.lemmas.List.Elements.{All-head, All-tail}
 use Rattle.std.proofs.lemmas.List.Sums.{passes_at_first}
-use Rattle.std.proofs.lemmas.Option.{get_or_from_slice_get}
+use Rattle.std.proofs.lemmas.Option.{get_or_from_slice_get, cond_some}
 use Rattle.std.proofs.lemmas.Slice.Eq.{bytes_eq-Decides}
 use Rattle.ae_base.specs.declared.batches.KeyMeta.{KeyMeta}
 use Rattle.ae_base.specs.declared.tables.TableDef.{TableDef}
@@ -79,13 +79,9 @@ find_removed p [] (suc i) f = refl
 find_removed p (x ∷ xs) zero f = let e = f x refl in rw e refl
 find_removed {A = A} p (x ∷ xs) (suc i) f = ap (cond (p x) (Some x)) (find_removed p xs i f)
 
-position_is : (b : Bool) (n place : ℕ) → cond b (Some n) None ≡ Some place → (b ≡ true) × (n ≡ place)
-position_is true n place e = (refl, cc)
-position_is false n place e = absurd cc
-
 position_passes : {A : Type 0} (p : A → Bool) (xs : List A) (place : ℕ) (x : A) → position p xs ≡ Some place → slice_get xs place ≡ Some x → p x ≡ true
 position_passes p xs place x e g =
-    let n = position_is (nat_lt (position_or_len p xs) (length xs)) (position_or_len p xs) place e in
+    let n = cond_some (nat_lt (position_or_len p xs) (length xs)) (position_or_len p xs) place e in
     let lt : position_or_len p xs < length xs = let b = n.0 in grind (arith, nat_tests) in
     let h = passes_at_first p xs x lt in
     let at : get_or xs (position_or_len p xs) x ≡ x = ap (λ i. get_or xs i x) n.1 ∙ get_or_from_slice_get xs place x x g in

@@ -2,7 +2,7 @@
 use Rattle.std.proofs.Common.{◌≡◌, ℕ, zero, suc, ◌+◌, List, [], ◌∷◌, map, length, Option, Some, None, Bool, true, false, cond, not, ◌||◌, refl, sym, ap, ◌∙◌, arith, add-one}
 use Rattle.std.specs.List.{slice_get, list_any}
 use Rattle.std.specs.Str.{bytes_eq}
-use Rattle.std.proofs.lemmas.Bool.{and_parts}
+use Rattle.std.proofs.lemmas.Bool.{and_parts, or_parts, not-true}
 use Rattle.std.proofs.lemmas.Slice.Eq.{bytes_eq-Decides}
 use Rattle.ae_base.specs.Batches.{first_unfit}
 use Rattle.ae_base.specs.Names.{all_differ}
@@ -63,19 +63,6 @@ module _ (used : ℕ → Bool) where
       let m : length es ≡ length ps = omega (arith, l) in
       used_one (λ (u : Use). u.enc) p ps e (told_among used (suc place) es) e (used_among used (suc place) es) (used place) refl (encs_used (suc place) ps es m)
 
-  at_rank : {A : Type 0} (x : A) (rest xs : List A) (m j : ℕ) (b : Bool) → slice_get rest m ≡ slice_get xs j → slice_get (cond b (x ∷ rest) rest) (cond b (suc m) m) ≡ slice_get xs j
-  at_rank x rest xs m j true h = h
-  at_rank x rest xs m j false h = h
-
-  -- what is used stands where it is told
-  pub found_among : {A : Type 0} (xs : List A) (first j : ℕ) → used (first + j) ≡ true → slice_get (used_among used first xs) (place_among used first j) ≡ slice_get xs j
-  found_among [] first j u = refl
-  found_among (x ∷ xs) first zero u =
-      let e : first + 0 ≡ first = omega arith in ap (λ b. slice_get (cond b (x ∷ used_among used (suc first) xs) (used_among used (suc first) xs)) 0) (ap used (sym e) ∙ u)
-  found_among (x ∷ xs) first (suc j) u =
-      let e : suc first + j ≡ first + suc j = omega arith in
-      at_rank x (used_among used (suc first) xs) xs (place_among used (suc first) j) j (used first) (found_among xs (suc first) j (ap used e ∙ u))
-
 -- ---- a description tells each used parameter, and the driver finds it by its name
 
 abbrev pub names_of : List UsedParam → List (List ℕ)
@@ -87,14 +74,6 @@ names_in ps = map (λ p. p.declaration.name) ps
 abbrev pub declarations_in : List Param → List ParamDecl
 declarations_in ps = map (λ p. p.declaration) ps
 
-or-false : (x y : Bool) → (x || y) ≡ false → (x ≡ false) × (y ≡ false)
-or-false true y e = absurd cc
-or-false false y e = (refl, e)
-
-not-true : (x : Bool) → not x ≡ true → x ≡ false
-not-true true e = absurd cc
-not-true false e = refl
-
 absent_one : (n name : List ℕ) (enc : Enc) (rest : List UsedParam) (is : Bool) → bytes_eq n name ≡ false → list_any (bytes_eq n) (names_of rest) ≡ false
     → list_any (bytes_eq n) (names_of (cond is (record { name = name; enc = enc } ∷ rest) rest)) ≡ false
 absent_one n name enc rest true f r = rw (f, r) refl
@@ -105,7 +84,7 @@ absent_used : (n : List ℕ) (place : ℕ) (b : Bound) (ps : List Param) (es : L
 absent_used n place b [] es h = refl
 absent_used n place b (p ∷ ps) [] h = refl
 absent_used n place b (p ∷ ps) (e ∷ es) h =
-    let q = or-false (bytes_eq n p.declaration.name) (list_any (bytes_eq n) (names_in ps)) h in
+    let q = or_parts (bytes_eq n p.declaration.name) (list_any (bytes_eq n) (names_in ps)) h in
     absent_one n p.declaration.name e (used_from (place + 1) b (declarations_in ps) es) (uses place b) q.0 (absent_used n (place + 1) b ps es q.1)
 
 other_name : (a b : List ℕ) → bytes_eq a b ≡ false → bytes_eq b a ≡ false
@@ -120,7 +99,7 @@ passed_over : (p : Param) (ps : List Param) (rest : List UsedParam) → list_any
     → encs_of (p ∷ ps) rest ≡ with_enc None (encs_of ps rest)
 passed_over p ps [] h = refl
 passed_over p ps (x ∷ rest) h =
-    let f = (or-false (bytes_eq p.declaration.name x.name) (list_any (bytes_eq p.declaration.name) (names_of rest)) h).0 in
+    let f = (or_parts (bytes_eq p.declaration.name x.name) (list_any (bytes_eq p.declaration.name) (names_of rest)) h).0 in
     let g = other_name p.declaration.name x.name f in
     rw g refl
 

@@ -3,7 +3,7 @@ use Rattle.std.proofs.Common.{◌≡◌, ℕ, List, [], ◌∷◌, ◌++◌, Opt
 use Rattle.std.specs.Prelude.{IsSome, ◌==◌, flat_map}
 use Rattle.std.specs.List.{All, list_any}
 use Rattle.std.specs.Option.{option_map, option_and_then}
-use Rattle.std.proofs.lemmas.Bool.{eqb-true}
+use Rattle.std.proofs.lemmas.Bool.{eqb-true, or_left, or_right}
 use Rattle.std.proofs.lemmas.List.Elements.{All-head, All-tail}
 use Rattle.ae_base.specs.declared.batches.KeyMeta.{KeyMeta}
 use Rattle.ae_base.specs.declared.types.Enc.{Enc}
@@ -69,14 +69,6 @@ or_on false b c d e = e
 has_more : (id : ℕ) (xs : List ℕ) (x : ℕ) → has id (xs ++ x ∷ []) ≡ (has id xs || (x == id))
 has_more id [] x = or_end (x == id)
 has_more id (y ∷ ys) x = or_on (y == id) (has id (ys ++ x ∷ [])) (has id ys) (x == id) (has_more id ys x)
-
-or_right : (a b : Bool) → b ≡ true → (a || b) ≡ true
-or_right true b h = refl
-or_right false b h = h
-
-or_left : (a b : Bool) → a ≡ true → (a || b) ≡ true
-or_left true b h = refl
-or_left false b h = absurd cc
 
 -- what isn't there is left away
 or_off : (a b c : Bool) → b ≡ false → ((a || b) || c) ≡ true → (a || (b || c)) ≡ true

@@ -15,6 +15,7 @@ use Rattle.sql_grammar.specs.Texts.{parsed}
 use Rattle.catalog.specs.Catalogs.{Catalog}
 use Rattle.enc_types.specs.Least.{inferred}
 use Rattle.enc_types.specs.UsedAlone.{used_among, place_among, is_used, alone}
+use Rattle.enc_types.proofs.UsedAlone.{found_among}
 use Rattle.resolve.specs.Bind.{bind}
 use Rattle.resolve.specs.Laws.{PreparedAlone}
 use Rattle.engine.specs.Laws.{StepRenamed}
@@ -22,7 +23,6 @@ use Rattle.engine.specs.Step.{step}
 use Rattle.engine.specs.Worlds.{World}
 use Rattle.server_core.specs.Describing.{Meant, understood}
 pub use Rattle.server_core.proofs.Understanding.{Parts, parts_of}
-use Rattle.plain_meaning.proofs.Sending.{found_among}
 
 abbrev pub followed : {A B E : Type 0} → Result A E → (A → Result B E) → Result B E
 followed r f = r >>= f

@@ -1,7 +1,7 @@
 -- What is bound over some declarations is bound alike over others that have those it uses.
 use Rattle.std.proofs.Common.{◌≡◌, ℕ, ◌+◌, List, [], ◌∷◌, map, refl, ap, sym, subst, ◌∙◌, Bool, true, false, ◌||◌, Option, Some, None, Result, Ok}
 use Rattle.std.specs.List.{list_any}
-use Rattle.std.proofs.lemmas.Bool.{eq-eqb}
+use Rattle.std.proofs.lemmas.Bool.{eq-eqb, or_left, or_right}
 use Rattle.ae_base.specs.Results.{each}
 use Rattle.ae_base.specs.declared.batches.ParamDecl.{ParamDecl}
 use Rattle.ae_base.specs.declared.tables.TableDef.{TableDef}
@@ -28,14 +28,6 @@ use Rattle.resolve.specs.Bind.{bound_over, named}
 use Rattle.resolve.specs.Laws.{Keeps, NamesKeepTheUsed}
 use Rattle.resolve.proofs.Parts.{one_part, two_parts, first_part, one_ok, two_ok}
 use Rattle.resolve.proofs.QueryParts.{made, ordered, grouped, filtered, joined, in_parts}
-
-or_left : (a b : Bool) → a ≡ true → (a || b) ≡ true
-or_left true b e = refl
-or_left false b e = cc
-
-or_right : (a b : Bool) → b ≡ true → (a || b) ≡ true
-or_right true b e = refl
-or_right false b e = e
 
 left : {ds es : List ParamDecl} {f : ℕ → ℕ} (u v : ℕ → Bool) → Keeps ds es f (λ p. u p || v p) → Keeps ds es f u
 left u v k = record { named = λ name p e h. k.named name p e (or_left (u p) (v p) h); typed = λ p h. k.typed p (or_left (u p) (v p) h) }

@@ -2,15 +2,16 @@
 use Rattle.std.proofs.Common.{◌≡◌, ℕ, ◌+◌, ◌≤◌, List, [], ◌∷◌, ◌++◌, Option, Some, None, Result, Ok, Err, Bool, true, false, ◌||◌, length, refl, sym, ◌∙◌, ap, subst, length-append, ◌⊎◌, inl, inr, arith}
 use Rattle.std.specs.Prelude.{flat_map, IfSome}
 use Rattle.std.proofs.lemmas.List.Folds.{list_any-append}
+use Rattle.std.proofs.lemmas.Grind.{flat_map-append}
 use Rattle.ae_edge.specs.Devices.{Rose, WhereTold, Adds, AddsFront}
 use Rattle.ae_edge.specs.Vaults.{KeyMap}
-use Rattle.ae_edge.proofs.Told.{told_then, told_same, adds_none, adds_then, removes_none, removes_then, front_of, front_same}
+use Rattle.ae_edge.proofs.Told.{told_then, told_same, adds_none, adds_then, removes_none, removes_then, front_of, front_same, rose_before}
 use Rattle.wire_messages.specs.declared.replies.Reply.{Reply}
 use Rattle.wire_spelling.specs.Spelling.{reply_frame}
 use Rattle.server_core.specs.Serve.{State}
 use Rattle.conversation.specs.Paths.{Event, Asked, Took, Strayed, Drew, Opened, Printed, stays, replies_to, taken_in, drawn_in, outcome_in, Waits, OpensAll}
 use Rattle.conversation.specs.Talk.{Talk}
-use Rattle.conversation.proofs.Going.{flat_append, follows_then, opens_then}
+use Rattle.conversation.proofs.Going.{follows_then, opens_then}
 use Rattle.run_words.specs.Printing.{is_refusal, has_refusal}
 use Rattle.run_words.specs.Shares.{Desk, Wire, Outside, Serves, Stream, Streams, Comes, coming, DeskPut, WirePut, HasPut, WireRead, HasRead, text_of, frames_of, exchanges_of}
 use Rattle.run_words.specs.Ways.{Goes, Halts, Lacks, Breaks, Fails, Leads, CantBeRead}
@@ -40,7 +41,7 @@ comes_then xs ys None None None a b c p q = waits_then xs ys a b c p q
 comes_then xs ys (Some r) (Some s) (Some t) a b c p q =
     let x = p.2 in
     let y = q.2 in (
-      flat_append replies_to xs ys ∙ ap (λ w. w ++ flat_map replies_to ys) p.0 ∙ q.0,
+      flat_map-append replies_to xs ys ∙ ap (λ w. w ++ flat_map replies_to ys) p.0 ∙ q.0,
       told_then (Streams xs) (Streams ys) (Streams (xs ++ ys)) (streams_then xs ys) (coming r) (coming s) (coming t) p.1 q.1,
       omega arith,
     )
@@ -64,12 +65,12 @@ opened_then xs ys (Some keys) b e p q = let r : IfSome (Some keys) (OpensAll ys)
 
 -- what is put of each event in turn is put of all
 puts_then : {A : Type 0} (f : Event → List A) (xs ys : List Event) (a b c : Option (List A)) → Adds (flat_map f xs) a b → Adds (flat_map f ys) b c → Adds (flat_map f (xs ++ ys)) a c
-puts_then f xs ys a b c p q = subst (λ w. Adds w a c) (sym (flat_append f xs ys)) (adds_then (flat_map f xs) (flat_map f ys) a b c p q)
+puts_then f xs ys a b c p q = subst (λ w. Adds w a c) (sym (flat_map-append f xs ys)) (adds_then (flat_map f xs) (flat_map f ys) a b c p q)
 
 drawn_then : (xs ys : List Event) (a b c : Option (List ℕ)) → WhereTold (λ x y. x ≡ flat_map drawn_in xs ++ y) a b → WhereTold (λ x y. x ≡ flat_map drawn_in ys ++ y) b c
     → WhereTold (λ x y. x ≡ flat_map drawn_in (xs ++ ys) ++ y) a c
 drawn_then xs ys a b c p q =
-    subst (λ w. WhereTold (λ x y. x ≡ w ++ y) a c) (sym (flat_append drawn_in xs ys)) (removes_then (flat_map drawn_in xs) (flat_map drawn_in ys) a b c p q)
+    subst (λ w. WhereTold (λ x y. x ≡ w ++ y) a c) (sym (flat_map-append drawn_in xs ys)) (removes_then (flat_map drawn_in xs) (flat_map drawn_in ys) a b c p q)
 
 or_assoc : (a b c : Bool) → (a || b) || c ≡ a || (b || c)
 or_assoc true b c = refl
@@ -107,8 +108,8 @@ taken_bytes events = length (flat_map reply_frame (flat_map taken_in events))
 
 taken_then : (xs ys : List Event) → taken_bytes (xs ++ ys) ≡ taken_bytes xs + taken_bytes ys
 taken_then xs ys =
-    ap (λ w. length (flat_map reply_frame w)) (flat_append taken_in xs ys)
-    ∙ ap length (flat_append reply_frame (flat_map taken_in xs) (flat_map taken_in ys))
+    ap (λ w. length (flat_map reply_frame w)) (flat_map-append taken_in xs ys)
+    ∙ ap length (flat_map-append reply_frame (flat_map taken_in xs) (flat_map taken_in ys))
     ∙ length-append (flat_map reply_frame (flat_map taken_in xs)) (flat_map reply_frame (flat_map taken_in ys))
 
 wire_read_then : (xs ys : List Event) (a b c : Wire) → WireRead xs a b → WireRead ys b c → WireRead (xs ++ ys) a c
@@ -122,7 +123,7 @@ wire_read_then xs ys a b c p q = record {
 
 refused_then : (xs ys : List Event) → has_refusal (flat_map outcome_in (xs ++ ys)) ≡ has_refusal (flat_map outcome_in xs) || has_refusal (flat_map outcome_in ys)
 refused_then xs ys =
-    ap has_refusal (flat_append outcome_in xs ys) ∙ list_any-append is_refusal (flat_map outcome_in xs) (flat_map outcome_in ys)
+    ap has_refusal (flat_map-append outcome_in xs ys) ∙ list_any-append is_refusal (flat_map outcome_in xs) (flat_map outcome_in ys)
 
 read_then : (xs ys : List Event) (a b c : Outside) → HasRead xs a b → HasRead ys b c → HasRead (xs ++ ys) a c
 read_then xs ys a b c p q = record {
@@ -243,9 +244,6 @@ breaks_between t u a b p = record {
   follows = inl (stays u);
   put = record { desk = desk_front [] b.desk b.desk (desk_still b.desk); wire = wire_front [] b.wire b.wire (wire_still b.wire) };
 }
-
-rose_before : (a b c : ℕ) → a ≤ b → Rose b c → Rose a c
-rose_before a b c p q = omega arith
 
 either_rose : (a b c x y z : ℕ) → a ≤ b → x ≤ y → Rose b c ⊎ Rose y z → Rose a c ⊎ Rose x z
 either_rose a b c x y z p q (inl r) = inl (rose_before a b c p r)

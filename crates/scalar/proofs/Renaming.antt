@@ -2,7 +2,7 @@
 use Rattle.std.proofs.Common.{◌≡◌, ℕ, List, [], ◌∷◌, map, Bool, true, false, Result, Ok, Err, refl, ap, ◌∙◌}
 use Rattle.std.specs.Prelude.{◌||◌, ◌+ℤ◌, ◌-ℤ◌}
 use Rattle.std.specs.List.{list_any}
-use Rattle.std.proofs.lemmas.Bool.{eq-eqb}
+use Rattle.std.proofs.lemmas.Bool.{eq-eqb, or_left, or_right}
 use Rattle.ae_base.specs.Atoms.{Atom}
 use Rattle.ae_base.specs.Results.{◌>>=◌}
 use Rattle.sql_tree.specs.declared.conditions.Comparison.TheVariants as comparison
@@ -13,14 +13,6 @@ use Rattle.sql_tree.specs.Uses.{uses_in, uses_in_terms, uses_in_condition, uses_
 use Rattle.scalar.specs.Eval.{combined, negated, number_or_null, eval, eval_terms, compare, negation, conjunction, disjunction, if_negated, null_truth, in_list, truth, truth_all, truth_any}
 use Rattle.scalar.specs.Laws.{AreMoved}
 use Rattle.scalar.proofs.Terms.{ok_atom}
-
-pub or_left : (a b : Bool) → a ≡ true → (a || b) ≡ true
-or_left true b e = refl
-or_left false b e = cc
-
-pub or_right : (a b : Bool) → b ≡ true → (a || b) ≡ true
-or_right true b e = refl
-or_right false b e = e
 
 then_same : {A B E : Type 0} (s : Result A E) (g h : A → Result B E) → ((x : A) → g x ≡ h x) → (s >>= g) ≡ (s >>= h)
 then_same (Ok x) g h p = p x

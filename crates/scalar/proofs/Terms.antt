@@ -1,7 +1,6 @@
 -- The terms of a sum one by one.
 use Rattle.std.proofs.Common.{◌≡◌, ℕ, zero, suc, ◌+◌, ◌<◌, List, [], ◌∷◌, length, get_or, drop, refl, ap, sym, subst, ◌∙◌, arith, Result, Ok, Err, unwrap_or, Box, Vec, Global}
 use Rattle.std.proofs.lemmas.Option.{slice_get_read}
-use mathlib.Core.Former.{Count}
 use Rattle.std.proofs.lemmas.List.{at_drop_more}
 use Rattle.ae_base.specs.declared.atoms.AtomOf.{AtomOf}
 use Rattle.ae_base.specs.declared.atoms.AtomOf.TheVariants.{Null}
@@ -13,20 +12,7 @@ use Rattle.scalar.specs.declared.faults.Overflow.{Overflow}
 use Rattle.scalar.specs.Eval.{atom_at, number_or_null, eval, eval_terms}
 use Rattle.sql_tree.specs.Listed.{terms_listed}
 use Rattle.sql_tree.specs.Placed.{IsPlaced, ArePlaced}
-
-terms_of-row : {C P : Type 0} (m : _) (row : code.Row_of-Term C P m) → operands.terms_of row ≡ terms_listed (code.items-the_row-Term C P m row)
-terms_of-row m code.end_of-Term = refl
-terms_of-row m (code.more_of-Term term rest) = ap (operands.term_before term) (terms_of-row _ rest)
-
-abbrev row_of : code.Operand ℕ ℕ → (m : Count) × code.Row_of-Term ℕ ℕ m
-row_of (code.Sum' p first shape terms) = (_, terms)
-row_of _ = (_, code.end_of-Term)
-
-operand_of-Sum : (first : Box (code.Operand ℕ ℕ) Global) (terms : Vec (code_term.Term ℕ ℕ) Global)
-    → operands.operand_of (code.Sum first terms) ≡ operands.Sum (operands.operand_of first.value) (terms_listed terms.items)
-operand_of-Sum first terms =
-    let row = row_of (code.Sum first terms) in
-    ap (operands.Sum (operands.operand_of first.value)) (terms_of-row row.0 row.1 ∙ ap terms_listed (code.items_hidden-the_row-Term-0 ℕ ℕ terms))
+use Rattle.sql_tree.proofs.Trees.{operand_of-Sum}
 
 -- the terms of a sum lie within the places where the sum does
 pub terms_within : (width count : ℕ) (operand : code.Operand ℕ ℕ) (first : Box (code.Operand ℕ ℕ) Global) (terms : Vec (code_term.Term ℕ ℕ) Global) (items : List (code_term.Term ℕ ℕ))

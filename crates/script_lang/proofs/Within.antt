@@ -2,16 +2,14 @@
 use Rattle.std.proofs.Common.{◌≡◌, ℕ, ◌+◌, ◌-◌, ◌*◌, ◌<◌, ◌≤◌, ◌==◌, Bool, true, false, cond, not, ◌&&◌, ◌||◌, List, [], ◌∷◌, ◌++◌, length, take, drop, map, Option, Some, None, is_some, Ok, Err, codes, nat_le, nat_lt, refl, sym, ◌∙◌, ap, subst, arith, length-append}
 use Rattle.std.specs.Prelude.{slice_index}
 use Rattle.std.specs.Option.{option_and_then}
-use Rattle.std.specs.List.{All, list_any}
-use Rattle.std.specs.Bool.{one_answer}
+use Rattle.std.specs.List.{All}
 use Rattle.std.specs.Str.{bytes_eq, is_utf8}
-use Rattle.std.proofs.lemmas.Slice.Eq.{bytes_eq-Decides}
-use Rattle.std.proofs.lemmas.List.Folds.{list_any-append}
 use Rattle.std.proofs.lemmas.List.Elements.{All-nil, All-cons, All-append}
 use Rattle.std.proofs.lemmas.List.{map-append, length-map}
-use Rattle.std.proofs.lemmas.Bool.{ltb-true}
+use Rattle.std.proofs.lemmas.Bool.{ltb-true, and_parts, not-true}
 use Rattle.std.proofs.lemmas.Bool.Decides.{nat_tests}
 use Rattle.ae_base.specs.Names.{admits, all_differ}
+use Rattle.ae_base.proofs.NameLaws.{admitted as one_more}
 use Rattle.ae_base.specs.Sessions.{IsSession}
 use Rattle.ae_base.specs.declared.batches.Param.{Param}
 use Rattle.sql_tree.specs.Tokens.{is_digit}
@@ -19,38 +17,6 @@ use Rattle.script_lang.specs.declared.steps.Step.{Step}
 use Rattle.script_lang.specs.declared.steps.Step.TheVariants.{Whole, Half, Execute}
 use Rattle.script_lang.specs.Limits.{HasParams, IsWithinLimits}
 use Rattle.script_lang.specs.Script.{Begun, After, Read, nothing_begun, is_between, batch_of, goes_on, ended, session_of, in_session, named_session, behind, after_describe, after_execute, is_alone, after_colon, with_param, with_statement_line, after_head_line, after_go, after_batch_line, after_line, is_blank_line, behind_blanks, behind_word, is_word, declaration_of, then_steps, unless_bad, steps_from, steps_of, lines_of}
-
--- ---- names that differ, with one more behind them
-
-bytes_eq-sym : (a b : List ℕ) → bytes_eq a b ≡ bytes_eq b a
-bytes_eq-sym a b = one_answer (bytes_eq a b) (bytes_eq b a) (bytes_eq-Decides a b) (
-  (λ e. sym ((bytes_eq-Decides b a).0 e)),
-  (λ e. (bytes_eq-Decides b a).1 (sym e)),
-)
-
-neither : (a b : Bool) → not (a || b) ≡ true → (a ≡ false) × (b ≡ false)
-neither true b h = absurd cc
-neither false true h = absurd cc
-neither false false h = (refl, refl)
-
-both : (a b : Bool) → (a && b) ≡ true → (a ≡ true) × (b ≡ true)
-both true b h = (refl, h)
-both false b h = absurd cc
-
-not-true : (a : Bool) → not a ≡ true → a ≡ false
-not-true true h = absurd cc
-not-true false h = refl
-
-differ-push : (names : List (List ℕ)) (name : List ℕ) → all_differ names ≡ true → list_any (bytes_eq name) names ≡ false → all_differ (names ++ name ∷ []) ≡ true
-differ-push [] name d h = refl
-differ-push (n ∷ names) name d h =
-    let p = both (not (list_any (bytes_eq n) names)) (all_differ names) d in
-    let q = neither (bytes_eq name n) (list_any (bytes_eq name) names) (ap not h) in
-    let e : bytes_eq n name ≡ false = bytes_eq-sym n name ∙ q.0 in
-    let l = list_any-append (bytes_eq n) names (name ∷ []) in
-    let r = differ-push names name p.1 q.1 in
-    let m = not-true (list_any (bytes_eq n) names) p.0 in
-    rw (l, m, e, r) refl
 
 abbrev name_of : Param → List ℕ
 name_of p = p.declaration.name
@@ -126,7 +92,7 @@ first_digit false x h = tt
 session_good : (bytes : List ℕ) → Names (session_of bytes)
 session_good [] = tt
 session_good (a ∷ rest) = first_digit (nat_le 49 a && nat_le a 57) _ λ h.
-    let p = both (nat_le 49 a) (nat_le a 57) h in
+    let p = and_parts (nat_le 49 a) (nat_le a 57) h in
     let low : 49 ≤ a = grind (arith, nat_tests) in
     let high : a ≤ 57 = grind (arith, nat_tests) in
     let n = 10 * (a - 48) + (slice_index rest 0 - 48) in
@@ -154,15 +120,11 @@ admitted : (begun : Begun) (p : Param) (t : Bool) → Ready begun → admits (ma
     → GoodLine (cond t (goes_on (record { session = begun.session; params = begun.params ++ p ∷ []; statement = begun.statement })) None)
 admitted begun p false r h = tt
 admitted begun p true r h =
-    let params = begun.params in
-    let q = both (nat_lt (length (map name_of params)) 128) (not (list_any (bytes_eq (name_of p)) (map name_of params))) h in
-    let n : length (map name_of params) < 128 = ltb-true _ _ q.0 in
-    let l : length (map name_of params) ≡ length params = length-map params name_of in
-    let m = map-append name_of params (p ∷ []) in
-    no_step (record { session = begun.session; params = params ++ p ∷ []; statement = begun.statement }) (record {
+    let more = one_more name_of begun.params p r.differ h in
+    no_step (record { session = begun.session; params = begun.params ++ p ∷ []; statement = begun.statement }) (record {
       session = r.session;
-      few = omega (arith, length-append params (p ∷ []));
-      differ = ap all_differ m ∙ differ-push (map name_of params) (name_of p) r.differ (not-true _ q.1);
+      few = more.0;
+      differ = more.1;
     })
 
 declared_good : (begun : Begun) (o : Option Param) → Ready begun → GoodLine (with_param begun o)

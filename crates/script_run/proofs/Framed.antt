@@ -3,6 +3,7 @@ use Rattle.std.proofs.Common.{◌≡◌, ℕ, ◌+◌, ◌≤◌, ◌<◌, List,
 use Rattle.std.proofs.lemmas.List.{flat_map_more, take_more, take-append-drop, take_all}
 use Rattle.std.specs.Prelude.{flat_map}
 use Rattle.std.specs.Borrow.{GName}
+use Rattle.std.proofs.lemmas.Grind.{flat_map-append}
 use Rattle.ae_edge.specs.Devices.{WhereTold, Adds, AddsFront, IsFront, Rose}
 use Rattle.ae_edge.specs.Streams.{PutsAll}
 use Rattle.ae_edge.specs.declared.streams.PutAll.{PutAll}
@@ -14,7 +15,6 @@ use Rattle.wire_messages.specs.declared.requests.Request.{Request}
 use Rattle.wire_spelling.specs.Spelling.{request_frame, reply_frame}
 use Rattle.server_core.specs.Serve.{State, serve}
 use Rattle.conversation.specs.Paths.{Asked}
-use Rattle.conversation.proofs.Going.{flat_append}
 use Rattle.run_words.specs.Shares.{Wire, Serves}
 use Rattle.run_words.specs.Ways.{AsksInPart}
 use Rattle.run_words.proofs.Going.{same_state}
@@ -39,7 +39,7 @@ more_frames replies i reply d a b c lt e p q =
 front_frames : (replies : List Reply) (i : ℕ) → IsFront (flat_map reply_frame (take i replies)) (flat_map reply_frame replies)
 front_frames replies i = record {
   rest = flat_map reply_frame (drop i replies);
-  is = ap (flat_map reply_frame) (sym (take-append-drop i replies)) ∙ flat_append reply_frame (take i replies) (drop i replies);
+  is = ap (flat_map reply_frame) (sym (take-append-drop i replies)) ∙ flat_map-append reply_frame (take i replies) (drop i replies);
 }
 
 pub cut_frames : (replies : List Reply) (i : ℕ) (reply d : Reply) (a b c : Option (List ℕ)) → i < length replies → reply ≡ get_or replies i d

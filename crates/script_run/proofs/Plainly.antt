@@ -2,6 +2,7 @@
 use Rattle.std.proofs.Common.{◌≡◌, ◌≤◌, ℕ, ◌+◌, List, [], ◌∷◌, ◌++◌, Option, Some, None, Result, Ok, Err, Bool, true, false, ◌||◌, refl, sym, ◌∙◌, ap, subst, append_assoc, append-nil, length, arith}
 use Rattle.std.specs.Prelude.{flat_map, IfSome}
 use Rattle.std.specs.List.{All}
+use Rattle.std.proofs.lemmas.Grind.{flat_map-append}
 use Rattle.aes_block.specs.Bytes.{AreBytes}
 use Rattle.ae_edge.specs.Devices.{WhereTold, Adds, AddsFront, IsFront}
 use Rattle.ae_edge.specs.Vaults.{KeyMap}
@@ -15,7 +16,6 @@ use Rattle.conversation.specs.Paths.{Event, Asked, Took, Strayed, Drew, Opened, 
 use Rattle.conversation.specs.Sessions.{nobody}
 use Rattle.conversation.specs.Talk.{Talk, Ends, Stops, Asks, Hears, Draws, Opens, Prints}
 use Rattle.conversation.proofs.Drawing.{drawn_are_bytes}
-use Rattle.conversation.proofs.Going.{flat_append}
 use Rattle.script_lang.specs.Limits.{IsProperStep, IsWithinLimits}
 use Rattle.script_lang.specs.declared.steps.Step.{Step}
 use Rattle.plain_meaning.specs.Laws.{EndsWith, Agrees, ServedIsPlain}
@@ -44,13 +44,13 @@ pub record Starts (map : KeyMap) (old : Outside) : Type 0 where
 
 flat_flat : {A B C : Type 0} (f : B → List C) (g : A → List B) (xs : List A) → flat_map (λ x. flat_map f (g x)) xs ≡ flat_map f (flat_map g xs)
 flat_flat f g [] = refl
-flat_flat f g (x ∷ xs) = ap (λ w. flat_map f (g x) ++ w) (flat_flat f g xs) ∙ sym (flat_append f (g x) (flat_map g xs))
+flat_flat f g (x ∷ xs) = ap (λ w. flat_map f (g x) ++ w) (flat_flat f g xs) ∙ sym (flat_map-append f (g x) (flat_map g xs))
 
 pub text_is : (events : List Event) → flat_map text_of events ≡ print (flat_map outcome_in events)
 text_is events = flat_flat printed_outcome outcome_in events
 
 text_front : (outcomes wanted : List Outcome) → IsFront outcomes wanted → IsFront (print outcomes) (print wanted)
-text_front outcomes wanted h = record { rest = print h.rest; is = ap print h.is ∙ flat_append printed_outcome outcomes h.rest }
+text_front outcomes wanted h = record { rest = print h.rest; is = ap print h.is ∙ flat_map-append printed_outcome outcomes h.rest }
 
 -- ---- where it stands
 
@@ -138,7 +138,7 @@ module _ (keys : KeyMap) (steps : List Step) (wanted : List Outcome) (agrees : (
     cut_prints : (v : Talk) (last : List Event) (cut : Outside) → length last ≤ 1 → Follows u last v → AddsFront (flat_map text_of last) new.desk.out cut.desk.out → AddsFront (print wanted) old.desk.out cut.desk.out
     cut_prints v last cut one f h =
         let i : print (flat_map outcome_in g.events ++ flat_map outcome_in last) ≡ flat_map text_of g.events ++ flat_map text_of last =
-        flat_append printed_outcome (flat_map outcome_in g.events) (flat_map outcome_in last)
+        flat_map-append printed_outcome (flat_map outcome_in g.events) (flat_map outcome_in last)
         ∙ ap (λ w. w ++ print (flat_map outcome_in last)) (sym (text_is g.events))
         ∙ ap (λ w. flat_map text_of g.events ++ w) (sym (text_is last)) in
         adds_front_then (flat_map text_of g.events ++ flat_map text_of last) (print wanted) old.desk.out cut.desk.out

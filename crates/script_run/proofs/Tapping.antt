@@ -1,6 +1,7 @@
 -- What a run puts on its tap over a server is the transcript, or a front of it.
 use Rattle.std.proofs.Common.{◌≡◌, ◌≤◌, ℕ, ◌+◌, List, [], ◌∷◌, ◌++◌, Option, Some, None, Ok, Err, Bool, true, false, refl, sym, ◌∙◌, ap, subst, append_assoc, append-nil, length, arith}
 use Rattle.std.specs.Prelude.{flat_map, IfSome, Result}
+use Rattle.std.proofs.lemmas.Grind.{flat_map-append}
 use Rattle.ae_edge.specs.Devices.{WhereTold, Adds, AddsFront, IsFront}
 use Rattle.ae_edge.specs.Vaults.{KeyMap}
 use Rattle.ae_edge.proofs.Told.{told_then, adds_then_front, adds_front_then, front_of}
@@ -13,7 +14,6 @@ use Rattle.conversation.specs.Drive.{Passed, over}
 use Rattle.conversation.specs.Paths.{Event, Asked, Took, Strayed, Drew, Opened, Printed, Follows, taken_in, drawn_in, Waits, OpensAll}
 use Rattle.conversation.specs.Sessions.{nobody}
 use Rattle.conversation.specs.Talk.{Talk, Ends}
-use Rattle.conversation.proofs.Going.{flat_append}
 use Rattle.script_lang.specs.declared.steps.Step.{Step}
 use Rattle.plain_meaning.specs.Steps.{talk}
 use Rattle.run_words.specs.Shares.{Outside, Serves, frames_of, exchanges_of}
@@ -41,7 +41,7 @@ frames_are (Printed comes ∷ events) = frames_are events
 frames_front : (events : List Event) (more : List Exchange) → IsFront (flat_map frames_of events) (flat_map exchange_frames (flat_map exchanges_of events ++ more))
 frames_front events more = record {
   rest = flat_map exchange_frames more;
-  is = flat_append exchange_frames (flat_map exchanges_of events) more ∙ ap (λ w. w ++ flat_map exchange_frames more) (sym (frames_are events));
+  is = flat_map-append exchange_frames (flat_map exchanges_of events) more ∙ ap (λ w. w ++ flat_map exchange_frames more) (sym (frames_are events));
 }
 
 -- the state that is told, behind some events
@@ -95,7 +95,7 @@ module _ (keys : KeyMap) (steps : List Step) where
           rest = b.rest;
           is =
               ap (flat_map exchange_frames) a
-              ∙ flat_append exchange_frames (flat_map exchanges_of g.events) (flat_map exchanges_of last ++ q.exchanges)
+              ∙ flat_map-append exchange_frames (flat_map exchanges_of g.events) (flat_map exchanges_of last ++ q.exchanges)
               ∙ ap (λ w. w ++ flat_map exchange_frames (flat_map exchanges_of last ++ q.exchanges)) (sym (frames_are g.events))
               ∙ ap (λ w. flat_map frames_of g.events ++ w) b.is
               ∙ sym (append_assoc (flat_map frames_of g.events) (flat_map frames_of last) b.rest);

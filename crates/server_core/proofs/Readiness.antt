@@ -30,24 +30,13 @@ use Rattle.resolve.specs.Bind.{type_of}
 use Rattle.wire_parts.specs.AtomBounds.{IsSendable}
 use Rattle.wire_messages.specs.declared.params.SentParam.{SentParam}
 use Rattle.engine.specs.Worlds.{World}
+use Rattle.engine.proofs.Kept.{has_master}
 use Rattle.server_core.proofs.Suiting.{are_suited}
 use Rattle.server_core.specs.Calls.{meant_of}
 use Rattle.server_core.specs.Describing.{Meant}
 use Rattle.server_core.specs.Params.{declaration_of, suited}
 use Rattle.server_core.specs.States.{IsState, is_short}
 use Rattle.server_core.specs.Understood.{IsUnderstood, IsReady, CanBeSent}
-
-has_master : (catalog : Catalog) (s : BoundStatement) → ((name master wrapped : List ℕ) → s ≡ bound.CreateKey name master wrapped → IsSome (master_named catalog master)) → HasMaster catalog s
-has_master catalog (bound.CreateMaster name path) h = tt
-has_master catalog (bound.CreateKey name master wrapped) h = h name master wrapped refl
-has_master catalog (bound.CreateTable table) h = tt
-has_master catalog (bound.DropTable name) h = tt
-has_master catalog (bound.DropMaster name) h = tt
-has_master catalog (bound.DropKey name) h = tt
-has_master catalog (bound.Insert insert) h = tt
-has_master catalog (bound.Update update) h = tt
-has_master catalog (bound.Delete delete) h = tt
-has_master catalog (bound.Select query) h = tt
 
 pub bound_on : (catalog : Catalog) (declarations : List ParamDecl) (meant : Meant) (atoms : List Atom) → TypingsAreOfColumns → IsReady catalog declarations meant atoms
     → IsBoundOn catalog meant.bound meant.encs atoms

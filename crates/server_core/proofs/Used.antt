@@ -4,7 +4,7 @@ use Rattle.std.specs.List.{All, list_any}
 use Rattle.std.specs.Str.{bytes_eq}
 use Rattle.std.proofs.lemmas.List.{drop_more}
 use Rattle.std.proofs.lemmas.List.Elements.{All-nil, All-cons, All-head, All-tail}
-use Rattle.std.proofs.lemmas.Bool.{and_parts}
+use Rattle.std.proofs.lemmas.Bool.{and_parts, or_parts, not-true}
 use Rattle.ae_base.specs.Names.{all_differ}
 use Rattle.ae_base.specs.declared.batches.ParamDecl.{ParamDecl}
 use Rattle.ae_base.specs.declared.types.Enc.{Enc}
@@ -40,14 +40,6 @@ few_used place b (d ∷ ds) [] = omega arith
 few_used place b (d ∷ ds) (e ∷ es) =
     let le = few_one d.name e (used_from (place + 1) b ds es) (length ds) (uses place b) (few_used (place + 1) b ds es) in omega (arith, le)
 
-or-false : (x y : Bool) → (x || y) ≡ false → (x ≡ false) × (y ≡ false)
-or-false true y e = absurd cc
-or-false false y e = (refl, e)
-
-not-true : (x : Bool) → not x ≡ true → x ≡ false
-not-true true e = absurd cc
-not-true false e = refl
-
 absent_one : (n name : List ℕ) (enc : Enc) (rest : List UsedParam) (is : Bool) → bytes_eq n name ≡ false → list_any (bytes_eq n) (names_of rest) ≡ false
     → list_any (bytes_eq n) (names_of (if is then record { name = name; enc = enc } ∷ rest else rest)) ≡ false
 absent_one n name enc rest true f r = rw (f, r) refl
@@ -58,7 +50,7 @@ absent_used : (n : List ℕ) (place : ℕ) (b : Bound) (ds : List ParamDecl) (es
 absent_used n place b [] es h = refl
 absent_used n place b (d ∷ ds) [] h = refl
 absent_used n place b (d ∷ ds) (e ∷ es) h =
-    let p = or-false (bytes_eq n d.name) (list_any (bytes_eq n) (declared_names ds)) h in
+    let p = or_parts (bytes_eq n d.name) (list_any (bytes_eq n) (declared_names ds)) h in
     absent_one n d.name e (used_from (place + 1) b ds es) (uses place b) p.0 (absent_used n (place + 1) b ds es p.1)
 
 differ_one : (name : List ℕ) (enc : Enc) (rest : List UsedParam) (is : Bool) → list_any (bytes_eq name) (names_of rest) ≡ false → all_differ (names_of rest) ≡ true

@@ -2,11 +2,11 @@
 use Rattle.std.proofs.Common.{◌≡◌, ◌==◌, true, false, List, [], ◌∷◌, ◌++◌, length, Option, Some, None, refl, sym, ap, append_assoc, arith}
 use Rattle.std.proofs.lemmas.Bool.{eqb-true}
 use Rattle.std.proofs.lemmas.List.{append-nil}
+use Rattle.ae_base.specs.Options.{◌>>=◌}
 use Rattle.sql_tree.specs.declared.statements.ColumnSpec.{ColumnSpec}
 use Rattle.sql_tree.specs.declared.statements.UniqueSpec.{UniqueSpec}
 use Rattle.sql_grammar.specs.declared.parts.TablePart.{TablePart}
 use Rattle.sql_grammar.specs.declared.parts.TablePart.TheVariants as part
-use Rattle.sql_grammar.specs.Readers.{◌>>=◌}
 use Rattle.sql_grammar.specs.Making.{parts_in, uniques_in}
 
 abbrev Sorted : Type 0

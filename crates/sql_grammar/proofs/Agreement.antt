@@ -1,9 +1,11 @@
 -- What is read is what is spelled, for each way of putting readers together.
 use Rattle.std.proofs.Common.{◌≡◌, ℕ, zero, suc, ◌≤◌, Bool, true, false, ◌&&◌, cond, List, [], ◌∷◌, ◌++◌, length, Option, Some, None, ◌⊎◌, inl, inr, refl, sym, ◌∙◌, ap, subst, arith, append_assoc, length-append}
+use Rattle.std.proofs.lemmas.Bool.{or_left, or_right}
+use Rattle.ae_base.specs.Options.{◌>>=◌}
 use Rattle.sql_tree.specs.declared.lexemes.Token.{Token}
-use Rattle.sql_grammar.specs.Readers.{◌>>=◌, Terminal, member, next_among, Reading, one, both, made, choice_by, choice, present, absent, optional, no_more, then_more, repeated, many}
+use Rattle.sql_grammar.specs.Readers.{Terminal, member, next_among, Reading, one, both, made, choice_by, choice, present, absent, optional, no_more, then_more, repeated, many}
 use Rattle.sql_grammar.specs.Spelling.{Spelling, One, Both, Made, Either, Optional, Many}
-use Rattle.sql_grammar.proofs.Sets.{disjoint, subset, apart, within, member-append, or_left, or_right, none_of, narrower}
+use Rattle.sql_grammar.proofs.Sets.{disjoint, subset, apart, within, member-append, none_of, narrower}
 
 -- the tokens are a front of which P holds, and the rest
 pub record Front (P : List Token → Type 0) (tokens rest : List Token) : Type 0 where

@@ -1,32 +1,31 @@
 -- COUNT before a parenthesis begins no operand.
 use Rattle.std.proofs.Common.{◌≡◌, ℕ, zero, suc, Bool, true, false, cond, ◌&&◌, List, [], ◌∷◌, ◌++◌, codes, Option, Some, None, is_some, inl, inr, refl, sym, ◌∙◌, ap, append_assoc}
+use Rattle.std.proofs.lemmas.Option.{cond_some}
+use Rattle.std.proofs.lemmas.Bool.{or_parts, and_right}
+use Rattle.ae_base.specs.Options.{◌>>=◌}
 use Rattle.sql_tree.specs.declared.lexemes.Symbol.TheVariants as symbol
 use Rattle.sql_tree.specs.declared.lexemes.Lexeme.{Lexeme}
 use Rattle.sql_tree.specs.declared.lexemes.Lexeme.TheVariants as lexeme
 use Rattle.sql_tree.specs.declared.lexemes.Token.{Token}
 use Rattle.sql_tree.specs.Statements.{Operand, ItemValue}
-use Rattle.sql_grammar.specs.Readers.{◌>>=◌, Reading, Terminal, member, next_among, is_symbol, matches}
+use Rattle.sql_grammar.specs.Readers.{Reading, Terminal, member, next_among, is_symbol, matches}
 use Rattle.sql_grammar.specs.Readers as terminal
 use Rattle.sql_grammar.specs.Spelling.{Spelling, Made}
 use Rattle.sql_grammar.specs.Making as make
 use Rattle.sql_tree.specs.declared.statements.ColumnAt.{ColumnAt}
 use Rattle.sql_grammar.specs.Grammar.{SpellsCount, SpellsOperand, SpellsOperandIn, SpellsSum, SpellsTerm, SpellsColumnRef}
 use Rattle.sql_grammar.specs.Parse.{counts}
-use Rattle.sql_grammar.proofs.Sets.{disjoint, apart, or_false}
+use Rattle.sql_grammar.proofs.Sets.{disjoint, apart}
 use Rattle.sql_grammar.proofs.Agreement.{Agrees, Starts, Tells, both_agrees, made_agrees, optional_agrees, many_agrees, ends_before}
-use Rattle.sql_grammar.proofs.Pieces.{chosen, ident_kind, sign_agrees, name_agrees, leaf_agrees, leaves, signs, in_parens_agrees}
+use Rattle.sql_grammar.proofs.Pieces.{ident_kind, sign_agrees, name_agrees, leaf_agrees, leaves, signs, in_parens_agrees}
 use Rattle.sql_grammar.proofs.Operands.{nowhere_agrees, primary_agrees, signed_agrees, operand_in_agrees}
 
 abbrev opening : List Terminal
 opening = terminal.Sign symbol.Open ∷ []
 
-and_false : (x y : Bool) → y ≡ false → (x && y) ≡ false
-and_false true y e = e
-and_false false y e = refl
-
 before_nothing : (t : Token) (ts : List Token) → next_among opening ts ≡ false → counts (t ∷ ts) ≡ false
 before_nothing t [] e = refl
-before_nothing t (u ∷ ts) e = and_false (is_some (make.word_in (codes "COUNT") t)) (is_symbol symbol.Open u.lexeme) (or_false (is_symbol symbol.Open u.lexeme) false e).0
+before_nothing t (u ∷ ts) e = and_right (is_some (make.word_in (codes "COUNT") t)) (is_symbol symbol.Open u.lexeme) (or_parts (is_symbol symbol.Open u.lexeme) false e).0
 
 no_word_in : (l : Lexeme) (at : ℕ) → member (terminal.Ident ∷ []) l ≡ false → is_some (cond (make.lexeme_reads (codes "COUNT") l) (Some at) None) ≡ false
 no_word_in (lexeme.Ident name) at h = absurd (cc)
@@ -77,7 +76,7 @@ count_told x front rest k =
     let b = a.4 in
     let split : front ++ rest ≡ a.3.0 ∷ b.3.0 ∷ (b.1 ++ rest) = ap (λ fs. fs ++ rest) (a.2 ∙ ap (λ fs. fs ++ a.1) a.3.1 ∙ ap (λ fs. a.3.0 ∷ fs) (b.2 ∙ ap (λ fs. fs ++ b.1) b.3.1)) in
     let first : is_some (make.word_in (codes "COUNT") a.3.0) ≡ true = ap is_some a.3.2 in
-    let second = (chosen (is_symbol symbol.Open b.3.0.lexeme) b.3.0.at k.0.1.0 b.3.2).0 in
+    let second = (cond_some (is_symbol symbol.Open b.3.0.lexeme) b.3.0.at k.0.1.0 b.3.2).0 in
     ap counts split ∙ rw (first, second) refl
 
 pub item_tells : Tells counts opening SpellsCount (Made make.operand_value SpellsOperand)

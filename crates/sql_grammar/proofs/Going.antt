@@ -2,11 +2,12 @@
 use Rattle.std.proofs.Common.{◌≡◌, ℕ, zero, suc, ◌≤◌, ◌<◌, Bool, true, false, cond, List, [], ◌∷◌, ◌++◌, length, Option, Some, None, refl, sym, ◌∙◌, ap, arith, append_assoc, length-append}
 use Rattle.std.specs.Option.{option_map}
 use Rattle.std.proofs.lemmas.List.{append-nil}
+use Rattle.ae_base.specs.Options.{◌>>=◌}
 use Rattle.sql_tree.specs.declared.lexemes.Symbol.{Symbol}
 use Rattle.sql_tree.specs.declared.lexemes.Symbol.TheVariants as symbol
 use Rattle.sql_tree.specs.declared.lexemes.Keyword.{Keyword}
 use Rattle.sql_tree.specs.declared.lexemes.Token.{Token}
-use Rattle.sql_grammar.specs.Readers.{◌>>=◌, Terminal, Reading, next_among, made, both, no_more, then_more, repeated, many}
+use Rattle.sql_grammar.specs.Readers.{Terminal, Reading, next_among, made, both, no_more, then_more, repeated, many}
 use Rattle.sql_grammar.specs.Readers as terminal
 use Rattle.sql_grammar.specs.Shortening.{Shortens}
 use Rattle.sql_grammar.specs.Spelling.{Spelling}

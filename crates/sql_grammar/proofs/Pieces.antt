@@ -1,5 +1,8 @@
 -- The smallest readers and spellings: one token, parentheses, lists.
 use Rattle.std.proofs.Common.{◌≡◌, ℕ, Bool, true, false, ◌&&◌, cond, List, [], ◌∷◌, ◌++◌, Some, None, refl, sym, ◌∙◌, ap, subst, append_assoc}
+use Rattle.std.proofs.lemmas.Option.{cond_some}
+use Rattle.std.proofs.lemmas.Bool.{or_left}
+use Rattle.ae_base.specs.Options.{◌>>=◌}
 use Rattle.sql_tree.specs.declared.lexemes.Keyword.{Keyword}
 use Rattle.sql_tree.specs.declared.lexemes.Keyword.TheVariants as keyword
 use Rattle.sql_tree.specs.declared.lexemes.Symbol.{Symbol}
@@ -9,19 +12,15 @@ use Rattle.sql_tree.specs.declared.lexemes.Lexeme.TheVariants as lexeme
 use Rattle.sql_tree.specs.declared.lexemes.Token.{Token}
 use Rattle.sql_tree.specs.declared.conditions.Comparison.{Comparison}
 use Rattle.sql_tree.specs.Statements.{Operand}
-use Rattle.sql_grammar.specs.Readers.{◌>>=◌, Terminal, matches, member, next_among, is_keyword, is_ident, is_number, is_text, is_binary, Reading, one, after, given}
+use Rattle.sql_grammar.specs.Readers.{Terminal, matches, member, next_among, is_keyword, is_ident, is_number, is_text, is_binary, Reading, one, after, given}
 use Rattle.sql_grammar.specs.Readers as terminal
 use Rattle.sql_grammar.specs.Spelling.{Spelling, One, After, Given}
 use Rattle.sql_grammar.specs.Making as make
 use Rattle.sql_grammar.specs.Grammar.{Word, Sign, Reads, Name, PlacedName, Number, Text, IsText, Binary, InParens, Listed}
 use Rattle.sql_grammar.specs.Parse.{word, sign, reads, name, placed_name, number, text, binary, in_parens, listed}
 use Rattle.sql_grammar.specs.Parse as parse
-use Rattle.sql_grammar.proofs.Sets.{disjoint, or_left}
+use Rattle.sql_grammar.proofs.Sets.{disjoint}
 use Rattle.sql_grammar.proofs.Agreement.{Agrees, Starts, Front, bind_some, at_rest, pairs, one_agrees, both_agrees, made_agrees, many_agrees, ends_before, ends_after, with_empty, begins_both, starts_both}
-
-pub chosen : {A : Type 0} (b : Bool) (a x : A) → cond b (Some a) None ≡ Some x → (b ≡ true) × (a ≡ x)
-chosen true a x e = (refl, cc)
-chosen false a x e = absurd (cc)
 
 pub disjoint-nil : (a : List Terminal) → disjoint a [] ≡ true
 disjoint-nil [] = refl
@@ -30,7 +29,7 @@ disjoint-nil (t ∷ a) = disjoint-nil a
 -- ---- one token
 
 kind_agrees : (kind : Terminal) → Agrees (kind ∷ []) false [] (one (make.place_of kind)) (One (make.place_of kind))
-kind_agrees kind = one_agrees (kind ∷ []) (make.place_of kind) (λ t x e. or_left (matches kind t.lexeme) false (chosen (matches kind t.lexeme) t.at x e).0)
+kind_agrees kind = one_agrees (kind ∷ []) (make.place_of kind) (λ t x e. or_left (matches kind t.lexeme) false (cond_some (matches kind t.lexeme) t.at x e).0)
 
 pub word_agrees : (k : Keyword) → Agrees (terminal.Word k ∷ []) false [] (word k) (Word k)
 word_agrees k = kind_agrees (terminal.Word k)
@@ -55,7 +54,7 @@ reads_kind capitals l e = absurd (cc)
 
 pub reads_agrees : (capitals : List ℕ) → Agrees (terminal.Ident ∷ []) false [] (reads capitals) (Reads capitals)
 reads_agrees capitals = one_agrees (terminal.Ident ∷ []) (make.word_in capitals) (λ t x e.
-    reads_kind capitals t.lexeme (chosen (make.lexeme_reads capitals t.lexeme) t.at x e).0)
+    reads_kind capitals t.lexeme (cond_some (make.lexeme_reads capitals t.lexeme) t.at x e).0)
 
 number_kind : (l : Lexeme) (x : ℕ) → make.number_of l ≡ Some x → member (terminal.Number ∷ []) l ≡ true
 number_kind (lexeme.Number n) x e = refl
@@ -77,7 +76,7 @@ one_text_kind text l e = absurd (cc)
 
 pub is_text_agrees : (text : List ℕ) → Agrees (terminal.Text ∷ []) false [] (parse.is_text text) (IsText text)
 is_text_agrees text = one_agrees (terminal.Text ∷ []) (make.is_text_in text) (λ t x e.
-    one_text_kind text t.lexeme (chosen (make.lexeme_is_text text t.lexeme) t.at x e).0)
+    one_text_kind text t.lexeme (cond_some (make.lexeme_is_text text t.lexeme) t.at x e).0)
 
 binary_kind : (l : Lexeme) (x : List ℕ) → make.binary_of l ≡ Some x → member (terminal.Binary ∷ []) l ≡ true
 binary_kind (lexeme.Binary bytes) x e = refl
@@ -94,7 +93,7 @@ leaf_kind at (lexeme.Number n) x e = refl
 leaf_kind at (lexeme.Text characters) x e = refl
 leaf_kind at (lexeme.Binary bytes) x e = refl
 leaf_kind at (lexeme.Param w) x e = refl
-leaf_kind at (lexeme.Keyword k) x e = or_left (is_keyword keyword.Null (lexeme.Keyword k)) _ (chosen (is_keyword keyword.Null (lexeme.Keyword k)) _ x e).0
+leaf_kind at (lexeme.Keyword k) x e = or_left (is_keyword keyword.Null (lexeme.Keyword k)) _ (cond_some (is_keyword keyword.Null (lexeme.Keyword k)) _ x e).0
 leaf_kind at l x e = absurd (cc)
 
 pub leaf_agrees : Agrees leaves false [] (one make.leaf_in) (One make.leaf_in)

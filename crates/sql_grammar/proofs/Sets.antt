@@ -1,6 +1,7 @@
 -- Sets of kinds of tokens: what is in one is not in another, or is in another too.
 use Rattle.std.proofs.Common.{◌≡◌, Bool, true, false, not, ◌&&◌, ◌||◌, List, [], ◌∷◌, ◌++◌, refl, sym, ◌∙◌, ap}
 use Rattle.std.specs.List.{list_all}
+use Rattle.std.proofs.lemmas.Bool.{or_parts, and_parts}
 use denote.Enum.Bare.{same_true}
 use Rattle.sql_tree.specs.contracts.lexemes.Keyword as the_keyword
 use Rattle.sql_tree.specs.contracts.lexemes.Symbol as the_symbol
@@ -97,10 +98,6 @@ not_and : (x y : Bool) → (not x && y) ≡ true → (x ≡ false) × (y ≡ tru
 not_and true y e = absurd (cc)
 not_and false y e = (refl, e)
 
-both_true : (x y : Bool) → (x && y) ≡ true → (x ≡ true) × (y ≡ true)
-both_true true y e = (refl, e)
-both_true false y e = absurd (cc)
-
 apart_step : (t : Terminal) (a b : List Terminal) (l : Lexeme) (here : Bool) → matches t l ≡ here → (member a l ≡ true → member b l ≡ false) → member b (lexeme_of t) ≡ false
     → (here || member a l) ≡ true → member b l ≡ false
 apart_step t a b l true e more none h = same_members b t l e ∙ none
@@ -120,7 +117,7 @@ within_step t a b l false e more found h = more h
 pub within : (a b : List Terminal) (l : Lexeme) → subset a b ≡ true → member a l ≡ true → member b l ≡ true
 within [] b l d h = absurd (cc)
 within (t ∷ a) b l d h =
-    let p = both_true (member b (lexeme_of t)) (subset a b) d in
+    let p = and_parts (member b (lexeme_of t)) (subset a b) d in
     within_step t a b l (matches t l) refl (within a b l p.1) p.0 h
 
 -- ---- two sets together
@@ -137,20 +134,8 @@ pub next-append : (a b : List Terminal) (tokens : List Token) → next_among (a 
 next-append a b [] = refl
 next-append a b (t ∷ ts) = member-append a b t.lexeme
 
-pub or_false : (x y : Bool) → (x || y) ≡ false → (x ≡ false) × (y ≡ false)
-or_false true y e = absurd (cc)
-or_false false y e = (refl, e)
-
-pub or_left : (x y : Bool) → x ≡ true → (x || y) ≡ true
-or_left true y e = refl
-or_left false y e = absurd (cc)
-
-pub or_right : (x y : Bool) → y ≡ true → (x || y) ≡ true
-or_right true y e = refl
-or_right false y e = e
-
 pub none_of : (a b : List Terminal) (tokens : List Token) → next_among (a ++ b) tokens ≡ false → (next_among a tokens ≡ false) × (next_among b tokens ≡ false)
-none_of a b tokens e = or_false (next_among a tokens) (next_among b tokens) (sym (next-append a b tokens) ∙ e)
+none_of a b tokens e = or_parts (next_among a tokens) (next_among b tokens) (sym (next-append a b tokens) ∙ e)
 
 narrower_step : (a b : List Terminal) (l : Lexeme) (here : Bool) → member a l ≡ here → subset a b ≡ true → member b l ≡ false → here ≡ false
 narrower_step a b l true e s h = absurd (let found = within a b l s e in let wrong : true ≡ false = sym found ∙ h in cc)

@@ -4,6 +4,7 @@ use Rattle.std.specs.List.{list_any, list_all}
 use Rattle.std.specs.Str.{bytes_eq}
 use Rattle.std.proofs.lemmas.Slice.Eq.{bytes_eq-Decides}
 use Rattle.std.proofs.lemmas.List.Folds.{list_any-append}
+use Rattle.std.proofs.lemmas.Bool.{or_left, or_right}
 use Rattle.sql_tree.specs.declared.lexemes.Lexeme.{Lexeme}
 use Rattle.sql_tree.specs.declared.lexemes.Lexeme.TheVariants as lexeme
 use Rattle.sql_tree.specs.declared.lexemes.Token.{Token}
@@ -13,7 +14,6 @@ use Rattle.sql_grammar.specs.Spelling.{Spelling}
 use Rattle.sql_grammar.specs.Making as make
 use Rattle.sql_grammar.specs.Grammar.{Reads}
 use Rattle.sql_grammar.specs.Parse.{next_reads}
-use Rattle.sql_grammar.proofs.Sets.{or_left, or_right}
 use Rattle.sql_grammar.proofs.Agreement.{Tells}
 
 abbrev reads_word : Token → List ℕ → Bool

@@ -2,6 +2,7 @@
 use Rattle.std.specs.Prelude.{ℕ, pos, List, [], ◌∷◌, codes, Option, Some, None, unwrap_or, is_some, Bool, true, false, ◌&&◌, ◌||◌, not, nat_le, ◌==◌, length, if◌then◌else◌, encode_utf8_all}
 use Rattle.std.specs.List.{list_any}
 use Rattle.std.specs.Str.{bytes_eq}
+use Rattle.ae_base.specs.Options.{◌>>=◌}
 use Rattle.ae_base.specs.declared.values.Value.TheVariants as value
 use Rattle.ae_base.specs.declared.values.Datum.TheVariants as datum
 use Rattle.ae_base.specs.declared.types.Ty.{Ty}
@@ -34,7 +35,7 @@ use Rattle.sql_grammar.specs.declared.settings.KeySetting.{KeySetting}
 use Rattle.sql_grammar.specs.declared.settings.KeySetting.TheVariants as setting
 use Rattle.sql_grammar.specs.declared.parts.TablePart.{TablePart}
 use Rattle.sql_grammar.specs.declared.parts.TablePart.TheVariants as part
-use Rattle.sql_grammar.specs.Readers.{◌>>=◌, Terminal, matches, is_keyword}
+use Rattle.sql_grammar.specs.Readers.{Terminal, matches, is_keyword}
 
 -- ---- one token
 

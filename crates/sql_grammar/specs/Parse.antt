@@ -1,5 +1,6 @@
 -- The readers of the grammar, production by production.
 use Rattle.std.specs.Prelude.{◌≡◌, ℕ, zero, suc, List, [], ◌∷◌, codes, Option, Some, None, Bool, false, ◌&&◌, is_some}
+use Rattle.ae_base.specs.Options.{◌>>=◌}
 use Rattle.ae_base.specs.declared.types.Ty.{Ty}
 use Rattle.sql_tree.specs.declared.lexemes.Keyword.{Keyword}
 use Rattle.sql_tree.specs.declared.lexemes.Keyword.TheVariants as keyword
@@ -19,7 +20,7 @@ use Rattle.sql_grammar.specs.declared.settings.MasterSetting.{MasterSetting}
 use Rattle.sql_grammar.specs.declared.settings.KeySetting.{KeySetting}
 use Rattle.sql_grammar.specs.declared.parts.TablePart.{TablePart}
 use Rattle.sql_grammar.specs.Readers as terminal
-use Rattle.sql_grammar.specs.Readers.{◌>>=◌, Reading, Terminal, next_among, is_symbol, one, both, made, after, given, choice_by, choice, optional, many}
+use Rattle.sql_grammar.specs.Readers.{Reading, Terminal, next_among, is_symbol, one, both, made, after, given, choice_by, choice, optional, many}
 use Rattle.sql_grammar.specs.Making as make
 use Rattle.sql_grammar.specs.Making.{Signed, Test, Tail, Inner, Computes, Asks}
 

@@ -1,6 +1,7 @@
 -- Readers: what is read from the front of some tokens, and the tokens after it.
 use Rattle.std.specs.Prelude.{ℕ, zero, suc, List, [], ◌∷◌, length, Option, Some, None, Bool, true, false, if◌then◌else◌}
 use Rattle.std.specs.List.{list_any}
+use Rattle.ae_base.specs.Options.{◌>>=◌}
 use Rattle.sql_tree.specs.declared.lexemes.Keyword.{Keyword}
 use Rattle.sql_tree.specs.declared.lexemes.Symbol.{Symbol}
 use Rattle.sql_tree.specs.declared.lexemes.Lexeme.{Lexeme}
@@ -9,11 +10,6 @@ use Rattle.sql_tree.specs.declared.lexemes.Token.{Token}
 use Rattle.sql_tree.specs.contracts.lexemes.Keyword as the_keyword
 use Rattle.sql_tree.specs.contracts.lexemes.Symbol as the_symbol
 use denote.Enum.Bare.{sameb}
-
-infixl 10 ◌>>=◌
-abbrev pub ◌>>=◌ : {A B : Type 0} → Option A → (A → Option B) → Option B
-None >>= f = None
-(Some x) >>= f = f x
 
 -- ---- the kinds of tokens
 

@@ -1,6 +1,7 @@
 -- What a text parses to: the statement that its tokens spell, or its first fault.
 use Rattle.std.specs.Prelude.{ℕ, ◌+◌, ◌-◌, List, [], ◌∷◌, length, Option, Some, None, Result, Ok, Err, Bool, false, ◌||◌, not, nat_lt, nat_le, ◌&&◌, suc, if◌then◌else◌, encode_utf8_all}
 use Rattle.std.specs.List.{list_any}
+use Rattle.ae_base.specs.Options.{◌>>=◌}
 use Rattle.ae_base.specs.Values.{is_within}
 use Rattle.ae_base.specs.declared.values.Datum.TheVariants as datum
 use Rattle.ae_base.specs.declared.types.Ty.TheVariants as ty
@@ -13,7 +14,7 @@ use Rattle.sql_tree.specs.declared.lexemes.Token.{Token}
 use Rattle.sql_tree.specs.Tokens.{tokens_of, first_wide}
 use Rattle.sql_tree.specs.Statements.{Items, Statement}
 use Rattle.sql_tree.specs.Statements as tree
-use Rattle.sql_grammar.specs.Readers.{◌>>=◌, is_symbol}
+use Rattle.sql_grammar.specs.Readers.{is_symbol}
 use Rattle.sql_grammar.specs.Parse.{statement}
 
 -- all the tokens are read

@@ -1,11 +1,10 @@
-ghost use Rattle.std.specs.Prelude.{◌≡◌, ◌==◌, ◌≤◌, ◌↔◌, IsTrue, length, nat_lt};
-ghost use Rattle.std.specs.Str.{chars};
-ghost use Rattle.ae_base.specs.Values.{units};
+ghost use Rattle.std.specs.Prelude.{◌≡◌, ◌==◌, length, nat_lt};
 ghost use Rattle.std.specs.List.{list_any};
 ghost use Rattle.sql_tree.specs.Statements.{items_of, statement_of};
 ghost use Rattle.ae_base.specs.declared.values.Datum.TheVariants as datum;
 ghost use Rattle.sql_grammar.specs.Texts as spec;
 
+use ae_base::values::has_units_within;
 use sql_conditions::operands::MOST_OPEN;
 use sql_tree::lexemes::{Lexeme, Symbol, Token};
 use sql_tree::statements::{Items, Statement, UniqueSpec};
@@ -72,21 +71,6 @@ fn is_long(lexeme: &Lexeme) -> bool
         Lexeme::Binary(bytes) => bytes.len() > MOST_BINARY,
         _ => false,
     }
-}
-
-/// Whether a text has at most so many UTF-16 units.
-fn has_units_within(text: &str, most: u16) -> bool
-    ensures { IsTrue result ↔ (units (chars text.now) ≤ most) }
-{
-    let mut left = most as usize;
-    for c in text.chars() {
-        let count = c.len_utf16();
-        if count > left {
-            return false;
-        }
-        left -= count;
-    }
-    true
 }
 
 /// Whether a path or a wrapped key may have so many bytes.

@@ -39,14 +39,6 @@ any_over p xs i whole le w = w ∙ ap (list_any p) (drop_all i xs le)
 
 -- ---- twins
 
-pub or_false : (a b : Bool) → (a || b) ≡ false → (a ≡ false) × (b ≡ false)
-or_false true b e = absurd cc
-or_false false b e = (refl, e)
-
-pub neither : (a b : Bool) → a ≡ false → b ≡ false → (a || b) ≡ false
-neither true b e f = absurd cc
-neither false b e f = f
-
 shuffle : (a b h c d : Bool) → ((a || b) || (h || (c || d))) ≡ ((a || h) || ((b || c) || d))
 shuffle true b h c d = refl
 shuffle false true true c d = refl

@@ -11,6 +11,7 @@ use Rattle.std.proofs.lemmas.Bool.Decides.{Decides-by_and, Decides-ltb}
 use Rattle.std.proofs.lemmas.Int.{ints}
 use Rattle.std.specs.Cmp.Derive.{both_true}
 use Rattle.std.proofs.lemmas.Slice.Eq.{bytes_eq-Decides}
+use Rattle.std.proofs.lemmas.Option.{cond_some}
 use Rattle.ae_base.specs.Values.{is_within, units, DatumFits}
 use Rattle.ae_base.specs.declared.values.Datum.{Datum}
 use Rattle.ae_base.specs.declared.values.Datum.TheVariants.{Num, Text, Bin}
@@ -102,15 +103,11 @@ candidate-norm (Bin bytes) BigInt fits = absurd fits.1
 candidate-norm (Bin bytes) (NVarChar most) fits = absurd fits.1
 candidate-norm (Bin bytes) (VarBinary most) fits = refl
 
-chosen_some : (test : Bool) (d v : Datum) → cond test (Some d) None ≡ Some v → (test ≡ true) × (d ≡ v)
-chosen_some true d v is = (refl, cc)
-chosen_some false d v is = cc
-
 value_of-sound : (bytes : List ℕ) (ty : Ty) (datum : Datum) → value_of bytes ty ≡ Some datum → HasCellBytes datum ty bytes
 unfolding value_of
 value_of-sound bytes ty datum is =
     let found : Datum = candidate bytes ty in
-    let chosen = chosen_some (is_proper found && is_within found ty && bytes_eq (norm found ty) bytes) found datum is in
+    let chosen = cond_some (is_proper found && is_within found ty && bytes_eq (norm found ty) bytes) found datum is in
     let parts = and_parts (is_proper found && is_within found ty) (bytes_eq (norm found ty) bytes) chosen.0 in
     let tests = and_parts (is_proper found) (is_within found ty) parts.0 in
     subst (λ d. HasCellBytes d ty bytes) chosen.1

@@ -5,7 +5,8 @@ use Rattle.std.specs.List.{All, flat_map}
 use Rattle.std.proofs.lemmas.Bool.{cases_lt, eqb-true}
 use Rattle.std.proofs.lemmas.List.{append-nil, nil_from_length, get_or-drop, get_or-take, get_or_past, length-take, take_at}
 use Rattle.std.proofs.lemmas.List.Elements.{All-nil, All-cons, All-head, All-tail}
-use Rattle.wire_frames.specs.Reading.{Reader, ◌>>=◌, only, ◌and◌, mapped, tried, when, kept, pick, choice, parts_at, listed, whole, ends}
+use Rattle.ae_base.specs.Options.{◌>>=◌}
+use Rattle.wire_frames.specs.Reading.{Reader, only, ◌and◌, mapped, tried, when, kept, pick, choice, parts_at, listed, whole, ends}
 
 -- ---- bytes
 

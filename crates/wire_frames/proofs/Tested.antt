@@ -1,6 +1,7 @@
 -- A value where it meets its conditions, and the same as a test.
 use Rattle.std.proofs.Common.{◌≡◌, ◌↔◌, Bool, true, false, cond, ◌&&◌, Option, Some, None, IfSome, IsSome, refl, ap}
-use Rattle.wire_frames.specs.Reading.{◌>>=◌, when, made_when}
+use Rattle.ae_base.specs.Options.{◌>>=◌}
+use Rattle.wire_frames.specs.Reading.{when, made_when}
 use Rattle.wire_frames.proofs.Takes.{some}
 
 yes : {A : Type 0} (b : Bool) (x y : A) → b ≡ true → y ≡ x → some y ≡ cond b (Some x) None

@@ -4,6 +4,7 @@ use Rattle.std.specs.Int.{Width, w16, w32, w64, byte_len, from_be_bytes, cast_si
 use Rattle.std.specs.List.{list_all}
 use Rattle.std.specs.Str.{chars, is_utf8, bytes_eq}
 use Rattle.ae_base.specs.Names.{is_param_char, all_differ}
+use Rattle.ae_base.specs.Options.{◌>>=◌}
 use Rattle.ae_base.specs.Versions.{Versions}
 use Rattle.ae_base.specs.declared.types.Ty.{Ty}
 use Rattle.ae_base.specs.declared.types.Ty.TheVariants as ty
@@ -32,11 +33,6 @@ use Rattle.wire_messages.specs.declared.requests.Request.TheVariants.{Describe, 
 
 abbrev pub Reader : Type 0 → Type 0
 Reader A = List ℕ → Option (A × List ℕ)
-
-infixl 10 ◌>>=◌
-abbrev pub ◌>>=◌ : {A B : Type 0} → Option A → (A → Option B) → Option B
-None >>= f = None
-(Some x) >>= f = f x
 
 -- a value that has no bytes
 abbrev pub only : {A : Type 0} → A → Reader A
