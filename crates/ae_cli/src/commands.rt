@@ -3,11 +3,12 @@
 ghost use Rattle.std.specs.Prelude.{◌≡◌, ◌⊎◌, ℕ, List, IfSome, Some, take, true, false};
 ghost use Rattle.ae_cli.specs.Checks.{status_of_checking};
 ghost use Rattle.ae_cli.specs.Serves.{status_of_serving};
-ghost use Rattle.ae_cli.specs.Words.{AreNoCommand, IsOfRun, IsRefusedUsage, is_check, is_run, is_serve, wrap_path};
+ghost use Rattle.ae_cli.specs.Words.{AreNoCommand, IsOfRun, IsRefusedUsage, is_check, is_drive, is_run, is_serve, wrap_path};
 ghost use Rattle.ae_cli.specs.Wraps.{status_of_wrapping};
 ghost use Rattle.check_command.specs.Ends as check;
 ghost use Rattle.check_command.specs.Ends.{ChecksScript};
 ghost use Rattle.check_command.specs.declared.steps.Checked.{Checked};
+ghost use Rattle.drive_command.specs.Ends.{DrivesScript};
 ghost use Rattle.wrap_command.specs.Wrapping.{Takes, Wraps};
 ghost use Rattle.wrap_command.specs.declared.commands.Wrapped.{Wrapped};
 ghost use Rattle.ae_edge.specs.Devices.{Rose, WhereTold};
@@ -23,13 +24,14 @@ ghost use Rattle.script_run.specs.Statuses.{status_of};
 
 use crate::checking::check_script;
 use crate::serving::serve_requests;
-use crate::words::{is_check, is_run, is_serve, usage, wrap_path};
+use crate::words::{is_check, is_drive, is_run, is_serve, usage, wrap_path};
 use crate::wrapping::wrap_key;
 use ae_base::texts::Txt;
 use ae_edge::entropies::Entropy;
 use ae_edge::sinks::Sink;
 use ae_edge::sources::Source;
 use ae_edge::vaults::Vault;
+use drive_command::commands::drive;
 use script_run::programs::run;
 use script_run::status::Status;
 use server_core::peers::Peer;
@@ -40,14 +42,16 @@ use std::alloc::Global;
 /// `run` reads a script from `script`, runs its steps through a
 /// driver and the peer, puts the text to `out` and every frame to `tap`. The values of protected
 /// columns pass as cells: the driver opens their keys through the vault, draws from the random
-/// source for randomized ones, and prints what the cells hold. `check` reads a script from `script`,
+/// source for randomized ones, and prints what the cells hold. `drive` does so against recorded
+/// replies: it takes their frames from `replies`, puts those of the requests alone to `tap`, and
+/// leaves the peer as it is. `check` reads a script from `script`,
 /// executes its definitions, describes every other batch without executing it, and puts to `out`
 /// what each comes to, a clash with the rules that show it; nothing else is touched. `serve` reads
 /// frames of requests from `script`, and puts the frames of the replies of a server that begins with
 /// nothing defined to `out`. `wrap PATH` reads a column key from
 /// `script`, wraps it under the vault's master key at the path, and puts its digits to `out`;
-/// nothing else is touched. No command touches the replies. Other words are `Usage`, and touch
-/// nothing.
+/// nothing else is touched. No command but `drive` touches the replies. Other words are `Usage`, and
+/// touch nothing.
 pub fn ae_main<S: Source, V: Vault, E: Entropy, L: Source, W: Sink, T: Sink, P: Peer>(
     alloc: Global,
     words: &[Txt],
@@ -75,6 +79,14 @@ pub fn ae_main<S: Source, V: Vault, E: Entropy, L: Source, W: Sink, T: Sink, P: 
     ensures awaited { is_run words.now ≡ true → P.state peer.old ≡ Some empty_state → (place : ℕ) → ¬ (result ≡ Status.BadReply place) }
     // What was taken of the script, by how the run ended.
     ensures taken { is_run words.now ≡ true → (ran : Ran) × (result ≡ status_of ran) × WhereTold (TakesScript ran) (S.left script.old) (S.left script.new) }
+    // A drive: there are bytes, the script's where it tells them, of which this is what driving comes to: how far its conversation was
+    // followed, what each device has of it, how the replies were read, and why no further; the peer isn't touched.
+    ensures driven { is_drive words.now ≡ true → (ran : Ran) × (result ≡ status_of ran) × (bytes : List ℕ) × IfSome (S.left script.old) (λ left. bytes ≡ left) × DrivesScript ran bytes
+        (record { out = W.held out.old; tap = T.held tap.old; entropy = E.to_come entropy.old; keys = V.keys vault.old; replies = L.left replies.old; out_faults = W.faults out.old; tap_faults = T.faults tap.old; entropy_faults = E.faults entropy.old; vault_faults = V.faults vault.old; reply_faults = L.faults replies.old })
+        (record { out = W.held out.new; tap = T.held tap.new; entropy = E.to_come entropy.new; keys = V.keys vault.new; replies = L.left replies.new; out_faults = W.faults out.new; tap_faults = T.faults tap.new; entropy_faults = E.faults entropy.new; vault_faults = V.faults vault.new; reply_faults = L.faults replies.new }) }
+    // What was taken of the script, by how driving ended.
+    ensures driven_taken { is_drive words.now ≡ true → (ran : Ran) × (result ≡ status_of ran) × WhereTold (TakesScript ran) (S.left script.old) (S.left script.new) }
+    ensures driven_alone { is_drive words.now ≡ true → peer.new ≡ peer.old }
     // A wrapping: there are bytes, the script's where it tells them, of which it is what the command makes; nothing else is touched.
     ensures wrapped { IfSome (wrap_path words.now) (λ path. (wrapped : Wrapped) × (result ≡ status_of_wrapping path wrapped) × (bytes : List ℕ) × IfSome (S.left script.old) (λ left. bytes ≡ left) × Wraps wrapped path bytes (record { keys = V.keys vault.old; out = W.held out.old }) (record { keys = V.keys vault.new; out = W.held out.new })) }
     ensures wrapped_taken { IfSome (wrap_path words.now) (λ path. (wrapped : Wrapped) × (result ≡ status_of_wrapping path wrapped) × WhereTold (Takes wrapped) (S.left script.old) (S.left script.new)) }
@@ -90,14 +102,18 @@ pub fn ae_main<S: Source, V: Vault, E: Entropy, L: Source, W: Sink, T: Sink, P: 
         → (served : Served) × (result ≡ status_of_serving served) × IsServed served bytes end frames (W.held out.old) (W.held out.new) }
     ensures served_alone { is_serve words.now ≡ true → (vault.new ≡ vault.old) × (entropy.new ≡ entropy.old) × (tap.new ≡ tap.old) × (peer.new ≡ peer.old) }
     // The faults of the outside come only where a count rose.
-    ensures read { result ≡ Status.ReadFault → Rose (S.faults script.old) (S.faults script.new) }
+    ensures read { result ≡ Status.ReadFault → Rose (S.faults script.old) (S.faults script.new) ⊎ ((is_drive words.now ≡ true) × Rose (L.faults replies.old) (L.faults replies.new)) }
     ensures write { result ≡ Status.WriteFault → Rose (W.faults out.old) (W.faults out.new) ⊎ Rose (T.faults tap.old) (T.faults tap.new) }
     ensures entropy { result ≡ Status.EntropyFault → Rose (E.faults entropy.old) (E.faults entropy.new) }
     ensures vault { result ≡ Status.VaultFault → Rose (V.faults vault.old) (V.faults vault.new) }
-    ensures replies { replies.new ≡ replies.old }
+    // The replies are those of a drive.
+    ensures replies { is_drive words.now ≡ false → replies.new ≡ replies.old }
 {
     if is_run(words) {
         return Status::from(run(alloc, script, vault, entropy, out, tap, peer));
+    }
+    if is_drive(words) {
+        return Status::from(drive(alloc, script, vault, entropy, replies, out, tap));
     }
     if is_check(words) {
         return check_script(alloc, script, out);

@@ -11,7 +11,7 @@ mod words;
 mod wrapping;
 
 ghost use Rattle.std.specs.Prelude.{◌≡◌, ℕ, true};
-ghost use Rattle.ae_cli.specs.Words.{AreNoCommand, IsOfRun, IsRefusedUsage, is_run};
+ghost use Rattle.ae_cli.specs.Words.{AreNoCommand, IsOfRun, IsRefusedUsage, is_drive, is_run};
 
 use ae_base::lists::Seq;
 use ae_base::texts::Txt;
@@ -51,6 +51,7 @@ fn words_of(rt: &HostRuntime) -> io::Result<Seq<Txt>> {
 fn status_of(rt: &HostRuntime, words: &[Txt]) -> Status
     ensures usage { AreNoCommand words.now → IsRefusedUsage result }
     ensures run { is_run words.now ≡ true → IsOfRun result }
+    ensures driven { is_drive words.now ≡ true → IsOfRun result }
     // The server in this process gives no reply that isn't awaited.
     ensures awaited { is_run words.now ≡ true → (place : ℕ) → ¬ (result ≡ Status.BadReply place) }
 {

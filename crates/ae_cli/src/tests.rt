@@ -26,11 +26,11 @@ struct Left {
     tap: MemSink,
 }
 
-fn left_by(alloc: Global, words: &[Txt], script: Vec<u8>) -> Left {
+fn left_by(alloc: Global, words: &[Txt], script: Vec<u8>, replies: Vec<u8>) -> Left {
     let mut script = MemSource::new(script, 10, Vec::new(alloc));
     let mut vault = MemVault::new(Vec::new(alloc), Vec::new(alloc));
     let mut entropy = MemEntropy::new(Vec::new(alloc), Vec::new(alloc));
-    let mut replies = MemSource::new(Vec::new(alloc), 10, Vec::new(alloc));
+    let mut replies = MemSource::new(replies, 10, Vec::new(alloc));
     let mut out = MemSink::new(alloc, Vec::new(alloc));
     let mut tap = MemSink::new(alloc, Vec::new(alloc));
     let mut peer = Server::new(alloc);
@@ -56,11 +56,15 @@ fn words_of(alloc: Global, words: &[&str]) -> Result<Vec<Txt>, AllocError> {
     Ok(texts)
 }
 
+/// The frames of a definition: Describe and Execute, and their replies, Described and Done.
+const REQUESTS: &[u8] = b"\x01\x01\x00\x00\x00\x1d\x00\x01\x00\x00\x00\x16CREATE TABLE t (a INT)\x00\x01\x02\x00\x00\x00\x25\x00\x01\x00\x00\x00\x00\x00\x00\x00\x00\x00\x00\x00\x16CREATE TABLE t (a INT)\x00";
+const REPLIES: &[u8] = b"\x01\x81\x00\x00\x00\x0a\x00\x00\x00\x00\x00\x00\x00\x00\x00\x00\x01\x84\x00\x00\x00\x09\x00\x00\x00\x00\x00\x00\x00\x00\x00";
+
 // The plain table under some words.
 fn left_under(alloc: Global, words: &[&str]) -> Result<Left, AllocError> {
     let words = words_of(alloc, words)?;
     let script = PLAIN_TABLE.as_bytes().to_vec(alloc)?;
-    Ok(left_by(alloc, words.as_slice(), script))
+    Ok(left_by(alloc, words.as_slice(), script, Vec::new(alloc)))
 }
 
 #[test]
@@ -71,6 +75,33 @@ fn run_prints_the_plain_table(rt: HostRuntime) -> Result<(), Fail> {
         left.out.bytes(),
         b"ok\n(3 affected)\na\n5\n(1 rows)\n".as_slice()
     );
+    Ok(())
+}
+
+// The definition driven over some replies.
+fn driven(alloc: Global, replies: &[u8]) -> Result<Left, AllocError> {
+    let words = words_of(alloc, &["ae", "drive"])?;
+    let script = b"CREATE TABLE t (a INT)".to_vec(alloc)?;
+    let replies = replies.to_vec(alloc)?;
+    Ok(left_by(alloc, words.as_slice(), script, replies))
+}
+
+#[test]
+fn drive_prints_what_the_replies_say(rt: HostRuntime) -> Result<(), Fail> {
+    let left = driven(rt.alloc(), REPLIES)?;
+    assert_eq!(rt; left.status.number(), 0);
+    assert_eq!(rt; left.out.bytes(), b"ok\n".as_slice());
+    assert_eq!(rt; left.tap.bytes(), REQUESTS);
+    Ok(())
+}
+
+#[test]
+fn drive_tells_where_a_reply_is_missing(rt: HostRuntime) -> Result<(), Fail> {
+    let left = driven(rt.alloc(), &REPLIES[..20])?;
+    assert!(rt; matches!(left.status, Status::BadReply(16)));
+    assert_eq!(rt; left.status.number(), 11);
+    assert!(rt; left.out.bytes().is_empty());
+    assert_eq!(rt; left.tap.bytes(), REQUESTS);
     Ok(())
 }
 

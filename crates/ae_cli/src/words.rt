@@ -1,8 +1,8 @@
 //! The words of the command line.
 
-ghost use Rattle.std.specs.Prelude.{◌≡◌};
+ghost use Rattle.std.specs.Prelude.{◌≡◌, string_bytes, codes};
 ghost use Rattle.std.specs.Option.{option_map};
-ghost use Rattle.ae_cli.specs.Words.{IsRefusedUsage, is_check, is_run, is_serve, wrap_path};
+ghost use Rattle.ae_cli.specs.Words.{IsRefusedUsage, is_check, is_drive, is_run, is_serve, is_word, wrap_path};
 
 use ae_base::texts::Txt;
 use script_run::status::Status;
@@ -10,36 +10,44 @@ use std::alloc::Global;
 
 /// How the program is called.
 const USAGE: &str =
-    "usage: ae run < SCRIPT\n       ae check < SCRIPT\n       ae serve < REQUESTS > REPLIES\n       ae wrap PATH < KEY\n";
+    "usage: ae run < SCRIPT\n       ae drive < SCRIPT\n       ae check < SCRIPT\n       ae serve < REQUESTS > REPLIES\n       ae wrap PATH < KEY\n";
+
+/// Whether the words are the program's name and this one.
+fn is_word(words: &[Txt], command: &str) -> bool
+    ensures { result ≡ is_word command.now words.now }
+{
+    match words {
+        [_, word] => word.as_str() == command,
+        _ => false,
+    }
+}
 
 /// Whether the words, of which the first is the program's name, ask to run a script.
 pub fn is_run(words: &[Txt]) -> bool
     ensures { result ≡ is_run words.now }
 {
-    match words {
-        [_, word] => word.as_str() == "run",
-        _ => false,
-    }
+    is_word(words, "run")
+}
+
+/// Whether the words, of which the first is the program's name, ask to drive a script.
+pub fn is_drive(words: &[Txt]) -> bool
+    ensures { result ≡ is_drive words.now }
+{
+    is_word(words, "drive")
 }
 
 /// Whether the words, of which the first is the program's name, ask to check a script.
 pub fn is_check(words: &[Txt]) -> bool
     ensures { result ≡ is_check words.now }
 {
-    match words {
-        [_, word] => word.as_str() == "check",
-        _ => false,
-    }
+    is_word(words, "check")
 }
 
 /// Whether the words, of which the first is the program's name, ask to serve requests.
 pub fn is_serve(words: &[Txt]) -> bool
     ensures { result ≡ is_serve words.now }
 {
-    match words {
-        [_, word] => word.as_str() == "serve",
-        _ => false,
-    }
+    is_word(words, "serve")
 }
 
 /// The path under whose master key the words, of which the first is the program's name, ask to wrap

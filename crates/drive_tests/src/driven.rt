@@ -1,12 +1,13 @@
 //! The script against replies, as they were recorded and changed.
 
-use crate::recorded::{BEFORE, Passed, SCRIPT, passed, vault};
+use crate::recorded::{BEFORE, Passed, SCRIPT, recording, vault};
 use ae_edge::memory::entropy::MemEntropy;
 use ae_edge::memory::sink::MemSink;
 use ae_edge::memory::source::MemSource;
 use drive_command::commands::drive;
 use run_words::stops::Stop;
 use script_run::runs::Ran;
+use serve_command::commands::{Served, serve_stream};
 use std::alloc::{AllocError, Global};
 use std::test::Fail;
 
@@ -70,8 +71,8 @@ fn second_row(replies: &[u8]) -> usize {
 #[test]
 fn recorded_replies_give_the_recorded_text(rt: HostRuntime) -> Result<(), Fail> {
     let alloc = rt.alloc();
-    let Passed { requests, replies } = passed(alloc)?;
-    for piece in [1, 7, 4096] {
+    let Passed { requests, replies } = recording(alloc)?;
+    for piece in [1, 2, 7, 4096] {
         let left = driven(alloc, &replies, piece, Vec::new(alloc))?;
         assert!(rt; ends_so(&left, Ran::Done, "c\nN'x'\nN'y'\n(2 rows)\n"));
         assert_eq!(rt; left.tap.bytes(), requests.as_slice());
@@ -80,9 +81,20 @@ fn recorded_replies_give_the_recorded_text(rt: HostRuntime) -> Result<(), Fail> 
 }
 
 #[test]
+fn served_replies_give_the_recorded_text(rt: HostRuntime) -> Result<(), Fail> {
+    let alloc = rt.alloc();
+    let mut requests = MemSource::new(recording(alloc)?.requests, 7, Vec::new(alloc));
+    let mut replies = MemSink::new(alloc, Vec::new(alloc));
+    assert!(rt; serve_stream(alloc, &mut requests, &mut replies) == Served::Done);
+    let left = driven(alloc, replies.bytes(), 7, Vec::new(alloc))?;
+    assert!(rt; ends_so(&left, Ran::Done, "c\nN'x'\nN'y'\n(2 rows)\n"));
+    Ok(())
+}
+
+#[test]
 fn a_changed_tag_fails_its_cell(rt: HostRuntime) -> Result<(), Fail> {
     let alloc = rt.alloc();
-    let mut replies = passed(alloc)?.replies;
+    let mut replies = recording(alloc)?.replies;
     let place = second_row(&replies);
     replies[place + 12] ^= 1;
     let left = driven(alloc, &replies, 7, Vec::new(alloc))?;
@@ -93,7 +105,7 @@ fn a_changed_tag_fails_its_cell(rt: HostRuntime) -> Result<(), Fail> {
 #[test]
 fn a_bad_reply_has_its_place(rt: HostRuntime) -> Result<(), Fail> {
     let alloc = rt.alloc();
-    let replies = passed(alloc)?.replies;
+    let replies = recording(alloc)?.replies;
     let place = second_row(&replies);
     // It is cut off.
     let cut = driven(alloc, &replies[..place + 20], 7, Vec::new(alloc))?;
@@ -112,7 +124,7 @@ fn a_bad_reply_has_its_place(rt: HostRuntime) -> Result<(), Fail> {
 #[test]
 fn what_is_left_has_its_place(rt: HostRuntime) -> Result<(), Fail> {
     let alloc = rt.alloc();
-    let mut replies = passed(alloc)?.replies;
+    let mut replies = recording(alloc)?.replies;
     let length = replies.len();
     replies.push(0)?;
     for piece in [1, 4096] {
@@ -125,7 +137,7 @@ fn what_is_left_has_its_place(rt: HostRuntime) -> Result<(), Fail> {
 #[test]
 fn replies_that_cannot_be_read_stop_the_run(rt: HostRuntime) -> Result<(), Fail> {
     let alloc = rt.alloc();
-    let replies = passed(alloc)?.replies;
+    let replies = recording(alloc)?.replies;
     let place = second_row(&replies);
     let mut failing = Vec::new(alloc);
     failing.push(place as u64)?;

@@ -48,7 +48,7 @@ pub struct Passed {
     pub replies: Vec<u8>,
 }
 
-fn recorded(alloc: Global) -> Result<MemSink, AllocError> {
+fn recorded_tap(alloc: Global) -> Result<MemSink, AllocError> {
     let script = Vec::from_slice(alloc, SCRIPT.as_bytes())?;
     let mut script = MemSource::new(script, 4096, Vec::new(alloc));
     let mut vault = vault(alloc)?;
@@ -88,7 +88,7 @@ fn apart(alloc: Global, frames: &[u8]) -> Result<Passed, AllocError> {
 }
 
 /// What passes when the script is run.
-pub fn passed(alloc: Global) -> Result<Passed, AllocError> {
-    let tap = recorded(alloc)?;
+pub fn recording(alloc: Global) -> Result<Passed, AllocError> {
+    let tap = recorded_tap(alloc)?;
     apart(alloc, tap.bytes())
 }
