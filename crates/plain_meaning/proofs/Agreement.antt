@@ -66,6 +66,7 @@ use Rattle.wire_messages.specs.declared.requests.Request.TheVariants as request
 use Rattle.conversation.specs.declared.outcomes.Outcome as outcomes
 use Rattle.conversation.specs.declared.outcomes.Outcome.TheVariants as outcome
 use Rattle.conversation.specs.declared.sessions.Session.TheVariants as session
+use Rattle.conversation.proofs.Fitting.{fit_fits}
 use Rattle.script_lang.specs.declared.steps.Step.TheVariants as steps_of
 use Rattle.plain_meaning.specs.Reference as plain
 use Rattle.plain_meaning.proofs.Between.{beside, StandsFor, IsSendableParam, DescribedAs, HoldsBatch, Holds, AllHold, all_newer, hold_place, hold_set, none_held, empty_stands}
@@ -121,13 +122,6 @@ whole_count rows = omega arith
 pub stays : (w : World) (r : Result engine.Done SqlFault) (f : SqlFault) → (engine.outcome w r).answer ≡ Err f → (engine.outcome w r).world ≡ w
 stays w (Ok done) f e = absurd cc
 stays w (Err g) f e = refl
-
-first_of : (o : Option (List ℕ)) (b : Bool) → unfit_by o b ≡ None → o ≡ None
-first_of None b h = refl
-first_of (Some name) b h = absurd cc
-
-pub first_fits : (batch : Batch) → why_unfit batch ≡ None → first_unfit batch.params ≡ None
-first_fits batch h = first_of (first_unfit batch.params) (nat_lt 65536 (length (encode_utf8_all batch.text))) h
 
 -- ---- what is sent
 
@@ -238,7 +232,7 @@ module _ (laws : Laws) (keys : KeyMap) (history : List KeyMeta) (w : World) (kno
         encs_found meant.bound 0 batch.params meant.encs long params.1,
         record {
           past = omega arith;
-          sendable = all_sendable batch.params proper (all_fit batch.params (first_fits batch fit));
+          sendable = all_sendable batch.params proper (all_fit batch.params (fit_fits batch fit));
           same = λ v. record { meant = meant; understood = e; long = long; encs = refl; metas = ap (keys_of w.catalog) (used_encs meant.bound 0 (declared batch) meant.encs long_declared) };
         },
       )

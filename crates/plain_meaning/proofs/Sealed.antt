@@ -32,6 +32,7 @@ use Rattle.cell_codec.specs.Cells.{version, sealed, sealed_det, iv_of, unsealed,
 use Rattle.cell_codec.specs.Laws.{SealedIsReadBack, SealedIsCell, SealedHasShape, DerivedAreKeys, IvIsBlock}
 use Rattle.scalar.specs.Classes.{Det, Rnd, IsNotSealed, Correspond, class_of}
 use Rattle.engine.specs.WellTyped.{IsOfType, IsAtomOf}
+use Rattle.engine.proofs.Suited.{int_within, within_is}
 use Rattle.server_core.specs.Params.{suited_atom}
 use Rattle.server_core.specs.States.{is_short}
 use Rattle.conversation.specs.Cells.{det_atom, rnd_atom, value_in, normal}
@@ -50,16 +51,12 @@ pub record SealLaws : Type 0 where
 
 -- ---- small facts
 
-within_32 : (n : ℤ) → (int_le (negsuc 2147483647) n && int_le n (pos 2147483647)) ≡ true → FitsSigned w32 n
-within_32 (pos n) h = grind (arith, nat_tests)
-within_32 (negsuc n) h = grind (arith, nat_tests)
-
 within_64 : (n : ℤ) → (int_le (negsuc 9223372036854775807) n && int_le n (pos 9223372036854775807)) ≡ true → FitsSigned w64 n
 within_64 (pos n) h = grind (arith, nat_tests)
 within_64 (negsuc n) h = grind (arith, nat_tests)
 
 within_so : (d : Datum) (t : Ty) → is_within d t ≡ true → IsWithin d t
-within_so (datum.Num n) ty.Int h = within_32 n h
+within_so (datum.Num n) ty.Int h = int_within n h
 within_so (datum.Num n) ty.BigInt h = within_64 n h
 within_so (datum.Num n) (ty.NVarChar most) h = absurd cc
 within_so (datum.Num n) (ty.VarBinary most) h = absurd cc
@@ -72,23 +69,9 @@ within_so (datum.Bin bytes) ty.BigInt h = absurd cc
 within_so (datum.Bin bytes) (ty.NVarChar most) h = absurd cc
 within_so (datum.Bin bytes) (ty.VarBinary most) h = grind (arith, nat_tests)
 
-pub of_type : (t : Ty) (d : Datum) → is_within d t ≡ true → IsOfType t d
-of_type ty.Int (datum.Num n) h = within_32 n h
-of_type ty.Int (datum.Text characters) h = absurd cc
-of_type ty.Int (datum.Bin bytes) h = absurd cc
-of_type ty.BigInt (datum.Num n) h = tt
-of_type ty.BigInt (datum.Text characters) h = absurd cc
-of_type ty.BigInt (datum.Bin bytes) h = absurd cc
-of_type (ty.NVarChar most) (datum.Num n) h = absurd cc
-of_type (ty.NVarChar most) (datum.Text characters) h = grind (arith, nat_tests)
-of_type (ty.NVarChar most) (datum.Bin bytes) h = absurd cc
-of_type (ty.VarBinary most) (datum.Num n) h = absurd cc
-of_type (ty.VarBinary most) (datum.Text characters) h = absurd cc
-of_type (ty.VarBinary most) (datum.Bin bytes) h = grind (arith, nat_tests)
-
 value_of_type : (cell : List ℕ → Bool) (t : Ty) (e : Enc) (v : Value) → value_is_within v t ≡ true → IsAtomOf cell t e (plain_atom v)
 value_of_type cell t e value.Null h = tt
-value_of_type cell t e (value.Is d) h = of_type t d h
+value_of_type cell t e (value.Is d) h = within_is t d h
 
 most_of : (t : Ty) → IsType t → most_bytes t ≤ 8000
 most_of ty.Int h = omega arith

@@ -20,6 +20,7 @@ use Rattle.ae_base.specs.declared.values.Datum.TheVariants as datum
 use Rattle.enc_types.specs.Typing.{enc_eq}
 use Rattle.operators.proofs.Collected.{collected, before, collected_more, collected_fault, came_before}
 use Rattle.engine.specs.WellTyped.{IsAtomOf, IsOfType, AreValuesOf}
+use Rattle.engine.proofs.Suited.{within_is}
 use Rattle.resolve.specs.Bind.{type_of}
 use Rattle.wire_messages.specs.AtomBounds.{IsSendable}
 use Rattle.wire_messages.specs.declared.params.SentParam.{SentParam}
@@ -44,26 +45,12 @@ module _ (encs : List Enc) (params : List SentParam) (i : ℕ) (e : Enc) (p : Se
 
 -- ---- each is of its type and encryption
 
-datum_of : (t : Ty) (d : Datum) → is_within d t ≡ true → IsOfType t d
-datum_of ty.Int (datum.Num n) h = let parts = and_parts (int_le (negsuc 2147483647) n) (int_le n (pos 2147483647)) h in grind (arith, ints)
-datum_of ty.BigInt (datum.Num n) h = tt
-datum_of (ty.NVarChar most) (datum.Num n) h = absurd (false≢true h)
-datum_of (ty.VarBinary most) (datum.Num n) h = absurd (false≢true h)
-datum_of ty.Int (datum.Text cs) h = absurd (false≢true h)
-datum_of ty.BigInt (datum.Text cs) h = absurd (false≢true h)
-datum_of (ty.NVarChar most) (datum.Text cs) h = leb-true (units cs) most h
-datum_of (ty.VarBinary most) (datum.Text cs) h = absurd (false≢true h)
-datum_of ty.Int (datum.Bin bytes) h = absurd (false≢true h)
-datum_of ty.BigInt (datum.Bin bytes) h = absurd (false≢true h)
-datum_of (ty.NVarChar most) (datum.Bin bytes) h = absurd (false≢true h)
-datum_of (ty.VarBinary most) (datum.Bin bytes) h = leb-true (length bytes) most h
-
 short_cell : (cell : List ℕ) → IsSendable (Sealed cell) → IsTrue (is_short cell)
 short_cell cell s = le-leb (length cell) 16384 s
 
 atom_of : (e : Enc) (t : Ty) (a : Atom) → is_of e t a ≡ true → IsSendable a → IsAtomOf is_short t e a
 atom_of enc.Plain t Null h s = tt
-atom_of enc.Plain t (Plain d) h s = datum_of t d h
+atom_of enc.Plain t (Plain d) h s = within_is t d h
 atom_of enc.Plain t (Sealed cell) h s = absurd (false≢true h)
 atom_of (enc.Det key) t Null h s = tt
 atom_of (enc.Det key) t (Plain d) h s = absurd (false≢true h)
