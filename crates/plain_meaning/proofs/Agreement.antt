@@ -1,25 +1,24 @@
 -- Over the server a script comes to its plaintext meaning, sealed values and all.
 use Rattle.std.proofs.Common.{◌≡◌, inl, ℕ, suc, ◌+◌, ◌-◌, List, [], ◌∷◌, ◌++◌, map, length, Option, Some, None, Result, Ok, Err, Bool, true, false, cond, refl, sym, ap, ◌∙◌, subst, arith}
-use Rattle.std.specs.Prelude.{IsSome, nat_lt, encode_utf8_all, ◌==◌}
+use Rattle.std.specs.Prelude.{◌==◌}
 use Rattle.std.specs.List.{All, AllZip}
 use Rattle.std.proofs.lemmas.Bool.{eqb-true}
 use Rattle.std.proofs.lemmas.List.{length-map}
 use Rattle.std.proofs.lemmas.List.Elements.{All-head, All-tail}
 use Rattle.ae_base.specs.Atoms.{Atom, plain_atom}
-use Rattle.ae_base.specs.Batches.{first_unfit}
 use Rattle.ae_base.specs.Results.{◌>>=◌}
 use Rattle.ae_base.specs.declared.batches.Batch.{Batch}
 use Rattle.ae_base.specs.declared.batches.Param.{Param}
 use Rattle.ae_base.specs.declared.faults.SqlFault.{SqlFault}
 use Rattle.ae_base.specs.declared.faults.SqlFault.TheVariants.{Moved}
 use Rattle.ae_edge.specs.Vaults.{KeyMap}
-use Rattle.sql_tree.specs.Bound.{BoundStatement, Bound}
-use Rattle.catalog.specs.Catalogs.{Catalog, master_named}
+use Rattle.sql_tree.specs.Bound.{Bound}
+use Rattle.catalog.specs.Catalogs.{Catalog}
 use Rattle.enc_types.specs.Laws.{TypingsAreOfColumns}
 use Rattle.enc_types.specs.UsedAlone.{used_among, is_used, alone}
 use Rattle.resolve.specs.Bind.{type_of}
 use Rattle.resolve.specs.Laws.{BoundStatementsAre, PreparedAlone}
-use Rattle.engine.specs.BoundOn.{HasMaster, IsBoundOn}
+use Rattle.engine.specs.BoundOn.{IsBoundOn}
 use Rattle.engine.specs.Laws.{StepRenamed, StepKeepsWorlds, RowsAreShown, TypedStatementsAreAdmitted, StepSimulates}
 use Rattle.engine.specs.Step.{Answer, Rows, Changed, Defined, Outcome, done_by, step}
 use Rattle.engine.specs.WellTyped.{AreValuesOf, IsAnswerOf, AreResults}
@@ -34,7 +33,7 @@ use Rattle.server_core.specs.Describing.{Meant, understood, description, keys_of
 use Rattle.server_core.specs.Params.{declaration_of, suited}
 use Rattle.server_core.specs.Serve.{refused, described, answered, executed, sent_column, header, serve}
 use Rattle.server_core.specs.States.{IsState, is_short}
-use Rattle.conversation.specs.Batches.{unfit_by, why_unfit, unless}
+use Rattle.conversation.specs.Batches.{why_unfit, unless}
 use Rattle.conversation.specs.Drive.{End, Done, Dry, BadReply, Listened, Caught, passed_on, over}
 use Rattle.conversation.specs.Pending.{Pending, Use, uses_in, uses_of}
 use Rattle.conversation.specs.Sessions.{encs_of, nobody, session_at, with_session, begun, described_params, titles_of}

@@ -1,13 +1,11 @@
 -- The values of parameters, each tested in turn: those so far, and what is known of them all.
 use Rattle.std.proofs.Common.{◌≡◌, ℕ, suc, ◌+◌, ◌<◌, Bool, true, false, List, [], ◌∷◌, ◌++◌, length, map, drop, get_or, Result, Ok, Err, refl, sym, ap, ◌∙◌, subst, arith, if◌then◌else◌}
-use Rattle.std.specs.Prelude.{IsTrue, int_le, pos, negsuc}
+use Rattle.std.specs.Prelude.{IsTrue}
 use Rattle.std.specs.List.{All}
-use Rattle.std.proofs.lemmas.Bool.{and_parts, false≢true, le-leb, leb-true}
-use Rattle.std.proofs.lemmas.Int.{ints}
+use Rattle.std.proofs.lemmas.Bool.{false≢true, le-leb}
 use Rattle.std.proofs.lemmas.List.{drop_more}
 use Rattle.std.proofs.lemmas.List.Elements.{All-head, All-tail}
 use Rattle.ae_base.specs.Atoms.{Atom}
-use Rattle.ae_base.specs.Values.{is_within, units}
 use Rattle.ae_base.specs.declared.atoms.AtomOf.TheVariants.{Null, Plain, Sealed}
 use Rattle.ae_base.specs.declared.faults.SqlFault.{SqlFault}
 use Rattle.ae_base.specs.declared.faults.SqlFault.TheVariants as fault
@@ -15,11 +13,10 @@ use Rattle.ae_base.specs.declared.types.Enc.{Enc}
 use Rattle.ae_base.specs.declared.types.Enc.TheVariants as enc
 use Rattle.ae_base.specs.declared.types.Ty.{Ty}
 use Rattle.ae_base.specs.declared.types.Ty.TheVariants as ty
-use Rattle.ae_base.specs.declared.values.Datum.{Datum}
 use Rattle.ae_base.specs.declared.values.Datum.TheVariants as datum
 use Rattle.enc_types.specs.Typing.{enc_eq}
 use Rattle.operators.proofs.Collected.{collected, before, collected_more, collected_fault, came_before}
-use Rattle.engine.specs.WellTyped.{IsAtomOf, IsOfType, AreValuesOf}
+use Rattle.engine.specs.WellTyped.{IsAtomOf, AreValuesOf}
 use Rattle.engine.proofs.Suited.{within_is}
 use Rattle.resolve.specs.Bind.{type_of}
 use Rattle.wire_messages.specs.AtomBounds.{IsSendable}
