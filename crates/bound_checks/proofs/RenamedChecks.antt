@@ -19,7 +19,7 @@ use Rattle.sql_tree.specs.Bound as bound
 use Rattle.sql_tree.specs.Uses.{uses_in, uses_in_terms, uses_in_condition, uses_in_conditions, uses_in_filter, uses_in_row, uses_in_assignment, uses_in_value, uses_in_item, uses_in_join, uses_in_statement, uses, renamed_operand, renamed_terms, renamed_condition, renamed_conditions, renamed_filter, renamed_row, renamed_assignment, renamed_value, renamed_item, renamed_join, renamed_query, renamed_statement, renamed}
 use Rattle.enc_types.specs.Rules.{rules}
 use Rattle.enc_types.specs.Renamed.{renamed_rule}
-use Rattle.enc_types.proofs.Renaming.{rules_renamed}
+use Rattle.enc_types.proofs.Renaming.{rules_renamed, place_renamed}
 use Rattle.bound_checks.specs.declared.kinds.Kind.TheVariants.{Numbers}
 use Rattle.bound_checks.specs.Clashes.{Types, kind_of, column_kind, operand_kind, clash_at, no_number, first_clash, operand_clashes, terms_clashes, sides_clash, listed_clash, condition_clashes, conditions_clashes, filter_clashes, value_clashes, paired_clashes, row_clashes, assignment_clashes, item_value_clashes, item_clashes, join_clashes, query_clashes, statement_clashes, clashes}
 use Rattle.bound_checks.specs.Grouping.{value_counts, counts, groups, operand_ungrouped, value_ungrouped, item_ungrouped, operand_selects, value_selects, selects, key_unselected, query_ungrouped, statement_ungrouped, ungrouped}
@@ -57,13 +57,6 @@ module _ (f : ℕ → ℕ) (columns : List ColumnSite) (params others : List Ty)
       both (g x) (flat_map g xs) (g' (r x)) (flat_map g' (map r xs)) (one x (left (λ p. used p x) (λ p. list_any (used p) xs) h)) (each used r g g' one xs (right (λ p. used p x) (λ p. list_any (used p) xs) h))
 
   -- ---- kinds
-
-  place : (o : Operand ℕ ℕ) → place_of (renamed_operand f o) ≡ place_of o
-  place (operands.Literal at v) = refl
-  place (operands.Param at param) = refl
-  place (operands.Column at column) = refl
-  place (operands.Minus at o) = refl
-  place (operands.Sum o terms) = place o
 
   kind : (o : Operand ℕ ℕ) → HaveTypes (λ p. uses_in p o) → operand_kind of_others (renamed_operand f o) ≡ operand_kind of_all o
   kind (operands.Literal at v) h = refl
@@ -139,7 +132,7 @@ module _ (f : ℕ → ℕ) (columns : List ColumnSite) (params others : List Ty)
   value : (at : ℕ) (v : Operand ℕ ℕ) → HaveTypes (λ p. uses_in p v) → value_clashes of_others at (renamed_operand f v) ≡ value_clashes of_all at v
   value at v h =
       both (clash_at (place_of v) (column_kind of_all at) (operand_kind of_all v)) (operand_clashes of_all v) _ _
-      (ap (λ z. clash_at z (column_kind of_all at) (operand_kind of_others (renamed_operand f v))) (place v) ∙ ap (λ z. clash_at (place_of v) (column_kind of_all at) z) (kind v h)) (operand v h)
+      (ap (λ z. clash_at z (column_kind of_all at) (operand_kind of_others (renamed_operand f v))) (place_renamed f v) ∙ ap (λ z. clash_at (place_of v) (column_kind of_all at) z) (kind v h)) (operand v h)
 
   paired : (named : List ℕ) (vs : List (Operand ℕ ℕ)) → HaveTypes (λ p. list_any (uses_in p) vs) → paired_clashes of_others named (map (renamed_operand f) vs) ≡ paired_clashes of_all named vs
   paired [] [] h = refl
@@ -199,13 +192,6 @@ module _ (f : ℕ → ℕ) where
   flat_alike g g' one [] = refl
   flat_alike g g' one (x ∷ xs) = both (g x) (flat_map g xs) (g' x) (flat_map g' xs) (one x) (flat_alike g g' one xs)
 
-  token : (o : Operand ℕ ℕ) → place_of (renamed_operand f o) ≡ place_of o
-  token (operands.Literal at v) = refl
-  token (operands.Param at param) = refl
-  token (operands.Column at column) = refl
-  token (operands.Minus at o) = refl
-  token (operands.Sum o terms) = token o
-
   counted : (v : BoundItemValue) → value_counts (renamed_value f v) ≡ value_counts v
   counted (bound.Value o) = refl
   counted (bound.Count at) = refl
@@ -215,7 +201,7 @@ module _ (f : ℕ → ℕ) where
   operand_alone keys (operands.Param at param) = refl
   operand_alone keys (operands.Column at column) = refl
   operand_alone keys (operands.Minus at o) = refl
-  operand_alone keys (operands.Sum o terms) = ap (λ z. z ∷ []) (token o)
+  operand_alone keys (operands.Sum o terms) = ap (λ z. z ∷ []) (place_renamed f o)
 
   value_alone : (keys : List PlaceAt) (v : BoundItemValue) → value_ungrouped keys (renamed_value f v) ≡ value_ungrouped keys v
   value_alone keys (bound.Value o) = operand_alone keys o

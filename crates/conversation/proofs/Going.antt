@@ -3,7 +3,7 @@ use Rattle.std.proofs.Common.{◌≡◌, ℕ, ◌≤◌, List, [], ◌∷◌, �
 use Rattle.std.specs.Prelude.{flat_map, IfSome}
 use Rattle.std.proofs.lemmas.Grind.{flat_map-append}
 use Rattle.ae_base.specs.declared.batches.KeyMeta.{KeyMeta}
-use Rattle.ae_edge.specs.Devices.{Rose, WhereTold}
+use Rattle.ae_edge.specs.Devices.{WhereTold}
 use Rattle.ae_edge.specs.Vaults.{KeyMap}
 use Rattle.ae_edge.proofs.Told.{rose_before}
 use Rattle.hmac_kdf.specs.Keys.{Keys}

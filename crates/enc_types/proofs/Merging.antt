@@ -16,6 +16,14 @@ use Rattle.enc_types.specs.declared.sites.Site.TheVariants.{Column, Param, Null,
 use Rattle.enc_types.specs.declared.rules.Rule.{Rule}
 use Rattle.enc_types.specs.declared.rules.Rule.TheVariants.{Same, NotRnd, PlainOnly}
 
+pub plain_is : (e : Enc) → is_plain e ≡ true → e ≡ Plain
+plain_is Plain p = refl
+plain_is (Det k) p = absurd cc
+plain_is (Rnd k) p = absurd cc
+
+pub not_plain : (e : Enc) → is_plain e ≡ false → ¬ (e ≡ Plain)
+not_plain e p q = let f : true ≡ false = sym (ap is_plain q) ∙ p in absurd cc
+
 -- ---- the tests decide
 
 pub enc_eq-Decides : (a b : Enc) → Decides (enc_eq a b) (a ≡ b)
@@ -245,15 +253,7 @@ module _ (params : List Ty) (columns : List ColumnSite) where
   pub one_least : (rules : List Rule) (typing : Typing) → IsLeastTyping params columns rules typing → (x : Site) → typing x ≡ least columns rules x
   one_least rules typing h x = go (is_plain (typing x)) (is_plain (least columns rules x)) refl refl
     where
-      plain : (e : Enc) → is_plain e ≡ true → e ≡ Plain
-      plain Plain p = refl
-      plain (Det k) p = absurd cc
-      plain (Rnd k) p = absurd cc
-
-      not_plain : (e : Enc) → is_plain e ≡ false → ¬ (e ≡ Plain)
-      not_plain e p q = let f : true ≡ false = sym (ap is_plain q) ∙ p in absurd cc
-
       go : (a b : Bool) → is_plain (typing x) ≡ a → is_plain (least columns rules x) ≡ b → typing x ≡ least columns rules x
-      go true true p q = plain _ p ∙ sym (plain _ q)
+      go true true p q = plain_is _ p ∙ sym (plain_is _ q)
       go true false p q = least_is_least rules typing h.typed x (not_plain _ q)
       go false b p q = sym (h.least (least columns rules) (least_is_typing rules (typing, h.typed)) x (not_plain _ p))

@@ -15,6 +15,7 @@ use Rattle.enc_types.specs.declared.sites.Site.{Site}
 use Rattle.enc_types.specs.declared.sites.Site.TheVariants.{Column, Param, Null, Fixed}
 use Rattle.enc_types.specs.declared.rules.Rule.{Rule}
 use Rattle.enc_types.specs.declared.rules.Rule.TheVariants.{Same, NotRnd, PlainOnly}
+use Rattle.enc_types.proofs.Renaming.{at_renamed}
 
 -- the parameters of some places alone stand in these
 abbrev pub KnownSite : (ℕ → Type 0) → Site → Type 0
@@ -143,11 +144,6 @@ module _ (f g : ℕ → ℕ) (params others : List Ty) (columns : List ColumnSit
   unfolding has_typing
   typed_renamed rules k = all_renamed (least columns rules) (least columns (map (renamed_rule f) rules)) (least_renamed rules k) rules k
 
-  place_renamed : (rule : Rule) → at_of (renamed_rule f rule) ≡ at_of rule
-  place_renamed (Same x y at) = refl
-  place_renamed (NotRnd x at) = refl
-  place_renamed (PlainOnly x at) = refl
-
   pub clash_renamed : (before rules : List Rule) → AllKnown K before → AllKnown K rules
       → clash_behind others columns (map (renamed_rule f) before) (map (renamed_rule f) rules) ≡ clash_behind params columns before rules
   unfolding clash_behind
@@ -158,4 +154,4 @@ module _ (f g : ℕ → ℕ) (params others : List Ty) (columns : List ColumnSit
       ap (λ z. cond (has_typing others columns z) (clash_behind others columns z (map (renamed_rule f) rules)) (Some (at_of (renamed_rule f rule)))) (sym e)
       ∙ ap (λ z. cond z (clash_behind others columns (map (renamed_rule f) (before ++ rule ∷ [])) (map (renamed_rule f) rules)) (Some (at_of (renamed_rule f rule)))) (typed_renamed (before ++ rule ∷ []) more)
       ∙ ap (λ z. cond (has_typing params columns (before ++ rule ∷ [])) z (Some (at_of (renamed_rule f rule)))) (clash_renamed (before ++ rule ∷ []) rules more l.1)
-      ∙ ap (λ z. cond (has_typing params columns (before ++ rule ∷ [])) (clash_behind params columns (before ++ rule ∷ []) rules) (Some z)) (place_renamed rule)
+      ∙ ap (λ z. cond (has_typing params columns (before ++ rule ∷ [])) (clash_behind params columns (before ++ rule ∷ []) rules) (Some z)) (at_renamed f rule)

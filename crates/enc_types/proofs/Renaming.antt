@@ -46,15 +46,16 @@ module _ (f : ℕ → ℕ) where
   site (operands.Minus at operand) = refl
   site (operands.Sum first terms) = refl
 
-  place : (o : Operand ℕ ℕ) → place_of (renamed_operand f o) ≡ place_of o
-  place (operands.Literal at v) = refl
-  place (operands.Param at param) = refl
-  place (operands.Column at column) = refl
-  place (operands.Minus at operand) = refl
-  place (operands.Sum first terms) = place first
+  -- a renaming moves nothing in the text
+  pub place_renamed : (o : Operand ℕ ℕ) → place_of (renamed_operand f o) ≡ place_of o
+  place_renamed (operands.Literal at v) = refl
+  place_renamed (operands.Param at param) = refl
+  place_renamed (operands.Column at column) = refl
+  place_renamed (operands.Minus at operand) = refl
+  place_renamed (operands.Sum first terms) = place_renamed first
 
   operator : (o : Operand ℕ ℕ) (terms : Terms ℕ ℕ) → first_operator (renamed_operand f o) (renamed_terms f terms) ≡ first_operator o terms
-  operator o operands.NoMore = place o
+  operator o operands.NoMore = place_renamed o
   operator o (operands.PlusThen at operand more) = refl
   operator o (operands.MinusThen at operand more) = refl
 
@@ -128,7 +129,7 @@ module _ (f : ℕ → ℕ) where
   value_one : (column : ℕ) (o : Operand ℕ ℕ) → value_rule column (renamed_operand f o) ≡ R (value_rule column o)
   value_one column o =
       joined (operand_rules o) (Same (Column column) (site_of o) (place_of o) ∷ []) _ _ (operand o)
-      (ap (λ z. Same (Column column) z (place_of (renamed_operand f o)) ∷ []) (site o) ∙ ap (λ z. Same (Column column) (renamed_site f (site_of o)) z ∷ []) (place o))
+      (ap (λ z. Same (Column column) z (place_of (renamed_operand f o)) ∷ []) (site o) ∙ ap (λ z. Same (Column column) (renamed_site f (site_of o)) z ∷ []) (place_renamed o))
 
   values : (named : List ℕ) (vs : List (Operand ℕ ℕ)) → value_rules named (map (renamed_operand f) vs) ≡ R (value_rules named vs)
   values [] vs = refl
@@ -186,7 +187,7 @@ module _ (f : ℕ → ℕ) where
   statement (bound.Delete delete) = filter delete.filter
   statement (bound.Select q) = query q
 
-  at_renamed : (r : Rule) → at_of (renamed_rule f r) ≡ at_of r
+  pub at_renamed : (r : Rule) → at_of (renamed_rule f r) ≡ at_of r
   at_renamed (Same x y at) = refl
   at_renamed (NotRnd x at) = refl
   at_renamed (PlainOnly x at) = refl

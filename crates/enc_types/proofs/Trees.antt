@@ -3,7 +3,7 @@ use Rattle.std.proofs.Common.{◌≡◌, ℕ, List, [], ◌∷◌, ◌++◌, ref
 use Rattle.std.proofs.lemmas.List.{append-nil}
 use Rattle.sql_tree.specs.Operands as operands
 use Rattle.sql_tree.specs.Conditions as conditions
-use Rattle.sql_tree.specs.Conditions.{condition_of, conditions_of}
+use Rattle.sql_tree.specs.Conditions.{condition_of}
 use Rattle.sql_tree.specs.Bound.{Bound}
 use Rattle.sql_tree.specs.Listed.{terms_listed, conditions_listed}
 use Rattle.sql_tree.specs.declared.operands.Operand as code

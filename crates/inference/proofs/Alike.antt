@@ -1,5 +1,5 @@
 -- Small facts on tests.
-use Rattle.std.proofs.Common.{◌≡◌, ℕ, List, [], ◌∷◌, refl, ap, sym, ◌∙◌, Option, Some, None, Bool, true, false, not, ◌==◌, ◌⊎◌, inl, inr}
+use Rattle.std.proofs.Common.{◌≡◌, ℕ, List, [], ◌∷◌, refl, ap, sym, ◌∙◌, Option, Some, None, Bool, true, false, ◌==◌, ◌⊎◌, inl, inr}
 use Rattle.std.specs.List.{list_all}
 use Rattle.std.proofs.lemmas.Bool.Decides.{Decides-eqb, same_from_decides}
 use Rattle.ae_base.specs.declared.types.Ty.{Ty}
@@ -40,14 +40,6 @@ alike_comm None None = refl
 alike_comm None (Some t) = refl
 alike_comm (Some s) None = refl
 alike_comm (Some s) (Some t) = ty_eq_comm s t
-
-pub plain_is : (e : Enc) → is_plain e ≡ true → e ≡ Plain
-plain_is Plain p = refl
-plain_is (Det k) p = absurd cc
-plain_is (Rnd k) p = absurd cc
-
-pub not_plain : (e : Enc) → is_plain e ≡ false → ¬ (e ≡ Plain)
-not_plain e p q = let f : true ≡ false = sym (ap is_plain q) ∙ p in absurd cc
 
 pub isnt_plain : (e : Enc) → ¬ (e ≡ Plain) → is_plain e ≡ false
 isnt_plain Plain n = absurd (n refl)

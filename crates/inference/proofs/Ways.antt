@@ -13,11 +13,11 @@ use Rattle.enc_types.specs.Clash.{IsAmong, NoneTwice, Carries, HasSite, Breaks, 
 use Rattle.enc_types.specs.declared.sites.Site.{Site}
 use Rattle.enc_types.specs.declared.rules.Rule.{Rule}
 use Rattle.enc_types.specs.declared.rules.Rule.TheVariants.{Same, NotRnd, PlainOnly}
-use Rattle.enc_types.proofs.Merging.{enc_eq-Decides, fixed_or_open, and_left, and_right}
+use Rattle.enc_types.proofs.Merging.{enc_eq-Decides, fixed_or_open, and_left, and_right, plain_is, not_plain}
 use Rattle.inference.specs.Steps.{goes, is_settled, traced, IsTrace, way_back}
 use Rattle.inference.specs.Ways.{onto, beyond, through, through_either, chain_through}
 use Rattle.inference.specs.declared.steps.Step.{Step}
-use Rattle.inference.proofs.Alike.{plain_is, not_plain, isnt_plain, true_false, among_holds, alike_comm}
+use Rattle.inference.proofs.Alike.{isnt_plain, true_false, among_holds, alike_comm}
 use Rattle.inference.proofs.Traces.{goes_from, goes_open, goes_plain, goes_alike, traced_fixed, traced_kept, carried_same}
 
 -- ---- no rule twice

@@ -1,25 +1,24 @@
 -- Over the server a script comes to its plaintext meaning, sealed values and all.
 use Rattle.std.proofs.Common.{◌≡◌, inl, ℕ, suc, ◌+◌, ◌-◌, List, [], ◌∷◌, ◌++◌, map, length, Option, Some, None, Result, Ok, Err, Bool, true, false, cond, refl, sym, ap, ◌∙◌, subst, arith}
-use Rattle.std.specs.Prelude.{IsSome, nat_lt, encode_utf8_all, ◌==◌}
+use Rattle.std.specs.Prelude.{◌==◌}
 use Rattle.std.specs.List.{All, AllZip}
 use Rattle.std.proofs.lemmas.Bool.{eqb-true}
 use Rattle.std.proofs.lemmas.List.{length-map}
 use Rattle.std.proofs.lemmas.List.Elements.{All-head, All-tail}
 use Rattle.ae_base.specs.Atoms.{Atom, plain_atom}
-use Rattle.ae_base.specs.Batches.{first_unfit}
 use Rattle.ae_base.specs.Results.{◌>>=◌}
 use Rattle.ae_base.specs.declared.batches.Batch.{Batch}
 use Rattle.ae_base.specs.declared.batches.Param.{Param}
 use Rattle.ae_base.specs.declared.faults.SqlFault.{SqlFault}
 use Rattle.ae_base.specs.declared.faults.SqlFault.TheVariants.{Moved}
 use Rattle.ae_edge.specs.Vaults.{KeyMap}
-use Rattle.sql_tree.specs.Bound.{BoundStatement, Bound}
-use Rattle.catalog.specs.Catalogs.{Catalog, master_named}
+use Rattle.sql_tree.specs.Bound.{Bound}
+use Rattle.catalog.specs.Catalogs.{Catalog}
 use Rattle.enc_types.specs.Laws.{TypingsAreOfColumns}
 use Rattle.enc_types.specs.UsedAlone.{used_among, is_used, alone}
 use Rattle.resolve.specs.Bind.{type_of}
 use Rattle.resolve.specs.Laws.{BoundStatementsAre, PreparedAlone}
-use Rattle.engine.specs.BoundOn.{HasMaster, IsBoundOn}
+use Rattle.engine.specs.BoundOn.{IsBoundOn}
 use Rattle.engine.specs.Laws.{StepRenamed, StepKeepsWorlds, RowsAreShown, TypedStatementsAreAdmitted, StepSimulates}
 use Rattle.engine.specs.Step.{Answer, Rows, Changed, Defined, Outcome, done_by, step}
 use Rattle.engine.specs.WellTyped.{AreValuesOf, IsAnswerOf, AreResults}
@@ -34,7 +33,7 @@ use Rattle.server_core.specs.Describing.{Meant, understood, description, keys_of
 use Rattle.server_core.specs.Params.{declaration_of, suited}
 use Rattle.server_core.specs.Serve.{refused, described, answered, executed, sent_column, header, serve}
 use Rattle.server_core.specs.States.{IsState, is_short}
-use Rattle.conversation.specs.Batches.{unfit_by, why_unfit, unless}
+use Rattle.conversation.specs.Batches.{why_unfit, unless}
 use Rattle.conversation.specs.Drive.{End, Done, Dry, BadReply, Listened, Caught, passed_on, over}
 use Rattle.conversation.specs.Pending.{Pending, Use, uses_in, uses_of}
 use Rattle.conversation.specs.Sessions.{encs_of, nobody, session_at, with_session, begun, described_params, titles_of}
@@ -66,6 +65,7 @@ use Rattle.wire_messages.specs.declared.requests.Request.TheVariants as request
 use Rattle.conversation.specs.declared.outcomes.Outcome as outcomes
 use Rattle.conversation.specs.declared.outcomes.Outcome.TheVariants as outcome
 use Rattle.conversation.specs.declared.sessions.Session.TheVariants as session
+use Rattle.conversation.proofs.Fitting.{fit_fits}
 use Rattle.script_lang.specs.declared.steps.Step.TheVariants as steps_of
 use Rattle.plain_meaning.specs.Reference as plain
 use Rattle.plain_meaning.proofs.Between.{beside, StandsFor, IsSendableParam, DescribedAs, HoldsBatch, Holds, AllHold, all_newer, hold_place, hold_set, none_held, empty_stands}
@@ -121,13 +121,6 @@ whole_count rows = omega arith
 pub stays : (w : World) (r : Result engine.Done SqlFault) (f : SqlFault) → (engine.outcome w r).answer ≡ Err f → (engine.outcome w r).world ≡ w
 stays w (Ok done) f e = absurd cc
 stays w (Err g) f e = refl
-
-first_of : (o : Option (List ℕ)) (b : Bool) → unfit_by o b ≡ None → o ≡ None
-first_of None b h = refl
-first_of (Some name) b h = absurd cc
-
-pub first_fits : (batch : Batch) → why_unfit batch ≡ None → first_unfit batch.params ≡ None
-first_fits batch h = first_of (first_unfit batch.params) (nat_lt 65536 (length (encode_utf8_all batch.text))) h
 
 -- ---- what is sent
 
@@ -238,7 +231,7 @@ module _ (laws : Laws) (keys : KeyMap) (history : List KeyMeta) (w : World) (kno
         encs_found meant.bound 0 batch.params meant.encs long params.1,
         record {
           past = omega arith;
-          sendable = all_sendable batch.params proper (all_fit batch.params (first_fits batch fit));
+          sendable = all_sendable batch.params proper (all_fit batch.params (fit_fits batch fit));
           same = λ v. record { meant = meant; understood = e; long = long; encs = refl; metas = ap (keys_of w.catalog) (used_encs meant.bound 0 (declared batch) meant.encs long_declared) };
         },
       )

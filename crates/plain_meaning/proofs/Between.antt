@@ -4,8 +4,7 @@ use Rattle.std.specs.Prelude.{slice_index_or, slice_set}
 use Rattle.ae_base.specs.Atoms.{Atom}
 use Rattle.ae_base.specs.declared.batches.Param.{Param}
 use Rattle.ae_edge.specs.Vaults.{KeyMap}
-use Rattle.catalog.specs.Catalogs.{Catalog, nothing_defined}
-use Rattle.catalog.specs.WellFormed.{IsCatalog}
+use Rattle.catalog.specs.Catalogs.{Catalog}
 use Rattle.catalog.proofs.Kept.{nothing_kept}
 use Rattle.enc_types.specs.UsedAlone.{used_among, is_used}
 use Rattle.engine.specs.Worlds.{World, empty_world}

@@ -18,9 +18,9 @@ use Rattle.engine.specs.Correspond.{Related, ArePairsWithin, IsWithinClass, Cont
 use Rattle.engine.specs.Typed.{param_classes}
 use Rattle.engine.specs.WellTyped.{IsAtomOf, AreValuesOf, IsWellTyped}
 use Rattle.engine.specs.Worlds.{World}
+use Rattle.engine.proofs.Suited.{within_is}
 use Rattle.wire_messages.specs.declared.params.SentParam.{SentParam}
 use Rattle.server_core.specs.Params.{declaration_of, is_of, is_shaped, suited_atom, suited}
-use Rattle.plain_meaning.proofs.Sealed.{of_type}
 
 -- all bytes may be a cell's
 abbrev pub any_cell : List ℕ → Bool
@@ -75,7 +75,7 @@ record IsOwn (t : Ty) (e : Enc) (a : Atom) : Type 0 where
 
 own_atom : (e : Enc) (t : Ty) (a : Atom) → is_of e t a ≡ true → IsOwn t e a
 own_atom enc.Plain t Null h = record { typed = tt; paired = (refl, tt) }
-own_atom enc.Plain t (Plain d) h = record { typed = of_type t d h; paired = (refl, tt) }
+own_atom enc.Plain t (Plain d) h = record { typed = within_is t d h; paired = (refl, tt) }
 own_atom enc.Plain t (Sealed cell) h = absurd cc
 own_atom (enc.Det key) t Null h = record { typed = tt; paired = inl (refl, refl) }
 own_atom (enc.Det key) t (Plain d) h = absurd cc

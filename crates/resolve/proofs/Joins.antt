@@ -1,6 +1,6 @@
 -- Joins are bound one after another, each with its table in scope.
-use Rattle.std.proofs.Common.{◌≡◌, ℕ, ◌+◌, ◌<◌, List, [], ◌∷◌, ◌++◌, length, get_or, drop, map, refl, ap, sym, ◌∙◌, Result, Ok, Err}
-use Rattle.std.proofs.lemmas.List.{append_assoc, at_drop_more, map-append}
+use Rattle.std.proofs.Common.{◌≡◌, ℕ, ◌+◌, ◌<◌, List, [], ◌∷◌, ◌++◌, length, get_or, drop, map, ap, sym, ◌∙◌, Result, Ok}
+use Rattle.std.proofs.lemmas.List.{at_drop_more, map-append}
 use Rattle.ae_base.specs.Results.{◌>>=◌}
 use Rattle.ae_base.specs.declared.batches.ParamDecl.{ParamDecl}
 use Rattle.ae_base.specs.declared.faults.SqlFault.{SqlFault}
@@ -10,11 +10,7 @@ use Rattle.resolve.specs.declared.sources.Joined as code
 use Rattle.resolve.specs.Scopes.{Scope, with_source}
 use Rattle.resolve.specs.Queries.{bind_join, bind_joins}
 use Rattle.resolve.specs.Seen.{source_seen, joined_seen}
-use Rattle.resolve.proofs.Walks.{onto}
-
-push : {B E : Type 0} (front : List B) (y : B) (rest : Result (List B) E) → onto front (rest >>= λ ys. Ok (y ∷ ys)) ≡ onto (front ++ y ∷ []) rest
-push front y (Err e) = refl
-push front y (Ok ys) = ap Ok (sym (append_assoc front (y ∷ []) ys))
+use Rattle.resolve.proofs.Walks.{onto, onto_push}
 
 pub joins_more : (declarations : List ParamDecl) (whole : Result (List BoundJoin) SqlFault) (before scope : Scope) (made : List code_join.BoundJoin) (one : code_join.BoundJoin) (joins : List code.Joined) (i : ℕ) (join : code.Joined)
     → i < length joins → join ≡ get_or joins i join → whole ≡ onto (map join_of made) (bind_joins declarations before (map joined_seen (drop i joins)))
@@ -25,5 +21,5 @@ joins_more declarations whole before scope made one joins i join lt e w s h =
     ∙ ap (λ z. onto (map join_of made) (bind_joins declarations before (map joined_seen (z ∷ drop (i + 1) joins)))) (sym e)
     ∙ ap (λ x. onto (map join_of made) (bind_join x declarations (joined_seen join) >>= λ b. bind_joins declarations x (map joined_seen (drop (i + 1) joins)) >>= λ more. Ok (b ∷ more))) (sym s)
     ∙ ap (λ r. onto (map join_of made) (r >>= λ b. bind_joins declarations scope (map joined_seen (drop (i + 1) joins)) >>= λ more. Ok (b ∷ more))) h
-    ∙ push (map join_of made) (join_of one) (bind_joins declarations scope (map joined_seen (drop (i + 1) joins)))
+    ∙ onto_push (map join_of made) (join_of one) (bind_joins declarations scope (map joined_seen (drop (i + 1) joins)))
     ∙ ap (λ front. onto front (bind_joins declarations scope (map joined_seen (drop (i + 1) joins)))) (sym (map-append join_of made (one ∷ [])))

@@ -27,7 +27,7 @@ fails view outward OutOfMemory part whole h a = tt
 abbrev pub behind : {A B E : Type 0} → (List A → A → Result B E) → List A → ℕ → A → Result B E
 behind bind all i x = bind (take i all) x
 
-onto_push : {B E : Type 0} (front : List B) (y : B) (rest : Result (List B) E) → onto front (rest >>= λ ys. Ok (y ∷ ys)) ≡ onto (front ++ y ∷ []) rest
+pub onto_push : {B E : Type 0} (front : List B) (y : B) (rest : Result (List B) E) → onto front (rest >>= λ ys. Ok (y ∷ ys)) ≡ onto (front ++ y ∷ []) rest
 onto_push front y (Err e) = refl
 onto_push front y (Ok ys) = ap Ok (sym (append_assoc front (y ∷ []) ys))
 

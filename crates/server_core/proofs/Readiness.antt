@@ -1,6 +1,6 @@
 -- What is ready may be executed, and what is answered may be sent.
-use Rattle.std.proofs.Common.{◌≡◌, ◌⊎◌, inl, inr, ℕ, List, [], ◌∷◌, length, map, Result, Ok, Err, refl, sym, ap, ◌∙◌, subst}
-use Rattle.std.specs.Prelude.{IsSome, IsTrue, Contains, IfOk}
+use Rattle.std.proofs.Common.{◌≡◌, ◌⊎◌, inl, inr, List, [], ◌∷◌, length, map, Result, Ok, Err, refl, sym, ap, ◌∙◌, subst}
+use Rattle.std.specs.Prelude.{IsTrue, Contains, IfOk}
 use Rattle.std.specs.List.{All}
 use Rattle.std.proofs.lemmas.List.{length-map}
 use Rattle.std.proofs.lemmas.List.Elements.{All-nil, All-cons, All-head, All-tail, All-contains, All-map}
@@ -13,15 +13,15 @@ use Rattle.ae_base.specs.declared.types.Enc.{Enc}
 use Rattle.ae_base.specs.declared.types.Enc.TheVariants.{Plain}
 use Rattle.sql_tree.specs.declared.bound.ColumnSite.{ColumnSite}
 use Rattle.sql_tree.specs.declared.bound.Bound as parts
-use Rattle.sql_tree.specs.Bound.{BoundStatement, Bound, bound_of}
+use Rattle.sql_tree.specs.Bound.{Bound, bound_of}
 use Rattle.sql_tree.specs.Bound as bound
-use Rattle.catalog.specs.Catalogs.{Catalog, master_named}
+use Rattle.catalog.specs.Catalogs.{Catalog}
 use Rattle.catalog.specs.WellFormed.{IsCatalog, IsKeyThere}
 use Rattle.enc_types.specs.Laws.{TypingsAreOfColumns}
 use Rattle.engine.specs.declared.answers.Answer as code
 use Rattle.engine.specs.declared.answers.ResultColumn.{ResultColumn}
 use Rattle.engine.specs.Answers.{Gives, answer_of}
-use Rattle.engine.specs.BoundOn.{HasMaster, IsBoundOn}
+use Rattle.engine.specs.BoundOn.{IsBoundOn}
 use Rattle.engine.specs.Laws.{AreShown, IsShownBy, StepKeepsWorlds, RowsAreShown, TypedStatementsAreAdmitted}
 use Rattle.enc_types.specs.declared.typed.Typed.{Typed}
 use Rattle.engine.specs.Step.{Outcome, Rows, step}

@@ -49,7 +49,7 @@ abbrev OneInner : Spelling Operand → Spelling Condition → Spelling Inner
 OneInner P C (Computes operand) = SpellsSum P operand
 OneInner P C (Asks c) = SpellsPredicate (SpellsSum P) C c
 
-some_is : {A : Type 0} (a b : A) → Some a ≡ Some b → a ≡ b
+pub some_is : {A : Type 0} (a b : A) → Some a ≡ Some b → a ≡ b
 some_is a b e = cc
 
 computed : (a b : Operand) → Some (Computes a) ≡ Some (Computes b) → a ≡ b

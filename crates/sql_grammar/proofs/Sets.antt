@@ -94,7 +94,7 @@ disjoint a b = list_all (λ t. not (member b (lexeme_of t))) a
 abbrev pub subset : List Terminal → List Terminal → Bool
 subset a b = list_all (λ t. member b (lexeme_of t)) a
 
-not_and : (x y : Bool) → (not x && y) ≡ true → (x ≡ false) × (y ≡ true)
+pub not_and : (x y : Bool) → (not x && y) ≡ true → (x ≡ false) × (y ≡ true)
 not_and true y e = absurd (cc)
 not_and false y e = (refl, e)
 

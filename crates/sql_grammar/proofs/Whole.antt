@@ -8,6 +8,7 @@ use Rattle.sql_grammar.specs.Parse.{statement}
 use Rattle.sql_grammar.specs.Texts.{whole, tree_of}
 use Rattle.sql_grammar.specs.Laws.{TreeIsTheGrammars, TreesAreOne}
 use Rattle.sql_grammar.proofs.Agreement.{bind_some}
+use Rattle.sql_grammar.proofs.Conditions.{some_is}
 use Rattle.sql_grammar.proofs.Statements.{statement_agrees}
 
 all_read : (x : Statement) (rest : List Token) (y : Statement) → whole (x, rest) ≡ Some y → (x ≡ y) × (rest ≡ [])
@@ -29,9 +30,6 @@ tree_complete tokens x k = rw (statement_agrees.complete x tokens tokens [] k (s
 
 pub tree_is : TreeIsTheGrammars
 tree_is tokens x = (tree_sound tokens x, tree_complete tokens x)
-
-some_is : {A : Type 0} (a b : A) → Some a ≡ Some b → a ≡ b
-some_is a b e = cc
 
 pub one_tree : TreesAreOne
 one_tree tokens one other a b = some_is one other (sym (tree_complete tokens one a) ∙ tree_complete tokens other b)

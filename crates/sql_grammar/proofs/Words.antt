@@ -1,5 +1,5 @@
 -- Words that are no keywords tell which production it is.
-use Rattle.std.proofs.Common.{◌≡◌, ℕ, Bool, true, false, not, ◌&&◌, ◌||◌, cond, List, [], ◌∷◌, ◌++◌, Option, Some, None, is_some, ◌⊎◌, inl, inr, refl, sym, ◌∙◌, ap, subst}
+use Rattle.std.proofs.Common.{◌≡◌, ℕ, Bool, true, false, not, ◌||◌, cond, List, [], ◌∷◌, ◌++◌, Option, Some, None, is_some, ◌⊎◌, inl, inr, refl, sym, ◌∙◌, ap, subst}
 use Rattle.std.specs.List.{list_any, list_all}
 use Rattle.std.specs.Str.{bytes_eq}
 use Rattle.std.proofs.lemmas.Slice.Eq.{bytes_eq-Decides}
@@ -15,6 +15,7 @@ use Rattle.sql_grammar.specs.Making as make
 use Rattle.sql_grammar.specs.Grammar.{Reads}
 use Rattle.sql_grammar.specs.Parse.{next_reads}
 use Rattle.sql_grammar.proofs.Agreement.{Tells}
+use Rattle.sql_grammar.proofs.Sets.{not_and}
 
 abbrev reads_word : Token → List ℕ → Bool
 reads_word t word = is_some (make.word_in word t)
@@ -59,10 +60,6 @@ same_word l word other h k = absurd (cc)
 two_words : (word other : List ℕ) (t : Token) → reads_word t word ≡ true → reads_word t other ≡ true → bytes_eq word other ≡ true
 two_words word other t h k =
     same_word t.lexeme word other (word_read t word (make.lexeme_reads word t.lexeme) refl h) (word_read t other (make.lexeme_reads other t.lexeme) refl k)
-
-not_and : (x y : Bool) → (not x && y) ≡ true → (x ≡ false) × (y ≡ true)
-not_and true y e = absurd (cc)
-not_and false y e = (refl, e)
 
 other_step : (word w : List ℕ) (words : List (List ℕ)) (t : Token) (reads here : Bool) → reads_word t word ≡ reads → reads_word t w ≡ here → bytes_eq word w ≡ false
     → (list_any (reads_word t) words ≡ true → reads ≡ false) → (here || list_any (reads_word t) words) ≡ true → reads ≡ false

@@ -30,6 +30,7 @@ use Rattle.conversation.specs.declared.outcomes.Outcome as outcomes
 use Rattle.conversation.specs.declared.outcomes.Outcome.TheVariants as outcome
 use Rattle.conversation.specs.declared.sessions.Session.{Session}
 use Rattle.conversation.specs.declared.sessions.Session.TheVariants as session
+use Rattle.conversation.proofs.Fitting.{fit_fits}
 use Rattle.enc_types.specs.UsedAlone.{used_among, is_used, alone}
 use Rattle.engine.proofs.Simulating.{step_alike}
 use Rattle.engine.specs.Queries.{found_in}
@@ -55,7 +56,7 @@ use Rattle.wire_messages.specs.declared.requests.Request.TheVariants as request
 use Rattle.plain_meaning.specs.Reference.{Came, came, declared, means}
 use Rattle.plain_meaning.specs.Reference as plain
 use Rattle.plain_meaning.specs.Steps.{number_of, turn, talk}
-use Rattle.plain_meaning.proofs.Agreement.{Laws, encs_alone, plain_atoms_of, done_alone, is_ready, is_held, keys_told, first_fits, stays}
+use Rattle.plain_meaning.proofs.Agreement.{Laws, encs_alone, plain_atoms_of, done_alone, is_ready, is_held, keys_told, stays}
 use Rattle.plain_meaning.proofs.Between.{beside, IsSendableParam, DescribedAs, HoldsBatch, Holds, AllHold, all_newer, hold_place, hold_set}
 use Rattle.plain_meaning.proofs.Growing.{step_grows}
 use Rattle.plain_meaning.proofs.History.{Known}
@@ -355,7 +356,7 @@ module _ (laws : Laws) (keys : KeyMap) (literals : List Entry) (twins : AreTwinL
           rw unfit (prints (outcome.Failed f) (outcome.Failed f) refl session.Idle session.Idle n m left right a b tt tt rest)
       begun_goes None e params rest =
           let encs = encs_of_description one_batch (describe w.catalog text (declared one_batch)) in
-          let fit : why_unfit two_batch ≡ None = other_fits one_batch two_batch refl e (twins_fit literals twins encs ps qs (all_fit ps (first_fits one_batch e)) params) in
+          let fit : why_unfit two_batch ≡ None = other_fits one_batch two_batch refl e (twins_fit literals twins encs ps qs (all_fit ps (fit_fits one_batch e)) params) in
           let same : declared two_batch ≡ declared one_batch = declarations_same (Listing literals) encs ps qs params in
           rw fit (subst Describes (sym same) (described_goes e fit (understood w.catalog text (declared one_batch)) refl same params rest))
 

@@ -12,9 +12,9 @@ names_kept same called named kept (p ∷ ps) =
     rw (e, f) refl
 
 -- as many, and their names differ
-pub copies_differ : {P T : Type 0} (same : P → T) (called : P → List ℕ) (named : T → List ℕ) → ((p : P) → named (same p) ≡ called p) → (ps : List P)
-    → length ps ≤ 128 → IsTrue (all_differ (map called ps)) → (length (map same ps) ≤ 128) × IsTrue (all_differ (map named (map same ps)))
-copies_differ same called named kept ps few differ =
+pub copies_differ : {P T : Type 0} (same : P → T) (called : P → List ℕ) (named : T → List ℕ) → ((p : P) → named (same p) ≡ called p) → (ps : List P) (copies : List T)
+    → copies ≡ map same ps → length ps ≤ 128 → IsTrue (all_differ (map called ps)) → (length copies ≤ 128) × IsTrue (all_differ (map named copies))
+copies_differ same called named kept ps copies e few differ =
     let n = length-map ps same in
-    let e = names_kept same called named kept ps in
-    rw (n, e) (few, differ)
+    let k = names_kept same called named kept ps in
+    rw (e, n, k) (few, differ)
