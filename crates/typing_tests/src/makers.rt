@@ -1,0 +1,299 @@
+// Bound statements of their parts, `None` where there is no memory.
+
+use crate::small::{Ask, COLUMNS, DET, Form, Kind, PARAMS, Part, RND, Side};
+use ae_base::lists::Seq;
+use ae_base::names::{Name, Title};
+use ae_base::tables::TableDef;
+use ae_base::texts::Txt;
+use ae_base::types::{Enc, KeyId};
+use ae_base::values::{Datum, Value};
+use sql_tree::bound::{
+    Bound, BoundAssignment, BoundCondition, BoundDelete, BoundInsert, BoundItem, BoundItemValue,
+    BoundJoin, BoundOperand, BoundOrderKey, BoundQuery, BoundRow, BoundSource, BoundStatement,
+    BoundTable, BoundUpdate, ColumnSite, PlaceAt,
+};
+use sql_tree::conditions::Condition;
+use sql_tree::operands::{Operand, Term};
+use std::alloc::{AllocError, Global};
+
+fn operand(at: u32, side: Side) -> BoundOperand {
+    match side {
+        Side::Column(column) => Operand::Column { at, column },
+        Side::Param(param) => Operand::Param { at, param },
+        Side::Null(_) => Operand::Literal {
+            at,
+            value: Value::Null,
+        },
+        Side::One => Operand::Literal {
+            at,
+            value: Value::Is(Datum::Num(1)),
+        },
+    }
+}
+
+// A sum whose operator stands at a place.
+fn sum(alloc: Global, at: u32, x: Side, y: Side) -> Result<BoundOperand, AllocError> {
+    let terms = vec![in alloc;
+        Term::Plus {
+            at,
+            operand: operand(at.saturating_add(1), y),
+        },
+    ]?;
+    let first = Box::new(alloc, operand(at.saturating_sub(1), x))?;
+    Ok(Operand::Sum { first, terms })
+}
+
+// Puts the condition of a part at the end, if it is one of a condition.
+fn push_condition(
+    alloc: Global,
+    part: &Part,
+    conditions: &mut Vec<BoundCondition>,
+) -> Result<(), AllocError> {
+    let at = part.0;
+    let before = at.saturating_sub(1);
+    let behind = at.saturating_add(1);
+    let condition = match part.1 {
+        Ask::Compare(comparison, x, y) => Condition::Compare {
+            at,
+            comparison,
+            left: operand(before, x),
+            right: operand(behind, y),
+        },
+        Ask::In(x, y, z) => Condition::In {
+            at,
+            negated: false,
+            list: vec![in alloc; operand(behind, y), operand(at.saturating_add(2), z)]?,
+            operand: operand(before, x),
+        },
+        Ask::Minus(x) => Condition::IsNull {
+            negated: true,
+            operand: Operand::Minus {
+                at,
+                operand: Box::new(alloc, operand(behind, x))?,
+            },
+        },
+        Ask::Plus(x, y) => Condition::IsNull {
+            negated: false,
+            operand: sum(alloc, at, x, y)?,
+        },
+        _ => return Ok(()),
+    };
+    conditions.push(condition)?;
+    Ok(())
+}
+
+fn conditions(alloc: Global, parts: &[Part]) -> Result<Vec<BoundCondition>, AllocError> {
+    let mut conditions = Vec::new(alloc);
+    for part in parts {
+        push_condition(alloc, part, &mut conditions)?;
+    }
+    Ok(conditions)
+}
+
+fn keys(alloc: Global, parts: &[Part]) -> Result<Seq<PlaceAt>, AllocError> {
+    let mut keys = Seq::new(alloc);
+    for part in parts {
+        if let Ask::Key(place) = part.1 {
+            keys.push(PlaceAt { at: part.0, place })?;
+        }
+    }
+    Ok(keys)
+}
+
+fn order(alloc: Global, parts: &[Part]) -> Result<Seq<BoundOrderKey>, AllocError> {
+    let mut keys = Seq::new(alloc);
+    for part in parts {
+        if let Ask::Order(place) = part.1 {
+            keys.push(BoundOrderKey {
+                at: part.0,
+                place,
+                descending: false,
+            })?;
+        }
+    }
+    Ok(keys)
+}
+
+// The place of DISTINCT.
+fn distinct(parts: &[Part]) -> Option<u32> {
+    for part in parts {
+        if let Ask::Distinct(_) = part.1 {
+            return Some(part.0);
+        }
+    }
+    None
+}
+
+// The items of a query.
+fn items(alloc: Global, parts: &[Part]) -> Result<Seq<BoundItem>, AllocError> {
+    let mut items = Seq::new(alloc);
+    for part in parts {
+        let value = match part.1 {
+            Ask::Distinct(x) => operand(part.0.saturating_add(1), x),
+            Ask::Item(x, y) => sum(alloc, part.0, x, y)?,
+            _ => operand(part.0, Side::One),
+        };
+        items.push(BoundItem {
+            title: Title::empty(alloc),
+            value: BoundItemValue::Value(value),
+        })?;
+    }
+    Ok(items)
+}
+
+fn name(alloc: Global) -> Option<Name> {
+    Name::from_txt(Txt::copied(alloc, "t").ok()?)
+}
+
+fn source(alloc: Global) -> Option<BoundSource> {
+    Some(BoundSource {
+        table: name(alloc)?,
+        width: COLUMNS.len(),
+    })
+}
+
+fn join(alloc: Global, parts: &[Part]) -> Option<Seq<BoundJoin>> {
+    let source = source(alloc)?;
+    let on = Condition::AllOf(conditions(alloc, parts).ok()?);
+    Some(Seq::from_vec(vec![in alloc; BoundJoin { source, on }].ok()?))
+}
+
+fn query(alloc: Global, parts: &[Part]) -> Option<BoundQuery> {
+    let first = parts.len().min(1);
+    let group_by = keys(alloc, parts).ok()?;
+    let order_by = order(alloc, parts).ok()?;
+    let from = source(alloc)?;
+    let items = items(alloc, parts).ok()?;
+    let joins = join(alloc, &parts[..first])?;
+    let conditions = conditions(alloc, &parts[first..]).ok()?;
+    Some(BoundQuery {
+        distinct: distinct(parts),
+        top: None,
+        items,
+        from,
+        joins,
+        filter: Some(Condition::AllOf(conditions)),
+        group_by,
+        order_by,
+    })
+}
+
+fn value(alloc: Global, part: &Part) -> Result<BoundOperand, AllocError> {
+    match part.1 {
+        Ask::Put(_, value) => Ok(operand(part.0, value)),
+        Ask::PutSum(_, x, y) => sum(alloc, part.0.saturating_add(1), x, y),
+        _ => Ok(operand(part.0, Side::One)),
+    }
+}
+
+fn row(alloc: Global, first: &Part, second: &Part) -> Result<BoundRow, AllocError> {
+    let values = vec![in alloc; value(alloc, first)?, value(alloc, second)?]?;
+    Ok(BoundRow {
+        at: first.0,
+        values: Seq::from_vec(values),
+    })
+}
+
+fn rows(alloc: Global, parts: &[Part]) -> Result<Seq<BoundRow>, AllocError> {
+    let mut rows = Seq::new(alloc);
+    for i in 0..parts.len() / 2 {
+        rows.push(row(alloc, &parts[2 * i], &parts[2 * i + 1])?)?;
+    }
+    Ok(rows)
+}
+
+fn insert(alloc: Global, parts: &[Part]) -> Option<BoundInsert> {
+    let named = Seq::from_vec(vec![in alloc; DET, RND].ok()?);
+    let table = name(alloc)?;
+    let rows = rows(alloc, parts).ok()?;
+    Some(BoundInsert { table, named, rows })
+}
+
+fn assignments(alloc: Global, parts: &[Part]) -> Result<Seq<BoundAssignment>, AllocError> {
+    let mut assignments = Seq::new(alloc);
+    for part in parts {
+        if let Ask::Set(place, value) = part.1 {
+            assignments.push(BoundAssignment {
+                at: part.0,
+                place,
+                value: operand(part.0.saturating_add(1), value),
+            })?;
+        }
+    }
+    Ok(assignments)
+}
+
+fn update(alloc: Global, parts: &[Part]) -> Option<BoundUpdate> {
+    let table = name(alloc)?;
+    let assignments = assignments(alloc, parts).ok()?;
+    let conditions = conditions(alloc, parts).ok()?;
+    Some(BoundUpdate {
+        table,
+        assignments,
+        filter: Some(Condition::AllOf(conditions)),
+    })
+}
+
+fn delete(alloc: Global, parts: &[Part]) -> Option<BoundDelete> {
+    let table = name(alloc)?;
+    let conditions = conditions(alloc, parts).ok()?;
+    let any = Box::new(alloc, Condition::AnyOf(conditions)).ok()?;
+    Some(BoundDelete {
+        table,
+        filter: Some(Condition::Not(any)),
+    })
+}
+
+fn table(alloc: Global, parts: &[Part]) -> Option<BoundTable> {
+    let keyed = keys(alloc, parts).ok()?;
+    Some(BoundTable {
+        def: TableDef {
+            name: name(alloc)?,
+            columns: Seq::new(alloc),
+            uniques: Seq::new(alloc),
+        },
+        keyed,
+    })
+}
+
+fn statement(alloc: Global, form: Form, parts: &[Part]) -> Option<BoundStatement> {
+    match form {
+        Form::Query => Some(BoundStatement::Select(query(alloc, parts)?)),
+        Form::Insert => Some(BoundStatement::Insert(insert(alloc, parts)?)),
+        Form::Update => Some(BoundStatement::Update(update(alloc, parts)?)),
+        Form::Delete => Some(BoundStatement::Delete(delete(alloc, parts)?)),
+        Form::Create => Some(BoundStatement::CreateTable(table(alloc, parts)?)),
+    }
+}
+
+fn enc(kind: Kind) -> Option<Enc> {
+    match kind {
+        Kind::Plain => Some(Enc::Plain),
+        Kind::Det(number) => Some(Enc::Det(KeyId::from_number(number)?)),
+        Kind::Rnd(number) => Some(Enc::Rnd(KeyId::from_number(number)?)),
+    }
+}
+
+fn columns(alloc: Global) -> Option<Seq<ColumnSite>> {
+    let mut columns = Seq::new(alloc);
+    for (ty, kind) in &COLUMNS {
+        columns
+            .push(ColumnSite {
+                ty: *ty,
+                enc: enc(*kind)?,
+            })
+            .ok()?;
+    }
+    Some(columns)
+}
+
+pub(crate) fn bound(alloc: Global, form: Form, parts: &[Part]) -> Option<Bound> {
+    let params = Seq::from_vec(PARAMS.to_vec(alloc).ok()?);
+    let columns = columns(alloc)?;
+    let statement = statement(alloc, form, parts)?;
+    Some(Bound {
+        params,
+        columns,
+        statement,
+    })
+}

@@ -1,0 +1,144 @@
+// Every typing of a statement, tried one after the other.
+
+use crate::small::{Answer, Ask, COLUMNS, Kind, PARAMS, Part, Side};
+use ae_base::types::Ty;
+use sql_tree::conditions::Comparison;
+
+// What an open site may be.
+const KINDS: [Kind; 5] = [
+    Kind::Plain,
+    Kind::Det(1),
+    Kind::Rnd(1),
+    Kind::Det(2),
+    Kind::Rnd(2),
+];
+
+// How many typings there are.
+pub(crate) const ALL: u32 = 3125;
+
+// How many there are in which the second NULL is plain.
+pub(crate) const OF_ONE_NULL: u32 = 625;
+
+// The kinds of the open sites: of the three parameters, and of two NULLs.
+#[derive(Clone, Copy)]
+struct Typing {
+    kinds: [Kind; 5],
+}
+
+impl Typing {
+    // The typing of a number, whose digits to the base of 5 are the kinds.
+    fn of_choice(choice: u32) -> Typing {
+        let mut rest = choice;
+        let mut kinds = [Kind::Plain; 5];
+        for kind in &mut kinds {
+            *kind = KINDS[(rest % 5) as usize];
+            rest /= 5;
+        }
+        Typing { kinds }
+    }
+
+    fn of(&self, side: Side) -> Kind {
+        match side {
+            Side::Column(place) => COLUMNS[place % 5].1,
+            Side::Param(place) => self.kinds[place % 3],
+            Side::Null(place) => self.kinds[3 + place % 2],
+            Side::One => Kind::Plain,
+        }
+    }
+
+    fn is_plain(&self, side: Side) -> bool {
+        self.of(side) == Kind::Plain
+    }
+
+    fn isnt_rnd(&self, side: Side) -> bool {
+        !matches!(self.of(side), Kind::Rnd(_))
+    }
+
+    // One kind, and one declared type where they are encrypted.
+    fn are_same(&self, x: Side, y: Side) -> bool {
+        self.of(x) == self.of(y) && (self.is_plain(x) || are_alike(x, y))
+    }
+
+    // Whether what is asked holds.
+    fn meets(&self, ask: Ask) -> bool {
+        match ask {
+            Ask::Compare(Comparison::Equal | Comparison::NotEqual, x, y) => {
+                self.are_same(x, y) && self.isnt_rnd(x)
+            }
+            Ask::In(x, y, z) => self.are_same(x, y) && self.are_same(x, z) && self.isnt_rnd(x),
+            Ask::Compare(_, x, y) | Ask::Plus(x, y) | Ask::Item(x, y) | Ask::Operator(x, y) => {
+                self.is_plain(x) && self.is_plain(y)
+            }
+            Ask::Minus(x) => self.is_plain(x),
+            Ask::Order(column) => self.is_plain(Side::Column(column)),
+            Ask::Distinct(x) => self.isnt_rnd(x),
+            Ask::Key(column) => self.isnt_rnd(Side::Column(column)),
+            Ask::Put(column, value) | Ask::Set(column, value) => {
+                self.are_same(Side::Column(column), value)
+            }
+            Ask::PutSum(column, _, _) => self.are_same(Side::Column(column), Side::One),
+        }
+    }
+
+    // How many of the parts in front hold, up to one that doesn't.
+    fn front(&self, parts: &[Part]) -> usize {
+        for i in 0..parts.len() {
+            if !self.meets(parts[i].1) {
+                return i;
+            }
+        }
+        parts.len()
+    }
+
+    // What two typings have in common, else plain.
+    fn common(&self, other: &Typing) -> Typing {
+        let mut kinds = self.kinds;
+        for i in 0..5 {
+            if kinds[i] != other.kinds[i] {
+                kinds[i] = Kind::Plain;
+            }
+        }
+        Typing { kinds }
+    }
+}
+
+fn type_of(side: Side) -> Option<Ty> {
+    match side {
+        Side::Column(place) => Some(COLUMNS[place % 5].0),
+        Side::Param(place) => Some(PARAMS[place % 3]),
+        Side::Null(_) | Side::One => None,
+    }
+}
+
+fn are_alike(x: Side, y: Side) -> bool {
+    match (type_of(x), type_of(y)) {
+        (Some(s), Some(t)) => s == t,
+        _ => true,
+    }
+}
+
+// What every typing of some parts has in common, or the place of the first part such that those up
+// to and with it have none. The parts stand in the order of their places, and so many typings are
+// tried.
+pub(crate) fn searched(parts: &[Part], count: u32) -> Option<Answer> {
+    let mut longest = 0;
+    let mut least = None;
+    for choice in 0..count {
+        let typing = Typing::of_choice(choice);
+        longest = typing.front(parts).max(longest);
+        if typing.front(parts) == parts.len() {
+            least = Some(match least {
+                Some(known) => typing.common(&known),
+                None => typing,
+            });
+        }
+    }
+    match least {
+        Some(typing) if typing.front(parts) == parts.len() => {
+            let [p, q, s, _, _] = typing.kinds;
+            Some(Answer::Typed([p, q, s]))
+        }
+        Some(_) => None,
+        None => Some(Answer::Clash(parts.get(longest)?.0)),
+    }
+}
