@@ -1,9 +1,9 @@
 // What is inferred, beside the search.
 
-use crate::cases::{CASES, CONDITIONS};
+use crate::cases::{OF_DELETES, OF_INSERTS, OF_QUERIES, OF_TABLES, OF_UPDATES, WORKED};
 use crate::makers::bound;
-use crate::search::{ALL, OF_ONE_NULL, searched};
-use crate::small::{Answer, Ask, Case, Form, Kind, Part};
+use crate::search::searched;
+use crate::small::{Answer, Ask, Form, Kind, Part};
 use ae_base::refusals::Refusal;
 use ae_base::types::Enc;
 use inference::infer::infer;
@@ -35,23 +35,22 @@ fn inferred(alloc: Global, form: Form, parts: &[Part]) -> Option<Answer> {
 }
 
 // The place of the first statement of which something else is found or inferred than is said.
-fn first_apart(alloc: Global, cases: &[Case]) -> Option<usize> {
-    for i in 0..cases.len() {
-        let case = &cases[i];
-        let answer = Some(case.answer);
-        if searched(case.parts, ALL) != answer || inferred(alloc, case.form, case.parts) != answer {
+fn first_apart(alloc: Global, worked: &[(Form, [Part; 2], Answer)]) -> Option<usize> {
+    for i in 0..worked.len() {
+        let (form, parts, answer) = worked[i];
+        if searched(&parts) != Some(answer) || inferred(alloc, form, &parts) != Some(answer) {
             return Some(i);
         }
     }
     None
 }
 
-// The places of two conditions of which something else is inferred than is found.
-fn pair_apart(alloc: Global, conditions: &[Ask]) -> Option<(usize, usize)> {
-    for i in 0..conditions.len() {
-        for j in 0..conditions.len() {
-            let parts = [(10, conditions[i]), (20, conditions[j])];
-            if searched(&parts, OF_ONE_NULL) != inferred(alloc, Form::Query, &parts) {
+// The places of two parts of which something else is inferred than is found.
+fn pair_apart(alloc: Global, form: Form, asks: &[Ask]) -> Option<(usize, usize)> {
+    for i in 0..asks.len() {
+        for j in 0..asks.len() {
+            let parts = [(10, asks[i]), (20, asks[j])];
+            if searched(&parts) != inferred(alloc, form, &parts) {
                 return Some((i, j));
             }
         }
@@ -60,13 +59,18 @@ fn pair_apart(alloc: Global, conditions: &[Ask]) -> Option<(usize, usize)> {
 }
 
 #[test]
-fn infers_what_is_found(rt: HostRuntime) -> Result<(), Fail> {
-    assert_eq!(rt; first_apart(rt.alloc(), &CASES), None);
+fn infers_what_is_said(rt: HostRuntime) -> Result<(), Fail> {
+    assert_eq!(rt; first_apart(rt.alloc(), &WORKED), None);
     Ok(())
 }
 
 #[test]
-fn infers_what_is_found_of_two_conditions(rt: HostRuntime) -> Result<(), Fail> {
-    assert_eq!(rt; pair_apart(rt.alloc(), &CONDITIONS), None);
+fn infers_what_is_found(rt: HostRuntime) -> Result<(), Fail> {
+    let alloc = rt.alloc();
+    assert_eq!(rt; pair_apart(alloc, Form::Query, &OF_QUERIES), None);
+    assert_eq!(rt; pair_apart(alloc, Form::Update, &OF_UPDATES), None);
+    assert_eq!(rt; pair_apart(alloc, Form::Insert, &OF_INSERTS), None);
+    assert_eq!(rt; pair_apart(alloc, Form::Delete, &OF_DELETES), None);
+    assert_eq!(rt; pair_apart(alloc, Form::Create, &OF_TABLES), None);
     Ok(())
 }

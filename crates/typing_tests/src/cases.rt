@@ -1,378 +1,87 @@
-// Statements over t (i, c, r) and v (o, b), and what is inferred of each.
+// What stands in statements over the tables t (i, c, r) and v (o, b).
 
 use crate::small::Answer::{Clash, Typed};
-use crate::small::Ask::{
-    Compare, Distinct, In, Item, Key, Minus, Operator, Order, Plus, Put, PutSum, Set,
-};
-use crate::small::Kind::{Det, Plain, Rnd};
+use crate::small::Ask::{Compare, Distinct, In, Item, Key, Minus, Order, Plus, Put, Set};
+use crate::small::Kind::{Det, Plain};
 use crate::small::Side::{Column, Null, One, Param};
-use crate::small::{Ask, Case, DET, Form, ID, OTHER, RND, WIDE};
+use crate::small::{Answer, Ask, DET, Form, ID, OTHER, Part, RND, WIDE};
 use sql_tree::conditions::Comparison::{Equal, Greater, GreaterEqual, Less, LessEqual, NotEqual};
 
-pub(crate) const CASES: [Case; 47] = [
-    // SELECT i FROM t JOIN v ON c = @p
-    Case {
-        form: Form::Query,
-        parts: &[(28, Compare(Equal, Column(DET), Param(0)))],
-        answer: Typed([Det(1), Plain, Plain]),
-    },
-    // SELECT i FROM t JOIN v ON c = @p WHERE r = @p
-    Case {
-        form: Form::Query,
-        parts: &[
-            (28, Compare(Equal, Column(DET), Param(0))),
-            (41, Compare(Equal, Column(RND), Param(0))),
+// Statements of two parts, and what is inferred of each.
+pub(crate) const WORKED: [(Form, [Part; 2], Answer); 8] = [
+    // SELECT i FROM t WHERE c = @p AND r = @p
+    (
+        Form::Query,
+        [
+            (24, Compare(Equal, Column(DET), Param(0))),
+            (35, Compare(Equal, Column(RND), Param(0))),
         ],
-        answer: Clash(41),
-    },
-    // SELECT i FROM t JOIN v ON @p = @q WHERE c = @q
-    Case {
-        form: Form::Query,
-        parts: &[
-            (29, Compare(Equal, Param(0), Param(1))),
-            (42, Compare(Equal, Column(DET), Param(1))),
+        Clash(35),
+    ),
+    // SELECT i FROM t WHERE @p = @q AND c = @q
+    (
+        Form::Query,
+        [
+            (25, Compare(Equal, Param(0), Param(1))),
+            (36, Compare(Equal, Column(DET), Param(1))),
         ],
-        answer: Typed([Det(1), Det(1), Plain]),
-    },
-    // SELECT i FROM t JOIN v ON @p = @q
-    Case {
-        form: Form::Query,
-        parts: &[(29, Compare(Equal, Param(0), Param(1)))],
-        answer: Typed([Plain, Plain, Plain]),
-    },
-    // SELECT i FROM t JOIN v ON c = 1
-    Case {
-        form: Form::Query,
-        parts: &[(28, Compare(Equal, Column(DET), One))],
-        answer: Clash(28),
-    },
-    // SELECT i FROM t JOIN v ON c = @s
-    Case {
-        form: Form::Query,
-        parts: &[(28, Compare(Equal, Column(DET), Param(2)))],
-        answer: Clash(28),
-    },
-    // SELECT i FROM t JOIN v ON b = @s
-    Case {
-        form: Form::Query,
-        parts: &[(28, Compare(Equal, Column(WIDE), Param(2)))],
-        answer: Typed([Plain, Plain, Det(1)]),
-    },
-    // SELECT i FROM t JOIN v ON @p = @s
-    Case {
-        form: Form::Query,
-        parts: &[(29, Compare(Equal, Param(0), Param(2)))],
-        answer: Typed([Plain, Plain, Plain]),
-    },
-    // SELECT i FROM t JOIN v ON @p = @s WHERE c = @p
-    Case {
-        form: Form::Query,
-        parts: &[
-            (29, Compare(Equal, Param(0), Param(2))),
-            (42, Compare(Equal, Column(DET), Param(0))),
+        Typed([Det(1), Det(1), Plain]),
+    ),
+    // SELECT i FROM t WHERE @p = @q AND i = 1
+    (
+        Form::Query,
+        [
+            (25, Compare(Equal, Param(0), Param(1))),
+            (36, Compare(Equal, Column(ID), One)),
         ],
-        answer: Clash(42),
-    },
-    // SELECT i FROM t JOIN v ON c = NULL WHERE @p = NULL
-    Case {
-        form: Form::Query,
-        parts: &[
-            (28, Compare(Equal, Column(DET), Null(0))),
-            (44, Compare(Equal, Param(0), Null(1))),
+        Typed([Plain, Plain, Plain]),
+    ),
+    // SELECT i FROM t WHERE c = 1 AND c = @p
+    (
+        Form::Query,
+        [
+            (24, Compare(Equal, Column(DET), One)),
+            (34, Compare(Equal, Column(DET), Param(0))),
         ],
-        answer: Typed([Plain, Plain, Plain]),
-    },
-    // SELECT i FROM t JOIN v ON r = r
-    Case {
-        form: Form::Query,
-        parts: &[(28, Compare(Equal, Column(RND), Column(RND)))],
-        answer: Clash(28),
-    },
-    // SELECT i FROM t JOIN v ON NULL = r
-    Case {
-        form: Form::Query,
-        parts: &[(31, Compare(Equal, Null(0), Column(RND)))],
-        answer: Clash(31),
-    },
-    // SELECT i FROM t JOIN v ON c < @p
-    Case {
-        form: Form::Query,
-        parts: &[(28, Compare(Less, Column(DET), Param(0)))],
-        answer: Clash(28),
-    },
-    // SELECT i FROM t JOIN v ON c = @p WHERE @q = @p AND @q < 1
-    Case {
-        form: Form::Query,
-        parts: &[
-            (28, Compare(Equal, Column(DET), Param(0))),
-            (42, Compare(Equal, Param(1), Param(0))),
-            (54, Compare(Less, Param(1), One)),
+        Clash(24),
+    ),
+    // SELECT i FROM t WHERE i = 1 AND c = @s
+    (
+        Form::Query,
+        [
+            (24, Compare(Equal, Column(ID), One)),
+            (34, Compare(Equal, Column(DET), Param(2))),
         ],
-        answer: Clash(54),
-    },
-    // SELECT i FROM t JOIN v ON @p = @q WHERE @q = o AND i = i AND @p <> c
-    Case {
-        form: Form::Query,
-        parts: &[
-            (29, Compare(Equal, Param(0), Param(1))),
-            (43, Compare(Equal, Param(1), Column(OTHER))),
-            (53, Compare(Equal, Column(ID), Column(ID))),
-            (64, Compare(NotEqual, Param(0), Column(DET))),
+        Clash(34),
+    ),
+    // SELECT i FROM t JOIN v ON c = o WHERE i = 1
+    (
+        Form::Query,
+        [
+            (28, Compare(Equal, Column(DET), Column(OTHER))),
+            (40, Compare(Equal, Column(ID), One)),
         ],
-        answer: Clash(64),
-    },
-    // SELECT i FROM t JOIN v ON c IN (@p, @q)
-    Case {
-        form: Form::Query,
-        parts: &[(28, In(Column(DET), Param(0), Param(1)))],
-        answer: Typed([Det(1), Det(1), Plain]),
-    },
-    // SELECT i FROM t JOIN v ON @p IN (@q, c)
-    Case {
-        form: Form::Query,
-        parts: &[(29, In(Param(0), Param(1), Column(DET)))],
-        answer: Typed([Det(1), Det(1), Plain]),
-    },
-    // SELECT i FROM t JOIN v ON c IN (@p, 1)
-    Case {
-        form: Form::Query,
-        parts: &[(28, In(Column(DET), Param(0), One))],
-        answer: Clash(28),
-    },
-    // SELECT i FROM t JOIN v ON r IN (@p, NULL)
-    Case {
-        form: Form::Query,
-        parts: &[(28, In(Column(RND), Param(0), Null(0)))],
-        answer: Clash(28),
-    },
-    // SELECT i FROM t JOIN v ON -@p IS NULL WHERE c = @p
-    Case {
-        form: Form::Query,
-        parts: &[
-            (26, Minus(Param(0))),
-            (46, Compare(Equal, Column(DET), Param(0))),
+        Clash(28),
+    ),
+    // SELECT DISTINCT r FROM t WHERE i = 1
+    (
+        Form::Query,
+        [
+            (7, Distinct(Column(RND))),
+            (33, Compare(Equal, Column(ID), One)),
         ],
-        answer: Clash(46),
-    },
-    // SELECT i FROM t JOIN v ON @p + @q IS NULL WHERE i = @p
-    Case {
-        form: Form::Query,
-        parts: &[
-            (29, Plus(Param(0), Param(1))),
-            (50, Compare(Equal, Column(ID), Param(0))),
-        ],
-        answer: Typed([Plain, Plain, Plain]),
-    },
-    // SELECT i FROM t JOIN v ON @p >= @q WHERE c = @q
-    Case {
-        form: Form::Query,
-        parts: &[
-            (29, Compare(GreaterEqual, Param(0), Param(1))),
-            (43, Compare(Equal, Column(DET), Param(1))),
-        ],
-        answer: Clash(43),
-    },
-    // SELECT i FROM t JOIN v ON c = o
-    Case {
-        form: Form::Query,
-        parts: &[(28, Compare(Equal, Column(DET), Column(OTHER)))],
-        answer: Clash(28),
-    },
-    // SELECT i FROM t JOIN v ON c = b
-    Case {
-        form: Form::Query,
-        parts: &[(28, Compare(Equal, Column(DET), Column(WIDE)))],
-        answer: Clash(28),
-    },
-    // SELECT i FROM t JOIN v ON c = c
-    Case {
-        form: Form::Query,
-        parts: &[(28, Compare(Equal, Column(DET), Column(DET)))],
-        answer: Typed([Plain, Plain, Plain]),
-    },
-    // SELECT i FROM t JOIN v ON c = @p WHERE @p = o
-    Case {
-        form: Form::Query,
-        parts: &[
-            (28, Compare(Equal, Column(DET), Param(0))),
-            (42, Compare(Equal, Param(0), Column(OTHER))),
-        ],
-        answer: Clash(42),
-    },
-    // SELECT i FROM t JOIN v ON c = @p WHERE b = @s AND i <= @q
-    Case {
-        form: Form::Query,
-        parts: &[
-            (28, Compare(Equal, Column(DET), Param(0))),
-            (41, Compare(Equal, Column(WIDE), Param(2))),
-            (52, Compare(LessEqual, Column(ID), Param(1))),
-        ],
-        answer: Typed([Det(1), Plain, Det(1)]),
-    },
-    // SELECT DISTINCT c, r FROM t
-    Case {
-        form: Form::Query,
-        parts: &[(7, Distinct(Column(DET))), (7, Distinct(Column(RND)))],
-        answer: Clash(7),
-    },
-    // SELECT DISTINCT c, @p FROM t JOIN v ON c = @p
-    Case {
-        form: Form::Query,
-        parts: &[
-            (7, Distinct(Column(DET))),
-            (7, Distinct(Param(0))),
-            (41, Compare(Equal, Column(DET), Param(0))),
-        ],
-        answer: Typed([Det(1), Plain, Plain]),
-    },
-    // SELECT @p + 1 AS n FROM t JOIN v ON c = @p
-    Case {
-        form: Form::Query,
-        parts: &[
-            (10, Item(Param(0), One)),
-            (38, Compare(Equal, Column(DET), Param(0))),
-        ],
-        answer: Clash(38),
-    },
-    // SELECT c FROM t JOIN v ON i = @p GROUP BY c
-    Case {
-        form: Form::Query,
-        parts: &[(28, Compare(Equal, Column(ID), Param(0))), (42, Key(DET))],
-        answer: Typed([Plain, Plain, Plain]),
-    },
-    // SELECT r FROM t GROUP BY r
-    Case {
-        form: Form::Query,
-        parts: &[(25, Key(RND))],
-        answer: Clash(25),
-    },
-    // SELECT i FROM t JOIN v ON c = @p ORDER BY i
-    Case {
-        form: Form::Query,
-        parts: &[(28, Compare(Equal, Column(DET), Param(0))), (42, Order(ID))],
-        answer: Typed([Det(1), Plain, Plain]),
-    },
-    // SELECT c FROM t ORDER BY c
-    Case {
-        form: Form::Query,
-        parts: &[(25, Order(DET))],
-        answer: Clash(25),
-    },
-    // INSERT INTO t (c, r) VALUES (@p, @q), (NULL, NULL)
-    Case {
-        form: Form::Insert,
-        parts: &[
-            (29, Put(DET, Param(0))),
-            (33, Put(RND, Param(1))),
-            (39, Put(DET, Null(0))),
-            (45, Put(RND, Null(1))),
-        ],
-        answer: Typed([Det(1), Rnd(1), Plain]),
-    },
-    // INSERT INTO t (c, r) VALUES (@p, @q), (NULL, @p)
-    Case {
-        form: Form::Insert,
-        parts: &[
-            (29, Put(DET, Param(0))),
-            (33, Put(RND, Param(1))),
-            (39, Put(DET, Null(0))),
-            (45, Put(RND, Param(0))),
-        ],
-        answer: Clash(45),
-    },
-    // INSERT INTO t (c, r) VALUES (@s, NULL)
-    Case {
-        form: Form::Insert,
-        parts: &[(29, Put(DET, Param(2))), (33, Put(RND, Null(0)))],
-        answer: Clash(29),
-    },
-    // INSERT INTO t (c, r) VALUES (@p, @p + 1)
-    Case {
-        form: Form::Insert,
-        parts: &[
-            (29, Put(DET, Param(0))),
-            (33, PutSum(RND, Param(0), One)),
-            (36, Operator(Param(0), One)),
-        ],
-        answer: Clash(33),
-    },
-    // UPDATE t SET c = @p WHERE c IN (@q, NULL)
-    Case {
-        form: Form::Update,
-        parts: &[
-            (15, Set(DET, Param(0))),
-            (28, In(Column(DET), Param(1), Null(0))),
-        ],
-        answer: Typed([Det(1), Det(1), Plain]),
-    },
-    // UPDATE t SET r = @p WHERE c = @q
-    Case {
-        form: Form::Update,
-        parts: &[
-            (15, Set(RND, Param(0))),
-            (28, Compare(Equal, Column(DET), Param(1))),
-        ],
-        answer: Typed([Rnd(1), Det(1), Plain]),
-    },
-    // UPDATE t SET c = @p WHERE @p = 1
-    Case {
-        form: Form::Update,
-        parts: &[
-            (15, Set(DET, Param(0))),
-            (29, Compare(Equal, Param(0), One)),
-        ],
-        answer: Clash(29),
-    },
-    // UPDATE t SET i = 1, r = NULL, r = r
-    Case {
-        form: Form::Update,
-        parts: &[
-            (15, Set(ID, One)),
-            (22, Set(RND, Null(0))),
-            (32, Set(RND, Column(RND))),
-        ],
-        answer: Typed([Plain, Plain, Plain]),
-    },
-    // UPDATE t SET c = r
-    Case {
-        form: Form::Update,
-        parts: &[(15, Set(DET, Column(RND)))],
-        answer: Clash(15),
-    },
-    // DELETE FROM t WHERE NOT (c <> @p OR @q = @p)
-    Case {
-        form: Form::Delete,
-        parts: &[
-            (27, Compare(NotEqual, Column(DET), Param(0))),
-            (39, Compare(Equal, Param(1), Param(0))),
-        ],
-        answer: Typed([Det(1), Det(1), Plain]),
-    },
-    // DELETE FROM t WHERE NOT (c <> @p OR r = @p)
-    Case {
-        form: Form::Delete,
-        parts: &[
-            (27, Compare(NotEqual, Column(DET), Param(0))),
-            (38, Compare(Equal, Column(RND), Param(0))),
-        ],
-        answer: Clash(38),
-    },
-    // CREATE TABLE k (i INT UNIQUE, c .., UNIQUE (c, i))
-    Case {
-        form: Form::Create,
-        parts: &[(22, Key(ID)), (44, Key(DET)), (47, Key(ID))],
-        answer: Typed([Plain, Plain, Plain]),
-    },
-    // CREATE TABLE k (c .., r .., UNIQUE (c, r))
-    Case {
-        form: Form::Create,
-        parts: &[(36, Key(DET)), (39, Key(RND))],
-        answer: Clash(39),
-    },
+        Clash(7),
+    ),
+    // INSERT INTO t (i, c) VALUES (1, NULL)
+    (
+        Form::Insert,
+        [(29, Put(ID, One)), (32, Put(DET, Null))],
+        Typed([Plain, Plain, Plain]),
+    ),
 ];
 
-// Conditions, of which each two are tried.
-pub(crate) const CONDITIONS: [Ask; 19] = [
+// Parts of queries.
+pub(crate) const OF_QUERIES: [Ask; 21] = [
     Compare(Equal, Column(DET), Param(0)),
     Compare(NotEqual, Param(0), Column(DET)),
     Compare(Equal, Column(RND), Param(0)),
@@ -380,16 +89,54 @@ pub(crate) const CONDITIONS: [Ask; 19] = [
     Compare(Equal, Param(1), Column(OTHER)),
     Compare(Equal, Param(0), Param(2)),
     Compare(Equal, Column(WIDE), Param(2)),
-    Compare(Equal, Column(DET), Null(0)),
+    Compare(Equal, Column(DET), Null),
     Compare(Equal, Param(1), One),
-    Compare(Equal, Param(1), Column(ID)),
-    In(Column(DET), Param(0), Param(1)),
-    In(Param(0), Param(1), Column(OTHER)),
-    In(Column(RND), Param(0), Param(1)),
     Compare(Less, Param(0), Param(1)),
     Compare(LessEqual, Column(ID), Param(0)),
+    In(Column(DET), Param(0), Param(1)),
+    In(Param(0), Param(1), Column(OTHER)),
     Minus(Param(1)),
     Plus(Param(0), Param(2)),
-    Compare(Greater, Column(DET), One),
-    Compare(NotEqual, Column(DET), Column(DET)),
+    Distinct(Column(RND)),
+    Item(Param(1), One),
+    Order(ID),
+    Order(DET),
+    Key(DET),
+    Key(RND),
 ];
+
+// Parts of UPDATE.
+pub(crate) const OF_UPDATES: [Ask; 10] = [
+    Set(DET, Param(0)),
+    Set(RND, Param(0)),
+    Set(RND, Column(RND)),
+    Set(DET, Param(2)),
+    Set(ID, One),
+    Set(RND, Null),
+    Compare(Equal, Column(DET), Param(1)),
+    Compare(GreaterEqual, Param(0), Column(ID)),
+    Compare(Equal, Param(1), Param(0)),
+    In(Param(1), Param(0), One),
+];
+
+// Values of INSERT.
+pub(crate) const OF_INSERTS: [Ask; 7] = [
+    Put(DET, Param(0)),
+    Put(RND, Param(0)),
+    Put(RND, Param(1)),
+    Put(ID, Param(1)),
+    Put(WIDE, Param(2)),
+    Put(DET, One),
+    Put(OTHER, Null),
+];
+
+// Conditions of DELETE.
+pub(crate) const OF_DELETES: [Ask; 4] = [
+    Compare(NotEqual, Column(DET), Param(0)),
+    Compare(Equal, Null, Column(RND)),
+    Compare(Equal, Param(1), Param(0)),
+    Compare(Greater, Column(DET), One),
+];
+
+// Columns of the keys of CREATE TABLE.
+pub(crate) const OF_TABLES: [Ask; 3] = [Key(ID), Key(DET), Key(RND)];

@@ -1,6 +1,6 @@
 // Bound statements of their parts, `None` where there is no memory.
 
-use crate::small::{Ask, COLUMNS, DET, Form, Kind, PARAMS, Part, RND, Side};
+use crate::small::{Ask, COLUMNS, Form, Kind, PARAMS, Part, Side};
 use ae_base::lists::Seq;
 use ae_base::names::{Name, Title};
 use ae_base::tables::TableDef;
@@ -20,7 +20,7 @@ fn operand(at: u32, side: Side) -> BoundOperand {
     match side {
         Side::Column(column) => Operand::Column { at, column },
         Side::Param(param) => Operand::Param { at, param },
-        Side::Null(_) => Operand::Literal {
+        Side::Null => Operand::Literal {
             at,
             value: Value::Null,
         },
@@ -178,34 +178,32 @@ fn query(alloc: Global, parts: &[Part]) -> Option<BoundQuery> {
     })
 }
 
-fn value(alloc: Global, part: &Part) -> Result<BoundOperand, AllocError> {
-    match part.1 {
-        Ask::Put(_, value) => Ok(operand(part.0, value)),
-        Ask::PutSum(_, x, y) => sum(alloc, part.0.saturating_add(1), x, y),
-        _ => Ok(operand(part.0, Side::One)),
+fn named(alloc: Global, parts: &[Part]) -> Result<Seq<usize>, AllocError> {
+    let mut named = Seq::new(alloc);
+    for part in parts {
+        if let Ask::Put(place, _) = part.1 {
+            named.push(place)?;
+        }
     }
+    Ok(named)
 }
 
-fn row(alloc: Global, first: &Part, second: &Part) -> Result<BoundRow, AllocError> {
-    let values = vec![in alloc; value(alloc, first)?, value(alloc, second)?]?;
-    Ok(BoundRow {
-        at: first.0,
-        values: Seq::from_vec(values),
-    })
-}
-
-fn rows(alloc: Global, parts: &[Part]) -> Result<Seq<BoundRow>, AllocError> {
-    let mut rows = Seq::new(alloc);
-    for i in 0..parts.len() / 2 {
-        rows.push(row(alloc, &parts[2 * i], &parts[2 * i + 1])?)?;
+// A row of the values of some parts.
+fn row(alloc: Global, parts: &[Part]) -> Result<BoundRow, AllocError> {
+    let mut values = Seq::new(alloc);
+    for part in parts {
+        if let Ask::Put(_, value) = part.1 {
+            values.push(operand(part.0, value))?;
+        }
     }
-    Ok(rows)
+    Ok(BoundRow { at: 0, values })
 }
 
 fn insert(alloc: Global, parts: &[Part]) -> Option<BoundInsert> {
-    let named = Seq::from_vec(vec![in alloc; DET, RND].ok()?);
+    let named = named(alloc, parts).ok()?;
     let table = name(alloc)?;
-    let rows = rows(alloc, parts).ok()?;
+    let row = row(alloc, parts).ok()?;
+    let rows = Seq::from_vec(vec![in alloc; row].ok()?);
     Some(BoundInsert { table, named, rows })
 }
 

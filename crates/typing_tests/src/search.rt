@@ -13,23 +13,20 @@ const KINDS: [Kind; 5] = [
     Kind::Rnd(2),
 ];
 
-// How many typings there are.
-pub(crate) const ALL: u32 = 3125;
+// How many choices the open sites have.
+const CHOICES: u32 = 625;
 
-// How many there are in which the second NULL is plain.
-pub(crate) const OF_ONE_NULL: u32 = 625;
-
-// The kinds of the open sites: of the three parameters, and of two NULLs.
+// The kinds of the open sites: of the three parameters and the NULL.
 #[derive(Clone, Copy)]
 struct Typing {
-    kinds: [Kind; 5],
+    kinds: [Kind; 4],
 }
 
 impl Typing {
     // The typing of a number, whose digits to the base of 5 are the kinds.
     fn of_choice(choice: u32) -> Typing {
         let mut rest = choice;
-        let mut kinds = [Kind::Plain; 5];
+        let mut kinds = [Kind::Plain; 4];
         for kind in &mut kinds {
             *kind = KINDS[(rest % 5) as usize];
             rest /= 5;
@@ -41,7 +38,7 @@ impl Typing {
         match side {
             Side::Column(place) => COLUMNS[place % 5].1,
             Side::Param(place) => self.kinds[place % 3],
-            Side::Null(place) => self.kinds[3 + place % 2],
+            Side::Null => self.kinds[3],
             Side::One => Kind::Plain,
         }
     }
@@ -66,7 +63,7 @@ impl Typing {
                 self.are_same(x, y) && self.isnt_rnd(x)
             }
             Ask::In(x, y, z) => self.are_same(x, y) && self.are_same(x, z) && self.isnt_rnd(x),
-            Ask::Compare(_, x, y) | Ask::Plus(x, y) | Ask::Item(x, y) | Ask::Operator(x, y) => {
+            Ask::Compare(_, x, y) | Ask::Plus(x, y) | Ask::Item(x, y) => {
                 self.is_plain(x) && self.is_plain(y)
             }
             Ask::Minus(x) => self.is_plain(x),
@@ -76,7 +73,6 @@ impl Typing {
             Ask::Put(column, value) | Ask::Set(column, value) => {
                 self.are_same(Side::Column(column), value)
             }
-            Ask::PutSum(column, _, _) => self.are_same(Side::Column(column), Side::One),
         }
     }
 
@@ -93,7 +89,7 @@ impl Typing {
     // What two typings have in common, else plain.
     fn common(&self, other: &Typing) -> Typing {
         let mut kinds = self.kinds;
-        for i in 0..5 {
+        for i in 0..4 {
             if kinds[i] != other.kinds[i] {
                 kinds[i] = Kind::Plain;
             }
@@ -106,7 +102,7 @@ fn type_of(side: Side) -> Option<Ty> {
     match side {
         Side::Column(place) => Some(COLUMNS[place % 5].0),
         Side::Param(place) => Some(PARAMS[place % 3]),
-        Side::Null(_) | Side::One => None,
+        Side::Null | Side::One => None,
     }
 }
 
@@ -118,12 +114,11 @@ fn are_alike(x: Side, y: Side) -> bool {
 }
 
 // What every typing of some parts has in common, or the place of the first part such that those up
-// to and with it have none. The parts stand in the order of their places, and so many typings are
-// tried.
-pub(crate) fn searched(parts: &[Part], count: u32) -> Option<Answer> {
+// to and with it have none. The parts stand in the order of their places.
+pub(crate) fn searched(parts: &[Part]) -> Option<Answer> {
     let mut longest = 0;
     let mut least = None;
-    for choice in 0..count {
+    for choice in 0..CHOICES {
         let typing = Typing::of_choice(choice);
         longest = typing.front(parts).max(longest);
         if typing.front(parts) == parts.len() {
@@ -135,7 +130,7 @@ pub(crate) fn searched(parts: &[Part], count: u32) -> Option<Answer> {
     }
     match least {
         Some(typing) if typing.front(parts) == parts.len() => {
-            let [p, q, s, _, _] = typing.kinds;
+            let [p, q, s, _] = typing.kinds;
             Some(Answer::Typed([p, q, s]))
         }
         Some(_) => None,

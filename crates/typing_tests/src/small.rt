@@ -11,7 +11,7 @@ pub(crate) enum Kind {
     Rnd(u32),
 }
 
-// The columns of all statements.
+// The columns of all statements: i, c and r of a table t, o and b of a table v.
 pub(crate) const ID: usize = 0;
 
 pub(crate) const DET: usize = 1;
@@ -38,8 +38,8 @@ pub(crate) const PARAMS: [Ty; 3] = [Ty::Int, Ty::Int, Ty::BigInt];
 pub(crate) enum Side {
     Column(usize),
     Param(usize),
-    // A NULL, of which a statement has two at most: 0 and 1.
-    Null(usize),
+    // A statement has one at most.
+    Null,
     // The number 1.
     One,
 }
@@ -61,9 +61,6 @@ pub(crate) enum Ask {
     // A value for a column, in VALUES and behind SET.
     Put(usize, Side),
     Set(usize, Side),
-    // A value `x + y` for a column in VALUES, and its operator.
-    PutSum(usize, Side, Side),
-    Operator(Side, Side),
 }
 
 // It with its place.
@@ -72,9 +69,8 @@ pub(crate) type Part = (u32, Ask);
 // Whose parts they are.
 #[derive(Clone, Copy)]
 pub(crate) enum Form {
-    // A query. Its first condition stands behind ON, the others behind WHERE.
+    // A query. Its first part, if it is a condition, stands behind ON, the others behind WHERE.
     Query,
-    // Rows of a value for DET and one for RND.
     Insert,
     Update,
     Delete,
@@ -86,13 +82,4 @@ pub(crate) enum Form {
 pub(crate) enum Answer {
     Typed([Kind; 3]),
     Clash(u32),
-}
-
-// A statement, and what is inferred of it.
-#[derive(Clone, Copy)]
-pub(crate) struct Case {
-    pub(crate) form: Form,
-    // In the order of their places.
-    pub(crate) parts: &'static [Part],
-    pub(crate) answer: Answer,
 }
