@@ -23,7 +23,7 @@ use Rattle.script_run.specs.declared.runs.Unread.TheVariants as unread
 use Rattle.script_run.specs.Ends.{Lent, outside, IsScript, RunsScript}
 use Rattle.script_run.specs.Plain.{IsDoneOrFault}
 use Rattle.script_run.proofs.Plainly.{served}
-use Rattle.script_run.proofs.Queued.{waits_of, lacks_after, stuck_queue, never_unread, never_long}
+use Rattle.script_run.proofs.Queued.{waits_of, stuck_queue}
 
 heard_first : (P : Heard → List Reply → Type 0) (queue rest : List Reply) (reply : Reply) (session : Session) (shown : Listing) → queue ≡ reply ∷ rest → IsHeard P queue session shown
     → IsHeardBy (λ after more. IsHeard P rest after more) (λ heard. P heard rest) (hear session shown reply)
@@ -90,10 +90,8 @@ pub runs_whole : (law : RepliesAreAwaited) (r : Ran) (bytes : List ℕ) (steps :
 runs_whole law ran.Done bytes steps old new w s h = tt
 runs_whole law ran.Refusals bytes steps old new w s h = tt
 runs_whole law (ran.Stopped (stop.BadReply place)) bytes steps old new w s h = runs_awaited law place bytes old new w h
-runs_whole law (ran.Stopped stop.ReadFault) bytes steps old new w s h = never_unread _ _ refl h.runs.1.leads.1
-runs_whole law (ran.Stopped stop.TooLong) bytes steps old new w s h =
-    let c = h.runs.1 in
-    never_long _ _ (lacks_after (talk h.steps nobody) (outside c.out c.entropy c.vault c.wire false [] 0 old) (outside c.out_after c.entropy_after c.vault_after c.wire_after h.runs.0 c.waiting c.taken new) refl c.leads.0) c.leads.1
+runs_whole law (ran.Stopped stop.ReadFault) bytes steps old new w s h = h.runs.1.leads.1
+runs_whole law (ran.Stopped stop.TooLong) bytes steps old new w s h = h.runs.1.leads.1
 runs_whole law (ran.Stopped stop.EntropyFault) bytes steps old new w s h = tt
 runs_whole law (ran.Stopped stop.VaultFault) bytes steps old new w s h = tt
 runs_whole law (ran.Stopped stop.WriteFault) bytes steps old new w s h = tt
