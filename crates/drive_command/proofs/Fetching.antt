@@ -1,14 +1,22 @@
 -- Pieces of a stream of replies, one after another.
 use Rattle.std.proofs.Common.{◌≡◌, ℕ, ◌+◌, ◌≤◌, List, [], ◌∷◌, ◌++◌, Option, Some, None, length, refl, sym, ◌∙◌, ap, subst, arith, append-nil, append_assoc, length-append}
-use Rattle.std.specs.Prelude.{◌<◌, IfSome}
-use Rattle.ae_edge.specs.Devices.{WhereTold, Removes}
+use Rattle.std.specs.Prelude.{◌<◌, ◌-◌, IfSome, Err}
+use Rattle.ae_edge.specs.Devices.{Rose, WhereTold, Removes}
+use Rattle.ae_edge.specs.Sources.{Takes}
+use Rattle.ae_edge.specs.declared.sources.Taken.TheVariants as taken
 use Rattle.ae_edge.proofs.Told.{told_same}
 use Rattle.wire_messages.specs.declared.replies.Reply.{Reply}
-use Rattle.wire_spelling.specs.Spelling.{reply_frame}
+use Rattle.wire_spelling.specs.Spelling.{SpellsReply, reply_frame}
+use Rattle.wire_messages.specs.Conditions.{IsReply}
+use Rattle.wire_frames.specs.Frames.{IsNotYet, is_reply_kind}
+use Rattle.wire_frames.specs.Laws.{IsReadOnce, IsReadBack}
 use Rattle.run_words.specs.Shares.{Begins, IsNext, coming_behind}
 use Rattle.run_words.specs.Ways.{IsLeft, IsPast, most_reply_bytes}
 use Rattle.drive_command.specs.Holding.{Holding, came, held_more}
-use Rattle.drive_command.specs.Reading.{Moves, Moved, Ends}
+use Rattle.script_run.specs.declared.lines.Lack.{Lack}
+use Rattle.script_run.specs.declared.lines.Lack.TheVariants as lack
+use Rattle.drive_command.specs.Reading.{Moves, Moved, Ends, ReadsMore, FetchesReply}
+use Rattle.drive_command.proofs.Beginning.{none_yet}
 
 pub moved_still : (h : Holding) (left : Option (List ℕ)) → Moved h h left left
 moved_still h left = (refl, told_same (λ a b. b ≡ a) (λ x. refl) (coming_behind h.held left))
@@ -71,3 +79,29 @@ left_behind (x ∷ xs) ys n = tt
 
 pub some_left : (b c : Holding) (piece : List ℕ) (l m : Option (List ℕ)) → Moves piece b c l m → 0 < length piece → IsLeft c.held
 some_left b c piece l m q n = let i = q.held in subst (λ h. IsLeft h.held) (sym i) (left_behind b.held piece n)
+
+-- ---- a piece
+
+-- with no room there is one byte more
+pub one_past : (old new : Holding) (piece : List ℕ) (left after : Option (List ℕ)) (before now room : ℕ) → before ≤ now → room ≡ most_reply_bytes - came old → room ≡ 0 → 0 < length piece → length piece ≤ 1
+    → new ≡ held_more old piece → came new ≤ most_reply_bytes + 1 → WhereTold (Takes (taken.Bytes piece)) left after → ReadsMore (Err lack.TooLong) old new left after before now
+one_past old new [] left after before now room b r z some one h w t = absurd (omega (arith, some))
+one_past old new (x ∷ []) left after before now room b r z some one h w t =
+    let l = length-append old.held (x ∷ []) in
+    let v : came (held_more old (x ∷ [])) ≤ most_reply_bytes + 1 = subst (λ k. came k ≤ most_reply_bytes + 1) h w in
+    (b, omega (arith, r, z, v, l), (x, record { held = h; gone = t }))
+one_past old new (x ∷ y ∷ ys) left after before now room b r z some one h w t = absurd (omega (arith, one))
+
+module _ (once : IsReadOnce is_reply_kind SpellsReply) (back : IsReadBack is_reply_kind SpellsReply IsReply reply_frame) where
+  -- less than a frame is held, and no more can be had
+  pub fetch_lacks : (why : Lack) (a b c : Holding) (l m n : Option (List ℕ)) (x y z : ℕ) → Moved a b l m → x ≤ y → IsNotYet is_reply_kind b.held → ReadsMore (Err why) b c m n y z → FetchesReply (Err why) a c l n x z
+  fetch_lacks lack.BadReply a b c l m n x y z p i s h = absurd h
+  fetch_lacks lack.ReadFault a b c l m n x y z p i s h =
+      let j = h.0 in
+      let r = h.1 in
+      let e : c.held ≡ b.held = ap (λ (k : Holding). k.held) h.2.held ∙ append-nil b.held in
+      (moved_more a b c [] l m n p h.2, omega (arith, i, j), omega (arith, i, r), subst (IsNext None) (sym e) (none_yet once back b.held s))
+  fetch_lacks lack.TooLong a b c l m n x y z p i s h =
+      let j = h.0 in
+      (moved_more a b c (h.2.0 ∷ []) l m n p h.2.1, omega (arith, i, j), is_past b c h.2.0 m n h.2.1 h.1 (none_yet once back b.held s))
+  fetch_lacks lack.OutOfMemory a b c l m n x y z p i s h = tt

@@ -1,4 +1,10 @@
 pub mod Beginning
+pub mod Cutting
+pub mod DriveIsOf
+pub mod DrivesAre
+pub mod Driving
 pub mod Fetching
 pub mod Holdings
+pub mod Lent
+pub mod Taken
 pub mod Wires

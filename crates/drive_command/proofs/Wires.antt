@@ -40,14 +40,14 @@ module _ (tap_names source_names after_names : List GName) (same : after_names �
   pub fetches : (result : Result (Unit {0}) Lack) → FetchesReply result h k left after before now → Fetches result Old New
   fetches (Ok o) f = (rests f.0 f.1, f.2)
   fetches (Err lack.BadReply) f = (rests f.0 f.1, f.2)
-  fetches (Err lack.ReadFault) f = (rests f.0 f.1, f.2)
+  fetches (Err lack.ReadFault) f = (rests f.0 f.1, (f.2, f.3))
   fetches (Err lack.TooLong) f = (rests f.0 f.1, f.2)
   fetches (Err lack.OutOfMemory) f = halted
 
   pub finishes : (result : Result (Unit {0}) Lack) → FinishesReplies result h k left after before now → Finishes result Old New
-  finishes (Ok o) f = (rests f.0 f.1, f.2)
+  finishes (Ok o) f = (rests f.0 f.1, (f.2, f.3))
   finishes (Err lack.BadReply) f = (rests f.0 f.1, f.2)
-  finishes (Err lack.ReadFault) f = (rests f.0 f.1, f.2)
+  finishes (Err lack.ReadFault) f = (rests f.0 f.1, (f.2, f.3))
   finishes (Err lack.TooLong) f = (rests f.0 f.1, f.2)
   finishes (Err lack.OutOfMemory) f = halted
 
@@ -71,7 +71,7 @@ module _ (request : Request) (tap_names source_names after_names : List GName) (
       ([], record { names = ap (λ n. n ∷ source_names ∷ []) same; tap = subst (λ w. Adds w tap tapped) twice_nil p.0; log = tt; state = tt; count = p.1 }, asked_read)
 
   part : AddsFront (request_frame request) tap tapped → before ≤ now → AsksInPart request From To
-  part p c = inr ([], record { names = ap (λ n. n ∷ source_names ∷ []) same; tap = subst (λ w. AddsFront w tap tapped) twice_nil p; log = tt; state = tt; count = c })
+  part p c = inr ([], refl, record { names = ap (λ n. n ∷ source_names ∷ []) same; tap = subst (λ w. AddsFront w tap tapped) twice_nil p; log = tt; state = tt; count = c })
 
   pub sends_fault : PutsBytes put.WriteFault (request_frame request) tap tapped before now → Sends sent.WriteFault request From To
   sends_fault p = (part p.0 p.1, p.2)

@@ -1,6 +1,6 @@
 -- A script driven against the bytes of replies.
-use Rattle.std.specs.Prelude.{◌≡◌, ◌⊎◌, ℕ, List, [], ◌++◌, length, map, flat_map, take, Option, Bool, true, false}
-use Rattle.ae_edge.specs.Devices.{Adds, AddsFront, WhereTold}
+use Rattle.std.specs.Prelude.{◌≡◌, ℕ, List, [], ◌∷◌, ◌++◌, length, map, flat_map, take, Option, Some, Bool, true, false}
+use Rattle.ae_edge.specs.Devices.{Adds, AddsFront, IsFront, Removes}
 use Rattle.ae_edge.specs.Vaults.{KeyMap}
 use Rattle.wire_frames.specs.Frames.{End, Whole, Placed, ReplyFrames}
 use Rattle.wire_messages.specs.declared.replies.Reply.{Reply}
@@ -8,12 +8,10 @@ use Rattle.wire_spelling.specs.Spelling.{request_frame, reply_frame}
 use Rattle.conversation.specs.Drive.{Driven, drive}
 use Rattle.conversation.specs.Drive as drives
 use Rattle.conversation.specs.Sessions.{nobody}
-use Rattle.conversation.specs.declared.sessions.Session.{Session}
 use Rattle.script_lang.specs.declared.steps.Step.{Step}
 use Rattle.plain_meaning.specs.Steps.{talk}
 use Rattle.run_words.specs.Printing.{print, has_refusal}
 use Rattle.run_words.specs.Ways.{most_reply_bytes}
-use Rattle.run_words.specs.declared.stops.Stop.{Stop}
 use Rattle.run_words.specs.declared.stops.Stop.TheVariants as stop
 use Rattle.script_run.specs.declared.runs.Ran.{Ran}
 use Rattle.script_run.specs.declared.runs.Ran.TheVariants as ran
@@ -32,17 +30,36 @@ place_behind n replies = length (flat_map reply_frame (take n replies))
 
 -- ---- how it ends over bytes
 
+-- of the replies, of what is driven over them, and of the end of their bytes
+abbrev pub Ending : Type 1
+Ending = List Reply → Driven → End → Type 0
+
 -- every step was driven, every reply taken, and no byte is left
-abbrev pub IsDone : drives.End → End → Type 0
-IsDone (drives.Done sessions) end = end ≡ Whole
-IsDone drives.Dry end = ⊥
-IsDone (drives.BadReply n) end = ⊥
+abbrev pub IsWhole : drives.End → End → Type 0
+IsWhole (drives.Done sessions) end = end ≡ Whole
+IsWhole drives.Dry end = ⊥
+IsWhole (drives.BadReply n) end = ⊥
+
+abbrev pub IsDone : Bool → Ending
+IsDone refused replies d end = IsWhole d.end end × (has_refusal d.outcomes ≡ refused)
 
 -- the byte at which a reply is refused or isn't awaited, or none comes where one is awaited, or at which bytes are left after the last step
-abbrev pub IsBadAt : ℕ → List Reply → drives.End → End → Type 0
-IsBadAt place replies (drives.BadReply n) end = place ≡ place_behind n replies
-IsBadAt place replies (drives.Done sessions) end = (place ≡ length (flat_map reply_frame replies)) × ((end ≡ Whole) → ⊥)
-IsBadAt place replies drives.Dry end = ⊥
+abbrev pub IsAt : ℕ → List Reply → drives.End → End → Type 0
+IsAt place replies (drives.BadReply n) end = place ≡ place_behind n replies
+IsAt place replies (drives.Done sessions) end = (place ≡ length (flat_map reply_frame replies)) × ((end ≡ Whole) → ⊥)
+IsAt place replies drives.Dry end = ⊥
+
+abbrev pub IsBadAt : ℕ → Ending
+IsBadAt place replies d end = IsAt place replies d.end end
+
+-- the replies ended it, and not the random bytes
+abbrev pub IsByReplies : drives.End → Type 0
+IsByReplies (drives.Done sessions) = Unit {0}
+IsByReplies (drives.BadReply n) = Unit {0}
+IsByReplies drives.Dry = ⊥
+
+abbrev pub IsCut : Ending
+IsCut replies d end = IsByReplies d.end
 
 -- ---- what is put
 
@@ -54,9 +71,54 @@ pub record Told : Type 0 where
 
 -- random bytes were drawn; and whatever more come, they are left, the tap has the requests and the text the outcomes of what is driven
 -- over these bytes
-pub record DrivesWhole (Ended : Driven → End → Type 0) (keys : KeyMap) (steps : List Step) (replies : List ℕ) (old new : Told) : Type 0 where
+pub record DrivesWhole (Ended : Ending) (keys : KeyMap) (steps : List Step) (replies : List ℕ) (old new : Told) : Type 0 where
   pub drawn : List ℕ
   pub share : Drew drawn old.entropy new.entropy
   pub whole : (placed : List (Placed Reply)) (end : End) → ReplyFrames replies placed end → (more : List ℕ)
       → let d = driven keys steps (drawn ++ more) placed in
-      Adds (flat_map request_frame d.requests) old.tap new.tap × Adds (print d.outcomes) old.out new.out × (d.entropy ≡ more) × Ended d end
+      Adds (flat_map request_frame d.requests) old.tap new.tap × Adds (print d.outcomes) old.out new.out × (d.entropy ≡ more) × Ended (messages_of placed) d end
+
+-- random bytes were drawn; and whatever more come, the tap has a front of the requests, and the text one of the outcomes, of what is driven
+-- over these bytes
+pub record DrivesFront (keys : KeyMap) (steps : List Step) (replies : List ℕ) (old new : Told) : Type 0 where
+  pub drawn : List ℕ
+  pub share : Drew drawn old.entropy new.entropy
+  pub front : (placed : List (Placed Reply)) (end : End) → ReplyFrames replies placed end → (more : List ℕ)
+      → let d = driven keys steps (drawn ++ more) placed in
+      AddsFront (flat_map request_frame d.requests) old.tap new.tap × AddsFront (print d.outcomes) old.out new.out
+
+-- ---- over replies that tell their bytes
+
+-- some of them were taken, and it ended with these
+pub record DrivesTaken (keys : KeyMap) (steps : List Step) (bytes : List ℕ) (after : Option (List ℕ)) (old new : Told) : Type 0 where
+  pub taken : List ℕ
+  pub gone : Removes taken (Some bytes) after
+  pub drives : DrivesWhole IsCut keys steps taken old new
+
+-- as many were taken as may be, and one more; it ended with those within the limit
+pub record DrivesPast (keys : KeyMap) (steps : List Step) (bytes : List ℕ) (after : Option (List ℕ)) (old new : Told) : Type 0 where
+  pub taken : List ℕ
+  pub byte : ℕ
+  pub gone : Removes (taken ++ byte ∷ []) (Some bytes) after
+  pub limit : length taken ≡ most_reply_bytes
+  pub drives : DrivesWhole IsCut keys steps taken old new
+
+-- it broke off over a front of them
+pub record DrivesPart (keys : KeyMap) (steps : List Step) (bytes : List ℕ) (old new : Told) : Type 0 where
+  pub part : List ℕ
+  pub of_it : IsFront part bytes
+  pub drives : DrivesFront keys steps part old new
+
+-- The text and the tap are those of what is driven over the bytes, whatever they are; over those that were taken, where more couldn't be read
+-- or are past the limit; and fronts, where a device fails or memory ends.
+abbrev pub DrivesBytes : Ran → KeyMap → List Step → (bytes : List ℕ) → (after : Option (List ℕ)) → Told → Told → Type 0
+DrivesBytes ran.Done keys steps bytes after old new = (after ≡ Some []) × DrivesWhole (IsDone false) keys steps bytes old new
+DrivesBytes ran.Refusals keys steps bytes after old new = (after ≡ Some []) × DrivesWhole (IsDone true) keys steps bytes old new
+DrivesBytes (ran.Stopped (stop.BadReply place)) keys steps bytes after old new = DrivesWhole (IsBadAt place) keys steps bytes old new
+DrivesBytes (ran.Stopped stop.ReadFault) keys steps bytes after old new = DrivesTaken keys steps bytes after old new
+DrivesBytes (ran.Stopped stop.TooLong) keys steps bytes after old new = DrivesPast keys steps bytes after old new
+DrivesBytes (ran.Stopped stop.EntropyFault) keys steps bytes after old new = DrivesFront keys steps bytes old new
+DrivesBytes (ran.Stopped stop.VaultFault) keys steps bytes after old new = DrivesFront keys steps bytes old new
+DrivesBytes (ran.Stopped stop.WriteFault) keys steps bytes after old new = DrivesPart keys steps bytes old new
+DrivesBytes (ran.Stopped stop.OutOfMemory) keys steps bytes after old new = DrivesPart keys steps bytes old new
+DrivesBytes (ran.Unread why) keys steps bytes after old new = new ≡ old

@@ -6,6 +6,7 @@ ghost use Rattle.run_words.specs.declared.stops.Stop.TheVariants as stop;
 ghost use Rattle.script_run.specs.declared.runs.Ran.TheVariants as ran;
 ghost use Rattle.script_run.specs.declared.runs.Unread.TheVariants as unread;
 ghost use Rattle.script_run.specs.Ends.{IsRead, TakesScript, most_script_bytes};
+ghost use Rattle.drive_command.specs.DriveOf.{IsDriveOf};
 ghost use Rattle.drive_command.specs.Ends.{DrivesScript};
 
 use crate::drives::drive_over;
@@ -15,10 +16,12 @@ use ae_edge::sinks::Sink;
 use ae_edge::sources::Source;
 use ae_edge::streams::{ReadAll, read_all};
 use ae_edge::vaults::Vault;
+use conversation::laws::path_is_driven;
 use script_lang::scripts::{ScriptFault, read_script};
 use script_run::programs::MOST_SCRIPT_BYTES;
 use script_run::runs::{Ran, Unread};
 use std::alloc::Global;
+use wire_frames::{frames_are_read_back, one_reading, streams_are_read_once};
 
 fn drive_bytes<V: Vault, E: Entropy, L: Source, W: Sink, T: Sink>(
     alloc: Global,
@@ -42,6 +45,34 @@ fn drive_bytes<V: Vault, E: Entropy, L: Source, W: Sink, T: Sink>(
     }
 }
 
+/// Reads a script and drives it.
+fn drive_source<S: Source, V: Vault, E: Entropy, L: Source, W: Sink, T: Sink>(
+    alloc: Global,
+    script: &mut S,
+    vault: &mut V,
+    entropy: &mut E,
+    replies: &mut L,
+    out: &mut W,
+    tap: &mut T,
+) -> Ran
+    ensures content { (bytes : List ℕ) × IfSome (S.left script.old) (λ left. bytes ≡ left) × DrivesScript result bytes
+        (record { out = W.held out.old; tap = T.held tap.old; entropy = E.to_come entropy.old; keys = V.keys vault.old; replies = L.left replies.old; out_faults = W.faults out.old; tap_faults = T.faults tap.old; entropy_faults = E.faults entropy.old; vault_faults = V.faults vault.old; reply_faults = L.faults replies.old })
+        (record { out = W.held out.new; tap = T.held tap.new; entropy = E.to_come entropy.new; keys = V.keys vault.new; replies = L.left replies.new; out_faults = W.faults out.new; tap_faults = T.faults tap.new; entropy_faults = E.faults entropy.new; vault_faults = V.faults vault.new; reply_faults = L.faults replies.new }) }
+    ensures taken { WhereTold (TakesScript result) (S.left script.old) (S.left script.new) }
+    ensures read { result ≡ ran.Unread unread.ReadFault → Rose (S.faults script.old) (S.faults script.new) }
+    ensures read_replies { result ≡ ran.Stopped stop.ReadFault → Rose (L.faults replies.old) (L.faults replies.new) }
+    ensures write { result ≡ ran.Stopped stop.WriteFault → Rose (W.faults out.old) (W.faults out.new) ⊎ Rose (T.faults tap.old) (T.faults tap.new) }
+    ensures entropy { result ≡ ran.Stopped stop.EntropyFault → Rose (E.faults entropy.old) (E.faults entropy.new) }
+    ensures vault { result ≡ ran.Stopped stop.VaultFault → Rose (V.faults vault.old) (V.faults vault.new) }
+{
+    match read_all(script, alloc, MOST_SCRIPT_BYTES) {
+        ReadAll::Whole(bytes) => drive_bytes(alloc, &bytes, vault, entropy, replies, out, tap),
+        ReadAll::TooLong => Ran::Unread(Unread::TooLong),
+        ReadAll::ReadFault => Ran::Unread(Unread::ReadFault),
+        ReadAll::OutOfMemory => Ran::Unread(Unread::OutOfMemory),
+    }
+}
+
 /// Reads a script to its end and runs its steps against recorded replies, which come as the bytes of
 /// their frames: the frame of each request goes to `tap`, and the text to `out`, a step's frames
 /// before its text. After the last step the replies are read to their end. A script that can't be
@@ -59,9 +90,12 @@ pub fn drive<S: Source, V: Vault, E: Entropy, L: Source, W: Sink, T: Sink>(
     out: &mut W,
     tap: &mut T,
 ) -> Ran
-    // There are bytes, the script's where it tells them, of which this is what driving comes to: how far its conversation was followed,
-    // what each device has of it, how the replies were read, and why no further.
-    ensures content { (bytes : List ℕ) × IfSome (S.left script.old) (λ left. bytes ≡ left) × DrivesScript result bytes
+    // There are bytes, the script's where it tells them, of which this is what driving comes to. Over any replies: how far its conversation
+    // was followed, what stands at the text, at the tap and at the other devices of it, how the replies were read, and why no further
+    // (`content`). Over replies that tell their bytes, with keys that are told: the text and the tap are those of what is driven over the
+    // replies that these bytes spell, with the random bytes that were drawn; it is done exactly where every step was driven, every reply
+    // taken and no byte left; and the place of a bad reply is the byte at which it begins, or at which none comes or bytes are left (`exact`).
+    ensures drive { (bytes : List ℕ) × IfSome (S.left script.old) (λ left. bytes ≡ left) × IsDriveOf result bytes
         (record { out = W.held out.old; tap = T.held tap.old; entropy = E.to_come entropy.old; keys = V.keys vault.old; replies = L.left replies.old; out_faults = W.faults out.old; tap_faults = T.faults tap.old; entropy_faults = E.faults entropy.old; vault_faults = V.faults vault.old; reply_faults = L.faults replies.old })
         (record { out = W.held out.new; tap = T.held tap.new; entropy = E.to_come entropy.new; keys = V.keys vault.new; replies = L.left replies.new; out_faults = W.faults out.new; tap_faults = T.faults tap.new; entropy_faults = E.faults entropy.new; vault_faults = V.faults vault.new; reply_faults = L.faults replies.new }) }
     // What was taken of the script, by how it ended.
@@ -73,10 +107,9 @@ pub fn drive<S: Source, V: Vault, E: Entropy, L: Source, W: Sink, T: Sink>(
     ensures entropy { result ≡ ran.Stopped stop.EntropyFault → Rose (E.faults entropy.old) (E.faults entropy.new) }
     ensures vault { result ≡ ran.Stopped stop.VaultFault → Rose (V.faults vault.old) (V.faults vault.new) }
 {
-    match read_all(script, alloc, MOST_SCRIPT_BYTES) {
-        ReadAll::Whole(bytes) => drive_bytes(alloc, &bytes, vault, entropy, replies, out, tap),
-        ReadAll::TooLong => Ran::Unread(Unread::TooLong),
-        ReadAll::ReadFault => Ran::Unread(Unread::ReadFault),
-        ReadAll::OutOfMemory => Ran::Unread(Unread::OutOfMemory),
-    }
+    one_reading();
+    streams_are_read_once();
+    frames_are_read_back();
+    path_is_driven();
+    drive_source(alloc, script, vault, entropy, replies, out, tap)
 }

@@ -1,4 +1,4 @@
 mod Refusals
-mod Streams
+pub mod Streams
 mod Histories
 mod Ways

@@ -20,7 +20,7 @@ use Rattle.conversation.specs.Talk.{Talk, Stops, Asks, Hears, Heard, More, Got, 
 use Rattle.run_words.specs.Printing.{printed_outcome, is_refusal, has_refusal}
 use Rattle.run_words.specs.Shares.{Desk, Wire, Outside, Serves, Stream, Streams, Comes, IsNext, coming, DeskPut, WirePut, WireRead, text_of, frames_of, exchanges_of, devices_of, with_devices}
 use Rattle.run_words.specs.Ways.{Goes, Halts, Breaks, AsksInPart, TakesOne, IsNextOf, IsNextOn}
-use Rattle.run_words.proofs.Going.{desk_still, comes_still, stay, or_false, desk_front, wire_front, breaks_between}
+use Rattle.run_words.proofs.Going.{desk_still, comes_still, stay, or_false, desk_front, wire_front, breaks_between, silent_by}
 
 -- ---- events of the driver by itself leave text, tap and replies
 
@@ -220,7 +220,7 @@ module _ (comes : Outcome) (t u : Talk) (follows : Follows t (Printed comes ∷ 
     last = Printed comes ∷ [];
     goes = stay t old;
     one = omega arith;
-    follows = inl follows;
+    follows = inl (follows, silent_by old.wire.stream (Printed comes ∷ []) refl);
     put = record {
       desk = desk_cut comes old.desk out faults names same count h;
       wire = wire_front (Printed comes ∷ []) old.wire old.wire (wire_printed comes old.wire);
@@ -266,7 +266,7 @@ asked_breaks request t old wire (inl h) = record {
   last = [];
   goes = stay (Asks request t) old;
   one = omega arith;
-  follows = inl (stays (Asks request t));
+  follows = inl (stays (Asks request t), silent_by old.wire.stream [] refl);
   put = record { desk = desk_front [] old.desk old.desk (desk_still old.desk); wire = h };
 }
 asked_breaks request t old wire (inr h) = record {
@@ -276,8 +276,8 @@ asked_breaks request t old wire (inr h) = record {
   last = Asked request h.0 ∷ [];
   goes = stay (Asks request t) old;
   one = omega arith;
-  follows = inl (asks request h.0 t t [] (stays t));
-  put = record { desk = desk_front (Asked request h.0 ∷ []) old.desk old.desk (desk_asked request h.0 old.desk); wire = h.1 };
+  follows = inl (asks request h.0 t t [] (stays t), h.1);
+  put = record { desk = desk_front (Asked request h.0 ∷ []) old.desk old.desk (desk_asked request h.0 old.desk); wire = h.2 };
 }
 
 -- ---- hearing

@@ -13,7 +13,7 @@ use Rattle.conversation.specs.Talk.{Talk}
 use Rattle.conversation.proofs.Going.{flat_append, follows_then, opens_then}
 use Rattle.run_words.specs.Printing.{is_refusal, has_refusal}
 use Rattle.run_words.specs.Shares.{Desk, Wire, Outside, Serves, Stream, Streams, Comes, coming, DeskPut, WirePut, HasPut, WireRead, HasRead, text_of, frames_of, exchanges_of}
-use Rattle.run_words.specs.Ways.{Goes, Halts, Lacks, Breaks, Fails, Leads, CantBeRead}
+use Rattle.run_words.specs.Ways.{Goes, Halts, Lacks, Breaks, Fails, Leads, CantBeRead, IsSilent}
 use Rattle.run_words.specs.declared.stops.Stop.{Stop}
 use Rattle.run_words.specs.declared.stops.Stop.TheVariants as stop
 
@@ -231,6 +231,11 @@ breaks_then t u a b c p q = record {
   put = q.put;
 }
 
+-- where the replies come as bytes, none came with these
+pub silent_by : (stream : Option Stream) (events : List Event) → flat_map replies_to events ≡ [] → IsSilent stream events
+silent_by (Some s) events e = e
+silent_by None events e = tt
+
 -- it breaks off where everything stands whole
 pub breaks_between : (t u : Talk) (a b : Outside) → Goes t u a b → Breaks t a b
 breaks_between t u a b p = record {
@@ -240,7 +245,7 @@ breaks_between t u a b p = record {
   last = [];
   goes = p;
   one = omega arith;
-  follows = inl (stays u);
+  follows = inl (stays u, silent_by b.wire.stream [] refl);
   put = record { desk = desk_front [] b.desk b.desk (desk_still b.desk); wire = wire_front [] b.wire b.wire (wire_still b.wire) };
 }
 

@@ -1,11 +1,11 @@
 -- How far a conversation was followed, what all that a run touches has of it, and why it was followed no further.
-use Rattle.std.specs.Prelude.{◌≡◌, ◌⊎◌, ℕ, ◌+◌, ◌≤◌, List, [], ◌∷◌, ◌++◌, length, map, Option, Some, None, IfSome, Result, Ok, Err}
+use Rattle.std.specs.Prelude.{◌≡◌, ◌⊎◌, ℕ, ◌+◌, ◌≤◌, List, [], ◌∷◌, ◌++◌, length, map, flat_map, Option, Some, None, IfSome, Result, Ok, Err}
 use Rattle.ae_edge.specs.Devices.{Rose, Adds, AddsFront}
 use Rattle.wire_messages.specs.declared.replies.Reply.{Reply}
 use Rattle.wire_messages.specs.declared.requests.Request.{Request}
 use Rattle.conversation.specs.Devices.{IsAtDraw, IsAtKey}
 use Rattle.conversation.specs.Drive.{outcomes_in}
-use Rattle.conversation.specs.Paths.{Event, Asked, Took, Printed, Follows, next_of}
+use Rattle.conversation.specs.Paths.{Event, Asked, Took, Printed, Follows, next_of, replies_to}
 use Rattle.conversation.specs.Talk.{Talk, Ends, Stops, Asks, Hears, Draws, Opens, Prints, broken}
 use Rattle.conversation.specs.declared.outcomes.Outcome.{Outcome}
 use Rattle.run_words.specs.Shares.{Outside, Stream, Wire, HasPut, HasRead, WirePut, WireRead, Begins, IsNext, coming}
@@ -67,9 +67,14 @@ pub record Lacks (t : Talk) (old new : Outside) : Type 0 where
 
 -- ---- where it broke off
 
+-- where the replies come as bytes, none comes with a request
+abbrev pub IsSilent : Option Stream → List Event → Type 0
+IsSilent (Some s) events = flat_map replies_to events ≡ []
+IsSilent None events = Unit {0}
+
 -- the conversation goes on so; or a reply was awaited of a stream, and what an answer came to before it broke off is printed
 abbrev pub GoesOn : Talk → List Event → Talk → Wire → Type 0
-GoesOn t events u wire = Follows t events u ⊎ (IsStreamed wire.stream × IsAtReply t × (events ≡ printed_off (off t)))
+GoesOn t events u wire = (Follows t events u × IsSilent wire.stream events) ⊎ (IsStreamed wire.stream × IsAtReply t × (events ≡ printed_off (off t)))
 
 -- it broke off: events passed whole up to `mid`, and of at most one more a front was put
 pub record Breaks (t : Talk) (old new : Outside) : Type 0 where
@@ -141,7 +146,7 @@ Leads (Err s) t onward old new = Fails s t old new
 
 -- of the request, with what came back, a front was put; or it wasn't asked
 abbrev pub AsksInPart : Request → Wire → Wire → Type 0
-AsksInPart request old new = WirePut AddsFront [] old new ⊎ ((replies : List Reply) × WirePut AddsFront (Asked request replies ∷ []) old new)
+AsksInPart request old new = WirePut AddsFront [] old new ⊎ ((replies : List Reply) × IsSilent old.stream (Asked request replies ∷ []) × WirePut AddsFront (Asked request replies ∷ []) old new)
 
 -- the reply that waits first, or whose frame stands first in the bytes that are held
 abbrev pub IsFirstOf : Reply → Option Stream → List Reply → Type 0

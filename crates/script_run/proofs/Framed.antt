@@ -16,7 +16,7 @@ use Rattle.server_core.specs.Serve.{State, serve}
 use Rattle.conversation.specs.Paths.{Asked}
 use Rattle.conversation.proofs.Going.{flat_append}
 use Rattle.run_words.specs.Shares.{Wire, Serves}
-use Rattle.run_words.specs.Ways.{AsksInPart}
+use Rattle.run_words.specs.Ways.{AsksInPart, IsSilent}
 use Rattle.run_words.proofs.Going.{same_state}
 use Rattle.script_run.specs.declared.lines.Sent.TheVariants as sent
 use Rattle.script_run.specs.Frames.{PutsBytes}
@@ -71,10 +71,11 @@ module _ (request : Request) (replies : List Reply) (old : Wire) (log : Option (
     record { comes = queued (Asked request replies ∷ []) old.stream old.waiting waiting q w; taken = omega arith },
   )
 
-  pub asked_part : AddsFront (request_frame request ++ flat_map reply_frame replies) old.tap tap → (waiting : List Reply)
+  pub asked_part : AddsFront (request_frame request ++ flat_map reply_frame replies) old.tap tap → (waiting : List Reply) → old.stream ≡ None
       → AsksInPart request old (record old { names = names; tap = tap; log = log; state = state; waiting = waiting; faults = faults })
-  asked_part h waiting = inr (
+  asked_part h waiting q = inr (
     replies,
+    subst (λ s. IsSilent s (Asked request replies ∷ [])) (sym q) tt,
     record { names = same; tap = subst (λ w. AddsFront w old.tap tap) (sym (append-nil (request_frame request ++ flat_map reply_frame replies))) h; log = logged; state = one_served; count = count },
   )
 

@@ -32,7 +32,7 @@ use Rattle.run_words.specs.Shares.{Stream, Wire, Outside, Serves, Begins, IsNext
 use Rattle.run_words.specs.Ways.{Goes, Breaks, Fails, Leads, IsStuckOn, IsFirstOf, IsFirst, IsNextOf, IsNextOn, TakesOne}
 use Rattle.run_words.specs.declared.stops.Stop.{Stop}
 use Rattle.run_words.specs.declared.stops.Stop.TheVariants as stop
-use Rattle.run_words.proofs.Going.{stay, or_false, desk_still, desk_front, wire_still, wire_unread, breaks_between, goes_then, fails_then}
+use Rattle.run_words.proofs.Going.{stay, or_false, desk_still, desk_front, wire_still, wire_unread, breaks_between, goes_then, fails_then, silent_by}
 use Rattle.run_words.proofs.Calls.{own_goes, own_halts, own_breaks, heard_more, heard_last, strayed_goes}
 use Rattle.script_run.specs.declared.around.First.{First}
 use Rattle.script_run.specs.declared.around.First.TheVariants as first
@@ -171,7 +171,7 @@ took_breaks r t x wire h = record {
   last = [];
   goes = stay t x;
   one = omega arith;
-  follows = inl (stays t);
+  follows = inl (stays t, silent_by x.wire.stream [] refl);
   put = record {
     desk = desk_front [] x.desk x.desk (desk_still x.desk);
     wire = record {

@@ -1,5 +1,6 @@
 -- No reply comes that is awaited, or something is left at the end.
 use Rattle.std.proofs.Common.{◌≡◌, ℕ, ◌≤◌, List, [], ◌∷◌, Option, Some, None, Err, Bool, true, false, length, refl, sym, ◌∙◌, ap, subst, append-nil, arith, ◌⊎◌, inl, inr}
+use Rattle.std.specs.Prelude.{flat_map}
 use Rattle.std.specs.Borrow.{GName}
 use Rattle.ae_edge.specs.Devices.{Adds, AddsFront, Rose}
 use Rattle.wire_messages.specs.declared.replies.Reply.{Reply}
@@ -8,14 +9,14 @@ use Rattle.conversation.specs.declared.outcomes.Outcome.{Outcome}
 use Rattle.conversation.specs.declared.outcomes.Outcome.TheVariants as outcome
 use Rattle.conversation.specs.declared.sessions.Session.{Session}
 use Rattle.conversation.specs.declared.sessions.Session.TheVariants.{Idle, Begun, Pending, Sent, Reading, Skipping}
-use Rattle.conversation.specs.Paths.{Follows, stays, prints_last, IsStray}
+use Rattle.conversation.specs.Paths.{Follows, stays, prints_last, IsStray, replies_to}
 use Rattle.conversation.specs.Talk.{Talk, Ends, Stops, Hears, Heard, broken}
 use Rattle.run_words.specs.Printing.{printed_listing}
 use Rattle.run_words.specs.Shares.{Desk, Stream, Wire, Outside, DeskPut, WirePut, WireRead, HasPut}
 use Rattle.run_words.specs.Ways.{Goes, Lacks, Breaks, Fails, CantBeRead, IsTooLong, IsStreamed, IsStuck, IsStuckOn, IsFirst, IsLeft, IsLeftOn, IsNextOn, printed_off}
 use Rattle.run_words.specs.declared.stops.Stop.{Stop}
 use Rattle.run_words.specs.declared.stops.Stop.TheVariants as stop
-use Rattle.run_words.proofs.Going.{stay, or_false, desk_still, desk_front, wire_still, wire_front, wire_unread, nothing_put, nothing_read, goes_then, fails_then}
+use Rattle.run_words.proofs.Going.{stay, or_false, desk_still, desk_front, wire_still, wire_front, wire_unread, nothing_put, nothing_read, goes_then, fails_then, silent_by}
 use Rattle.run_words.proofs.Calls.{desk_printed, desk_cut, wire_printed, printed_read, strayed_goes}
 use Rattle.script_run.specs.declared.lines.Lack.{Lack}
 use Rattle.script_run.specs.declared.lines.Lack.TheVariants as lack
@@ -60,9 +61,13 @@ streamed_long : (taken : ℕ) (s : Option Stream) → IsTooLong taken s → IsSt
 streamed_long taken (Some s) h = tt
 streamed_long taken None h = absurd h
 
+off_silent : (comes : Option Outcome) → flat_map replies_to (printed_off comes) ≡ []
+off_silent (Some comes) = refl
+off_silent None = refl
+
 -- nothing was put, and it broke off
 halted_so : (t : Talk) (x : Outside) (w : Wire) (desk : Desk) → WirePut AddsFront [] x.wire w → DeskPut AddsFront [] x.desk desk → Breaks t x (record { desk = desk; wire = w })
-halted_so t x w desk h d = record { between = t; rest = t; mid = x; last = []; goes = stay t x; one = omega arith; follows = inl (stays t); put = record { desk = d; wire = h } }
+halted_so t x w desk h d = record { between = t; rest = t; mid = x; last = []; goes = stay t x; one = omega arith; follows = inl (stays t, silent_by x.wire.stream [] refl); put = record { desk = d; wire = h } }
 
 module _ (session : Session) (shown : Listing) (f : Heard → Talk) (x : Outside) (w : Wire) (desk : Desk) (result : Stop) where
   abbrev After : Outside
@@ -99,7 +104,7 @@ module _ (session : Session) (shown : Listing) (f : Heard → Talk) (x : Outside
           last = printed_off (broken session shown);
           goes = away;
           one = off_one (broken session shown);
-          follows = inl (off_follows (broken session shown));
+          follows = inl (off_follows (broken session shown), silent_by w.stream (printed_off (broken session shown)) (off_silent (broken session shown)));
           put = cut_off (broken session shown) h.1;
         })
         h.0

@@ -37,7 +37,7 @@ pub stuck_queue : (t u : Talk) (old new : Outside) → old.wire.stream ≡ None 
 stuck_queue t u old new e g h = subst (λ s. IsStuckOn u s new.wire.waiting) (goes_none t u old new e g) h
 
 follows_of : (t u : Talk) (events : List Event) (wire : Wire) → wire.stream ≡ None → GoesOn t events u wire → Follows t events u
-follows_of t u events wire e (inl f) = f
+follows_of t u events wire e (inl f) = f.0
 follows_of t u events wire e (inr h) = absurd (subst IsStreamed e h.0)
 
 pub breaks_follow : (t : Talk) (old new : Outside) → old.wire.stream ≡ None → (b : Breaks t old new) → Follows b.between b.last b.rest

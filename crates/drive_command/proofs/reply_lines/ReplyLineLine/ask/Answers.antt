@@ -8,5 +8,5 @@ returns-in-Whole g c = sends_whole _ _ _ _ c.in-Whole.ensures.same _ _ _ _ _ _ c
 pub returns-in-WriteFault : goal.returns-in-WriteFault
 returns-in-WriteFault g c = sends_fault _ _ _ _ c.in-WriteFault.ensures.same _ _ _ _ _ _ c.args.self.now.holding.now c.in-WriteFault.ensures.puts
 
-pub returns-in-OutOfMemory : goal.returns-in-OutOfMemory
-returns-in-OutOfMemory g c = sends_stop _ _ _ _ c.in-OutOfMemory.ensures.same _ _ _ _ _ _ c.args.self.now.holding.now c.in-OutOfMemory.ensures.puts
+pub returns : goal.returns
+returns g c = sends_stop _ _ _ _ c.in-OutOfMemory.ensures.same _ _ _ _ _ _ c.args.self.now.holding.now c.in-OutOfMemory.ensures.puts
