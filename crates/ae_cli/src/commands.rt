@@ -8,7 +8,7 @@ ghost use Rattle.ae_cli.specs.Wraps.{status_of_wrapping};
 ghost use Rattle.check_command.specs.Ends as check;
 ghost use Rattle.check_command.specs.Ends.{ChecksScript};
 ghost use Rattle.check_command.specs.declared.steps.Checked.{Checked};
-ghost use Rattle.drive_command.specs.Ends.{DrivesScript};
+ghost use Rattle.drive_command.specs.DriveOf.{IsDriveOf};
 ghost use Rattle.wrap_command.specs.Wrapping.{Takes, Wraps};
 ghost use Rattle.wrap_command.specs.declared.commands.Wrapped.{Wrapped};
 ghost use Rattle.ae_edge.specs.Devices.{Rose, WhereTold};
@@ -79,9 +79,11 @@ pub fn ae_main<S: Source, V: Vault, E: Entropy, L: Source, W: Sink, T: Sink, P: 
     ensures awaited { is_run words.now ≡ true → P.state peer.old ≡ Some empty_state → (place : ℕ) → ¬ (result ≡ Status.BadReply place) }
     // What was taken of the script, by how the run ended.
     ensures taken { is_run words.now ≡ true → (ran : Ran) × (result ≡ status_of ran) × WhereTold (TakesScript ran) (S.left script.old) (S.left script.new) }
-    // A drive: there are bytes, the script's where it tells them, of which this is what driving comes to: how far its conversation was
-    // followed, what each device has of it, how the replies were read, and why no further; the peer isn't touched.
-    ensures driven { is_drive words.now ≡ true → (ran : Ran) × (result ≡ status_of ran) × (bytes : List ℕ) × IfSome (S.left script.old) (λ left. bytes ≡ left) × DrivesScript ran bytes
+    // A drive: there are bytes, the script's where it tells them, of which this is what driving comes to. Over any replies: how far its
+    // conversation was followed, what each device has of it, how the replies were read, and why no further (`content`). Over replies that
+    // tell their bytes, with keys that are told: the text and the tap are those of what is driven over the replies that these bytes spell,
+    // and the place of a bad reply is the byte at which it begins, or at which none comes or bytes are left (`exact`).
+    ensures driven { is_drive words.now ≡ true → (ran : Ran) × (result ≡ status_of ran) × (bytes : List ℕ) × IfSome (S.left script.old) (λ left. bytes ≡ left) × IsDriveOf ran bytes
         (record { out = W.held out.old; tap = T.held tap.old; entropy = E.to_come entropy.old; keys = V.keys vault.old; replies = L.left replies.old; out_faults = W.faults out.old; tap_faults = T.faults tap.old; entropy_faults = E.faults entropy.old; vault_faults = V.faults vault.old; reply_faults = L.faults replies.old })
         (record { out = W.held out.new; tap = T.held tap.new; entropy = E.to_come entropy.new; keys = V.keys vault.new; replies = L.left replies.new; out_faults = W.faults out.new; tap_faults = T.faults tap.new; entropy_faults = E.faults entropy.new; vault_faults = V.faults vault.new; reply_faults = L.faults replies.new }) }
     // What was taken of the script, by how driving ended.
