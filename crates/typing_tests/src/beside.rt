@@ -37,7 +37,8 @@ fn inferred(alloc: Global, form: Form, parts: &[Part]) -> Option<Answer> {
 // The place of the first statement of which something else is found or inferred than is said.
 fn first_apart(alloc: Global, worked: &[(Form, [Part; 2], Answer)]) -> Option<usize> {
     for i in 0..worked.len() {
-        let (form, parts, answer) = worked[i];
+        let (form, [first, second], answer) = worked[i];
+        let parts = [first, second];
         if searched(&parts) != Some(answer) || inferred(alloc, form, &parts) != Some(answer) {
             return Some(i);
         }
