@@ -20,7 +20,12 @@ struct Left {
 }
 
 // Drives the script against replies, which come in pieces of at most so many bytes.
-fn driven(alloc: Global, replies: &[u8], piece: usize, failing: Vec<u64>) -> Result<Left, AllocError> {
+fn driven(
+    alloc: Global,
+    replies: &[u8],
+    piece: usize,
+    failing: Vec<u64>,
+) -> Result<Left, AllocError> {
     let script = Vec::from_slice(alloc, SCRIPT.as_bytes())?;
     let replies = Vec::from_slice(alloc, replies)?;
     let mut script = MemSource::new(script, 4096, Vec::new(alloc));
@@ -98,7 +103,13 @@ fn a_changed_tag_fails_its_cell(rt: HostRuntime) -> Result<(), Fail> {
     let place = second_row(&replies);
     replies[place + 12] ^= 1;
     let left = driven(alloc, &replies, 7, Vec::new(alloc))?;
-    assert!(rt; ends_so(&left, Ran::Refusals, "c\nN'x'\nerror 75 CellFailed row 2 column 1 BadTag\n"));
+    assert!(rt;
+        ends_so(
+            &left,
+            Ran::Refusals,
+            "c\nN'x'\nerror 75 CellFailed row 2 column 1 BadTag\n"
+        )
+    );
     Ok(())
 }
 
@@ -109,15 +120,33 @@ fn a_bad_reply_has_its_place(rt: HostRuntime) -> Result<(), Fail> {
     let place = second_row(&replies);
     // It is cut off.
     let cut = driven(alloc, &replies[..place + 20], 7, Vec::new(alloc))?;
-    assert!(rt; ends_so(&cut, Ran::Stopped(Stop::BadReply(place as u64)), "c\nN'x'\n"));
+    assert!(rt;
+        ends_so(
+            &cut,
+            Ran::Stopped(Stop::BadReply(place as u64)),
+            "c\nN'x'\n"
+        )
+    );
     // None comes.
     let none = driven(alloc, &replies[..place], 7, Vec::new(alloc))?;
-    assert!(rt; ends_so(&none, Ran::Stopped(Stop::BadReply(place as u64)), "c\nN'x'\n"));
+    assert!(rt;
+        ends_so(
+            &none,
+            Ran::Stopped(Stop::BadReply(place as u64)),
+            "c\nN'x'\n"
+        )
+    );
     // It is another version's.
     let mut other = Vec::from_slice(alloc, &replies)?;
     other[place] = 2;
     let other = driven(alloc, &other, 4096, Vec::new(alloc))?;
-    assert!(rt; ends_so(&other, Ran::Stopped(Stop::BadReply(place as u64)), "c\nN'x'\n"));
+    assert!(rt;
+        ends_so(
+            &other,
+            Ran::Stopped(Stop::BadReply(place as u64)),
+            "c\nN'x'\n"
+        )
+    );
     Ok(())
 }
 
@@ -129,7 +158,13 @@ fn what_is_left_has_its_place(rt: HostRuntime) -> Result<(), Fail> {
     replies.push(0)?;
     for piece in [1, 4096] {
         let left = driven(alloc, &replies, piece, Vec::new(alloc))?;
-        assert!(rt; ends_so(&left, Ran::Stopped(Stop::BadReply(length as u64)), "c\nN'x'\nN'y'\n(2 rows)\n"));
+        assert!(rt;
+            ends_so(
+                &left,
+                Ran::Stopped(Stop::BadReply(length as u64)),
+                "c\nN'x'\nN'y'\n(2 rows)\n"
+            )
+        );
     }
     Ok(())
 }
