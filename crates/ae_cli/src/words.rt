@@ -1,6 +1,6 @@
 //! The words of the command line.
 
-ghost use Rattle.std.specs.Prelude.{◌≡◌, string_bytes, codes};
+ghost use Rattle.std.specs.Prelude.{◌≡◌};
 ghost use Rattle.std.specs.Option.{option_map};
 ghost use Rattle.ae_cli.specs.Words.{IsRefusedUsage, is_check, is_drive, is_run, is_serve, is_word, wrap_path};
 

@@ -6,3 +6,6 @@ use Rattle.ae_cli.proofs.status_of.Goals as goal
 
 pub returns-in_default-clause-run : goal.returns-in_default-clause-run
 returns-in_default-clause-run c = λ r. (ran.Unread unread.OutOfMemory, refl)
+
+pub returns-in_default-clause-driven : goal.returns-in_default-clause-driven
+returns-in_default-clause-driven c = λ r. (ran.Unread unread.OutOfMemory, refl)
