@@ -16,7 +16,7 @@ use Rattle.conversation.specs.Drive.{Driven, drive, outcomes_in}
 use Rattle.conversation.specs.Laws.{PathIsDriven, behind}
 use Rattle.conversation.specs.Paths.{Event, Asked, Took, Strayed, Drew, Opened, Printed, Follows, request_in, replies_to, taken_in, drawn_in, outcome_in, OpensAll, LastsTo}
 use Rattle.conversation.specs.Talk.{Talk}
-use Rattle.conversation.proofs.Going.{flat_append}
+use Rattle.std.proofs.lemmas.Grind.{flat_map-append}
 use Rattle.run_words.specs.Printing.{printed_outcome, print}
 use Rattle.run_words.specs.Shares.{Stream, Streams, Comes, coming, coming_behind, frames_of, text_of}
 use Rattle.run_words.specs.Ways.{printed_off}
@@ -94,11 +94,11 @@ off_text comes = text_is (printed_off comes) ∙ ap print (off_outcomes comes)
 
 module _ (d e : Driven) (events : List Event) (is : d ≡ behind events e) where
   requests_are : flat_map request_frame d.requests ≡ flat_map request_frame (flat_map request_in events) ++ flat_map request_frame e.requests
-  requests_are = ap (λ (x : Driven). flat_map request_frame x.requests) is ∙ flat_append request_frame (flat_map request_in events) e.requests
+  requests_are = ap (λ (x : Driven). flat_map request_frame x.requests) is ∙ flat_map-append request_frame (flat_map request_in events) e.requests
 
   prints_are : print d.outcomes ≡ flat_map text_of events ++ print e.outcomes
   prints_are =
-      ap (λ (x : Driven). print x.outcomes) is ∙ flat_append printed_outcome (flat_map outcome_in events) e.outcomes
+      ap (λ (x : Driven). print x.outcomes) is ∙ flat_map-append printed_outcome (flat_map outcome_in events) e.outcomes
       ∙ ap (λ w. w ++ print e.outcomes) (sym (text_is events))
 
   requests_with : flat_map replies_to events ≡ [] → flat_map request_frame d.requests ≡ flat_map frames_of events ++ flat_map request_frame e.requests
