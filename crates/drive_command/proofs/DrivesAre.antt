@@ -86,12 +86,11 @@ module _ (path : PathIsDriven) (one : HasOneReading SpellsReply) (once : IsReadO
       front = λ placed end reads more.
           let r = there placed end reads in
           let d = driven keys steps (flat_map drawn_in g.events ++ more) placed in
-          let e = drive keys u (length (flat_map taken_in g.events)) more (messages_of r.left) in
-          (
+          let e = drive keys u (length (flat_map taken_in g.events)) more (messages_of r.left) in (
             front_of (flat_map frames_of g.events) (flat_map request_frame d.requests) old.wire.tap new.wire.tap g.put.wire.tap
-            (subst (λ w. IsFront w (flat_map request_frame d.requests)) (append-nil (flat_map frames_of g.events)) (taps_front d e g.events (r.is more) [] came.silent (front_none (flat_map request_frame e.requests)))),
+                (subst (λ w. IsFront w (flat_map request_frame d.requests)) (append-nil (flat_map frames_of g.events)) (taps_front d e g.events (r.is more) [] came.silent (front_none (flat_map request_frame e.requests)))),
             front_of (flat_map text_of g.events) (print d.outcomes) old.desk.out new.desk.out g.put.desk.out
-            (subst (λ w. IsFront w (print d.outcomes)) (append-nil (flat_map text_of g.events)) (texts_front d e g.events (r.is more) [] (front_none (print e.outcomes)))),
+                (subst (λ w. IsFront w (print d.outcomes)) (append-nil (flat_map text_of g.events)) (texts_front d e g.events (r.is more) [] (front_none (print e.outcomes)))),
           );
     }
 
@@ -117,8 +116,7 @@ module _ (path : PathIsDriven) (one : HasOneReading SpellsReply) (once : IsReadO
       share = g.put.desk.entropy;
       whole = λ placed end reads more.
           let d = driven keys steps (flat_map drawn_in g.events ++ more) placed in
-          let k = done_is placed end reads more in
-          (
+          let k = done_is placed end reads more in (
             taps_whole d (last more) g.events k.0 old.wire.tap new.wire.tap (came (Ends sessions) old new st g).silent refl g.put.wire.tap,
             texts_whole d (last more) g.events k.0 [] old.desk.out new.desk.out new.desk.out refl g.put.desk.out (adds_none new.desk.out),
             ap (λ (x : Driven). x.entropy) k.0,
@@ -139,8 +137,7 @@ module _ (path : PathIsDriven) (one : HasOneReading SpellsReply) (once : IsReadO
           let d = driven keys steps (flat_map drawn_in g.events ++ more) placed in
           let e = drive keys u (length (flat_map taken_in g.events)) more (messages_of r.left) in
           let k = stuck keys u held s new.wire.taken more (flat_map taken_in g.events) (messages_of r.left) end (place_so u old new st g)
-          (λ m w. none_held held (came u old new st g).left left to_come (at_end _ (came u old new st g).left r.left end r.reads m w)) in
-          (
+          (λ m w. none_held held (came u old new st g).left left to_come (at_end _ (came u old new st g).left r.left end r.reads m w)) in (
             taps_whole d e g.events (r.is more) old.wire.tap new.wire.tap (came u old new st g).silent k.requests g.put.wire.tap,
             texts_whole d e g.events (r.is more) [] old.desk.out new.desk.out new.desk.out (ap print k.outcomes) g.put.desk.out (adds_none new.desk.out),
             ap (λ (x : Driven). x.entropy) (r.is more) ∙ k.entropy,
@@ -185,8 +182,7 @@ module _ (path : PathIsDriven) (one : HasOneReading SpellsReply) (once : IsReadO
             let d = driven keys steps (flat_map drawn_in g.events ++ more) placed in
             let e = drive keys u (length (flat_map taken_in g.events)) more [] in
             let i = cut_is n placed end reads more in
-            let k = lost keys u w (length (flat_map taken_in g.events)) more in
-            (
+            let k = lost keys u w (length (flat_map taken_in g.events)) more in (
               taps_whole d e g.events i old.wire.tap new.wire.tap (came u old mid st g).silent k.requests cut_tap,
               texts_whole d e g.events i (flat_map text_of (printed_off (off u))) old.desk.out mid.desk.out new.desk.out (ap print k.outcomes ∙ sym (off_text (off u))) g.put.desk.out put.desk.out,
               ap (λ (x : Driven). x.entropy) i ∙ k.entropy,
@@ -204,14 +200,13 @@ module _ (path : PathIsDriven) (one : HasOneReading SpellsReply) (once : IsReadO
           let e = drive keys u (length (flat_map taken_in g.events)) more [] in
           let i = cut_is n placed end reads more in
           let k = lost keys u w (length (flat_map taken_in g.events)) more in
-          let last = printed_off (off u) in
-          (
+          let last = printed_off (off u) in (
             adds_front_then (flat_map frames_of g.events ++ flat_map frames_of last) (flat_map request_frame d.requests) old.wire.tap new.wire.tap
-            (adds_then_front (flat_map frames_of g.events) (flat_map frames_of last) old.wire.tap mid.wire.tap new.wire.tap g.put.wire.tap put.wire.tap)
-            (taps_front d e g.events i (flat_map frames_of last) (came u old mid st g).silent (subst (λ xs. IsFront xs (flat_map request_frame e.requests)) (sym (off_frames (off u))) (front_none (flat_map request_frame e.requests)))),
+                (adds_then_front (flat_map frames_of g.events) (flat_map frames_of last) old.wire.tap mid.wire.tap new.wire.tap g.put.wire.tap put.wire.tap)
+                (taps_front d e g.events i (flat_map frames_of last) (came u old mid st g).silent (subst (λ xs. IsFront xs (flat_map request_frame e.requests)) (sym (off_frames (off u))) (front_none (flat_map request_frame e.requests)))),
             adds_front_then (flat_map text_of g.events ++ flat_map text_of last) (print d.outcomes) old.desk.out new.desk.out
-            (adds_then_front (flat_map text_of g.events) (flat_map text_of last) old.desk.out mid.desk.out new.desk.out g.put.desk.out put.desk.out)
-            (texts_front d e g.events i (flat_map text_of last) (subst (λ xs. IsFront xs (print e.outcomes)) (ap print k.outcomes ∙ sym (off_text (off u))) (front_same (print e.outcomes)))),
+                (adds_then_front (flat_map text_of g.events) (flat_map text_of last) old.desk.out mid.desk.out new.desk.out g.put.desk.out put.desk.out)
+                (texts_front d e g.events i (flat_map text_of last) (subst (λ xs. IsFront xs (print e.outcomes)) (ap print k.outcomes ∙ sym (off_text (off u))) (front_same (print e.outcomes)))),
           )
 
   -- ---- cut
@@ -239,14 +234,13 @@ module _ (path : PathIsDriven) (one : HasOneReading SpellsReply) (once : IsReadO
         let r = there b.between old b.mid st g placed end reads in
         let d = driven keys steps (flat_map drawn_in g.events ++ (flat_map drawn_in b.last ++ more)) placed in
         let e = drive keys b.between (length (flat_map taken_in g.events)) (flat_map drawn_in b.last ++ more) (messages_of r.left) in
-        let k = one_front keys b.between b.rest b.last f b.one s (length (flat_map taken_in g.events)) more (messages_of r.left) in
-        (
+        let k = one_front keys b.between b.rest b.last f b.one s (length (flat_map taken_in g.events)) more (messages_of r.left) in (
           adds_front_then (flat_map frames_of g.events ++ flat_map frames_of b.last) (flat_map request_frame d.requests) old.wire.tap new.wire.tap
-          (adds_then_front (flat_map frames_of g.events) (flat_map frames_of b.last) old.wire.tap b.mid.wire.tap new.wire.tap g.put.wire.tap b.put.wire.tap)
-          (taps_front d e g.events (r.is (flat_map drawn_in b.last ++ more)) (flat_map frames_of b.last) (came b.between old b.mid st g).silent k.frames),
+              (adds_then_front (flat_map frames_of g.events) (flat_map frames_of b.last) old.wire.tap b.mid.wire.tap new.wire.tap g.put.wire.tap b.put.wire.tap)
+              (taps_front d e g.events (r.is (flat_map drawn_in b.last ++ more)) (flat_map frames_of b.last) (came b.between old b.mid st g).silent k.frames),
           adds_front_then (flat_map text_of g.events ++ flat_map text_of b.last) (print d.outcomes) old.desk.out new.desk.out
-          (adds_then_front (flat_map text_of g.events) (flat_map text_of b.last) old.desk.out b.mid.desk.out new.desk.out g.put.desk.out b.put.desk.out)
-          (texts_front d e g.events (r.is (flat_map drawn_in b.last ++ more)) (flat_map text_of b.last) k.text),
+              (adds_then_front (flat_map text_of g.events) (flat_map text_of b.last) old.desk.out b.mid.desk.out new.desk.out g.put.desk.out b.put.desk.out)
+              (texts_front d e g.events (r.is (flat_map drawn_in b.last ++ more)) (flat_map text_of b.last) k.text),
         )
 
     part_of : IsFront (flat_map reply_frame (flat_map taken_in b.goes.events) ++ []) bytes

@@ -93,8 +93,9 @@ pub fn drive<S: Source, V: Vault, E: Entropy, L: Source, W: Sink, T: Sink>(
     // There are bytes, the script's where it tells them, of which this is what driving comes to. Over any replies: how far its conversation
     // was followed, what stands at the text, at the tap and at the other devices of it, how the replies were read, and why no further
     // (`content`). Over replies that tell their bytes, with keys that are told: the text and the tap are those of what is driven over the
-    // replies that these bytes spell, with the random bytes that were drawn; it is done exactly where every step was driven, every reply
-    // taken and no byte left; and the place of a bad reply is the byte at which it begins, or at which none comes or bytes are left (`exact`).
+    // replies that these bytes spell, with the random bytes that were drawn. It goes to the end, with every reply taken and no byte left;
+    // or to a bad reply, whose place is that of its first byte, or where none comes or bytes are left. Where the replies can't be read or
+    // are past their limit, it is so over those that were taken; where a device fails or memory ends, fronts stand (`exact`).
     ensures drive { (bytes : List ℕ) × IfSome (S.left script.old) (λ left. bytes ≡ left) × IsDriveOf result bytes
         (record { out = W.held out.old; tap = T.held tap.old; entropy = E.to_come entropy.old; keys = V.keys vault.old; replies = L.left replies.old; out_faults = W.faults out.old; tap_faults = T.faults tap.old; entropy_faults = E.faults entropy.old; vault_faults = V.faults vault.old; reply_faults = L.faults replies.old })
         (record { out = W.held out.new; tap = T.held tap.new; entropy = E.to_come entropy.new; keys = V.keys vault.new; replies = L.left replies.new; out_faults = W.faults out.new; tap_faults = T.faults tap.new; entropy_faults = E.faults entropy.new; vault_faults = V.faults vault.new; reply_faults = L.faults replies.new }) }

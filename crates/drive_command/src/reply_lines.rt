@@ -45,11 +45,7 @@ fn read_more<L: Source>(alloc: Global, source: &mut L, holding: &mut Holding) ->
 }
 
 /// Takes pieces of the stream until a reply stands first.
-fn fetch_reply<L: Source>(
-    alloc: Global,
-    source: &mut L,
-    holding: &mut Holding,
-) -> Result<(), Lack>
+fn fetch_reply<L: Source>(alloc: Global, source: &mut L, holding: &mut Holding) -> Result<(), Lack>
     ensures reads { FetchesReply result holding.old holding.new (L.left source.old) (L.left source.new) (L.faults source.old) (L.faults source.new) }
     ensures same { L.names source.new ≡ L.names source.old }
 {
