@@ -1,12 +1,12 @@
 -- Where a reply's frame stands first, nothing is refused and nothing is missing.
-use Rattle.std.proofs.Common.{◌≡◌, ℕ, ◌+◌, ◌≤◌, List, [], ◌∷◌, ◌++◌, Option, Some, None, Bool, true, false, length, take, drop, refl, sym, ◌∙◌, ap, subst, arith, inl, inr, append-nil, length-append}
-use Rattle.std.specs.Prelude.{◌<◌, IfSome, nat_lt, flat_map}
+use Rattle.std.proofs.Common.{◌≡◌, ℕ, ◌+◌, ◌≤◌, List, [], ◌∷◌, ◌++◌, Option, Some, None, Bool, true, false, length, take, refl, sym, ◌∙◌, subst, arith, inl, inr, append-nil, length-append}
+use Rattle.std.specs.Prelude.{◌<◌, IfSome, nat_lt}
 use Rattle.std.proofs.lemmas.List.{take-append-le}
 use Rattle.std.proofs.lemmas.List.Elements.{All-cons, All-nil}
 use Rattle.wire_messages.specs.Conditions.{IsReply}
 use Rattle.wire_messages.specs.declared.replies.Reply.{Reply}
 use Rattle.wire_spelling.specs.Spelling.{SpellsReply, reply_frame}
-use Rattle.wire_frames.specs.Frames.{End, Whole, Refused, Rest, Placed, EndsSo, ReadsAs, IsNotYet, IsRefused, is_reply_kind, is_no_header, stated}
+use Rattle.wire_frames.specs.Frames.{End, Whole, Refused, Rest, EndsSo, ReadsAs, IsNotYet, IsRefused, is_reply_kind, is_no_header, stated}
 use Rattle.wire_frames.specs.Laws.{IsReadOnce, IsReadBack}
 use Rattle.frame_feed.proofs.Streams.{refused_more}
 use Rattle.run_words.specs.Shares.{Begins, IsNext, coming_behind}

@@ -1,5 +1,5 @@
 -- Where the replies end, or what is put breaks off.
-use Rattle.std.proofs.Common.{◌≡◌, ℕ, ◌+◌, ◌≤◌, List, [], ◌∷◌, ◌++◌, Option, Some, None, length, refl, sym, ◌∙◌, ap, subst, append-nil, append_assoc, arith}
+use Rattle.std.proofs.Common.{◌≡◌, ℕ, ◌≤◌, List, [], ◌∷◌, ◌++◌, Option, Some, None, length, refl, sym, ◌∙◌, ap, subst, append-nil, append_assoc, arith}
 use Rattle.std.specs.Prelude.{flat_map}
 use Rattle.ae_edge.specs.Devices.{IsFront, Removes}
 use Rattle.ae_edge.specs.Vaults.{KeyMap}
@@ -9,7 +9,7 @@ use Rattle.wire_spelling.specs.Spelling.{request_frame, reply_frame}
 use Rattle.wire_frames.specs.Frames.{End, Whole}
 use Rattle.conversation.specs.declared.outcomes.Outcome.{Outcome}
 use Rattle.conversation.specs.Drive.{Driven, drive, outcomes_in}
-use Rattle.conversation.specs.Paths.{Event, Asked, Took, Strayed, Drew, Opened, Printed, Follows, stays, asks, takes_more, takes_last, strays, prints_last, draws, opens, prints, replies_to, taken_in, drawn_in}
+use Rattle.conversation.specs.Paths.{Event, Follows, stays, asks, takes_more, takes_last, strays, prints_last, draws, opens, prints, replies_to, taken_in, drawn_in}
 use Rattle.conversation.specs.Talk.{Talk, Ends, Stops, Asks, Hears, Draws, Opens, Prints}
 use Rattle.run_words.specs.Printing.{printed_outcome, print}
 use Rattle.run_words.specs.Shares.{Streams, coming_behind, frames_of, text_of}

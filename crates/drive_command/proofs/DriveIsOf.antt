@@ -1,5 +1,5 @@
 -- What driving a script leaves, over replies that tell their bytes.
-use Rattle.std.proofs.Common.{◌≡◌, ℕ, ◌+◌, ◌≤◌, List, [], ◌∷◌, ◌++◌, Option, Some, None, Result, Ok, Err, Bool, true, false, length, refl, sym, ◌∙◌, ap, subst, append_assoc, length-append, arith}
+use Rattle.std.proofs.Common.{◌≡◌, ℕ, List, [], ◌∷◌, ◌++◌, Option, Some, Result, Ok, Err, Bool, true, false, refl, sym, ◌∙◌, ap, subst, append_assoc, length-append, arith}
 use Rattle.std.specs.Prelude.{flat_map}
 use Rattle.ae_edge.specs.Devices.{Removes}
 use Rattle.ae_edge.specs.Vaults.{KeyMap}
@@ -9,12 +9,10 @@ use Rattle.wire_frames.specs.Frames.{is_reply_kind}
 use Rattle.wire_frames.specs.Laws.{HasOneReading, IsReadOnce, IsReadBack}
 use Rattle.conversation.specs.Laws.{PathIsDriven}
 use Rattle.conversation.specs.Paths.{taken_in}
-use Rattle.conversation.specs.Sessions.{nobody}
 use Rattle.conversation.specs.Talk.{Ends}
 use Rattle.script_lang.specs.declared.steps.Step.{Step}
-use Rattle.plain_meaning.specs.Steps.{talk}
 use Rattle.run_words.specs.Shares.{Outside, coming_behind}
-use Rattle.run_words.specs.Ways.{Lacks, Fails, IsPast, CantBeRead, IsTooLong, most_reply_bytes, off, printed_off}
+use Rattle.run_words.specs.Ways.{Lacks, IsPast, CantBeRead, off, printed_off}
 use Rattle.run_words.specs.declared.stops.Stop.{Stop}
 use Rattle.run_words.specs.declared.stops.Stop.TheVariants as stop
 use Rattle.script_run.specs.declared.runs.Ran.{Ran}
@@ -27,7 +25,7 @@ use Rattle.drive_command.specs.Drives.{DrivesWhole, DrivesTaken, DrivesPast, Dri
 use Rattle.drive_command.specs.Ends.{Lent, outside, CameTo, DrivesTo, DrivesSteps, DrivesScript}
 use Rattle.drive_command.proofs.Cutting.{off_still, off_taken, gone_so}
 use Rattle.drive_command.proofs.Driving.{Came, came_to, frames_first}
-use Rattle.drive_command.proofs.DrivesAre.{Starts, start, told, none_to_come, came, place_so, goes_front, done_drives, stuck_drives, cut_drives, breaks_drive}
+use Rattle.drive_command.proofs.DrivesAre.{Starts, start, none_to_come, came, place_so, goes_front, done_drives, stuck_drives, cut_drives, breaks_drive}
 
 coming_first : (bytes : List ℕ) (left : Option (List ℕ)) → left ≡ Some bytes → coming_behind [] left ≡ Some bytes
 coming_first bytes left e = subst (λ l. coming_behind [] l ≡ Some bytes) (sym e) refl

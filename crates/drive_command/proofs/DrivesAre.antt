@@ -1,7 +1,7 @@
 -- What a script comes to over the bytes of replies is what it is driven to over the replies that they spell.
-use Rattle.std.proofs.Common.{◌≡◌, ℕ, ◌+◌, ◌≤◌, List, [], ◌∷◌, ◌++◌, Option, Some, None, Result, Ok, Err, Bool, false, ◌||◌, length, map, refl, sym, ◌∙◌, ap, subst, append-nil, append_assoc, length-append, arith, inl, inr}
+use Rattle.std.proofs.Common.{◌≡◌, ℕ, List, [], ◌∷◌, ◌++◌, Option, Some, None, false, ◌||◌, length, refl, sym, ◌∙◌, ap, subst, append-nil, append_assoc, arith, inl, inr}
 use Rattle.std.specs.Prelude.{IfSome, flat_map}
-use Rattle.ae_edge.specs.Devices.{WhereTold, Adds, AddsFront, IsFront, Removes}
+use Rattle.ae_edge.specs.Devices.{Adds, AddsFront, IsFront}
 use Rattle.ae_edge.specs.Vaults.{KeyMap}
 use Rattle.ae_edge.proofs.Told.{adds_none, adds_then, adds_front_then, adds_then_front, front_of, front_none, front_same, removes_then}
 use Rattle.wire_messages.specs.Conditions.{IsReply}
@@ -10,7 +10,7 @@ use Rattle.wire_spelling.specs.Spelling.{SpellsReply, request_frame, reply_frame
 use Rattle.wire_frames.specs.Frames.{End, Whole, Placed, is_reply_kind}
 use Rattle.wire_frames.specs.Laws.{HasOneReading, IsReadOnce, IsReadBack}
 use Rattle.conversation.specs.declared.sessions.Session.{Session}
-use Rattle.conversation.specs.Drive.{Driven, drive, ended, end_at, outcomes_in, Done}
+use Rattle.conversation.specs.Drive.{Driven, drive, ended, end_at, Done}
 use Rattle.conversation.specs.Laws.{PathIsDriven, behind}
 use Rattle.conversation.specs.Paths.{Event, Follows, replies_to, taken_in, drawn_in, outcome_in, OpensAll}
 use Rattle.conversation.specs.Sessions.{nobody}
@@ -19,10 +19,10 @@ use Rattle.script_lang.specs.declared.steps.Step.{Step}
 use Rattle.plain_meaning.specs.Steps.{talk}
 use Rattle.run_words.specs.Printing.{print, has_refusal}
 use Rattle.run_words.specs.Shares.{Outside, Stream, Streams, IsNext, HasPut, coming_behind, frames_of, text_of}
-use Rattle.run_words.specs.Ways.{Goes, Halts, Lacks, Breaks, GoesOn, IsSilent, IsAtReply, IsStuck, off, printed_off}
+use Rattle.run_words.specs.Ways.{Goes, Breaks, GoesOn, IsSilent, IsAtReply, IsStuck, off, printed_off}
 use Rattle.script_run.specs.Transcript.{Drew}
 use Rattle.drive_command.specs.Drives.{Told, DrivesWhole, DrivesFront, DrivesPart, IsDone, IsBadAt, IsCut, IsWhole, IsAt, IsByReplies, messages_of, driven}
-use Rattle.drive_command.proofs.Cutting.{Lost, lost, Stuck, stuck, Fronts, one_front, streams_cut, off_still, off_frames, off_drawn}
+use Rattle.drive_command.proofs.Cutting.{lost, stuck, one_front, streams_cut, off_frames, off_drawn}
 use Rattle.drive_command.proofs.Driving.{ComesTo, Came, came_to, frames_first, no_replies, off_text, taps_whole, texts_whole, taps_front, texts_front, Reached, reached}
 use Rattle.drive_command.proofs.Fetching.{none_in_none}
 use Rattle.drive_command.proofs.Taken.{ReadsReplies, none_first, none_read}

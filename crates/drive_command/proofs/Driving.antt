@@ -1,13 +1,12 @@
 -- A path over a stream of replies is driven over the replies that its bytes spell.
-use Rattle.std.proofs.Common.{◌≡◌, ℕ, ◌+◌, ◌≤◌, List, [], ◌∷◌, ◌++◌, Option, Some, None, length, take, refl, sym, ◌∙◌, ap, subst, append-nil, append_assoc, arith}
-use Rattle.std.specs.Prelude.{IfSome, flat_map}
+use Rattle.std.proofs.Common.{◌≡◌, ℕ, ◌+◌, List, [], ◌∷◌, ◌++◌, Option, Some, None, length, refl, sym, ◌∙◌, ap, subst, append-nil, append_assoc, arith}
+use Rattle.std.specs.Prelude.{flat_map}
 use Rattle.std.proofs.Math.Seq.{take-append_seam}
-use Rattle.ae_edge.specs.Devices.{WhereTold, Adds, AddsFront, IsFront}
+use Rattle.ae_edge.specs.Devices.{WhereTold, Adds, IsFront}
 use Rattle.ae_edge.specs.Vaults.{KeyMap}
-use Rattle.ae_edge.proofs.Told.{adds_then, adds_front_then, front_of}
+use Rattle.ae_edge.proofs.Told.{adds_then}
 use Rattle.wire_messages.specs.Conditions.{IsReply}
 use Rattle.wire_messages.specs.declared.replies.Reply.{Reply}
-use Rattle.wire_messages.specs.declared.requests.Request.{Request}
 use Rattle.wire_spelling.specs.Spelling.{SpellsReply, request_frame, reply_frame}
 use Rattle.wire_frames.specs.Frames.{End, Placed, is_reply_kind}
 use Rattle.wire_frames.specs.Laws.{HasOneReading, IsReadOnce, IsReadBack}
@@ -18,11 +17,11 @@ use Rattle.conversation.specs.Paths.{Event, Asked, Took, Strayed, Drew, Opened, 
 use Rattle.conversation.specs.Talk.{Talk}
 use Rattle.std.proofs.lemmas.Grind.{flat_map-append}
 use Rattle.run_words.specs.Printing.{printed_outcome, print}
-use Rattle.run_words.specs.Shares.{Stream, Streams, Comes, coming, coming_behind, frames_of, text_of}
+use Rattle.run_words.specs.Shares.{Stream, Streams, Comes, coming, frames_of, text_of}
 use Rattle.run_words.specs.Ways.{printed_off}
 use Rattle.script_run.proofs.Plainly.{text_is}
 use Rattle.drive_command.specs.Drives.{messages_of, place_behind}
-use Rattle.drive_command.proofs.Taken.{ReadsReplies, Left, taken_are}
+use Rattle.drive_command.proofs.Taken.{ReadsReplies, taken_are}
 
 -- ---- what is told of a stream
 

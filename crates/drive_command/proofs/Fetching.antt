@@ -1,16 +1,15 @@
 -- Pieces of a stream of replies, one after another.
 use Rattle.std.proofs.Common.{◌≡◌, ℕ, ◌+◌, ◌≤◌, List, [], ◌∷◌, ◌++◌, Option, Some, None, length, refl, sym, ◌∙◌, ap, subst, arith, append-nil, append_assoc, length-append}
 use Rattle.std.specs.Prelude.{◌<◌, ◌-◌, IfSome, Err}
-use Rattle.ae_edge.specs.Devices.{Rose, WhereTold, Removes}
+use Rattle.ae_edge.specs.Devices.{WhereTold, Removes}
 use Rattle.ae_edge.specs.Sources.{Takes}
 use Rattle.ae_edge.specs.declared.sources.Taken.TheVariants as taken
 use Rattle.ae_edge.proofs.Told.{told_same}
-use Rattle.wire_messages.specs.declared.replies.Reply.{Reply}
 use Rattle.wire_spelling.specs.Spelling.{SpellsReply, reply_frame}
 use Rattle.wire_messages.specs.Conditions.{IsReply}
 use Rattle.wire_frames.specs.Frames.{IsNotYet, is_reply_kind}
 use Rattle.wire_frames.specs.Laws.{IsReadOnce, IsReadBack}
-use Rattle.run_words.specs.Shares.{Begins, IsNext, coming_behind}
+use Rattle.run_words.specs.Shares.{IsNext, coming_behind}
 use Rattle.run_words.specs.Ways.{IsLeft, IsPast, most_reply_bytes}
 use Rattle.drive_command.specs.Holding.{Holding, came, held_more}
 use Rattle.script_run.specs.declared.lines.Lack.{Lack}

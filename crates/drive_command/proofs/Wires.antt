@@ -1,16 +1,15 @@
 -- A stream of replies behind a tap, as a wire.
-use Rattle.std.proofs.Common.{◌≡◌, ℕ, ◌+◌, ◌≤◌, List, [], ◌∷◌, ◌++◌, Option, Some, None, Result, Ok, Err, length, refl, sym, ◌∙◌, ap, subst, arith, append-nil, append_assoc, inl, inr}
-use Rattle.std.specs.Prelude.{IfSome, flat_map}
+use Rattle.std.proofs.Common.{◌≡◌, ℕ, ◌+◌, ◌≤◌, List, [], ◌∷◌, ◌++◌, Option, Some, None, Result, Ok, Err, length, refl, sym, ◌∙◌, ap, subst, arith, append-nil, append_assoc, inr}
 use Rattle.std.specs.Borrow.{GName}
-use Rattle.ae_edge.specs.Devices.{Adds, AddsFront, Rose, WhereTold}
+use Rattle.ae_edge.specs.Devices.{Adds, AddsFront, WhereTold}
 use Rattle.ae_edge.specs.declared.streams.PutAll.TheVariants as put
 use Rattle.ae_edge.proofs.Told.{told_same, adds_none, adds_front_none}
 use Rattle.wire_messages.specs.declared.replies.Reply.{Reply}
 use Rattle.wire_messages.specs.declared.requests.Request.{Request}
 use Rattle.wire_spelling.specs.Spelling.{request_frame, reply_frame}
 use Rattle.conversation.specs.Paths.{Asked, Took}
-use Rattle.run_words.specs.Shares.{Begins, IsNext, Streams, Wire, WirePut, WireRead, coming_behind}
-use Rattle.run_words.specs.Ways.{AsksInPart, TakesOne, IsFirst}
+use Rattle.run_words.specs.Shares.{Begins, Streams, Wire, WirePut, WireRead, coming_behind}
+use Rattle.run_words.specs.Ways.{AsksInPart, TakesOne}
 use Rattle.script_run.specs.declared.lines.Lack.{Lack}
 use Rattle.script_run.specs.declared.lines.Lack.TheVariants as lack
 use Rattle.script_run.specs.declared.lines.Sent.TheVariants as sent

@@ -1,5 +1,5 @@
 -- Reading the next piece of a stream of replies.
-use Rattle.std.specs.Prelude.{◌≡◌, ℕ, ◌≤◌, ◌<◌, List, [], ◌∷◌, ◌++◌, length, Option, Some, None, IfSome, Result, Ok, Err, Bool, true, false}
+use Rattle.std.specs.Prelude.{◌≡◌, ℕ, ◌≤◌, ◌<◌, List, [], ◌∷◌, length, Option, Some, None, IfSome, Result, Ok, Err, Bool, true, false}
 use Rattle.ae_edge.specs.Devices.{Rose, Removes, WhereTold}
 use Rattle.std.specs.Borrow.{GName}
 use Rattle.wire_messages.specs.declared.replies.Reply.{Reply}
