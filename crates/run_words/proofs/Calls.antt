@@ -19,7 +19,7 @@ use Rattle.conversation.specs.Paths.{Event, Asked, Took, Strayed, Drew, Opened, 
 use Rattle.conversation.specs.Talk.{Talk, Stops, Asks, Hears, Heard, More, Got, hear, broken}
 use Rattle.run_words.specs.Printing.{printed_outcome, is_refusal, has_refusal}
 use Rattle.run_words.specs.Shares.{Desk, Wire, Outside, Serves, Stream, Streams, Comes, IsNext, coming, DeskPut, WirePut, WireRead, text_of, frames_of, exchanges_of, devices_of, with_devices}
-use Rattle.run_words.specs.Ways.{Goes, Halts, Breaks, AsksInPart, TakesOne, IsNextOf, IsNextOn}
+use Rattle.run_words.specs.Ways.{Goes, Halts, Breaks, AsksInPart, TakesOne, IsNextOf, IsNextOn, StaysWithin}
 use Rattle.run_words.proofs.Going.{desk_still, comes_still, stay, or_false, desk_front, wire_front, breaks_between, silent_by}
 
 -- ---- events of the driver by itself leave text, tap and replies
@@ -139,6 +139,7 @@ own_goes t u old x g = record {
       taken = let e : length (flat_map reply_frame (flat_map taken_in g.events)) ≡ 0 = ap (λ w. length (flat_map reply_frame w)) (none_taken g.events g.own) in omega arith;
     };
   };
+  limit = λ h. h;
 }
 
 -- it stands at the draw, or at the key, that wasn't given
@@ -209,6 +210,7 @@ module _ (comes : Outcome) (t u : Talk) (follows : Follows t (Printed comes ∷ 
       wire = wire_printed comes old.wire;
     };
     read = record { refused = r ∙ sym (or_none old.desk.refused (is_refusal comes)); wire = printed_read comes old.wire };
+    limit = λ h. h;
   }
 
   pub printed_breaks : AddsFront (printed_outcome comes) old.desk.out out
@@ -249,13 +251,14 @@ desk_asked request replies d = record {
 
 -- a request was asked, and its replies wait
 pub asked_goes : (request : Request) (replies : List Reply) (t : Talk) (old : Outside) (wire : Wire)
-    → WirePut Adds (Asked request replies ∷ []) old.wire wire → WireRead (Asked request replies ∷ []) old.wire wire
+    → WirePut Adds (Asked request replies ∷ []) old.wire wire → WireRead (Asked request replies ∷ []) old.wire wire → StaysWithin old.wire wire
     → Goes (Asks request t) t old (record old { wire = wire })
-asked_goes request replies t old wire p r = record {
+asked_goes request replies t old wire p r l = record {
   events = Asked request replies ∷ [];
   follows = asks request replies t t [] (stays t);
   put = record { desk = desk_asked request replies old.desk; wire = p };
   read = record { refused = or_false old.desk.refused; wire = r };
+  limit = l;
 }
 
 pub asked_breaks : (request : Request) (t : Talk) (old : Outside) (wire : Wire) → AsksInPart request old.wire wire → Breaks (Asks request t) old (record old { wire = wire })
@@ -306,6 +309,7 @@ took_goes reply t u old wire f h = record {
   follows = f;
   put = record { desk = desk_took reply old.desk; wire = h.put };
   read = record { refused = or_false old.desk.refused; wire = h.read };
+  limit = h.limit;
 }
 
 -- a reply was taken, and more is awaited
@@ -354,4 +358,5 @@ strayed_goes session shown f next old s e = record {
     wire = record { names = refl; tap = adds_none old.wire.tap; log = adds_none old.wire.log; state = told_same (Serves (Strayed next ∷ [])) (λ x. refl) old.wire.state; count = omega arith };
   };
   read = record { refused = or_false old.desk.refused; wire = record { comes = comes_strayed next old.wire.stream old.wire.waiting e; taken = omega arith } };
+  limit = λ h. h;
 }

@@ -90,7 +90,7 @@ desk_then xs ys a b c p q = record {
   vault_count = let x = p.vault_count in let y = q.vault_count in omega arith;
 }
 
-wire_then : (xs ys : List Event) (a b c : Wire) → WirePut Adds xs a b → WirePut Adds ys b c → WirePut Adds (xs ++ ys) a c
+pub wire_then : (xs ys : List Event) (a b c : Wire) → WirePut Adds xs a b → WirePut Adds ys b c → WirePut Adds (xs ++ ys) a c
 wire_then xs ys a b c p q = record {
   names = q.names ∙ p.names;
   tap = puts_then frames_of xs ys a.tap b.tap c.tap p.tap q.tap;
@@ -112,7 +112,7 @@ taken_then xs ys =
     ∙ ap length (flat_map-append reply_frame (flat_map taken_in xs) (flat_map taken_in ys))
     ∙ length-append (flat_map reply_frame (flat_map taken_in xs)) (flat_map reply_frame (flat_map taken_in ys))
 
-wire_read_then : (xs ys : List Event) (a b c : Wire) → WireRead xs a b → WireRead ys b c → WireRead (xs ++ ys) a c
+pub wire_read_then : (xs ys : List Event) (a b c : Wire) → WireRead xs a b → WireRead ys b c → WireRead (xs ++ ys) a c
 wire_read_then xs ys a b c p q = record {
   comes = comes_then xs ys a.stream b.stream c.stream a.waiting b.waiting c.waiting p.comes q.comes;
   taken =
@@ -180,7 +180,7 @@ pub nothing_read : (a : Outside) → HasRead [] a a
 nothing_read a = record { refused = or_false a.desk.refused; wire = wire_unread a.wire }
 
 pub stay : (t : Talk) (a : Outside) → Goes t t a a
-stay t a = record { events = []; follows = stays t; put = nothing_put a; read = nothing_read a }
+stay t a = record { events = []; follows = stays t; put = nothing_put a; read = nothing_read a; limit = λ h. h }
 
 -- ---- what was put whole is a front of it
 
@@ -215,6 +215,7 @@ goes_then t u v a b c p q = record {
   follows = follows_then t u v p.events q.events p.follows q.follows;
   put = put_then p.events q.events a b c p.put q.put;
   read = read_then p.events q.events a b c p.read q.read;
+  limit = λ h. q.limit (p.limit h);
 }
 
 pub halts_then : (P : Talk → Outside → Type 0) (t u : Talk) (a b c : Outside) → Goes t u a b → Halts P u b c → Halts P t a c
@@ -267,7 +268,11 @@ unread_then xs None None None a b p q = absurd q
 
 pub fails_then : (s : Stop) (t u : Talk) (a b c : Outside) → Goes t u a b → Fails s u b c → Fails s t a c
 fails_then (stop.BadReply place) t u a b c p f = halts_then _ t u a b c p f
-fails_then stop.ReadFault t u a b c p f = (lacks_then t u a b c p f.0, unread_then p.events a.wire.stream b.wire.stream c.wire.stream a.wire.waiting b.wire.waiting p.read.wire.comes f.1)
+fails_then stop.ReadFault t u a b c p f = (
+  lacks_then t u a b c p f.0,
+  unread_then p.events a.wire.stream b.wire.stream c.wire.stream a.wire.waiting b.wire.waiting p.read.wire.comes f.1,
+  λ h. f.2 (p.limit h),
+)
 fails_then stop.TooLong t u a b c p f = (lacks_then t u a b c p f.0, f.1)
 fails_then stop.EntropyFault t u a b c p f = (halts_then _ t u a b c p f.0, rose_before a.desk.entropy_faults b.desk.entropy_faults c.desk.entropy_faults p.put.desk.entropy_count f.1)
 fails_then stop.VaultFault t u a b c p f = (halts_then _ t u a b c p f.0, rose_before a.desk.vault_faults b.desk.vault_faults c.desk.vault_faults p.put.desk.vault_count f.1)

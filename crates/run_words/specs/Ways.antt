@@ -12,12 +12,26 @@ use Rattle.run_words.specs.Shares.{Outside, Stream, Wire, HasPut, HasRead, WireP
 use Rattle.run_words.specs.declared.stops.Stop.{Stop}
 use Rattle.run_words.specs.declared.stops.Stop.TheVariants as stop
 
+-- a stream of replies has at most 1,073,741,824 bytes
+abbrev pub most_reply_bytes : ℕ
+most_reply_bytes = 1073741824
+
+-- those that came are within this limit
+abbrev pub IsWithin : ℕ → Option Stream → Type 0
+IsWithin taken (Some s) = taken + length s.held ≤ most_reply_bytes
+IsWithin taken None = Unit {0}
+
+-- they stay within it
+abbrev pub StaysWithin : Wire → Wire → Type 0
+StaysWithin old new = IsWithin old.taken old.stream → IsWithin new.taken new.stream
+
 -- from t it was followed to u, and all has passed whole
 pub record Goes (t u : Talk) (old new : Outside) : Type 0 where
   pub events : List Event
   pub follows : Follows t events u
   pub put : HasPut Adds events old new
   pub read : HasRead events old new
+  pub limit : StaysWithin old.wire new.wire
 
 -- it came whole to a place of this kind, and no further
 pub record Halts (P : Talk → Outside → Type 0) (t : Talk) (old new : Outside) : Type 0 where
@@ -104,10 +118,6 @@ abbrev pub IsStuckOn : Talk → Option Stream → List Reply → Type 0
 IsStuckOn t None waiting = IsStuck t waiting
 IsStuckOn t (Some s) waiting = IsStuck t s.held
 
--- a stream of replies has at most 1,073,741,824 bytes
-abbrev pub most_reply_bytes : ℕ
-most_reply_bytes = 1073741824
-
 -- the stream couldn't be read, and no reply's frame stands first in what is held
 abbrev pub CantBeRead : Option Stream → Option Stream → Type 0
 CantBeRead (Some s) (Some t) = Rose s.faults t.faults × IsNext None t.held
@@ -130,7 +140,7 @@ IsTooLong taken None = ⊥
 -- each way to stop, with its cause
 abbrev pub Fails : Stop → Talk → Outside → Outside → Type 0
 Fails (stop.BadReply place) t old new = Halts (λ rest now. IsStuckOn rest now.wire.stream now.wire.waiting × (now.wire.taken ≡ place)) t old new
-Fails stop.ReadFault t old new = Lacks t old new × CantBeRead old.wire.stream new.wire.stream
+Fails stop.ReadFault t old new = Lacks t old new × CantBeRead old.wire.stream new.wire.stream × StaysWithin old.wire new.wire
 Fails stop.TooLong t old new = Lacks t old new × IsTooLong new.wire.taken new.wire.stream
 Fails stop.EntropyFault t old new = Halts (λ rest now. IsAtDraw rest) t old new × Rose old.desk.entropy_faults new.desk.entropy_faults
 Fails stop.VaultFault t old new = Halts (λ rest now. IsAtKey rest) t old new × Rose old.desk.vault_faults new.desk.vault_faults
@@ -182,3 +192,4 @@ IsReadOut (Some s) waiting = (s.held ≡ []) × IfSome s.left (λ left. left ≡
 pub record TakesOne (reply : Reply) (old new : Wire) : Type 0 where
   pub put : WirePut Adds (Took reply ∷ []) old new
   pub read : WireRead (Took reply ∷ []) old new
+  pub limit : StaysWithin old new

@@ -69,6 +69,7 @@ module _ (request : Request) (replies : List Reply) (old : Wire) (log : Option (
     replies,
     record { names = same; tap = subst (λ w. Adds w old.tap tap) (sym (append-nil (request_frame request ++ flat_map reply_frame replies))) h; log = logged; state = one_served; count = count },
     record { comes = queued (Asked request replies ∷ []) old.stream old.waiting waiting q w; taken = omega arith },
+    λ h. h,
   )
 
   pub asked_part : AddsFront (request_frame request ++ flat_map reply_frame replies) old.tap tap → (waiting : List Reply) → old.stream ≡ None

@@ -58,10 +58,10 @@ first_next r wire h = first_of_next r wire.stream wire.waiting h
 
 -- the wire rests
 pub rests_goes : (t : Talk) (x : Outside) (wire : Wire) → Rests x.wire wire → Goes t t x (record x { wire = wire })
-rests_goes t x wire r = record { events = []; follows = stays t; put = record { desk = desk_still x.desk; wire = r.0 }; read = record { refused = or_false x.desk.refused; wire = r.1 } }
+rests_goes t x wire r = record { events = []; follows = stays t; put = record { desk = desk_still x.desk; wire = r.0 }; read = record { refused = or_false x.desk.refused; wire = r.1 }; limit = r.2 }
 
 pub rests_same : (wire : Wire) → Rests wire wire
-rests_same wire = (wire_still wire, wire_unread wire)
+rests_same wire = (wire_still wire, wire_unread wire, λ h. h)
 
 -- ---- it isn't awaited, and nothing was shown
 

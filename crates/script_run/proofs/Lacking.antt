@@ -12,11 +12,11 @@ use Rattle.conversation.specs.declared.sessions.Session.TheVariants.{Idle, Begun
 use Rattle.conversation.specs.Paths.{Follows, stays, prints_last, IsStray, replies_to}
 use Rattle.conversation.specs.Talk.{Talk, Ends, Stops, Hears, Heard, broken}
 use Rattle.run_words.specs.Printing.{printed_listing}
-use Rattle.run_words.specs.Shares.{Desk, Stream, Wire, Outside, DeskPut, WirePut, WireRead, HasPut}
-use Rattle.run_words.specs.Ways.{Goes, Lacks, Breaks, Fails, CantBeRead, IsTooLong, IsStreamed, IsStuck, IsStuckOn, IsFirst, IsLeft, IsLeftOn, IsNextOn, printed_off}
+use Rattle.run_words.specs.Shares.{Desk, Stream, Wire, Outside, Comes, DeskPut, WirePut, WireRead, HasPut}
+use Rattle.run_words.specs.Ways.{Goes, Lacks, Breaks, Fails, CantBeRead, IsTooLong, IsStreamed, IsStuck, IsStuckOn, IsFirst, IsLeft, IsLeftOn, IsNextOn, StaysWithin, printed_off}
 use Rattle.run_words.specs.declared.stops.Stop.{Stop}
 use Rattle.run_words.specs.declared.stops.Stop.TheVariants as stop
-use Rattle.run_words.proofs.Going.{stay, or_false, desk_still, desk_front, wire_still, wire_front, wire_unread, nothing_put, nothing_read, goes_then, fails_then, silent_by}
+use Rattle.run_words.proofs.Going.{stay, or_false, desk_still, desk_front, wire_still, wire_front, wire_unread, wire_then, wire_read_then, goes_then, fails_then, silent_by}
 use Rattle.run_words.proofs.Calls.{desk_printed, desk_cut, wire_printed, printed_read, strayed_goes}
 use Rattle.script_run.specs.declared.lines.Lack.{Lack}
 use Rattle.script_run.specs.declared.lines.Lack.TheVariants as lack
@@ -57,6 +57,11 @@ streamed_read s (Some t) h = tt
 streamed_read (Some s) None h = absurd h
 streamed_read None None h = absurd h
 
+streamed_before : (s t : Option Stream) (a b : List Reply) → Comes [] s t a b → IsStreamed t → IsStreamed s
+streamed_before (Some s) t a b h i = tt
+streamed_before None (Some t) a b h i = absurd h
+streamed_before None None a b h i = absurd i
+
 streamed_long : (taken : ℕ) (s : Option Stream) → IsTooLong taken s → IsStreamed s
 streamed_long taken (Some s) h = tt
 streamed_long taken None h = absurd h
@@ -92,6 +97,7 @@ module _ (session : Session) (shown : Listing) (f : Heard → Talk) (x : Outside
           follows = off_follows (broken session shown);
           put = put_off (broken session shown) h.1;
           read = record { refused = h.2; wire = read_off (broken session shown) w };
+          limit = λ l. l;
         } in
         subst (λ s. Fails s (Hears session shown f) x After) (sym h.0)
         (record { rest = Stops None; goes = goes_then _ _ _ _ _ _ away g; place = (stuck_stop w.stream w.waiting, refl) })
@@ -110,15 +116,18 @@ module _ (session : Session) (shown : Listing) (f : Heard → Talk) (x : Outside
         h.0
 
   -- a stream of replies can't be read further
-  module _ (r : Rests x.wire w) where
+  module _ (p : WirePut Adds [] x.wire w) (q : WireRead [] x.wire w) where
+    wire_so : WirePut Adds (printed_off (broken session shown)) x.wire w
+    wire_so = wire_then [] (printed_off (broken session shown)) x.wire w w p (wire_off (broken session shown) w)
+
     lacks : (why : Stop) → PutsOff result why (broken session shown) x.desk desk → Lacks (Hears session shown f) x After
     lacks why h = record {
       between = Hears session shown f;
-      mid = record x { wire = w };
-      goes = rests_goes (Hears session shown f) x w r;
+      mid = x;
+      goes = stay (Hears session shown f) x;
       awaits = tt;
-      put = put_off (broken session shown) h.1;
-      read = record { refused = h.2; wire = read_off (broken session shown) w };
+      put = record { desk = h.1; wire = wire_so };
+      read = record { refused = h.2; wire = wire_read_then [] (printed_off (broken session shown)) x.wire w w q (read_off (broken session shown) w) };
     }
 
     cut_lacks : IsStreamed w.stream → CutsOff result (broken session shown) x.desk desk → Fails result (Hears session shown f) x After
@@ -127,18 +136,18 @@ module _ (session : Session) (shown : Listing) (f : Heard → Talk) (x : Outside
         (record {
           between = Hears session shown f;
           rest = Stops None;
-          mid = record x { wire = w };
+          mid = x;
           last = printed_off (broken session shown);
-          goes = rests_goes (Hears session shown f) x w r;
+          goes = stay (Hears session shown f) x;
           one = off_one (broken session shown);
-          follows = inr (i, tt, refl);
-          put = cut_off (broken session shown) h.1;
+          follows = inr (streamed_before x.wire.stream w.stream x.wire.waiting w.waiting q.comes i, tt, refl);
+          put = record { desk = h.1; wire = wire_front (printed_off (broken session shown)) x.wire w wire_so };
         })
         h.0
 
-    unread_fails : CantBeRead x.wire.stream w.stream → BreaksOff result stop.ReadFault (broken session shown) x.desk desk → Fails result (Hears session shown f) x After
-    unread_fails c (inl h) = subst (λ s. Fails s (Hears session shown f) x After) (sym h.0) (lacks stop.ReadFault h, c)
-    unread_fails c (inr h) = cut_lacks (streamed_read x.wire.stream w.stream c) h
+    unread_fails : CantBeRead x.wire.stream w.stream → StaysWithin x.wire w → BreaksOff result stop.ReadFault (broken session shown) x.desk desk → Fails result (Hears session shown f) x After
+    unread_fails c l (inl h) = subst (λ s. Fails s (Hears session shown f) x After) (sym h.0) (lacks stop.ReadFault h, c, l)
+    unread_fails c l (inr h) = cut_lacks (streamed_read x.wire.stream w.stream c) h
 
     long_fails : IsTooLong w.taken w.stream → BreaksOff result stop.TooLong (broken session shown) x.desk desk → Fails result (Hears session shown f) x After
     long_fails c (inl h) = subst (λ s. Fails s (Hears session shown f) x After) (sym h.0) (lacks stop.TooLong h, c)
@@ -151,8 +160,8 @@ module _ (session : Session) (shown : Listing) (f : Heard → Talk) (x : Outside
   -- none comes, by its cause
   pub fetch_fails : (why : Lack) → Fetches (Err why) x.wire w → BreaksOff result (stop_at why w.taken) (off_by why (broken session shown)) x.desk desk → Fails result (Hears session shown f) x After
   fetch_fails lack.BadReply h b = strays_off None tt h.0 h.1 b
-  fetch_fails lack.ReadFault h b = unread_fails h.0 h.1 b
-  fetch_fails lack.TooLong h b = long_fails h.0 h.1 b
+  fetch_fails lack.ReadFault h b = unread_fails h.0.0 h.0.1 h.1 h.0.2 b
+  fetch_fails lack.TooLong h b = long_fails h.0 h.1 h.2 b
   fetch_fails lack.OutOfMemory h b = memory_fails h b
 
 -- nothing was shown
@@ -234,18 +243,18 @@ left_on : (sessions : List Session) (s : Option Stream) (waiting : List Reply) �
 left_on sessions None waiting h = left_stuck sessions waiting h
 left_on sessions (Some s) waiting h = left_stuck sessions s.held h
 
-ends_lacking : (sessions : List Session) (x : Outside) (w : Wire) → Rests x.wire w → Lacks (Ends sessions) x (record x { wire = w })
-ends_lacking sessions x w r = record {
+ends_lacking : (sessions : List Session) (x : Outside) (w : Wire) → WirePut Adds [] x.wire w → WireRead [] x.wire w → Lacks (Ends sessions) x (record x { wire = w })
+ends_lacking sessions x w p q = record {
   between = Ends sessions;
-  mid = record x { wire = w };
-  goes = rests_goes (Ends sessions) x w r;
+  mid = x;
+  goes = stay (Ends sessions) x;
   awaits = tt;
-  put = nothing_put (record x { wire = w });
-  read = nothing_read (record x { wire = w });
+  put = record { desk = desk_still x.desk; wire = p };
+  read = record { refused = or_false x.desk.refused; wire = q };
 }
 
 pub finish_fails : (sessions : List Session) (x : Outside) (w : Wire) (why : Lack) (place : ℕ) → place ≡ w.taken → Finishes (Err why) x.wire w → Fails (stop_at why place) (Ends sessions) x (record x { wire = w })
 finish_fails sessions x w lack.BadReply place p h = record { rest = Ends sessions; goes = rests_goes (Ends sessions) x w h.0; place = (left_on sessions w.stream w.waiting h.1, sym p) }
-finish_fails sessions x w lack.ReadFault place p h = (ends_lacking sessions x w h.0, h.1)
-finish_fails sessions x w lack.TooLong place p h = (ends_lacking sessions x w h.0, h.1)
+finish_fails sessions x w lack.ReadFault place p h = (ends_lacking sessions x w h.0.0 h.0.1, h.1, h.0.2)
+finish_fails sessions x w lack.TooLong place p h = (ends_lacking sessions x w h.0 h.1, h.2)
 finish_fails sessions x w lack.OutOfMemory place p h = halted_so (Ends sessions) x w x.desk h (desk_front [] x.desk x.desk (desk_still x.desk))

@@ -7,7 +7,7 @@ use Rattle.wire_messages.specs.declared.replies.Reply.{Reply}
 use Rattle.wire_spelling.specs.Spelling.{reply_frame}
 use Rattle.conversation.specs.Paths.{Took, next_of}
 use Rattle.run_words.specs.Shares.{Stream, Wire, Serves}
-use Rattle.run_words.specs.Ways.{IsFirstOf, IsFirst, IsLeft, TakesOne}
+use Rattle.run_words.specs.Ways.{IsFirstOf, IsFirst, IsLeft, IsWithin, TakesOne}
 use Rattle.script_run.proofs.Queued.{queued}
 
 zero_not : (n m : ℕ) → n ≡ suc m → (n == 0) ≡ true → ⊥
@@ -52,4 +52,5 @@ takes_one reply old got left taken q first e n l s t =
         comes = queued (Took reply ∷ []) old.stream old.waiting left q (f.0, f.1, popped reply f.0 old.waiting got left f.1 e (subst (λ k. IsSome got ↔ (0 < k)) l s));
         taken = t ∙ ap (λ w. old.taken + length w) (sym (append-nil (reply_frame reply)));
       };
+      limit = λ h. subst (IsWithin taken) (sym q) tt;
     }

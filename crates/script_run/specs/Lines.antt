@@ -5,7 +5,7 @@ use Rattle.wire_messages.specs.declared.replies.Reply.{Reply}
 use Rattle.wire_messages.specs.declared.requests.Request.{Request}
 use Rattle.conversation.specs.Paths.{Asked}
 use Rattle.run_words.specs.Shares.{Wire, WirePut, WireRead}
-use Rattle.run_words.specs.Ways.{AsksInPart, CantBeRead, IsFirst, IsLeftOn, IsNextOn, IsReadOut, IsTooLong}
+use Rattle.run_words.specs.Ways.{AsksInPart, CantBeRead, IsFirst, IsLeftOn, IsNextOn, IsReadOut, IsTooLong, StaysWithin}
 use Rattle.wire_spelling.specs.Spelling.{reply_frame}
 use Rattle.script_run.specs.declared.lines.Lack.{Lack}
 use Rattle.script_run.specs.declared.lines.Lack.TheVariants as lack
@@ -21,20 +21,20 @@ reply_of (lent.Read reply) = reply
 
 -- the request was asked and its replies wait; or it broke off there, by its cause
 abbrev pub Sends : Sent → Request → Wire → Wire → Type 0
-Sends sent.Whole request old new = (replies : List Reply) × WirePut Adds (Asked request replies ∷ []) old new × WireRead (Asked request replies ∷ []) old new
+Sends sent.Whole request old new = (replies : List Reply) × WirePut Adds (Asked request replies ∷ []) old new × WireRead (Asked request replies ∷ []) old new × StaysWithin old new
 Sends sent.WriteFault request old new = AsksInPart request old new × Rose old.faults new.faults
 Sends sent.OutOfMemory request old new = AsksInPart request old new
 
--- nothing passed the wire
+-- nothing passed the wire, and the replies stay within their limit
 abbrev pub Rests : Wire → Wire → Type 0
-Rests old new = WirePut Adds [] old new × WireRead [] old new
+Rests old new = WirePut Adds [] old new × WireRead [] old new × StaysWithin old new
 
 -- a reply stands first; or none does, by its cause
 abbrev pub Fetches : Result (Unit {0}) Lack → Wire → Wire → Type 0
 Fetches (Ok o) old new = Rests old new × ((reply : Reply) × IsFirst reply new)
 Fetches (Err lack.BadReply) old new = Rests old new × IsNextOn None new
 Fetches (Err lack.ReadFault) old new = Rests old new × CantBeRead old.stream new.stream
-Fetches (Err lack.TooLong) old new = Rests old new × IsTooLong new.taken new.stream
+Fetches (Err lack.TooLong) old new = WirePut Adds [] old new × WireRead [] old new × IsTooLong new.taken new.stream
 Fetches (Err lack.OutOfMemory) old new = WirePut AddsFront [] old new
 
 -- nothing is left; or something is, or that can't be known
@@ -42,7 +42,7 @@ abbrev pub Finishes : Result (Unit {0}) Lack → Wire → Wire → Type 0
 Finishes (Ok o) old new = Rests old new × IsReadOut new.stream new.waiting
 Finishes (Err lack.BadReply) old new = Rests old new × IsLeftOn new.stream new.waiting
 Finishes (Err lack.ReadFault) old new = Rests old new × CantBeRead old.stream new.stream
-Finishes (Err lack.TooLong) old new = Rests old new × IsTooLong new.taken new.stream
+Finishes (Err lack.TooLong) old new = WirePut Adds [] old new × WireRead [] old new × IsTooLong new.taken new.stream
 Finishes (Err lack.OutOfMemory) old new = WirePut AddsFront [] old new
 
 -- the place behind the frame of the reply that stands first

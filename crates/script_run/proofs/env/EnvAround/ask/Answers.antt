@@ -4,7 +4,7 @@ use Rattle.run_words.proofs.Calls.{asked_goes, asked_breaks}
 use Rattle.script_run.proofs.env.EnvAround.ask.Goals as goal
 
 pub returns-in-Whole-clause-leads : goal.returns-in-Whole-clause-leads
-returns-in-Whole-clause-leads g c = λ t. asked_goes _ c.in-Whole.ensures.0 t _ _ c.in-Whole.ensures.1 c.in-Whole.ensures.2
+returns-in-Whole-clause-leads g c = λ t. asked_goes _ c.in-Whole.ensures.0 t _ _ c.in-Whole.ensures.1 c.in-Whole.ensures.2 c.in-Whole.ensures.3
 
 pub returns-in-WriteFault-clause-leads : goal.returns-in-WriteFault-clause-leads
 returns-in-WriteFault-clause-leads g c = λ t. (asked_breaks _ t _ _ c.in-WriteFault.ensures.0, inr c.in-WriteFault.ensures.1)
