@@ -1,5 +1,5 @@
 -- What driving a script leaves, over replies that tell their bytes.
-use Rattle.std.proofs.Common.{◌≡◌, ℕ, List, [], ◌∷◌, ◌++◌, Option, Some, Result, Ok, Err, Bool, true, false, refl, sym, ◌∙◌, ap, subst, append_assoc, length-append, arith}
+use Rattle.std.proofs.Common.{◌≡◌, ℕ, ◌+◌, ◌≤◌, List, [], ◌∷◌, ◌++◌, Option, Some, Result, Ok, Err, Bool, true, false, length, refl, sym, ◌∙◌, ap, subst, append-nil, append_assoc, length-append, arith}
 use Rattle.std.specs.Prelude.{flat_map}
 use Rattle.ae_edge.specs.Devices.{Removes}
 use Rattle.ae_edge.specs.Vaults.{KeyMap}
@@ -9,10 +9,10 @@ use Rattle.wire_frames.specs.Frames.{is_reply_kind}
 use Rattle.wire_frames.specs.Laws.{HasOneReading, IsReadOnce, IsReadBack}
 use Rattle.conversation.specs.Laws.{PathIsDriven}
 use Rattle.conversation.specs.Paths.{taken_in}
-use Rattle.conversation.specs.Talk.{Ends}
+use Rattle.conversation.specs.Talk.{Talk, Ends}
 use Rattle.script_lang.specs.declared.steps.Step.{Step}
 use Rattle.run_words.specs.Shares.{Outside, coming_behind}
-use Rattle.run_words.specs.Ways.{Lacks, IsPast, CantBeRead, off, printed_off}
+use Rattle.run_words.specs.Ways.{Goes, Lacks, IsPast, CantBeRead, StaysWithin, most_reply_bytes, off, printed_off}
 use Rattle.run_words.specs.declared.stops.Stop.{Stop}
 use Rattle.run_words.specs.declared.stops.Stop.TheVariants as stop
 use Rattle.script_run.specs.declared.runs.Ran.{Ran}
@@ -21,7 +21,7 @@ use Rattle.script_run.specs.declared.runs.Unread.TheVariants as unread
 use Rattle.script_run.specs.Ends.{IsScript}
 use Rattle.script_run.proofs.Plainly.{one_script}
 use Rattle.drive_command.specs.DriveOf.{IsDriveOf, told_of}
-use Rattle.drive_command.specs.Drives.{DrivesWhole, DrivesTaken, DrivesPast, DrivesBytes, IsBadAt, IsDone}
+use Rattle.drive_command.specs.Drives.{DrivesWhole, DrivesTaken, DrivesPast, DrivesBytes, TakesWithin, IsBadAt, IsDone}
 use Rattle.drive_command.specs.Ends.{Lent, outside, CameTo, DrivesTo, DrivesSteps, DrivesScript}
 use Rattle.drive_command.proofs.Cutting.{off_still, off_taken, gone_so}
 use Rattle.drive_command.proofs.Driving.{Came, came_to, frames_first}
@@ -44,14 +44,34 @@ module _ (path : PathIsDriven) (one : HasOneReading SpellsReply) (once : IsReadO
       starts : Starts keys bytes Before
       starts = record { opens = opens; stream = coming_first bytes old.replies left; taken = refl; refused = refl }
 
-    ends : (refused : Bool) (c : CameTo (Ok tt) refused steps old new) → (new.replies ≡ Some []) × DrivesWhole (IsDone refused) keys steps bytes (told_of old) (told_of new)
+    module _ (ended : Result (Unit {0}) Stop) (refused : Bool) (c : CameTo ended refused steps old new) (u : Talk) (g : Goes (start steps) u (Before ended refused c) (After ended refused c)) where
+      taken_within : TakesWithin bytes new.replies
+      taken_within =
+          let x = Before ended refused c in
+          let y = After ended refused c in
+          let st = starts ended refused c in
+          let k = came path one once back keys steps bytes u x y st g in
+          let frames = flat_map reply_frame (flat_map taken_in g.events) in
+          let l = length-append frames c.held in
+          let p = place_so path one once back keys steps bytes u x y st g in
+          let w : c.taken + length c.held ≤ most_reply_bytes = g.limit (omega arith) in
+          (frames ++ c.held, gone_so frames c.held bytes k.left new.replies k.to_come (frames_first g.events bytes k.left k.streams), omega (arith, l, p, w))
+
+    all_within : TakesWithin bytes new.replies → new.replies ≡ Some [] → length bytes ≤ most_reply_bytes
+    all_within t e =
+        let g : bytes ≡ t.0 ++ [] = subst (Removes t.0 (Some bytes)) e t.1 in
+        let l = ap length (g ∙ append-nil t.0) in
+        let w = t.2 in
+        omega (arith, l, w)
+
+    ends : (refused : Bool) (c : CameTo (Ok tt) refused steps old new) → (new.replies ≡ Some []) × DrivesWhole (IsDone refused) keys steps bytes (told_of old) (told_of new) × (length bytes ≤ most_reply_bytes)
     ends refused c =
         let x = Before (Ok tt) refused c in
         let y = After (Ok tt) refused c in
         let st = starts (Ok tt) refused c in
         let k = came path one once back keys steps bytes (Ends c.sessions) x y st c.leads in
         let n = none_to_come c.held k.left new.replies k.to_come c.read.0 c.read.1 in
-        (n.1, done_drives path one once back keys steps bytes c.sessions x y st c.leads n.0)
+        (n.1, done_drives path one once back keys steps bytes c.sessions x y st c.leads n.0, all_within (taken_within (Ok tt) refused c (Ends c.sessions) c.leads) n.1)
 
     -- ---- where the replies can't be read further
 
@@ -70,10 +90,17 @@ module _ (path : PathIsDriven) (one : HasOneReading SpellsReply) (once : IsReadO
           gone_so frames c.held bytes after.left new.replies after.to_come
           (frames_first l.goes.events bytes before.left before.streams ∙ ap (λ w. frames ++ w) (sym (off_still (off l.between) before.left after.left after.streams)))
 
-      lacks_taken : CantBeRead (Before (Err why) refused c).wire.stream (After (Err why) refused c).wire.stream → DrivesTaken keys steps bytes new.replies (told_of old) (told_of new)
-      lacks_taken h = record {
+      lacks_taken : CantBeRead (Before (Err why) refused c).wire.stream (After (Err why) refused c).wire.stream → StaysWithin (Before (Err why) refused c).wire (After (Err why) refused c).wire → DrivesTaken keys steps bytes new.replies (told_of old) (told_of new)
+      lacks_taken h w = record {
         taken = frames ++ c.held;
         gone = gone;
+        limit =
+            let t = l.read.wire.taken in
+            let z = off_taken (off l.between) in
+            let m = place_so path one once back keys steps bytes l.between (Before (Err why) refused c) l.mid (starts (Err why) refused c) l.goes in
+            let n = length-append frames c.held in
+            let q : c.taken + length c.held ≤ most_reply_bytes = w (omega arith) in
+            omega (arith, t, z, m, n, q);
         drives = cut_drives path one once back keys steps bytes l.between (Before (Err why) refused c) l.mid (After (Err why) refused c) (starts (Err why) refused c) l.goes l.awaits c.held l.put h.1;
       }
 
@@ -102,16 +129,25 @@ module _ (path : PathIsDriven) (one : HasOneReading SpellsReply) (once : IsReadO
           let st = starts (Err (stop.BadReply place)) refused c in
           let h = c.leads in
           let k = came path one once back keys steps bytes h.rest x y st h.goes in
-          subst (λ (p : ℕ). DrivesWhole (IsBadAt p) keys steps bytes (told_of old) (told_of new)) h.place.1
-          (stuck_drives path one once back keys steps bytes h.rest x y st h.goes c.held new.replies k.to_come h.place.0)
-      stops stop.ReadFault c = lacks_taken stop.ReadFault refused c c.leads.0 c.leads.1
+          (
+            subst (λ (p : ℕ). DrivesWhole (IsBadAt p) keys steps bytes (told_of old) (told_of new)) h.place.1
+                (stuck_drives path one once back keys steps bytes h.rest x y st h.goes c.held new.replies k.to_come h.place.0),
+            taken_within (Err (stop.BadReply place)) refused c h.rest h.goes,
+          )
+      stops stop.ReadFault c = lacks_taken stop.ReadFault refused c c.leads.0 c.leads.1 c.leads.2
       stops stop.TooLong c = lacks_past stop.TooLong refused c c.leads.0 c.leads.1
       stops stop.EntropyFault c =
           let h = c.leads.0 in
-          goes_front path one once back keys steps bytes h.rest (Before (Err stop.EntropyFault) refused c) (After (Err stop.EntropyFault) refused c) (starts (Err stop.EntropyFault) refused c) h.goes
+          (
+            goes_front path one once back keys steps bytes h.rest (Before (Err stop.EntropyFault) refused c) (After (Err stop.EntropyFault) refused c) (starts (Err stop.EntropyFault) refused c) h.goes,
+            taken_within (Err stop.EntropyFault) refused c h.rest h.goes,
+          )
       stops stop.VaultFault c =
           let h = c.leads.0 in
-          goes_front path one once back keys steps bytes h.rest (Before (Err stop.VaultFault) refused c) (After (Err stop.VaultFault) refused c) (starts (Err stop.VaultFault) refused c) h.goes
+          (
+            goes_front path one once back keys steps bytes h.rest (Before (Err stop.VaultFault) refused c) (After (Err stop.VaultFault) refused c) (starts (Err stop.VaultFault) refused c) h.goes,
+            taken_within (Err stop.VaultFault) refused c h.rest h.goes,
+          )
       stops stop.WriteFault c =
           breaks_drive path one once back keys steps bytes (Before (Err stop.WriteFault) refused c) (After (Err stop.WriteFault) refused c) (starts (Err stop.WriteFault) refused c) c.leads.0
       stops stop.OutOfMemory c =

@@ -14,7 +14,7 @@ use Rattle.run_words.specs.Ways.{IsLeft, IsPast, most_reply_bytes}
 use Rattle.drive_command.specs.Holding.{Holding, came, held_more}
 use Rattle.script_run.specs.declared.lines.Lack.{Lack}
 use Rattle.script_run.specs.declared.lines.Lack.TheVariants as lack
-use Rattle.drive_command.specs.Reading.{Moves, Moved, Ends, ReadsMore, FetchesReply}
+use Rattle.drive_command.specs.Reading.{Moves, Moved, HoldsWithin, Ends, ReadsMore, FetchesReply}
 use Rattle.drive_command.proofs.Beginning.{none_yet}
 
 pub moved_still : (h : Holding) (left : Option (List ℕ)) → Moved h h left left
@@ -46,6 +46,10 @@ ends_same held (Some x) (Some y) e = ap (λ w. held ++ w) (e.1 ∙ sym e.0)
 ends_same held None None e = tt
 ends_same held (Some x) None e = absurd e
 ends_same held None (Some y) e = absurd e
+
+-- with no byte more
+pub within_still : (a b c : Holding) (l m : Option (List ℕ)) → HoldsWithin a b → Moves [] b c l m → HoldsWithin a c
+within_still a b c l m w q = subst (HoldsWithin a) (sym q.held) (subst (λ (h : List ℕ). HoldsWithin a (record { at = b.at; held = h })) (sym (append-nil b.held)) w)
 
 -- the end
 pub moved_end : (a b c : Holding) (l m n : Option (List ℕ)) → Moved a b l m → c ≡ b → Ends m n → Moved a c l n
@@ -93,14 +97,14 @@ one_past old new (x ∷ y ∷ ys) left after before now room b r z some one h w 
 
 module _ (once : IsReadOnce is_reply_kind SpellsReply) (back : IsReadBack is_reply_kind SpellsReply IsReply reply_frame) where
   -- less than a frame is held, and no more can be had
-  pub fetch_lacks : (why : Lack) (a b c : Holding) (l m n : Option (List ℕ)) (x y z : ℕ) → Moved a b l m → x ≤ y → IsNotYet is_reply_kind b.held → ReadsMore (Err why) b c m n y z → FetchesReply (Err why) a c l n x z
-  fetch_lacks lack.BadReply a b c l m n x y z p i s h = absurd h
-  fetch_lacks lack.ReadFault a b c l m n x y z p i s h =
+  pub fetch_lacks : (why : Lack) (a b c : Holding) (l m n : Option (List ℕ)) (x y z : ℕ) → Moved a b l m → x ≤ y → HoldsWithin a b → IsNotYet is_reply_kind b.held → ReadsMore (Err why) b c m n y z → FetchesReply (Err why) a c l n x z
+  fetch_lacks lack.BadReply a b c l m n x y z p i w s h = absurd h
+  fetch_lacks lack.ReadFault a b c l m n x y z p i w s h =
       let j = h.0 in
       let r = h.1 in
       let e : c.held ≡ b.held = ap (λ (k : Holding). k.held) h.2.held ∙ append-nil b.held in
-      (moved_more a b c [] l m n p h.2, omega (arith, i, j), omega (arith, i, r), subst (IsNext None) (sym e) (none_yet once back b.held s))
-  fetch_lacks lack.TooLong a b c l m n x y z p i s h =
+      (moved_more a b c [] l m n p h.2, omega (arith, i, j), within_still a b c m n w h.2, omega (arith, i, r), subst (IsNext None) (sym e) (none_yet once back b.held s))
+  fetch_lacks lack.TooLong a b c l m n x y z p i w s h =
       let j = h.0 in
       (moved_more a b c (h.2.0 ∷ []) l m n p h.2.1, omega (arith, i, j), is_past b c h.2.0 m n h.2.1 h.1 (none_yet once back b.held s))
-  fetch_lacks lack.OutOfMemory a b c l m n x y z p i s h = tt
+  fetch_lacks lack.OutOfMemory a b c l m n x y z p i w s h = tt

@@ -1,5 +1,5 @@
 -- A stream of replies behind a tap, as a wire.
-use Rattle.std.proofs.Common.{◌≡◌, ℕ, ◌+◌, ◌≤◌, List, [], ◌∷◌, ◌++◌, Option, Some, None, Result, Ok, Err, length, refl, sym, ◌∙◌, ap, subst, arith, append-nil, append_assoc, inr}
+use Rattle.std.proofs.Common.{◌≡◌, ℕ, ◌+◌, ◌≤◌, List, [], ◌∷◌, ◌++◌, Option, Some, None, Result, Ok, Err, length, refl, sym, ◌∙◌, ap, subst, arith, append-nil, append_assoc, length-append, inr}
 use Rattle.std.specs.Borrow.{GName}
 use Rattle.ae_edge.specs.Devices.{Adds, AddsFront, WhereTold}
 use Rattle.ae_edge.specs.declared.streams.PutAll.TheVariants as put
@@ -16,7 +16,7 @@ use Rattle.script_run.specs.declared.lines.Sent.TheVariants as sent
 use Rattle.script_run.specs.Frames.{PutsBytes}
 use Rattle.script_run.specs.Lines.{Rests, Fetches, Finishes, Sends}
 use Rattle.drive_command.specs.Holding.{Holding}
-use Rattle.drive_command.specs.Reading.{Moved, FetchesReply, FinishesReplies, wire_of}
+use Rattle.drive_command.specs.Reading.{Moved, HoldsWithin, FetchesReply, FinishesReplies, wire_of}
 
 -- ---- nothing passes
 
@@ -33,21 +33,24 @@ module _ (tap_names source_names after_names : List GName) (same : after_names �
   halted : WirePut AddsFront [] Old New
   halted = record { names = ap (λ n. tap_names ∷ n ∷ []) same; tap = adds_front_none [] tap; log = tt; state = tt; count = omega arith }
 
-  rests : Moved h k left after → before ≤ now → Rests Old New
-  rests m c = (still, record { comes = (refl, m.1, c); taken = let e = m.0 in omega (arith, e) })
+  unread : Moved h k left after → before ≤ now → WireRead [] Old New
+  unread m c = record { comes = (refl, m.1, c); taken = let e = m.0 in omega (arith, e) }
+
+  rests : Moved h k left after → before ≤ now → HoldsWithin h k → Rests Old New
+  rests m c w = (still, unread m c, w)
 
   pub fetches : (result : Result (Unit {0}) Lack) → FetchesReply result h k left after before now → Fetches result Old New
-  fetches (Ok o) f = (rests f.0 f.1, f.2)
-  fetches (Err lack.BadReply) f = (rests f.0 f.1, f.2)
-  fetches (Err lack.ReadFault) f = (rests f.0 f.1, (f.2, f.3))
-  fetches (Err lack.TooLong) f = (rests f.0 f.1, f.2)
+  fetches (Ok o) f = (rests f.0 f.1 f.2, f.3)
+  fetches (Err lack.BadReply) f = (rests f.0 f.1 f.2, f.3)
+  fetches (Err lack.ReadFault) f = (rests f.0 f.1 f.2, (f.3, f.4))
+  fetches (Err lack.TooLong) f = (still, unread f.0 f.1, f.2)
   fetches (Err lack.OutOfMemory) f = halted
 
   pub finishes : (result : Result (Unit {0}) Lack) → FinishesReplies result h k left after before now → Finishes result Old New
-  finishes (Ok o) f = (rests f.0 f.1, (f.2, f.3))
-  finishes (Err lack.BadReply) f = (rests f.0 f.1, f.2)
-  finishes (Err lack.ReadFault) f = (rests f.0 f.1, (f.2, f.3))
-  finishes (Err lack.TooLong) f = (rests f.0 f.1, f.2)
+  finishes (Ok o) f = (rests f.0 f.1 f.2, (f.3, f.4))
+  finishes (Err lack.BadReply) f = (rests f.0 f.1 f.2, f.3)
+  finishes (Err lack.ReadFault) f = (rests f.0 f.1 f.2, (f.3, f.4))
+  finishes (Err lack.TooLong) f = (still, unread f.0 f.1, f.2)
   finishes (Err lack.OutOfMemory) f = halted
 
 -- ---- a request is put on the tap
@@ -67,7 +70,7 @@ module _ (request : Request) (tap_names source_names after_names : List GName) (
 
   pub sends_whole : PutsBytes put.Whole (request_frame request) tap tapped before now → Sends sent.Whole request From To
   sends_whole p =
-      ([], record { names = ap (λ n. n ∷ source_names ∷ []) same; tap = subst (λ w. Adds w tap tapped) twice_nil p.0; log = tt; state = tt; count = p.1 }, asked_read)
+      ([], record { names = ap (λ n. n ∷ source_names ∷ []) same; tap = subst (λ w. Adds w tap tapped) twice_nil p.0; log = tt; state = tt; count = p.1 }, asked_read, λ w. w)
 
   part : AddsFront (request_frame request) tap tapped → before ≤ now → AsksInPart request From To
   part p c = inr ([], refl, record { names = ap (λ n. n ∷ source_names ∷ []) same; tap = subst (λ w. AddsFront w tap tapped) twice_nil p; log = tt; state = tt; count = c })
@@ -95,4 +98,8 @@ takes tap_names source_names tap tap_faults left faults h k reply b behind e i =
         comes = (refl, begun reply h.held left b, omega arith);
         taken = e ∙ ap (λ w. h.at + length w) (sym (append-nil (reply_frame reply)));
       };
+      limit = λ w.
+          let l = ap length b.is in
+          let m = length-append (reply_frame reply) b.rest in
+          omega (arith, w, e, l, m);
     })

@@ -1,5 +1,5 @@
 -- A script driven against the bytes of replies.
-use Rattle.std.specs.Prelude.{◌≡◌, ℕ, List, [], ◌∷◌, ◌++◌, length, map, flat_map, take, Option, Some, Bool, true, false}
+use Rattle.std.specs.Prelude.{◌≡◌, ℕ, ◌≤◌, List, [], ◌∷◌, ◌++◌, length, map, flat_map, take, Option, Some, Bool, true, false}
 use Rattle.ae_edge.specs.Devices.{Adds, AddsFront, IsFront, Removes}
 use Rattle.ae_edge.specs.Vaults.{KeyMap}
 use Rattle.wire_frames.specs.Frames.{End, Whole, Placed, ReplyFrames}
@@ -89,10 +89,15 @@ pub record DrivesFront (keys : KeyMap) (steps : List Step) (replies : List ℕ) 
 
 -- ---- over replies that tell their bytes
 
--- some of them were taken, and it ended with these
+-- no more were taken than may be
+abbrev pub TakesWithin : (bytes : List ℕ) → (after : Option (List ℕ)) → Type 0
+TakesWithin bytes after = (taken : List ℕ) × Removes taken (Some bytes) after × (length taken ≤ most_reply_bytes)
+
+-- some of them were taken, within the limit, and it ended with these
 pub record DrivesTaken (keys : KeyMap) (steps : List Step) (bytes : List ℕ) (after : Option (List ℕ)) (old new : Told) : Type 0 where
   pub taken : List ℕ
   pub gone : Removes taken (Some bytes) after
+  pub limit : length taken ≤ most_reply_bytes
   pub drives : DrivesWhole IsCut keys steps taken old new
 
 -- as many were taken as may be, and one more; it ended with those within the limit
@@ -112,13 +117,13 @@ pub record DrivesPart (keys : KeyMap) (steps : List Step) (bytes : List ℕ) (ol
 -- The text and the tap are those of what is driven over the bytes, whatever they are; over those that were taken, where more couldn't be read
 -- or are past the limit; and fronts, where a device fails or memory ends.
 abbrev pub DrivesBytes : Ran → KeyMap → List Step → (bytes : List ℕ) → (after : Option (List ℕ)) → Told → Told → Type 0
-DrivesBytes ran.Done keys steps bytes after old new = (after ≡ Some []) × DrivesWhole (IsDone false) keys steps bytes old new
-DrivesBytes ran.Refusals keys steps bytes after old new = (after ≡ Some []) × DrivesWhole (IsDone true) keys steps bytes old new
-DrivesBytes (ran.Stopped (stop.BadReply place)) keys steps bytes after old new = DrivesWhole (IsBadAt place) keys steps bytes old new
+DrivesBytes ran.Done keys steps bytes after old new = (after ≡ Some []) × DrivesWhole (IsDone false) keys steps bytes old new × (length bytes ≤ most_reply_bytes)
+DrivesBytes ran.Refusals keys steps bytes after old new = (after ≡ Some []) × DrivesWhole (IsDone true) keys steps bytes old new × (length bytes ≤ most_reply_bytes)
+DrivesBytes (ran.Stopped (stop.BadReply place)) keys steps bytes after old new = DrivesWhole (IsBadAt place) keys steps bytes old new × TakesWithin bytes after
 DrivesBytes (ran.Stopped stop.ReadFault) keys steps bytes after old new = DrivesTaken keys steps bytes after old new
 DrivesBytes (ran.Stopped stop.TooLong) keys steps bytes after old new = DrivesPast keys steps bytes after old new
-DrivesBytes (ran.Stopped stop.EntropyFault) keys steps bytes after old new = DrivesFront keys steps bytes old new
-DrivesBytes (ran.Stopped stop.VaultFault) keys steps bytes after old new = DrivesFront keys steps bytes old new
+DrivesBytes (ran.Stopped stop.EntropyFault) keys steps bytes after old new = DrivesFront keys steps bytes old new × TakesWithin bytes after
+DrivesBytes (ran.Stopped stop.VaultFault) keys steps bytes after old new = DrivesFront keys steps bytes old new × TakesWithin bytes after
 DrivesBytes (ran.Stopped stop.WriteFault) keys steps bytes after old new = DrivesPart keys steps bytes old new
 DrivesBytes (ran.Stopped stop.OutOfMemory) keys steps bytes after old new = DrivesPart keys steps bytes old new
 DrivesBytes (ran.Unread why) keys steps bytes after old new = new ≡ old

@@ -33,19 +33,23 @@ ReadsMore (Err lack.OutOfMemory) old new left after before now = Unit {0}
 abbrev pub Moved : Holding → Holding → Option (List ℕ) → Option (List ℕ) → Type 0
 Moved old new left after = (new.at ≡ old.at) × WhereTold (λ a b. b ≡ a) (coming_behind old.held left) (coming_behind new.held after)
 
+-- they stay within their limit
+abbrev pub HoldsWithin : Holding → Holding → Type 0
+HoldsWithin old new = came old ≤ most_reply_bytes → came new ≤ most_reply_bytes
+
 -- a reply stands first, or none does, by its cause
 abbrev pub FetchesReply : Result (Unit {0}) Lack → Holding → Holding → (left after : Option (List ℕ)) → (before now : ℕ) → Type 0
-FetchesReply (Ok o) old new left after before now = Moved old new left after × (before ≤ now) × ((reply : Reply) × Begins reply new.held)
-FetchesReply (Err lack.BadReply) old new left after before now = Moved old new left after × (before ≤ now) × IfSome (coming_behind new.held after) (IsNext None)
-FetchesReply (Err lack.ReadFault) old new left after before now = Moved old new left after × (before ≤ now) × Rose before now × IsNext None new.held
+FetchesReply (Ok o) old new left after before now = Moved old new left after × (before ≤ now) × HoldsWithin old new × ((reply : Reply) × Begins reply new.held)
+FetchesReply (Err lack.BadReply) old new left after before now = Moved old new left after × (before ≤ now) × HoldsWithin old new × IfSome (coming_behind new.held after) (IsNext None)
+FetchesReply (Err lack.ReadFault) old new left after before now = Moved old new left after × (before ≤ now) × HoldsWithin old new × Rose before now × IsNext None new.held
 FetchesReply (Err lack.TooLong) old new left after before now = Moved old new left after × (before ≤ now) × IsPast new.at new.held
 FetchesReply (Err lack.OutOfMemory) old new left after before now = Unit {0}
 
 -- nothing is left, or something is, or that can't be known
 abbrev pub FinishesReplies : Result (Unit {0}) Lack → Holding → Holding → (left after : Option (List ℕ)) → (before now : ℕ) → Type 0
-FinishesReplies (Ok o) old new left after before now = Moved old new left after × (before ≤ now) × (new.held ≡ []) × IfSome after (λ bytes. bytes ≡ [])
-FinishesReplies (Err lack.BadReply) old new left after before now = Moved old new left after × (before ≤ now) × IsLeft new.held
-FinishesReplies (Err lack.ReadFault) old new left after before now = Moved old new left after × (before ≤ now) × Rose before now × IsNext None new.held
+FinishesReplies (Ok o) old new left after before now = Moved old new left after × (before ≤ now) × HoldsWithin old new × (new.held ≡ []) × IfSome after (λ bytes. bytes ≡ [])
+FinishesReplies (Err lack.BadReply) old new left after before now = Moved old new left after × (before ≤ now) × HoldsWithin old new × IsLeft new.held
+FinishesReplies (Err lack.ReadFault) old new left after before now = Moved old new left after × (before ≤ now) × HoldsWithin old new × Rose before now × IsNext None new.held
 FinishesReplies (Err lack.TooLong) old new left after before now = Moved old new left after × (before ≤ now) × IsPast new.at new.held
 FinishesReplies (Err lack.OutOfMemory) old new left after before now = Unit {0}
 
