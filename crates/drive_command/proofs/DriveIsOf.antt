@@ -128,8 +128,7 @@ module _ (path : PathIsDriven) (one : HasOneReading SpellsReply) (once : IsReadO
           let y = After (Err (stop.BadReply place)) refused c in
           let st = starts (Err (stop.BadReply place)) refused c in
           let h = c.leads in
-          let k = came path one once back keys steps bytes h.rest x y st h.goes in
-          (
+          let k = came path one once back keys steps bytes h.rest x y st h.goes in (
             subst (λ (p : ℕ). DrivesWhole (IsBadAt p) keys steps bytes (told_of old) (told_of new)) h.place.1
                 (stuck_drives path one once back keys steps bytes h.rest x y st h.goes c.held new.replies k.to_come h.place.0),
             taken_within (Err (stop.BadReply place)) refused c h.rest h.goes,
@@ -137,14 +136,12 @@ module _ (path : PathIsDriven) (one : HasOneReading SpellsReply) (once : IsReadO
       stops stop.ReadFault c = lacks_taken stop.ReadFault refused c c.leads.0 c.leads.1 c.leads.2
       stops stop.TooLong c = lacks_past stop.TooLong refused c c.leads.0 c.leads.1
       stops stop.EntropyFault c =
-          let h = c.leads.0 in
-          (
+          let h = c.leads.0 in (
             goes_front path one once back keys steps bytes h.rest (Before (Err stop.EntropyFault) refused c) (After (Err stop.EntropyFault) refused c) (starts (Err stop.EntropyFault) refused c) h.goes,
             taken_within (Err stop.EntropyFault) refused c h.rest h.goes,
           )
       stops stop.VaultFault c =
-          let h = c.leads.0 in
-          (
+          let h = c.leads.0 in (
             goes_front path one once back keys steps bytes h.rest (Before (Err stop.VaultFault) refused c) (After (Err stop.VaultFault) refused c) (starts (Err stop.VaultFault) refused c) h.goes,
             taken_within (Err stop.VaultFault) refused c h.rest h.goes,
           )
