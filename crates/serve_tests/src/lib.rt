@@ -1,8 +1,11 @@
-//! Tests of the command `serve`: frames byte by byte, recorded runs, cells that are renamed, devices that fail.
+//! Tests of the commands `serve` and `drive`: frames byte by byte, recorded runs, cells that are renamed, replies that are changed,
+//! devices that fail.
 #![tactic(auto)]
 
 #[cfg(test)]
 mod devices;
+#[cfg(test)]
+mod driven;
 #[cfg(test)]
 mod recorded;
 #[cfg(test)]

@@ -59,7 +59,7 @@ const MAIN: [u8; 32] = [
 /// Each byte that is drawn.
 pub const DRAWN: u8 = 7;
 
-fn vault(alloc: Global) -> Result<MemVault, AllocError> {
+pub fn vault(alloc: Global) -> Result<MemVault, AllocError> {
     let mut keys = Vec::new(alloc);
     keys.push((Txt::copied(alloc, "main")?, MAIN))?;
     Ok(MemVault::new(keys, Vec::new(alloc)))
