@@ -1,6 +1,9 @@
 -- The words of the command line.
-use Rattle.std.specs.Prelude.{◌≡◌, ◌⊎◌, ℕ, List, [], ◌∷◌, ◌++◌, codes, encode_utf8_all, Option, Some, None, Bool, false, if◌then◌else◌}
+use Rattle.std.specs.Prelude.{◌≡◌, ◌⊎◌, ℕ, List, [], ◌∷◌, ◌++◌, codes, encode_utf8_all, Option, Some, None, Bool, false, ◌&&◌, nat_le, nat_lt, length, if◌then◌else◌}
+use Rattle.std.specs.Char.{digit_value}
+use Rattle.std.specs.List.{list_all}
 use Rattle.std.specs.Str.{bytes_eq}
+use Rattle.std.specs.Str.Parse.{digits_value, without_leading_plus}
 use Rattle.script_run.specs.Statuses.{status_of}
 use Rattle.script_run.specs.declared.runs.Ran.{Ran}
 use Rattle.script_run.specs.declared.status.Status.{Status}
@@ -33,13 +36,36 @@ wrap_path (name ∷ word ∷ []) = None
 wrap_path (name ∷ word ∷ path ∷ []) = if bytes_eq (encode_utf8_all word) (codes "wrap") then Some path else None
 wrap_path (name ∷ word ∷ path ∷ more ∷ others) = None
 
+-- ---- `gen`
+
+-- digits alone, at least one
+abbrev pub is_numeral : List ℕ → Bool
+is_numeral digits = nat_lt 0 (length digits) && list_all (λ c. nat_lt (digit_value c) 10) digits
+
+abbrev pub size_within : ℕ → Option ℕ
+size_within size = if nat_le 1 size && nat_le size 20000 then Some size else None
+
+-- the number that a text spells in decimal, where it is from 1 to 20,000; a plus may stand first
+abbrev pub size_of : List ℕ → Option ℕ
+size_of text = if is_numeral (without_leading_plus text) then size_within (digits_value 10 (without_leading_plus text)) else None
+
+-- the size, behind the program's name and `gen`
+abbrev pub gen_size : List (List ℕ) → Option ℕ
+gen_size [] = None
+gen_size (name ∷ []) = None
+gen_size (name ∷ word ∷ []) = None
+gen_size (name ∷ word ∷ size ∷ []) = if bytes_eq (encode_utf8_all word) (codes "gen") then size_of (encode_utf8_all size) else None
+gen_size (name ∷ word ∷ size ∷ more ∷ others) = None
+
+-- ---- other words
+
 -- the words are those of no command
 abbrev pub AreNoCommand : List (List ℕ) → Type 0
-AreNoCommand words = (is_run words ≡ false) × (is_drive words ≡ false) × (is_check words ≡ false) × (is_serve words ≡ false) × (wrap_path words ≡ None)
+AreNoCommand words = (is_run words ≡ false) × (is_drive words ≡ false) × (is_check words ≡ false) × (is_serve words ≡ false) × (wrap_path words ≡ None) × (gen_size words ≡ None)
 
 -- how the program is called
 abbrev pub usage_lines : List ℕ
-usage_lines = codes "usage: ae run < SCRIPT" ++ 10 ∷ codes "       ae drive < SCRIPT" ++ 10 ∷ codes "       ae check < SCRIPT" ++ 10 ∷ codes "       ae serve < REQUESTS > REPLIES" ++ 10 ∷ codes "       ae wrap PATH < KEY" ++ 10 ∷ []
+usage_lines = codes "usage: ae run < SCRIPT" ++ 10 ∷ codes "       ae drive < SCRIPT" ++ 10 ∷ codes "       ae check < SCRIPT" ++ 10 ∷ codes "       ae serve < REQUESTS > REPLIES" ++ 10 ∷ codes "       ae wrap PATH < KEY" ++ 10 ∷ codes "       ae gen N > SCRIPT" ++ 10 ∷ []
 
 -- the words are no command, and it is said how they are written, or there was no memory to say so
 abbrev pub IsRefusedUsage : Status → Type 0

@@ -2,13 +2,16 @@
 
 ghost use Rattle.std.specs.Prelude.{◌≡◌, ◌⊎◌, ℕ, List, IfSome, Some, take, true, false};
 ghost use Rattle.ae_cli.specs.Checks.{status_of_checking};
+ghost use Rattle.ae_cli.specs.Gens.{status_of_generating};
 ghost use Rattle.ae_cli.specs.Serves.{status_of_serving};
-ghost use Rattle.ae_cli.specs.Words.{AreNoCommand, IsOfRun, IsRefusedUsage, is_check, is_drive, is_run, is_serve, wrap_path};
+ghost use Rattle.ae_cli.specs.Words.{AreNoCommand, IsOfRun, IsRefusedUsage, gen_size, is_check, is_drive, is_run, is_serve, wrap_path};
 ghost use Rattle.ae_cli.specs.Wraps.{status_of_wrapping};
 ghost use Rattle.check_command.specs.Ends as check;
 ghost use Rattle.check_command.specs.Ends.{ChecksScript};
 ghost use Rattle.check_command.specs.declared.steps.Checked.{Checked};
 ghost use Rattle.drive_command.specs.DriveOf.{IsDriveOf};
+ghost use Rattle.gen_command.specs.Generating.{PutsScript};
+ghost use Rattle.gen_command.specs.declared.commands.Generated.{Generated};
 ghost use Rattle.wrap_command.specs.Wrapping.{Takes, Wraps};
 ghost use Rattle.wrap_command.specs.declared.commands.Wrapped.{Wrapped};
 ghost use Rattle.ae_edge.specs.Devices.{Rose, WhereTold};
@@ -23,8 +26,9 @@ ghost use Rattle.script_run.specs.RunOf.{IsRunOf};
 ghost use Rattle.script_run.specs.Statuses.{status_of};
 
 use crate::checking::check_script;
+use crate::generating::generate_script;
 use crate::serving::serve_requests;
-use crate::words::{is_check, is_drive, is_run, is_serve, usage, wrap_path};
+use crate::words::{gen_size, is_check, is_drive, is_run, is_serve, usage, wrap_path};
 use crate::wrapping::wrap_key;
 use ae_base::texts::Txt;
 use ae_edge::entropies::Entropy;
@@ -50,7 +54,8 @@ use std::alloc::Global;
 /// frames of requests from `script`, and puts the frames of the replies of a server that begins with
 /// nothing defined to `out`. `wrap PATH` reads a column key from
 /// `script`, wraps it under the vault's master key at the path, and puts its digits to `out`;
-/// nothing else is touched. No command but `drive` touches the replies. Other words are `Usage`, and
+/// nothing else is touched. `gen N` puts the script of a size to `out`: two keys and a table with
+/// protected columns, N rows of it, and two reads; nothing else is touched. No command but `drive` touches the replies. Other words are `Usage`, and
 /// touch nothing.
 pub fn ae_main<S: Source, V: Vault, E: Entropy, L: Source, W: Sink, T: Sink, P: Peer>(
     alloc: Global,
@@ -93,6 +98,9 @@ pub fn ae_main<S: Source, V: Vault, E: Entropy, L: Source, W: Sink, T: Sink, P: 
     ensures wrapped { IfSome (wrap_path words.now) (λ path. (wrapped : Wrapped) × (result ≡ status_of_wrapping path wrapped) × (bytes : List ℕ) × IfSome (S.left script.old) (λ left. bytes ≡ left) × Wraps wrapped path bytes (record { keys = V.keys vault.old; out = W.held out.old }) (record { keys = V.keys vault.new; out = W.held out.new })) }
     ensures wrapped_taken { IfSome (wrap_path words.now) (λ path. (wrapped : Wrapped) × (result ≡ status_of_wrapping path wrapped) × WhereTold (Takes wrapped) (S.left script.old) (S.left script.new)) }
     ensures wrapped_alone { IfSome (wrap_path words.now) (λ path. (entropy.new ≡ entropy.old) × (tap.new ≡ tap.old) × (peer.new ≡ peer.old)) }
+    // Generating: the script of the size stands at the output, or a front of it; nothing else is touched.
+    ensures generated { IfSome (gen_size words.now) (λ size. (generated : Generated) × (result ≡ status_of_generating generated) × PutsScript generated size (W.held out.old) (W.held out.new)) }
+    ensures generated_alone { IfSome (gen_size words.now) (λ size. (script.new ≡ script.old) × (vault.new ≡ vault.old) × (entropy.new ≡ entropy.old) × (tap.new ≡ tap.old) × (peer.new ≡ peer.old)) }
     // A check: there are bytes, the script's where it tells them, of which it is what the command makes; nothing else is touched.
     ensures checked { is_check words.now ≡ true → (checked : Checked) × (result ≡ status_of_checking checked) × (bytes : List ℕ) × IfSome (S.left script.old) (λ left. bytes ≡ left) × ChecksScript checked bytes (W.held out.old) (W.held out.new) }
     ensures checked_taken { is_check words.now ≡ true → (checked : Checked) × (result ≡ status_of_checking checked) × WhereTold (check.Takes checked) (S.left script.old) (S.left script.new) }
@@ -122,6 +130,9 @@ pub fn ae_main<S: Source, V: Vault, E: Entropy, L: Source, W: Sink, T: Sink, P: 
     }
     if is_serve(words) {
         return serve_requests(alloc, script, out);
+    }
+    if let Some(size) = gen_size(words) {
+        return generate_script(alloc, size, out);
     }
     match wrap_path(words) {
         Some(path) => wrap_key(alloc, path, script, vault, out),

@@ -4,6 +4,7 @@
 mod checking;
 mod commands;
 mod files;
+mod generating;
 mod serving;
 #[cfg(test)]
 mod tests;

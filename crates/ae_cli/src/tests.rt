@@ -110,17 +110,45 @@ fn drive_tells_where_a_reply_is_missing(rt: HostRuntime) -> Result<(), Fail> {
 
 #[test]
 fn other_words_put_nothing(rt: HostRuntime) -> Result<(), Fail> {
-    let cases: [&[&str]; 5] = [
+    let cases: [&[&str]; 7] = [
         &[],
         &["ae"],
         &["ae", "walk"],
         &["ae", "RUN"],
         &["ae", "run", "run"],
+        &["ae", "gen", "0"],
+        &["ae", "gen", "20001"],
     ];
     for words in cases {
         let left = left_under(rt.alloc(), words)?;
         assert_eq!(rt; left.status.number(), 2);
         assert!(rt; left.out.bytes().is_empty() && left.tap.bytes().is_empty());
     }
+    Ok(())
+}
+
+/// The lines of a script of one row.
+const ONE_ROW: &str = "CREATE COLUMN MASTER KEY M WITH (KEY_STORE_PROVIDER_NAME = N'KEYFILE', KEY_PATH = N'main')
+GO
+CREATE COLUMN ENCRYPTION KEY K WITH VALUES (COLUMN_MASTER_KEY = M, ALGORITHM = 'AES_256_KW', ENCRYPTED_VALUE = 0x28C9F404C4B810F4CBCCB35CFB87F8263F5786E2D80ED326CBC7F0E71A99F43BFB988B9B7A02DD21)
+GO
+CREATE TABLE t (id INT NOT NULL UNIQUE, c NVARCHAR(8) ENCRYPTED WITH (COLUMN_ENCRYPTION_KEY = K, ENCRYPTION_TYPE = DETERMINISTIC, ALGORITHM = 'AEAD_AES_256_CBC_HMAC_SHA256'), v BIGINT ENCRYPTED WITH (COLUMN_ENCRYPTION_KEY = K, ENCRYPTION_TYPE = RANDOMIZED, ALGORITHM = 'AEAD_AES_256_CBC_HMAC_SHA256'))
+GO
+DECLARE @c NVARCHAR(8) = N'c8'
+DECLARE @v BIGINT = 1103527590
+INSERT INTO t (id, c, v) VALUES (1, @c, @v)
+GO
+SELECT c, COUNT(*) AS n FROM t GROUP BY c
+GO
+DECLARE @c NVARCHAR(8) = N'c7'
+SELECT COUNT(*) AS n FROM t WHERE c = @c
+GO
+";
+
+#[test]
+fn gen_writes_a_script_of_one_row(rt: HostRuntime) -> Result<(), Fail> {
+    let left = left_under(rt.alloc(), &["ae", "gen", "1"])?;
+    assert_eq!(rt; left.status.number(), 0);
+    assert_eq!(rt; left.out.bytes(), ONE_ROW.as_bytes());
     Ok(())
 }

@@ -2,7 +2,7 @@
 
 ghost use Rattle.std.specs.Prelude.{◌≡◌};
 ghost use Rattle.std.specs.Option.{option_map};
-ghost use Rattle.ae_cli.specs.Words.{IsRefusedUsage, is_check, is_drive, is_run, is_serve, is_word, wrap_path};
+ghost use Rattle.ae_cli.specs.Words.{IsRefusedUsage, gen_size, is_check, is_drive, is_run, is_serve, is_word, size_of, size_within, wrap_path};
 
 use ae_base::texts::Txt;
 use script_run::status::Status;
@@ -10,7 +10,7 @@ use std::alloc::Global;
 
 /// How the program is called.
 const USAGE: &str =
-    "usage: ae run < SCRIPT\n       ae drive < SCRIPT\n       ae check < SCRIPT\n       ae serve < REQUESTS > REPLIES\n       ae wrap PATH < KEY\n";
+    "usage: ae run < SCRIPT\n       ae drive < SCRIPT\n       ae check < SCRIPT\n       ae serve < REQUESTS > REPLIES\n       ae wrap PATH < KEY\n       ae gen N > SCRIPT\n";
 
 /// Whether the words are the program's name and this one.
 fn is_word(words: &[Txt], command: &str) -> bool
@@ -59,6 +59,43 @@ pub fn wrap_path(words: &[Txt]) -> Option<&Txt>
         [_, word, path] => {
             if word.as_str() == "wrap" {
                 Some(path)
+            } else {
+                None
+            }
+        }
+        _ => None,
+    }
+}
+
+/// A number, where it is from 1 to 20,000.
+fn size_within(size: u32) -> Option<u32>
+    ensures { result ≡ size_within size }
+{
+    match size {
+        1..=20_000 => Some(size),
+        _ => None,
+    }
+}
+
+/// The number that a text spells, where it is from 1 to 20,000.
+fn size_of(text: &str) -> Option<u32>
+    ensures { result ≡ size_of text.now }
+{
+    match text.parse::<u32>() {
+        Ok(size) => size_within(size),
+        Err(_) => None,
+    }
+}
+
+/// The size of the script that the words, of which the first is the program's name, ask to write,
+/// if they ask for that: a number from 1 to 20,000 in decimal.
+pub fn gen_size(words: &[Txt]) -> Option<u32>
+    ensures { result ≡ gen_size words.now }
+{
+    match words {
+        [_, word, size] => {
+            if word.as_str() == "gen" {
+                size_of(size.as_str())
             } else {
                 None
             }
