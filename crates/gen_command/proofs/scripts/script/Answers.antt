@@ -1,5 +1,5 @@
 -- The definitions, the rows and the reads.
-use Rattle.std.proofs.Common.{◌≡◌, ◌++◌, ℕ, List, refl, sym, ap, ◌∙◌, append_assoc, codes, string_bytes}
+use Rattle.std.proofs.Common.{◌≡◌, ◌++◌, ℕ, List, refl, sym, ap, ◌∙◌}
 use Rattle.gen_command.specs.Script.{script, text_of, definition_lines, all_row_lines, read_lines}
 use Rattle.gen_command.proofs.Lines.{text_append}
 use Rattle.gen_command.proofs.scripts.script.Goals as goal
