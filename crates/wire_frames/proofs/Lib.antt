@@ -1,10 +1,3 @@
 mod Directions
-mod FieldLaws
 mod FrameLaws
-mod MessageLaws
-mod PartLaws
-mod PartsRead
-mod Takes
 mod StreamLaws
-mod Tested
-mod Utf8Tests

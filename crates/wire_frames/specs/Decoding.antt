@@ -1,20 +1,12 @@
 -- What a decoder answers.
-use Rattle.std.specs.Prelude.{◌≡◌, ◌≤◌, ◌+◌, ℕ, List, ◌++◌, length, take, drop, Bool, true, false, Option, Some, None, slice_index}
+use Rattle.std.specs.Prelude.{◌≡◌, ◌≤◌, ◌+◌, ℕ, List, ◌++◌, length, take, drop, Bool, true, false, slice_index}
 use Rattle.wire_frames.specs.Frames.{is_request_kind, is_reply_kind, stated, is_no_header, IsNotYet, IsRefused}
-use Rattle.wire_frames.specs.declared.bodies.Body.{Body}
-use Rattle.wire_frames.specs.declared.bodies.Body.TheVariants as body
 use Rattle.wire_frames.specs.declared.decoding.Way.{Way}
 use Rattle.wire_frames.specs.declared.decoding.Way.TheVariants.{ToServer, ToDriver}
 use Rattle.wire_frames.specs.declared.decoding.Framed.{Framed}
 use Rattle.wire_frames.specs.declared.decoding.Framed.TheVariants as framed
 use Rattle.wire_frames.specs.declared.decoding.Decoded.{Decoded}
 use Rattle.wire_frames.specs.declared.decoding.Decoded.TheVariants as decoded
-
--- What was read of a body is what reading gives, unless memory ran out.
-abbrev pub GivesBody : {M : Type 0} → Body M → Option M → Type 0
-GivesBody (body.One message) read = read ≡ Some message
-GivesBody body.Bad read = read ≡ None
-GivesBody body.OutOfMemory read = Unit {0}
 
 -- the kinds of a direction
 abbrev pub has_kind : Way → ℕ → Bool

@@ -1,5 +1,3 @@
 pub mod Decoding
-pub mod Found
 pub mod Frames
 pub mod Laws
-pub mod Reading

@@ -1,26 +1,19 @@
 //! Bodies of messages from bytes.
 
 ghost use Rattle.std.specs.Prelude.{◌≡◌};
-ghost use Rattle.wire_frames.specs.Decoding.{GivesBody};
-ghost use Rattle.wire_frames.specs.Reading as read;
+ghost use Rattle.wire_reading.specs.Found.{GivesBody};
+ghost use Rattle.wire_reading.specs.Reading as read;
 
-use crate::checks;
-use crate::faults::fault_of;
-use crate::listing::{Found, declarations_of, few_of, many_of, sent_params_of, used_params_of};
-use crate::reading::{done_of, session_of, statement_of, u64_of};
 use std::alloc::Global;
 use wire_messages::replies::Reply;
 use wire_messages::requests::Request;
+use wire_reading::checks;
+use wire_reading::faults::fault_of;
+use wire_reading::found::{Body, Found};
+use wire_reading::listing::{declarations_of, few_of, many_of, sent_params_of, used_params_of};
+use wire_reading::reading::{done_of, session_of, statement_of, u64_of};
 
-/// The message of a body.
-#[derive(Drop)]
-pub enum Body<M> {
-    One(M),
-    Bad,
-    OutOfMemory,
-}
-
-#[tactic(auto, unfolding(crate::specs::Reading::describe_at))]
+#[tactic(auto, unfolding(wire_reading::specs::Reading::describe_at))]
 fn describe_of(alloc: Global, body: &[u8]) -> Body<Request<'_>>
     ensures { GivesBody result (read.describe_at body.now) }
 {
@@ -46,7 +39,7 @@ fn describe_of(alloc: Global, body: &[u8]) -> Body<Request<'_>>
     }
 }
 
-#[tactic(auto, unfolding(crate::specs::Reading::execute_at))]
+#[tactic(auto, unfolding(wire_reading::specs::Reading::execute_at))]
 fn execute_of(alloc: Global, body: &[u8]) -> Body<Request<'_>>
     ensures { GivesBody result (read.execute_at body.now) }
 {
@@ -77,7 +70,7 @@ fn execute_of(alloc: Global, body: &[u8]) -> Body<Request<'_>>
 }
 
 /// The body of a request of a kind.
-#[tactic(auto, unfolding(crate::specs::Reading::request_at))]
+#[tactic(auto, unfolding(wire_reading::specs::Reading::request_at))]
 pub fn request_body_of(alloc: Global, kind: u8, body: &[u8]) -> Body<Request<'_>>
     ensures { GivesBody result (read.request_at kind body.now) }
 {
@@ -88,7 +81,7 @@ pub fn request_body_of(alloc: Global, kind: u8, body: &[u8]) -> Body<Request<'_>
     }
 }
 
-#[tactic(auto, unfolding(crate::specs::Reading::described_at))]
+#[tactic(auto, unfolding(wire_reading::specs::Reading::described_at))]
 fn described_of(alloc: Global, body: &[u8]) -> Body<Reply<'_>>
     ensures { GivesBody result (read.described_at body.now) }
 {
@@ -109,7 +102,7 @@ fn described_of(alloc: Global, body: &[u8]) -> Body<Reply<'_>>
     }
 }
 
-#[tactic(auto, unfolding(crate::specs::Reading::columns_at))]
+#[tactic(auto, unfolding(wire_reading::specs::Reading::columns_at))]
 fn columns_of(alloc: Global, body: &[u8]) -> Body<Reply<'_>>
     ensures { GivesBody result (read.columns_at body.now) }
 {
@@ -127,7 +120,7 @@ fn columns_of(alloc: Global, body: &[u8]) -> Body<Reply<'_>>
     }
 }
 
-#[tactic(auto, unfolding(crate::specs::Reading::row_at))]
+#[tactic(auto, unfolding(wire_reading::specs::Reading::row_at))]
 fn row_of(alloc: Global, body: &[u8]) -> Body<Reply<'_>>
     ensures { GivesBody result (read.row_at body.now) }
 {
@@ -141,7 +134,7 @@ fn row_of(alloc: Global, body: &[u8]) -> Body<Reply<'_>>
     }
 }
 
-#[tactic(auto, unfolding(crate::specs::Reading::ended_at))]
+#[tactic(auto, unfolding(wire_reading::specs::Reading::ended_at))]
 fn ended_of(body: &[u8]) -> Body<Reply<'_>>
     ensures { GivesBody result (read.ended_at body.now) }
 {
@@ -156,7 +149,7 @@ fn ended_of(body: &[u8]) -> Body<Reply<'_>>
     }
 }
 
-#[tactic(auto, unfolding(crate::specs::Reading::refused_at))]
+#[tactic(auto, unfolding(wire_reading::specs::Reading::refused_at))]
 fn refused_of(alloc: Global, body: &[u8]) -> Body<Reply<'_>>
     ensures { GivesBody result (read.refused_at body.now) }
 {
@@ -168,7 +161,7 @@ fn refused_of(alloc: Global, body: &[u8]) -> Body<Reply<'_>>
 }
 
 /// The body of a reply of a kind.
-#[tactic(auto, unfolding(crate::specs::Reading::reply_at))]
+#[tactic(auto, unfolding(wire_reading::specs::Reading::reply_at))]
 pub fn reply_body_of(alloc: Global, kind: u8, body: &[u8]) -> Body<Reply<'_>>
     ensures { GivesBody result (read.reply_at kind body.now) }
 {

@@ -1,6 +1,6 @@
 -- A whole frame is read exactly where it spells a message.
 use Rattle.wire_frames.specs.Frames.{is_reply_kind}
-use Rattle.wire_frames.specs.Reading.{reply_at}
+use Rattle.wire_reading.specs.Reading.{reply_at}
 use Rattle.wire_messages.specs.Conditions.{IsReply}
 use Rattle.wire_spelling.specs.Spelling.{reply_kind, reply_body, SpellsReply}
 use Rattle.wire_frames.proofs.Directions.{to_driver}

@@ -1,6 +1,6 @@
 -- A whole frame is read exactly where it spells a message.
 use Rattle.wire_frames.specs.Frames.{is_request_kind}
-use Rattle.wire_frames.specs.Reading.{request_at}
+use Rattle.wire_reading.specs.Reading.{request_at}
 use Rattle.wire_messages.specs.Conditions.{IsRequest}
 use Rattle.wire_spelling.specs.Spelling.{request_kind, request_body, SpellsRequest}
 use Rattle.wire_frames.proofs.Directions.{to_server}

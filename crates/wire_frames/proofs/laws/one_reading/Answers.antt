@@ -2,7 +2,7 @@
 use Rattle.wire_messages.specs.Conditions.{IsRequest, IsReply}
 use Rattle.wire_spelling.specs.Spelling.{request_kind, request_body, reply_kind, reply_body, SpellsRequest, SpellsReply}
 use Rattle.wire_frames.specs.Frames.{is_request_kind, is_reply_kind}
-use Rattle.wire_frames.specs.Reading.{request_at, reply_at}
+use Rattle.wire_reading.specs.Reading.{request_at, reply_at}
 use Rattle.wire_frames.proofs.Directions.{to_server, to_driver}
 use Rattle.wire_frames.proofs.FrameLaws.{one_front, front_is_whole}
 use Rattle.wire_spelling.proofs.Lengths.{request_within, reply_within}

@@ -1,7 +1,0 @@
--- The parts so far stand at the front, before the rest.
-use Rattle.std.proofs.Common.{◌≡◌, length}
-use Rattle.wire_frames.proofs.PartsRead.{AreRead}
-use Rattle.wire_frames.proofs.listing.parts_of.Given as goal
-
-abbrev pub invariant-loop : goal.invariant-loop
-invariant-loop g l = (length l.parts ≡ l.counter) × AreRead g.P.ReadPart.reading l.parts l.bytes l.rest

@@ -1,0 +1,17 @@
+//! What readers that take memory answer.
+
+/// What stands at the front, and the rest.
+#[derive(Drop)]
+pub enum Found<'a, X> {
+    One(X, &'a [u8]),
+    Bad,
+    OutOfMemory,
+}
+
+/// What the whole of some bytes is.
+#[derive(Drop)]
+pub enum Body<M> {
+    One(M),
+    Bad,
+    OutOfMemory,
+}

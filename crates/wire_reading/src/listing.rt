@@ -1,0 +1,188 @@
+//! Lists of parts from bytes.
+
+ghost use Rattle.std.specs.Prelude.{◌≡◌, List, ℕ, Option};
+ghost use Rattle.std.specs.Int.{w16};
+ghost use Rattle.wire_reading.specs.Found.{GivesFound};
+ghost use Rattle.wire_reading.specs.Reading as read;
+ghost use Rattle.wire_reading.specs.Reading.{Gives};
+
+use crate::checks;
+use crate::found::Found;
+use crate::reading::{atom_of, enc_of, key_of, param_name_of, title_of, ty_of, u16_of};
+use ae_base::lists::Seq;
+use ae_base::params::{Named, ParamList};
+use std::alloc::Global;
+use wire_messages::columns::SentColumn;
+use wire_messages::params::{
+    Declaration, DeclarationParts, SentParam, SentParams, UsedParam, UsedParams,
+};
+use wire_parts::atoms::AtomPart;
+use wire_parts::keys::KeyPart;
+
+/// A part of a message that can be read from the front of some bytes.
+pub trait ReadPart<'a>: Sized + Drop {
+    /// What stands at the front of some bytes, and the bytes after it.
+    ghost reading: { List ℕ → Option (Self × List ℕ) };
+
+    /// The part at the front, and the rest.
+    fn read(bytes: &'a [u8]) -> Option<(Self, &'a [u8])>
+        ensures { Gives (λ x. (x.0, x.1.now)) result (reading bytes.now) };
+}
+
+fn parts_of<'a, P: ReadPart<'a>>(alloc: Global, count: usize, bytes: &'a [u8]) -> Found<'a, Seq<P>>
+    ensures { GivesFound result (read.parts_at P.reading count bytes.now) }
+{
+    let mut parts = Seq::new(alloc);
+    let mut rest = bytes;
+    for _ in 0..count {
+        match P::read(rest) {
+            Some((part, after)) => match parts.push(part) {
+                Ok(()) => rest = after,
+                Err(_) => return Found::OutOfMemory,
+            },
+            None => return Found::Bad,
+        }
+    }
+    Found::One(parts, rest)
+}
+
+/// As many parts as a byte counts.
+#[tactic(auto, unfolding(crate::specs::Reading::few_at))]
+pub fn few_of<'a, P: ReadPart<'a>>(alloc: Global, bytes: &'a [u8]) -> Found<'a, Seq<P>>
+    ensures { GivesFound result (read.few_at P.reading bytes.now) }
+{
+    match bytes {
+        [] => Found::Bad,
+        [count, rest @ ..] => parts_of(alloc, *count as usize, rest),
+    }
+}
+
+/// As many parts as two bytes count.
+#[tactic(auto, unfolding(crate::specs::Reading::many_at))]
+pub fn many_of<'a, P: ReadPart<'a>>(alloc: Global, bytes: &'a [u8]) -> Found<'a, Seq<P>>
+    ensures { GivesFound result (read.many_at P.reading bytes.now) }
+{
+    match u16_of(bytes) {
+        Some((count, rest)) => parts_of(alloc, count as usize, rest),
+        None => Found::Bad,
+    }
+}
+
+/// At most 128 parameters, whose names differ.
+fn params_of<'a, P: ReadPart<'a> + Named>(alloc: Global, bytes: &'a [u8]) -> Found<'a, ParamList<P>>
+    ensures { GivesFound result (read.kept (read.are_params P.called) (read.few_at P.reading) bytes.now) }
+{
+    match few_of(alloc, bytes) {
+        Found::One(parts, rest) => match checks::params(parts) {
+            Some(params) => Found::One(params, rest),
+            None => Found::Bad,
+        },
+        Found::Bad => Found::Bad,
+        Found::OutOfMemory => Found::OutOfMemory,
+    }
+}
+
+/// Declarations.
+#[tactic(auto, unfolding(crate::specs::Reading::declarations_at))]
+pub fn declarations_of(alloc: Global, bytes: &[u8]) -> Found<'_, DeclarationParts<'_>>
+    ensures { GivesFound result (read.declarations_at bytes.now) }
+{
+    params_of(alloc, bytes)
+}
+
+/// Parameters as they are sent.
+#[tactic(auto, unfolding(crate::specs::Reading::sent_params_at))]
+pub fn sent_params_of(alloc: Global, bytes: &[u8]) -> Found<'_, SentParams<'_>>
+    ensures { GivesFound result (read.sent_params_at bytes.now) }
+{
+    params_of(alloc, bytes)
+}
+
+/// Used parameters.
+#[tactic(auto, unfolding(crate::specs::Reading::used_params_at))]
+pub fn used_params_of(alloc: Global, bytes: &[u8]) -> Found<'_, UsedParams<'_>>
+    ensures { GivesFound result (read.used_params_at bytes.now) }
+{
+    params_of(alloc, bytes)
+}
+
+impl<'a> ReadPart<'a> for AtomPart<'a> {
+    ghost reading = { read.atom_at };
+
+    fn read(bytes: &'a [u8]) -> Option<(AtomPart<'a>, &'a [u8])> {
+        atom_of(bytes)
+    }
+}
+
+impl<'a> ReadPart<'a> for KeyPart<'a> {
+    ghost reading = { read.key_at };
+
+    fn read(bytes: &'a [u8]) -> Option<(KeyPart<'a>, &'a [u8])> {
+        key_of(bytes)
+    }
+}
+
+#[tactic(auto, unfolding(crate::specs::Reading::declaration_at))]
+impl<'a> ReadPart<'a> for Declaration<'a> {
+    ghost reading = { read.declaration_at };
+
+    fn read(bytes: &'a [u8]) -> Option<(Declaration<'a>, &'a [u8])> {
+        let (name, rest) = param_name_of(bytes)?;
+        let Some((ty, rest)) = ty_of(rest) else {
+            return None;
+        };
+        Some((Declaration::new(name, ty), rest))
+    }
+}
+
+#[tactic(auto, unfolding(crate::specs::Reading::sent_at))]
+impl<'a> ReadPart<'a> for SentParam<'a> {
+    ghost reading = { read.sent_at };
+
+    fn read(bytes: &'a [u8]) -> Option<(SentParam<'a>, &'a [u8])> {
+        let (name, rest) = param_name_of(bytes)?;
+        let Some((ty, rest)) = ty_of(rest) else {
+            return None;
+        };
+        let Some((enc, rest)) = enc_of(rest) else {
+            return None;
+        };
+        let (atom, rest) = atom_of(rest)?;
+        let param = SentParam {
+            name,
+            ty,
+            enc,
+            atom,
+        };
+        Some((param, rest))
+    }
+}
+
+#[tactic(auto, unfolding(crate::specs::Reading::used_at))]
+impl<'a> ReadPart<'a> for UsedParam<'a> {
+    ghost reading = { read.used_at };
+
+    fn read(bytes: &'a [u8]) -> Option<(UsedParam<'a>, &'a [u8])> {
+        let (name, rest) = param_name_of(bytes)?;
+        let Some((enc, rest)) = enc_of(rest) else {
+            return None;
+        };
+        Some((UsedParam { name, enc }, rest))
+    }
+}
+
+#[tactic(auto, unfolding(crate::specs::Reading::column_at))]
+impl<'a> ReadPart<'a> for SentColumn<'a> {
+    ghost reading = { read.column_at };
+
+    fn read(bytes: &'a [u8]) -> Option<(SentColumn<'a>, &'a [u8])> {
+        let (title, rest) = title_of(bytes)?;
+        let Some((ty, rest)) = ty_of(rest) else {
+            return None;
+        };
+        let Some((enc, rest)) = enc_of(rest) else {
+            return None;
+        };
+        Some((SentColumn { title, ty, enc }, rest))
+    }
+}
