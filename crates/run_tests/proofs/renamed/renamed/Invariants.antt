@@ -1,5 +1,5 @@
 use Rattle.std.proofs.Common.{length}
-use Rattle.serve_tests.proofs.renamed.renamed.Given as goal
+use Rattle.run_tests.proofs.renamed.renamed.Given as goal
 
 abbrev pub decreases-bytes : goal.decreases-bytes
 decreases-bytes l = length l.rest

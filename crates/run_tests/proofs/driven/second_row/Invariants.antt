@@ -1,5 +1,5 @@
 use Rattle.std.proofs.Common.{length}
-use Rattle.serve_tests.proofs.driven.second_row.Given as goal
+use Rattle.run_tests.proofs.driven.second_row.Given as goal
 
 abbrev pub decreases-frames : goal.decreases-frames
 decreases-frames l = length l.rest
