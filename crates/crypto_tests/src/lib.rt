@@ -1,5 +1,5 @@
-//! The words of the cryptographic definitions against values from outside, and each public call of those crates
-//! once with ample memory.
+//! The words of the cryptographic definitions against values from outside, each public call of those crates once with
+//! ample memory, and the opening and the wrapping of column keys.
 #![tactic(auto)]
 
 #[cfg(test)]
@@ -9,4 +9,10 @@ mod ciphers;
 #[cfg(test)]
 mod codes;
 #[cfg(test)]
+mod makers;
+#[cfg(test)]
+mod opening;
+#[cfg(test)]
 mod values;
+#[cfg(test)]
+mod wrapping;

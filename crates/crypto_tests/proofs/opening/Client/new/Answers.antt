@@ -1,5 +1,5 @@
 use Rattle.std.proofs.Common.{Some}
-use Rattle.key_tests.proofs.opening.Client.new.Goals as goal
+use Rattle.crypto_tests.proofs.opening.Client.new.Goals as goal
 
 pub invariant_of-result : goal.invariant_of-result
 invariant_of-result c = c.in_ok-new.ensures (Some c.new-2.result.keys)
