@@ -5,11 +5,10 @@ ghost use Rattle.wire_frames.specs.Decoding.{has_kind, IsFramed, Decodes, ReadsE
 ghost use Rattle.wire_frames.specs.Frames.{is_request_kind, is_reply_kind, IsNotYet};
 ghost use Rattle.wire_spelling.specs.Spelling.{SpellsRequest, SpellsReply};
 
-use crate::bodies::{reply_body_of, request_body_of};
 use std::alloc::Global;
+use wire_bodies::{Body, reply_body_of, request_body_of};
 use wire_messages::replies::Reply;
 use wire_messages::requests::Request;
-use wire_reading::found::Body;
 
 /// Which way frames go.
 #[derive(Clone, Copy, PartialEq, Eq, Debug)]

@@ -1,7 +1,6 @@
 //! Frames: the reading of each message between driver and server, which has one spelling.
 #![tactic(auto)]
 
-mod bodies;
 mod decoding;
 mod laws;
 

@@ -2,7 +2,4 @@
 #![tactic(auto)]
 
 pub mod checks;
-pub mod faults;
-pub mod found;
-pub mod listing;
 pub mod reading;

@@ -20,37 +20,24 @@ use wire_parts::texts::{NamePart, ParamNamePart, PathPart, StatementPart, TitleP
 pub fn u16_of(bytes: &[u8]) -> Option<(u16, &[u8])>
     ensures { Gives (λ x. (x.0, x.1.now)) result (read.number_at w16 bytes.now) }
 {
-    if bytes.len() < 2 {
-        return None;
-    }
-    let (front, rest) = bytes.split_at(2);
-    Some((u16::from_be_bytes([front[0], front[1]]), rest))
+    let (number, rest) = bytes.split_first_chunk()?;
+    Some((u16::from_be_bytes(*number), rest))
 }
 
 /// A number in four bytes.
 pub fn u32_of(bytes: &[u8]) -> Option<(u32, &[u8])>
     ensures { Gives (λ x. (x.0, x.1.now)) result (read.number_at w32 bytes.now) }
 {
-    if bytes.len() < 4 {
-        return None;
-    }
-    let (front, rest) = bytes.split_at(4);
-    let number = u32::from_be_bytes([front[0], front[1], front[2], front[3]]);
-    Some((number, rest))
+    let (number, rest) = bytes.split_first_chunk()?;
+    Some((u32::from_be_bytes(*number), rest))
 }
 
 /// A number in eight bytes.
 pub fn u64_of(bytes: &[u8]) -> Option<(u64, &[u8])>
     ensures { Gives (λ x. (x.0, x.1.now)) result (read.number_at w64 bytes.now) }
 {
-    if bytes.len() < 8 {
-        return None;
-    }
-    let (front, rest) = bytes.split_at(8);
-    let number = u64::from_be_bytes([
-        front[0], front[1], front[2], front[3], front[4], front[5], front[6], front[7],
-    ]);
-    Some((number, rest))
+    let (number, rest) = bytes.split_first_chunk()?;
+    Some((u64::from_be_bytes(*number), rest))
 }
 
 /// So many bytes.

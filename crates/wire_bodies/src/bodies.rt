@@ -1,16 +1,16 @@
 //! Bodies of messages from bytes.
 
 ghost use Rattle.std.specs.Prelude.{◌≡◌};
-ghost use Rattle.wire_reading.specs.Found.{GivesBody};
+ghost use Rattle.wire_bodies.specs.Found.{GivesBody};
 ghost use Rattle.wire_reading.specs.Reading as read;
 
+use crate::faults::fault_of;
+use crate::found::{Body, Found};
+use crate::listing::{declarations_of, few_of, many_of, sent_params_of, used_params_of};
 use std::alloc::Global;
 use wire_messages::replies::Reply;
 use wire_messages::requests::Request;
 use wire_reading::checks;
-use wire_reading::faults::fault_of;
-use wire_reading::found::{Body, Found};
-use wire_reading::listing::{declarations_of, few_of, many_of, sent_params_of, used_params_of};
 use wire_reading::reading::{done_of, session_of, statement_of, u64_of};
 
 #[tactic(auto, unfolding(wire_reading::specs::Reading::describe_at))]

@@ -1,9 +1,9 @@
 -- What readers that take memory answer.
 use Rattle.std.specs.Prelude.{◌≡◌, List, ℕ, Option, Some, None}
-use Rattle.wire_reading.specs.declared.found.Body.{Body}
-use Rattle.wire_reading.specs.declared.found.Body.TheVariants as body
-use Rattle.wire_reading.specs.declared.found.Found.{Found}
-use Rattle.wire_reading.specs.declared.found.Found.TheVariants as found
+use Rattle.wire_bodies.specs.declared.found.Body.{Body}
+use Rattle.wire_bodies.specs.declared.found.Body.TheVariants as body
+use Rattle.wire_bodies.specs.declared.found.Found.{Found}
+use Rattle.wire_bodies.specs.declared.found.Found.TheVariants as found
 
 -- What stands at the front is what reading gives, unless memory ran out.
 abbrev pub GivesFound : {X : Type 0} → Found X → Option (X × List ℕ) → Type 0

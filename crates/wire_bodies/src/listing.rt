@@ -2,13 +2,11 @@
 
 ghost use Rattle.std.specs.Prelude.{◌≡◌, List, ℕ, Option};
 ghost use Rattle.std.specs.Int.{w16};
-ghost use Rattle.wire_reading.specs.Found.{GivesFound};
+ghost use Rattle.wire_bodies.specs.Found.{GivesFound};
 ghost use Rattle.wire_reading.specs.Reading as read;
 ghost use Rattle.wire_reading.specs.Reading.{Gives};
 
-use crate::checks;
 use crate::found::Found;
-use crate::reading::{atom_of, enc_of, key_of, param_name_of, title_of, ty_of, u16_of};
 use ae_base::lists::Seq;
 use ae_base::params::{Named, ParamList};
 use std::alloc::Global;
@@ -18,6 +16,8 @@ use wire_messages::params::{
 };
 use wire_parts::atoms::AtomPart;
 use wire_parts::keys::KeyPart;
+use wire_reading::checks;
+use wire_reading::reading::{atom_of, enc_of, key_of, param_name_of, title_of, ty_of, u16_of};
 
 /// A part of a message that can be read from the front of some bytes.
 pub trait ReadPart<'a>: Sized + Drop {
@@ -47,7 +47,7 @@ fn parts_of<'a, P: ReadPart<'a>>(alloc: Global, count: usize, bytes: &'a [u8]) -
 }
 
 /// As many parts as a byte counts.
-#[tactic(auto, unfolding(crate::specs::Reading::few_at))]
+#[tactic(auto, unfolding(wire_reading::specs::Reading::few_at))]
 pub fn few_of<'a, P: ReadPart<'a>>(alloc: Global, bytes: &'a [u8]) -> Found<'a, Seq<P>>
     ensures { GivesFound result (read.few_at P.reading bytes.now) }
 {
@@ -58,7 +58,7 @@ pub fn few_of<'a, P: ReadPart<'a>>(alloc: Global, bytes: &'a [u8]) -> Found<'a, 
 }
 
 /// As many parts as two bytes count.
-#[tactic(auto, unfolding(crate::specs::Reading::many_at))]
+#[tactic(auto, unfolding(wire_reading::specs::Reading::many_at))]
 pub fn many_of<'a, P: ReadPart<'a>>(alloc: Global, bytes: &'a [u8]) -> Found<'a, Seq<P>>
     ensures { GivesFound result (read.many_at P.reading bytes.now) }
 {
@@ -83,7 +83,7 @@ fn params_of<'a, P: ReadPart<'a> + Named>(alloc: Global, bytes: &'a [u8]) -> Fou
 }
 
 /// Declarations.
-#[tactic(auto, unfolding(crate::specs::Reading::declarations_at))]
+#[tactic(auto, unfolding(wire_reading::specs::Reading::declarations_at))]
 pub fn declarations_of(alloc: Global, bytes: &[u8]) -> Found<'_, DeclarationParts<'_>>
     ensures { GivesFound result (read.declarations_at bytes.now) }
 {
@@ -91,7 +91,7 @@ pub fn declarations_of(alloc: Global, bytes: &[u8]) -> Found<'_, DeclarationPart
 }
 
 /// Parameters as they are sent.
-#[tactic(auto, unfolding(crate::specs::Reading::sent_params_at))]
+#[tactic(auto, unfolding(wire_reading::specs::Reading::sent_params_at))]
 pub fn sent_params_of(alloc: Global, bytes: &[u8]) -> Found<'_, SentParams<'_>>
     ensures { GivesFound result (read.sent_params_at bytes.now) }
 {
@@ -99,7 +99,7 @@ pub fn sent_params_of(alloc: Global, bytes: &[u8]) -> Found<'_, SentParams<'_>>
 }
 
 /// Used parameters.
-#[tactic(auto, unfolding(crate::specs::Reading::used_params_at))]
+#[tactic(auto, unfolding(wire_reading::specs::Reading::used_params_at))]
 pub fn used_params_of(alloc: Global, bytes: &[u8]) -> Found<'_, UsedParams<'_>>
     ensures { GivesFound result (read.used_params_at bytes.now) }
 {
@@ -122,7 +122,7 @@ impl<'a> ReadPart<'a> for KeyPart<'a> {
     }
 }
 
-#[tactic(auto, unfolding(crate::specs::Reading::declaration_at))]
+#[tactic(auto, unfolding(wire_reading::specs::Reading::declaration_at))]
 impl<'a> ReadPart<'a> for Declaration<'a> {
     ghost reading = { read.declaration_at };
 
@@ -135,7 +135,7 @@ impl<'a> ReadPart<'a> for Declaration<'a> {
     }
 }
 
-#[tactic(auto, unfolding(crate::specs::Reading::sent_at))]
+#[tactic(auto, unfolding(wire_reading::specs::Reading::sent_at))]
 impl<'a> ReadPart<'a> for SentParam<'a> {
     ghost reading = { read.sent_at };
 
@@ -158,7 +158,7 @@ impl<'a> ReadPart<'a> for SentParam<'a> {
     }
 }
 
-#[tactic(auto, unfolding(crate::specs::Reading::used_at))]
+#[tactic(auto, unfolding(wire_reading::specs::Reading::used_at))]
 impl<'a> ReadPart<'a> for UsedParam<'a> {
     ghost reading = { read.used_at };
 
@@ -171,7 +171,7 @@ impl<'a> ReadPart<'a> for UsedParam<'a> {
     }
 }
 
-#[tactic(auto, unfolding(crate::specs::Reading::column_at))]
+#[tactic(auto, unfolding(wire_reading::specs::Reading::column_at))]
 impl<'a> ReadPart<'a> for SentColumn<'a> {
     ghost reading = { read.column_at };
 

@@ -2,8 +2,8 @@
 use Rattle.std.proofs.Common.{◌≡◌, ◌<◌, ℕ, length, arith, subst, Some}
 use Rattle.std.proofs.lemmas.List.{length_push}
 use Rattle.wire_reading.specs.Reading.{parts_at}
-use Rattle.wire_reading.proofs.PartsRead.{AreRead-push, parts_read, parts_end}
-use Rattle.wire_reading.proofs.listing.parts_of.Goals as goal
+use Rattle.wire_bodies.proofs.PartsRead.{AreRead-push, parts_read, parts_end}
+use Rattle.wire_bodies.proofs.listing.parts_of.Goals as goal
 
 pub returns-in-None : goal.returns-in-None
 returns-in-None g c =

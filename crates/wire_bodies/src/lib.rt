@@ -1,0 +1,10 @@
+//! The bodies of messages, read from bytes: lists of parts, faults, and each kind of message.
+#![tactic(auto)]
+
+mod bodies;
+mod faults;
+mod found;
+mod listing;
+
+pub use bodies::{reply_body_of, request_body_of};
+pub use found::Body;
