@@ -1,3 +1,4 @@
+pub mod Known
 pub mod Noted
 pub mod Twins
 pub mod TwinsAlike

@@ -18,7 +18,7 @@ or_right : (a b : Bool) → a ≡ false → (a || b) ≡ b
 or_right true b e = absurd cc
 or_right false b e = refl
 
-or_none : (a : Bool) → (a || false) ≡ a
+pub or_none : (a : Bool) → (a || false) ≡ a
 or_none true = refl
 or_none false = refl
 

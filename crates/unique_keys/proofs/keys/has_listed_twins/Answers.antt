@@ -2,7 +2,7 @@
 use Rattle.std.proofs.Common.{◌++◌, sym, ap, ◌∙◌}
 use Rattle.unique_keys.specs.Keys.{has_twins}
 use Rattle.unique_keys.proofs.Noted.{one_item, twins_of_one}
-use Rattle.unique_keys.proofs.keys.has_twins.Goals as goal
+use Rattle.unique_keys.proofs.keys.has_listed_twins.Goals as goal
 
 pub returns-in-len1 : goal.returns-in-len1
 returns-in-len1 g c =
