@@ -16,7 +16,7 @@ use cell_codec::{CellFault, unseal_bytes};
 use conversation::faults::{CellFailure, DriverFault, Halt};
 use conversation::sessions::ColumnType;
 use hmac_kdf::CellKeys;
-use std::alloc::Global;
+use std::alloc::{AllocError, Global};
 use value_norm::{ReadError, from_cell_bytes};
 use wire_messages::replies::RowParts;
 use wire_parts::atoms::{AtomCase, AtomPart};
@@ -70,17 +70,17 @@ pub fn is_row_of(columns: &[ColumnType], atoms: &[AtomPart<'_>]) -> bool
     rest.is_empty()
 }
 
-fn read_bytes(alloc: Global, bytes: &[u8], ty: Ty) -> Result<Result<Value, CellFailure>, Halt>
+fn read_bytes(alloc: Global, bytes: &[u8], ty: Ty) -> Result<Result<Value, CellFailure>, AllocError>
     ensures { IfOk result (λ read. read ≡ normal (norm_reading.value_of bytes.now ty)) }
 {
     match from_cell_bytes(alloc, bytes, ty) {
         Ok(datum) => Ok(Ok(Value::Is(datum))),
         Err(ReadError::NotNormal) => Ok(Err(CellFailure::NotNormal)),
-        Err(ReadError::OutOfMemory) => Err(Halt::OutOfMemory),
+        Err(ReadError::OutOfMemory) => Err(AllocError),
     }
 }
 
-fn failed(fault: CellFault) -> Result<Result<Value, CellFailure>, Halt>
+fn failed(fault: CellFault) -> Result<Result<Value, CellFailure>, AllocError>
     ensures { (ty : Ty) (opened : Result (List ℕ) CellFault) → UnsealsTo (Err fault) opened → IfOk result (λ read. read ≡ value_in ty opened) }
 {
     match fault {
@@ -88,7 +88,7 @@ fn failed(fault: CellFault) -> Result<Result<Value, CellFailure>, Halt>
         CellFault::BadLength => Ok(Err(CellFailure::BadLength)),
         CellFault::BadTag => Ok(Err(CellFailure::BadTag)),
         CellFault::BadPadding => Ok(Err(CellFailure::BadPadding)),
-        CellFault::OutOfMemory => Err(Halt::OutOfMemory),
+        CellFault::OutOfMemory => Err(AllocError),
     }
 }
 
@@ -97,7 +97,7 @@ fn read_cell(
     keys: &CellKeys,
     ty: Ty,
     cell: &CellPart<'_>,
-) -> Result<Result<Value, CellFailure>, Halt>
+) -> Result<Result<Value, CellFailure>, AllocError>
     ensures { IfOk result (λ read. read ≡ value_in ty (unsealed keys.now cell.now)) }
 {
     match unseal_bytes(alloc, keys, cell.bytes()) {
@@ -111,7 +111,7 @@ fn read_case(
     key: &Option<CellKeys>,
     ty: Ty,
     case: &AtomCase<'_>,
-) -> Result<Result<Value, CellFailure>, Halt>
+) -> Result<Result<Value, CellFailure>, AllocError>
     ensures { IfOk result (λ read. read ≡ read_atom key.now ty (atom_of case.now)) }
 {
     match case {
@@ -131,7 +131,7 @@ fn read_atom(
     key: &Option<CellKeys>,
     ty: Ty,
     atom: &AtomPart<'_>,
-) -> Result<Result<Value, CellFailure>, Halt>
+) -> Result<Result<Value, CellFailure>, AllocError>
     ensures { IfOk result (λ read. read ≡ read_atom key.now ty atom.now) }
 {
     read_case(alloc, key, ty, atom.case())
@@ -144,7 +144,7 @@ pub fn read_row(
     columns: &[ColumnType],
     keys: &[Option<CellKeys>],
     atoms: &[AtomPart<'_>],
-) -> Result<Result<Seq<Value>, DriverFault>, Halt>
+) -> Result<Result<Seq<Value>, DriverFault>, AllocError>
     ensures { IfOk result (λ read. read ≡ read_atoms row 1 columns.now keys.now atoms.now) }
 {
     let mut values = Seq::new(alloc);
