@@ -3,7 +3,7 @@ use Rattle.std.proofs.Common.{◌≡◌, ◌<◌, ◌≤◌, ℕ, List, [], ◌�
 use Rattle.std.specs.Str.{bytes_eq}
 use Rattle.std.specs.Prelude.{true, false}
 use Rattle.std.proofs.lemmas.Slice.Eq.{bytes_eq-Decides}
-use Rattle.ae_cli.specs.Words.{is_word}
+use Rattle.ae_cli.specs.Words.{is_summary, is_word}
 
 pub two_words : (command : List ℕ) (words : List (List ℕ)) (word : List ℕ) → 2 ≤ length words → length words < 3 → word ≡ get_or words 1 word → is_word command words ≡ bytes_eq (encode_utf8_all word) command
 two_words command [] word two three at = absurd (omega (arith, two))
@@ -20,3 +20,11 @@ one_command one other (a ∷ b ∷ []) differ r s =
     let e : bytes_eq one other ≡ true = (bytes_eq-Decides one other).1 same in
     cc
 one_command one other (a ∷ b ∷ c ∷ more) differ r s = cc
+
+-- two words ask for no summary
+pub no_summary : (command : List ℕ) (words : List (List ℕ)) → is_summary words ≡ true → is_word command words ≡ true → ⊥
+no_summary command [] r s = cc
+no_summary command (a ∷ []) r s = cc
+no_summary command (a ∷ b ∷ []) r s = cc
+no_summary command (a ∷ b ∷ c ∷ []) r s = cc
+no_summary command (a ∷ b ∷ c ∷ d ∷ more) r s = cc

@@ -28,6 +28,14 @@ is_check = is_word (codes "check")
 abbrev pub is_serve : List (List ℕ) → Bool
 is_serve = is_word (codes "serve")
 
+-- the program's name, `run` and `--summary`
+abbrev pub is_summary : List (List ℕ) → Bool
+is_summary [] = false
+is_summary (name ∷ []) = false
+is_summary (name ∷ word ∷ []) = false
+is_summary (name ∷ word ∷ flag ∷ []) = bytes_eq (encode_utf8_all word) (codes "run") && bytes_eq (encode_utf8_all flag) (codes "--summary")
+is_summary (name ∷ word ∷ flag ∷ more ∷ others) = false
+
 -- the path, behind the program's name and `wrap`
 abbrev pub wrap_path : List (List ℕ) → Option (List ℕ)
 wrap_path [] = None
@@ -61,11 +69,11 @@ gen_size (name ∷ word ∷ size ∷ more ∷ others) = None
 
 -- the words are those of no command
 abbrev pub AreNoCommand : List (List ℕ) → Type 0
-AreNoCommand words = (is_run words ≡ false) × (is_drive words ≡ false) × (is_check words ≡ false) × (is_serve words ≡ false) × (wrap_path words ≡ None) × (gen_size words ≡ None)
+AreNoCommand words = (is_run words ≡ false) × (is_summary words ≡ false) × (is_drive words ≡ false) × (is_check words ≡ false) × (is_serve words ≡ false) × (wrap_path words ≡ None) × (gen_size words ≡ None)
 
 -- how the program is called
 abbrev pub usage_lines : List ℕ
-usage_lines = codes "usage: ae run < SCRIPT" ++ 10 ∷ codes "       ae drive < SCRIPT" ++ 10 ∷ codes "       ae check < SCRIPT" ++ 10 ∷ codes "       ae serve < REQUESTS > REPLIES" ++ 10 ∷ codes "       ae wrap PATH < KEY" ++ 10 ∷ codes "       ae gen N > SCRIPT" ++ 10 ∷ []
+usage_lines = codes "usage: ae run [--summary] < SCRIPT" ++ 10 ∷ codes "       ae drive < SCRIPT" ++ 10 ∷ codes "       ae check < SCRIPT" ++ 10 ∷ codes "       ae serve < REQUESTS > REPLIES" ++ 10 ∷ codes "       ae wrap PATH < KEY" ++ 10 ∷ codes "       ae gen N > SCRIPT" ++ 10 ∷ []
 
 -- the words are no command, and it is said how they are written, or there was no memory to say so
 abbrev pub IsRefusedUsage : Status → Type 0

@@ -4,7 +4,7 @@ ghost use Rattle.std.specs.Prelude.{◌≡◌, ◌⊎◌, ℕ, List, IfSome, Som
 ghost use Rattle.ae_cli.specs.Checks.{status_of_checking};
 ghost use Rattle.ae_cli.specs.Gens.{status_of_generating};
 ghost use Rattle.ae_cli.specs.Serves.{status_of_serving};
-ghost use Rattle.ae_cli.specs.Words.{AreNoCommand, IsOfRun, IsRefusedUsage, gen_size, is_check, is_drive, is_run, is_serve, wrap_path};
+ghost use Rattle.ae_cli.specs.Words.{AreNoCommand, IsOfRun, IsRefusedUsage, gen_size, is_check, is_drive, is_run, is_serve, is_summary, wrap_path};
 ghost use Rattle.ae_cli.specs.Wraps.{status_of_wrapping};
 ghost use Rattle.check_command.specs.Ends as check;
 ghost use Rattle.check_command.specs.Ends.{ChecksScript};
@@ -24,11 +24,12 @@ ghost use Rattle.script_run.specs.declared.runs.Ran.{Ran};
 ghost use Rattle.script_run.specs.Ends.{TakesScript};
 ghost use Rattle.script_run.specs.RunOf.{IsRunOf};
 ghost use Rattle.script_run.specs.Statuses.{status_of};
+ghost use Rattle.summary_command.specs.SummaryOf.{IsSummaryOf};
 
 use crate::checking::check_script;
 use crate::generating::generate_script;
 use crate::serving::serve_requests;
-use crate::words::{gen_size, is_check, is_drive, is_run, is_serve, usage, wrap_path};
+use crate::words::{gen_size, is_check, is_drive, is_run, is_serve, is_summary, usage, wrap_path};
 use crate::wrapping::wrap_key;
 use ae_base::texts::Txt;
 use ae_edge::entropies::Entropy;
@@ -40,13 +41,16 @@ use script_run::programs::run;
 use script_run::status::Status;
 use server_core::peers::Peer;
 use std::alloc::Global;
+use summary_command::commands::summarize;
 
 /// Does what the words ask for, of which the first is the program's name, and says how it ended.
 ///
 /// `run` reads a script from `script`, runs its steps through a
 /// driver and the peer, puts the text to `out` and every frame to `tap`. The values of protected
 /// columns pass as cells: the driver opens their keys through the vault, draws from the random
-/// source for randomized ones, and prints what the cells hold. `drive` does so against recorded
+/// source for randomized ones, and prints what the cells hold. `run --summary` does the same, and puts
+/// four lines in the place of the text: the steps, the refusals, the result rows and the requests.
+/// `drive` runs a script against recorded
 /// replies: it takes their frames from `replies`, puts those of the requests alone to `tap`, and
 /// leaves the peer as it is. `check` reads a script from `script`,
 /// executes its definitions, describes every other batch without executing it, and puts to `out`
@@ -84,6 +88,14 @@ pub fn ae_main<S: Source, V: Vault, E: Entropy, L: Source, W: Sink, T: Sink, P: 
     ensures awaited { is_run words.now ≡ true → P.state peer.old ≡ Some empty_state → (place : ℕ) → ¬ (result ≡ Status.BadReply place) }
     // What was taken of the script, by how the run ended.
     ensures taken { is_run words.now ≡ true → (ran : Ran) × (result ≡ status_of ran) × WhereTold (TakesScript ran) (S.left script.old) (S.left script.new) }
+    // A run with a summary: there are bytes, the script's where it tells them, of whose run this is the summary. It is a run whose text
+    // goes nowhere (`run`); where that came to its end, its four lines were put, and else nothing (`sums`). Over a peer that serves from
+    // the empty state, with keys that are told, they count the refusals and rows of plain SQL over the same values (`counts`).
+    ensures summed { is_summary words.now ≡ true → (ran : Ran) × (result ≡ status_of ran) × (bytes : List ℕ) × IfSome (S.left script.old) (λ left. bytes ≡ left) × IsSummaryOf ran bytes
+        (record { out = W.held out.old; tap = T.held tap.old; entropy = E.to_come entropy.old; keys = V.keys vault.old; log = P.log peer.old; state = P.state peer.old; out_faults = W.faults out.old; tap_faults = T.faults tap.old; entropy_faults = E.faults entropy.old; vault_faults = V.faults vault.old })
+        (record { out = W.held out.new; tap = T.held tap.new; entropy = E.to_come entropy.new; keys = V.keys vault.new; log = P.log peer.new; state = P.state peer.new; out_faults = W.faults out.new; tap_faults = T.faults tap.new; entropy_faults = E.faults entropy.new; vault_faults = V.faults vault.new }) }
+    ensures summed_awaited { is_summary words.now ≡ true → P.state peer.old ≡ Some empty_state → (place : ℕ) → ¬ (result ≡ Status.BadReply place) }
+    ensures summed_taken { is_summary words.now ≡ true → (ran : Ran) × (result ≡ status_of ran) × WhereTold (TakesScript ran) (S.left script.old) (S.left script.new) }
     // A drive: there are bytes, the script's where it tells them, of which this is what driving comes to. Over any replies: how far its
     // conversation was followed, what each device has of it, how the replies were read, and why no further (`content`). Over replies that
     // tell their bytes, with keys that are told: the text and the tap are those of what is driven over the replies that these bytes spell,
@@ -121,6 +133,9 @@ pub fn ae_main<S: Source, V: Vault, E: Entropy, L: Source, W: Sink, T: Sink, P: 
 {
     if is_run(words) {
         return Status::from(run(alloc, script, vault, entropy, out, tap, peer));
+    }
+    if is_summary(words) {
+        return Status::from(summarize(alloc, script, vault, entropy, out, tap, peer));
     }
     if is_drive(words) {
         return Status::from(drive(alloc, script, vault, entropy, replies, out, tap));

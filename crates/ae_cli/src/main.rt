@@ -12,7 +12,7 @@ mod words;
 mod wrapping;
 
 ghost use Rattle.std.specs.Prelude.{◌≡◌, ℕ, true};
-ghost use Rattle.ae_cli.specs.Words.{AreNoCommand, IsOfRun, IsRefusedUsage, is_drive, is_run};
+ghost use Rattle.ae_cli.specs.Words.{AreNoCommand, IsOfRun, IsRefusedUsage, is_drive, is_run, is_summary};
 
 use ae_base::lists::Seq;
 use ae_base::texts::Txt;
@@ -52,9 +52,11 @@ fn words_of(rt: &HostRuntime) -> io::Result<Seq<Txt>> {
 fn status_of(rt: &HostRuntime, words: &[Txt]) -> Status
     ensures usage { AreNoCommand words.now → IsRefusedUsage result }
     ensures run { is_run words.now ≡ true → IsOfRun result }
+    ensures summed { is_summary words.now ≡ true → IsOfRun result }
     ensures driven { is_drive words.now ≡ true → IsOfRun result }
     // The server in this process gives no reply that isn't awaited.
     ensures awaited { is_run words.now ≡ true → (place : ℕ) → ¬ (result ≡ Status.BadReply place) }
+    ensures summed_awaited { is_summary words.now ≡ true → (place : ℕ) → ¬ (result ≡ Status.BadReply place) }
 {
     let alloc = rt.alloc();
     let Ok(mut vault) = FolderVault::new(alloc, rt, "keys") else {

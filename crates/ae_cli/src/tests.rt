@@ -81,6 +81,17 @@ fn run_prints_the_plain_table(rt: HostRuntime) -> Result<(), Fail> {
     Ok(())
 }
 
+#[test]
+fn run_with_a_summary_counts(rt: HostRuntime) -> Result<(), Fail> {
+    let left = left_under(rt.alloc(), &["ae", "run", "--summary"])?;
+    assert_eq!(rt; left.status.number(), 0);
+    assert_eq!(rt;
+        left.out.bytes(),
+        b"steps 3\nerrors 0\nrows 1\nrequests 6\n".as_slice()
+    );
+    Ok(())
+}
+
 // The definition driven over some replies.
 fn driven(alloc: Global, replies: &[u8]) -> Result<Left, AllocError> {
     let words = words_of(alloc, &["ae", "drive"])?;
@@ -110,12 +121,13 @@ fn drive_tells_where_a_reply_is_missing(rt: HostRuntime) -> Result<(), Fail> {
 
 #[test]
 fn other_words_put_nothing(rt: HostRuntime) -> Result<(), Fail> {
-    let cases: [&[&str]; 7] = [
+    let cases: [&[&str]; 8] = [
         &[],
         &["ae"],
         &["ae", "walk"],
         &["ae", "RUN"],
         &["ae", "run", "run"],
+        &["ae", "run", "--summaries"],
         &["ae", "gen", "0"],
         &["ae", "gen", "20001"],
     ];

@@ -2,7 +2,7 @@
 
 ghost use Rattle.std.specs.Prelude.{◌≡◌};
 ghost use Rattle.std.specs.Option.{option_map};
-ghost use Rattle.ae_cli.specs.Words.{IsRefusedUsage, gen_size, is_check, is_drive, is_run, is_serve, is_word, size_of, size_within, wrap_path};
+ghost use Rattle.ae_cli.specs.Words.{IsRefusedUsage, gen_size, is_check, is_drive, is_run, is_serve, is_summary, is_word, size_of, size_within, wrap_path};
 
 use ae_base::texts::Txt;
 use script_run::status::Status;
@@ -10,7 +10,7 @@ use std::alloc::Global;
 
 /// How the program is called.
 const USAGE: &str =
-    "usage: ae run < SCRIPT\n       ae drive < SCRIPT\n       ae check < SCRIPT\n       ae serve < REQUESTS > REPLIES\n       ae wrap PATH < KEY\n       ae gen N > SCRIPT\n";
+    "usage: ae run [--summary] < SCRIPT\n       ae drive < SCRIPT\n       ae check < SCRIPT\n       ae serve < REQUESTS > REPLIES\n       ae wrap PATH < KEY\n       ae gen N > SCRIPT\n";
 
 /// Whether the words are the program's name and this one.
 fn is_word(words: &[Txt], command: &str) -> bool
@@ -27,6 +27,17 @@ pub fn is_run(words: &[Txt]) -> bool
     ensures { result ≡ is_run words.now }
 {
     is_word(words, "run")
+}
+
+/// Whether the words, of which the first is the program's name, ask to run a script and to put its
+/// summary in the place of its text.
+pub fn is_summary(words: &[Txt]) -> bool
+    ensures { result ≡ is_summary words.now }
+{
+    match words {
+        [_, word, flag] => word.as_str() == "run" && flag.as_str() == "--summary",
+        _ => false,
+    }
 }
 
 /// Whether the words, of which the first is the program's name, ask to drive a script.

@@ -1,5 +1,5 @@
 -- What driving a script leaves, over replies that tell their bytes.
-use Rattle.std.proofs.Common.{◌≡◌, ℕ, ◌+◌, ◌≤◌, List, [], ◌∷◌, ◌++◌, Option, Some, Result, Ok, Err, Bool, true, false, length, refl, sym, ◌∙◌, ap, subst, append-nil, append_assoc, length-append, arith}
+use Rattle.std.proofs.Common.{◌≡◌, ℕ, ◌+◌, ◌≤◌, List, [], ◌∷◌, ◌++◌, Option, Some, Result, Ok, Err, length, refl, sym, ◌∙◌, ap, subst, append-nil, append_assoc, length-append, arith}
 use Rattle.std.specs.Prelude.{flat_map}
 use Rattle.ae_edge.specs.Devices.{Removes}
 use Rattle.ae_edge.specs.Vaults.{KeyMap}
@@ -11,10 +11,12 @@ use Rattle.conversation.specs.Laws.{PathIsDriven}
 use Rattle.conversation.specs.Paths.{taken_in}
 use Rattle.conversation.specs.Talk.{Talk, Ends}
 use Rattle.script_lang.specs.declared.steps.Step.{Step}
+use Rattle.run_words.specs.Counting.{nothing, has_errors}
 use Rattle.run_words.specs.Shares.{Outside, coming_behind}
 use Rattle.run_words.specs.Ways.{Goes, Lacks, IsPast, CantBeRead, StaysWithin, most_reply_bytes, off, printed_off}
 use Rattle.run_words.specs.declared.stops.Stop.{Stop}
 use Rattle.run_words.specs.declared.stops.Stop.TheVariants as stop
+use Rattle.run_words.specs.declared.tallies.Tally.{Tally}
 use Rattle.script_run.specs.declared.runs.Ran.{Ran}
 use Rattle.script_run.specs.declared.runs.Ran.TheVariants as ran
 use Rattle.script_run.specs.declared.runs.Unread.TheVariants as unread
@@ -34,22 +36,22 @@ module _ (path : PathIsDriven) (one : HasOneReading SpellsReply) (once : IsReadO
   module _ (keys : KeyMap) (steps : List Step) (bytes : List ℕ) (old new : Lent) (opens : old.keys ≡ Some keys) (left : old.replies ≡ Some bytes) where
     -- ---- to its end
 
-    module _ (ended : Result (Unit {0}) Stop) (refused : Bool) (c : CameTo ended refused steps old new) where
+    module _ (ended : Result (Unit {0}) Stop) (tally : Tally) (c : CameTo ended tally steps old new) where
       abbrev Before : Outside
-      Before = outside c.out c.entropy c.vault c.wire false [] 0 old
+      Before = outside c.out c.entropy c.vault c.wire nothing [] 0 old
 
       abbrev After : Outside
-      After = outside c.out_after c.entropy_after c.vault_after c.wire_after refused c.held c.taken new
+      After = outside c.out_after c.entropy_after c.vault_after c.wire_after tally c.held c.taken new
 
       starts : Starts keys bytes Before
-      starts = record { opens = opens; stream = coming_first bytes old.replies left; taken = refl; refused = refl }
+      starts = record { opens = opens; stream = coming_first bytes old.replies left; taken = refl; uncounted = refl }
 
-    module _ (ended : Result (Unit {0}) Stop) (refused : Bool) (c : CameTo ended refused steps old new) (u : Talk) (g : Goes (start steps) u (Before ended refused c) (After ended refused c)) where
+    module _ (ended : Result (Unit {0}) Stop) (tally : Tally) (c : CameTo ended tally steps old new) (u : Talk) (g : Goes (start steps) u (Before ended tally c) (After ended tally c)) where
       taken_within : TakesWithin bytes new.replies
       taken_within =
-          let x = Before ended refused c in
-          let y = After ended refused c in
-          let st = starts ended refused c in
+          let x = Before ended tally c in
+          let y = After ended tally c in
+          let st = starts ended tally c in
           let k = came path one once back keys steps bytes u x y st g in
           let frames = flat_map reply_frame (flat_map taken_in g.events) in
           let l = length-append frames c.held in
@@ -64,44 +66,44 @@ module _ (path : PathIsDriven) (one : HasOneReading SpellsReply) (once : IsReadO
         let w = t.2 in
         omega (arith, l, w)
 
-    ends : (refused : Bool) (c : CameTo (Ok tt) refused steps old new) → (new.replies ≡ Some []) × DrivesWhole (IsDone refused) keys steps bytes (told_of old) (told_of new) × (length bytes ≤ most_reply_bytes)
-    ends refused c =
-        let x = Before (Ok tt) refused c in
-        let y = After (Ok tt) refused c in
-        let st = starts (Ok tt) refused c in
+    ends : (tally : Tally) (c : CameTo (Ok tt) tally steps old new) → (new.replies ≡ Some []) × DrivesWhole (IsDone (has_errors tally)) keys steps bytes (told_of old) (told_of new) × (length bytes ≤ most_reply_bytes)
+    ends tally c =
+        let x = Before (Ok tt) tally c in
+        let y = After (Ok tt) tally c in
+        let st = starts (Ok tt) tally c in
         let k = came path one once back keys steps bytes (Ends c.sessions) x y st c.leads in
         let n = none_to_come c.held k.left new.replies k.to_come c.read.0 c.read.1 in
-        (n.1, done_drives path one once back keys steps bytes c.sessions x y st c.leads n.0, all_within (taken_within (Ok tt) refused c (Ends c.sessions) c.leads) n.1)
+        (n.1, done_drives path one once back keys steps bytes c.sessions x y st c.leads n.0, all_within (taken_within (Ok tt) tally c (Ends c.sessions) c.leads) n.1)
 
     -- ---- where the replies can't be read further
 
-    module _ (why : Stop) (refused : Bool) (c : CameTo (Err why) refused steps old new) (l : Lacks (start steps) (Before (Err why) refused c) (After (Err why) refused c)) where
+    module _ (why : Stop) (tally : Tally) (c : CameTo (Err why) tally steps old new) (l : Lacks (start steps) (Before (Err why) tally c) (After (Err why) tally c)) where
       abbrev frames : List ℕ
       frames = flat_map reply_frame (flat_map taken_in l.goes.events)
 
       before : Came l.goes.events bytes l.mid.wire.stream
-      before = came path one once back keys steps bytes l.between (Before (Err why) refused c) l.mid (starts (Err why) refused c) l.goes
+      before = came path one once back keys steps bytes l.between (Before (Err why) tally c) l.mid (starts (Err why) tally c) l.goes
 
-      after : Came (printed_off (off l.between)) before.left (After (Err why) refused c).wire.stream
-      after = came_to (printed_off (off l.between)) l.mid.wire.stream (After (Err why) refused c).wire.stream l.mid.wire.waiting [] before.left before.to_come l.read.wire.comes
+      after : Came (printed_off (off l.between)) before.left (After (Err why) tally c).wire.stream
+      after = came_to (printed_off (off l.between)) l.mid.wire.stream (After (Err why) tally c).wire.stream l.mid.wire.waiting [] before.left before.to_come l.read.wire.comes
 
       gone : Removes (frames ++ c.held) (Some bytes) new.replies
       gone =
           gone_so frames c.held bytes after.left new.replies after.to_come
           (frames_first l.goes.events bytes before.left before.streams ∙ ap (λ w. frames ++ w) (sym (off_still (off l.between) before.left after.left after.streams)))
 
-      lacks_taken : CantBeRead (Before (Err why) refused c).wire.stream (After (Err why) refused c).wire.stream → StaysWithin (Before (Err why) refused c).wire (After (Err why) refused c).wire → DrivesTaken keys steps bytes new.replies (told_of old) (told_of new)
+      lacks_taken : CantBeRead (Before (Err why) tally c).wire.stream (After (Err why) tally c).wire.stream → StaysWithin (Before (Err why) tally c).wire (After (Err why) tally c).wire → DrivesTaken keys steps bytes new.replies (told_of old) (told_of new)
       lacks_taken h w = record {
         taken = frames ++ c.held;
         gone = gone;
         limit =
             let t = l.read.wire.taken in
             let z = off_taken (off l.between) in
-            let m = place_so path one once back keys steps bytes l.between (Before (Err why) refused c) l.mid (starts (Err why) refused c) l.goes in
+            let m = place_so path one once back keys steps bytes l.between (Before (Err why) tally c) l.mid (starts (Err why) tally c) l.goes in
             let n = length-append frames c.held in
             let q : c.taken + length c.held ≤ most_reply_bytes = w (omega arith) in
             omega (arith, t, z, m, n, q);
-        drives = cut_drives path one once back keys steps bytes l.between (Before (Err why) refused c) l.mid (After (Err why) refused c) (starts (Err why) refused c) l.goes l.awaits c.held l.put h.1;
+        drives = cut_drives path one once back keys steps bytes l.between (Before (Err why) tally c) l.mid (After (Err why) tally c) (starts (Err why) tally c) l.goes l.awaits c.held l.put h.1;
       }
 
       lacks_past : IsPast c.taken c.held → DrivesPast keys steps bytes new.replies (told_of old) (told_of new)
@@ -112,47 +114,47 @@ module _ (path : PathIsDriven) (one : HasOneReading SpellsReply) (once : IsReadO
         limit =
             let t = l.read.wire.taken in
             let z = off_taken (off l.between) in
-            let m = place_so path one once back keys steps bytes l.between (Before (Err why) refused c) l.mid (starts (Err why) refused c) l.goes in
+            let m = place_so path one once back keys steps bytes l.between (Before (Err why) tally c) l.mid (starts (Err why) tally c) l.goes in
             let n = length-append frames p.within in
             let q = p.limit in
             omega (arith, t, z, m, n, q);
-        drives = cut_drives path one once back keys steps bytes l.between (Before (Err why) refused c) l.mid (After (Err why) refused c) (starts (Err why) refused c) l.goes l.awaits p.within l.put p.none;
+        drives = cut_drives path one once back keys steps bytes l.between (Before (Err why) tally c) l.mid (After (Err why) tally c) (starts (Err why) tally c) l.goes l.awaits p.within l.put p.none;
       }
 
     -- ---- by how it stopped
 
-    module _ (refused : Bool) where
-      stops : (why : Stop) → CameTo (Err why) refused steps old new → DrivesBytes (ran.Stopped why) keys steps bytes new.replies (told_of old) (told_of new)
+    module _ (tally : Tally) where
+      stops : (why : Stop) → CameTo (Err why) tally steps old new → DrivesBytes (ran.Stopped why) keys steps bytes new.replies (told_of old) (told_of new)
       stops (stop.BadReply place) c =
-          let x = Before (Err (stop.BadReply place)) refused c in
-          let y = After (Err (stop.BadReply place)) refused c in
-          let st = starts (Err (stop.BadReply place)) refused c in
+          let x = Before (Err (stop.BadReply place)) tally c in
+          let y = After (Err (stop.BadReply place)) tally c in
+          let st = starts (Err (stop.BadReply place)) tally c in
           let h = c.leads in
           let k = came path one once back keys steps bytes h.rest x y st h.goes in (
             subst (λ (p : ℕ). DrivesWhole (IsBadAt p) keys steps bytes (told_of old) (told_of new)) h.place.1
                 (stuck_drives path one once back keys steps bytes h.rest x y st h.goes c.held new.replies k.to_come h.place.0),
-            taken_within (Err (stop.BadReply place)) refused c h.rest h.goes,
+            taken_within (Err (stop.BadReply place)) tally c h.rest h.goes,
           )
-      stops stop.ReadFault c = lacks_taken stop.ReadFault refused c c.leads.0 c.leads.1 c.leads.2
-      stops stop.TooLong c = lacks_past stop.TooLong refused c c.leads.0 c.leads.1
+      stops stop.ReadFault c = lacks_taken stop.ReadFault tally c c.leads.0 c.leads.1 c.leads.2
+      stops stop.TooLong c = lacks_past stop.TooLong tally c c.leads.0 c.leads.1
       stops stop.EntropyFault c =
           let h = c.leads.0 in (
-            goes_front path one once back keys steps bytes h.rest (Before (Err stop.EntropyFault) refused c) (After (Err stop.EntropyFault) refused c) (starts (Err stop.EntropyFault) refused c) h.goes,
-            taken_within (Err stop.EntropyFault) refused c h.rest h.goes,
+            goes_front path one once back keys steps bytes h.rest (Before (Err stop.EntropyFault) tally c) (After (Err stop.EntropyFault) tally c) (starts (Err stop.EntropyFault) tally c) h.goes,
+            taken_within (Err stop.EntropyFault) tally c h.rest h.goes,
           )
       stops stop.VaultFault c =
           let h = c.leads.0 in (
-            goes_front path one once back keys steps bytes h.rest (Before (Err stop.VaultFault) refused c) (After (Err stop.VaultFault) refused c) (starts (Err stop.VaultFault) refused c) h.goes,
-            taken_within (Err stop.VaultFault) refused c h.rest h.goes,
+            goes_front path one once back keys steps bytes h.rest (Before (Err stop.VaultFault) tally c) (After (Err stop.VaultFault) tally c) (starts (Err stop.VaultFault) tally c) h.goes,
+            taken_within (Err stop.VaultFault) tally c h.rest h.goes,
           )
       stops stop.WriteFault c =
-          breaks_drive path one once back keys steps bytes (Before (Err stop.WriteFault) refused c) (After (Err stop.WriteFault) refused c) (starts (Err stop.WriteFault) refused c) c.leads.0
+          breaks_drive path one once back keys steps bytes (Before (Err stop.WriteFault) tally c) (After (Err stop.WriteFault) tally c) (starts (Err stop.WriteFault) tally c) c.leads.0
       stops stop.OutOfMemory c =
-          breaks_drive path one once back keys steps bytes (Before (Err stop.OutOfMemory) refused c) (After (Err stop.OutOfMemory) refused c) (starts (Err stop.OutOfMemory) refused c) c.leads
+          breaks_drive path one once back keys steps bytes (Before (Err stop.OutOfMemory) tally c) (After (Err stop.OutOfMemory) tally c) (starts (Err stop.OutOfMemory) tally c) c.leads
 
     steps_drive : (r : Ran) → DrivesTo r steps old new → DrivesBytes r keys steps bytes new.replies (told_of old) (told_of new)
-    steps_drive ran.Done c = ends false c
-    steps_drive ran.Refusals c = ends true c
+    steps_drive ran.Done c = subst (λ b. (new.replies ≡ Some []) × DrivesWhole (IsDone b) keys steps bytes (told_of old) (told_of new) × (length bytes ≤ most_reply_bytes)) c.2 (ends c.0 c.1)
+    steps_drive ran.Refusals c = subst (λ b. (new.replies ≡ Some []) × DrivesWhole (IsDone b) keys steps bytes (told_of old) (told_of new) × (length bytes ≤ most_reply_bytes)) c.2 (ends c.0 c.1)
     steps_drive (ran.Stopped why) c = stops c.0 why c.1
     steps_drive (ran.Unread why) c = absurd c
 

@@ -1,5 +1,5 @@
 -- What a script comes to over the bytes of replies is what it is driven to over the replies that they spell.
-use Rattle.std.proofs.Common.{◌≡◌, ℕ, List, [], ◌∷◌, ◌++◌, Option, Some, None, false, ◌||◌, length, refl, sym, ◌∙◌, ap, subst, append-nil, append_assoc, arith, inl, inr}
+use Rattle.std.proofs.Common.{◌≡◌, ℕ, List, [], ◌∷◌, ◌++◌, Option, Some, None, length, refl, sym, ◌∙◌, ap, subst, append-nil, append_assoc, arith, inl, inr}
 use Rattle.std.specs.Prelude.{IfSome, flat_map}
 use Rattle.ae_edge.specs.Devices.{Adds, AddsFront, IsFront}
 use Rattle.ae_edge.specs.Vaults.{KeyMap}
@@ -17,9 +17,11 @@ use Rattle.conversation.specs.Sessions.{nobody}
 use Rattle.conversation.specs.Talk.{Talk, Ends}
 use Rattle.script_lang.specs.declared.steps.Step.{Step}
 use Rattle.plain_meaning.specs.Steps.{talk}
+use Rattle.run_words.specs.Counting.{nothing, has_errors, counted}
 use Rattle.run_words.specs.Printing.{print, has_refusal}
 use Rattle.run_words.specs.Shares.{Outside, Stream, Streams, IsNext, HasPut, coming_behind, frames_of, text_of}
 use Rattle.run_words.specs.Ways.{Goes, Breaks, GoesOn, IsSilent, IsAtReply, IsStuck, off, printed_off}
+use Rattle.run_words.proofs.Counted.{has_errors_where}
 use Rattle.script_run.specs.Transcript.{Drew}
 use Rattle.drive_command.specs.Drives.{Told, DrivesWhole, DrivesFront, DrivesPart, IsDone, IsBadAt, IsCut, IsWhole, IsAt, IsByReplies, messages_of, driven}
 use Rattle.drive_command.proofs.Cutting.{lost, stuck, one_front, streams_cut, off_frames, off_drawn}
@@ -38,7 +40,7 @@ pub record Starts (keys : KeyMap) (bytes : List ℕ) (old : Outside) : Type 0 wh
   pub opens : old.desk.keys ≡ Some keys
   pub stream : ComesTo old.wire.stream bytes
   pub taken : old.wire.taken ≡ 0
-  pub refused : old.desk.refused ≡ false
+  pub uncounted : old.desk.tally ≡ nothing
 
 -- ---- told bytes
 
@@ -107,10 +109,10 @@ module _ (path : PathIsDriven) (one : HasOneReading SpellsReply) (once : IsReadO
         let n = none_read _ r.left end (subst (λ (w : List ℕ). ReadsReplies (length (flat_map reply_frame (flat_map taken_in g.events))) w r.left end) empty r.reads) in
         (r.is more ∙ ap (λ (l : List (Placed Reply)). behind g.events (ended [] more (end_at sessions (length (flat_map taken_in g.events)) (messages_of l)))) n.0, n.1)
 
-    refuses_so : has_refusal (flat_map outcome_in g.events ++ []) ≡ new.desk.refused
-    refuses_so = ap has_refusal (append-nil (flat_map outcome_in g.events)) ∙ sym (g.read.refused ∙ ap (λ b. b || has_refusal (flat_map outcome_in g.events)) st.refused)
+    refuses_so : has_refusal (flat_map outcome_in g.events ++ []) ≡ has_errors new.desk.tally
+    refuses_so = ap has_refusal (append-nil (flat_map outcome_in g.events)) ∙ sym (ap has_errors (g.read.tally ∙ ap (counted g.events) st.uncounted) ∙ has_errors_where g.events)
 
-    pub done_drives : DrivesWhole (IsDone new.desk.refused) keys steps bytes (told old) (told new)
+    pub done_drives : DrivesWhole (IsDone (has_errors new.desk.tally)) keys steps bytes (told old) (told new)
     done_drives = record {
       drawn = flat_map drawn_in g.events;
       share = g.put.desk.entropy;

@@ -1,6 +1,7 @@
 -- What stands first in the bytes that are held.
-use Rattle.std.specs.Prelude.{IfSome, ◌<◌, ◌-◌}
-use Rattle.std.proofs.Common.{◌≡◌, ℕ, ◌+◌, ◌≤◌, List, ◌++◌, Option, Some, None, length, take, drop, refl, sym, ◌∙◌, ap, subst, arith, inl, inr, length-append}
+use Rattle.std.specs.Prelude.{IfOk, ◌<◌, ◌-◌}
+use Rattle.std.proofs.Common.{◌≡◌, ℕ, ◌+◌, ◌≤◌, List, ◌++◌, Result, Ok, Err, length, take, drop, refl, sym, ◌∙◌, ap, subst, arith, inl, inr, length-append}
+use Rattle.std.specs.declared.alloc.AllocError.{AllocError}
 use Rattle.std.proofs.lemmas.List.{length-take-le, take-append-drop}
 use Rattle.std.proofs.Math.Seq.{drop-append_seam}
 use Rattle.wire_messages.specs.declared.replies.Reply.{Reply}
@@ -73,11 +74,11 @@ stands_so next.OutOfMemory f new w h = tt
 pub stands_kind : (s : Stands) (n : Next) (now : Holding) (f new : Feeding) → s ≡ kind_of n → now.held ≡ f.held → f.way ≡ ToDriver → Steps n f new → StandsSo s now.held
 stands_kind s n now f new e v w h = subst (λ x. StandsSo s x) (sym v) (subst (λ x. StandsSo x f.held) (sym e) (stands_so n f new w h))
 
-pub front_is : (result : Option Front) (message : Message) (behind used : ℕ) (now : Holding) (f new : Feeding) (place : ℕ) → IsReadFront result message behind → now.held ≡ f.held → f.at ≡ now.at → f.way ≡ ToDriver
+pub front_is : (result : Result Front AllocError) (message : Message) (behind used : ℕ) (now : Holding) (f new : Feeding) (place : ℕ) → IsReadFront result message behind → now.held ≡ f.held → f.at ≡ now.at → f.way ≡ ToDriver
     → Steps (next.One place used message) f new → behind ≡ place + used → behind < 18446744073709551616
-    → IfSome result (λ front. Begins (reply_of front.reply) now.held × (front.behind ≡ now.at + length (reply_frame (reply_of front.reply))) × (front.behind < 18446744073709551616))
-front_is None message behind used now f new place i v a w h b l = tt
-front_is (Some front) message behind used now f new place i v a w h b l =
+    → IfOk result (λ front. Begins (reply_of front.reply) now.held × (front.behind ≡ now.at + length (reply_frame (reply_of front.reply))) × (front.behind < 18446744073709551616))
+front_is (Err e) message behind used now f new place i v a w h b l = tt
+front_is (Ok front) message behind used now f new place i v a w h b l =
     let r = message_read f.way message used f.held w h.3 h.4 in
     let t = told_reply message used f.held (reply_of front.reply) r i.0 in
     let n = t.1 in

@@ -1,10 +1,12 @@
 -- What driving leaves of what it was lent.
-use Rattle.std.proofs.Common.{◌≡◌, ℕ, List, [], Err, Bool, false, ◌⊎◌, subst}
+use Rattle.std.proofs.Common.{◌≡◌, ℕ, List, [], Err, ◌⊎◌, subst}
 use Rattle.ae_edge.specs.Devices.{Rose}
 use Rattle.conversation.specs.Sessions.{nobody}
 use Rattle.plain_meaning.specs.Steps.{talk}
+use Rattle.run_words.specs.Counting.{nothing}
 use Rattle.run_words.specs.declared.stops.Stop.{Stop}
 use Rattle.run_words.specs.declared.stops.Stop.TheVariants as stop
+use Rattle.run_words.specs.declared.tallies.Tally.{Tally}
 use Rattle.run_words.proofs.Going.{stay, breaks_between}
 use Rattle.script_lang.specs.declared.steps.Step.{Step}
 use Rattle.script_run.specs.declared.runs.Ran.{Ran}
@@ -15,7 +17,7 @@ use Rattle.drive_command.specs.Ends.{Lent, outside, CameTo, DrivesTo, DrivesScri
 -- it ended before it began
 pub unstarted : (steps : List Step) (lent : Lent) → DrivesTo (ran.Stopped stop.OutOfMemory) steps lent lent
 unstarted steps lent = (
-  false,
+  nothing,
   record {
     sessions = nobody;
     held = [];
@@ -28,7 +30,7 @@ unstarted steps lent = (
     entropy_after = [];
     vault_after = [];
     wire_after = [];
-    leads = breaks_between _ _ _ _ (stay (talk steps nobody) (outside [] [] [] [] false [] 0 lent));
+    leads = breaks_between _ _ _ _ (stay (talk steps nobody) (outside [] [] [] [] nothing [] 0 lent));
     read = tt;
   },
 )
@@ -50,25 +52,25 @@ was_read (ran.Unread why) steps old new h = absurd h
 -- ---- a count rose
 
 came_rose : (P : Lent → Lent → Type 0) (s : Stop) (bytes : List ℕ) (old new : Lent) → DrivesScript (ran.Stopped s) bytes old new
-    → ((steps : List Step) (refused : Bool) → CameTo (Err s) refused steps old new → P old new) → P old new
+    → ((steps : List Step) (tally : Tally) → CameTo (Err s) tally steps old new → P old new) → P old new
 came_rose P s bytes old new h f = f h.steps h.drives.0 h.drives.1
 
 pub reply_rose : (r : Ran) (bytes : List ℕ) (old new : Lent) → DrivesScript r bytes old new → r ≡ ran.Stopped stop.ReadFault → Rose old.reply_faults new.reply_faults
 reply_rose r bytes old new h e =
     came_rose (λ x y. Rose x.reply_faults y.reply_faults) stop.ReadFault bytes old new (subst (λ w. DrivesScript w bytes old new) e h)
-    (λ steps refused (c : CameTo (Err stop.ReadFault) refused steps old new). c.leads.1.0)
+    (λ steps tally (c : CameTo (Err stop.ReadFault) tally steps old new). c.leads.1.0)
 
 pub write_rose : (r : Ran) (bytes : List ℕ) (old new : Lent) → DrivesScript r bytes old new → r ≡ ran.Stopped stop.WriteFault → Rose old.out_faults new.out_faults ⊎ Rose old.tap_faults new.tap_faults
 write_rose r bytes old new h e =
     came_rose (λ x y. Rose x.out_faults y.out_faults ⊎ Rose x.tap_faults y.tap_faults) stop.WriteFault bytes old new (subst (λ w. DrivesScript w bytes old new) e h)
-    (λ steps refused (c : CameTo (Err stop.WriteFault) refused steps old new). c.leads.1)
+    (λ steps tally (c : CameTo (Err stop.WriteFault) tally steps old new). c.leads.1)
 
 pub entropy_rose : (r : Ran) (bytes : List ℕ) (old new : Lent) → DrivesScript r bytes old new → r ≡ ran.Stopped stop.EntropyFault → Rose old.entropy_faults new.entropy_faults
 entropy_rose r bytes old new h e =
     came_rose (λ x y. Rose x.entropy_faults y.entropy_faults) stop.EntropyFault bytes old new (subst (λ w. DrivesScript w bytes old new) e h)
-    (λ steps refused (c : CameTo (Err stop.EntropyFault) refused steps old new). c.leads.1)
+    (λ steps tally (c : CameTo (Err stop.EntropyFault) tally steps old new). c.leads.1)
 
 pub vault_rose : (r : Ran) (bytes : List ℕ) (old new : Lent) → DrivesScript r bytes old new → r ≡ ran.Stopped stop.VaultFault → Rose old.vault_faults new.vault_faults
 vault_rose r bytes old new h e =
     came_rose (λ x y. Rose x.vault_faults y.vault_faults) stop.VaultFault bytes old new (subst (λ w. DrivesScript w bytes old new) e h)
-    (λ steps refused (c : CameTo (Err stop.VaultFault) refused steps old new). c.leads.1)
+    (λ steps tally (c : CameTo (Err stop.VaultFault) tally steps old new). c.leads.1)

@@ -1,13 +1,15 @@
 -- How driving a script ends, in words of what it was lent.
-use Rattle.std.specs.Prelude.{◌≡◌, ℕ, ◌<◌, ◌≤◌, List, [], length, Option, Some, None, Result, Ok, Err, Bool, true, false, IfOk, IfSome}
+use Rattle.std.specs.Prelude.{◌≡◌, ℕ, ◌<◌, ◌≤◌, List, [], length, Option, Some, None, Result, Ok, Err, true, false, IfOk, IfSome}
 use Rattle.std.specs.Borrow.{GName}
 use Rattle.ae_edge.specs.Vaults.{KeyMap}
 use Rattle.conversation.specs.declared.sessions.Session.{Session}
 use Rattle.conversation.specs.Sessions.{nobody}
 use Rattle.conversation.specs.Talk as talks
+use Rattle.run_words.specs.Counting.{nothing, has_errors}
 use Rattle.run_words.specs.Shares.{Outside}
 use Rattle.run_words.specs.Ways.{Leads}
 use Rattle.run_words.specs.declared.stops.Stop.{Stop}
+use Rattle.run_words.specs.declared.tallies.Tally.{Tally}
 use Rattle.script_lang.specs.declared.steps.Step.{Step}
 use Rattle.script_lang.specs.Script.{steps_of}
 use Rattle.plain_meaning.specs.Steps.{talk}
@@ -30,10 +32,10 @@ pub record Lent : Type 0 where
   pub vault_faults : ℕ
   pub reply_faults : ℕ
 
--- with the names of what is lent, and what is kept: whether a refusal was printed, the bytes of replies that are held, and how many
--- bytes those have that were taken
-abbrev pub outside : List GName → List GName → List GName → List (List GName) → Bool → List ℕ → ℕ → Lent → Outside
-outside out_names entropy_names vault_names wire_names refused held taken l = record {
+-- with the names of what is lent, and what is kept: what was counted, the bytes of replies that are held, and how many bytes those have
+-- that were taken
+abbrev pub outside : List GName → List GName → List GName → List (List GName) → Tally → List ℕ → ℕ → Lent → Outside
+outside out_names entropy_names vault_names wire_names tally held taken l = record {
   desk = record {
     out_names = out_names;
     entropy_names = entropy_names;
@@ -41,7 +43,7 @@ outside out_names entropy_names vault_names wire_names refused held taken l = re
     out = l.out;
     entropy = l.entropy;
     keys = l.keys;
-    refused = refused;
+    tally = tally;
     out_faults = l.out_faults;
     entropy_faults = l.entropy_faults;
     vault_faults = l.vault_faults;
@@ -59,7 +61,7 @@ outside out_names entropy_names vault_names wire_names refused held taken l = re
 }
 
 -- from 64 idle sessions the script's conversation was followed to its end, with all replies read, or stopped
-pub record CameTo (ended : Result (Unit {0}) Stop) (refused : Bool) (steps : List Step) (old new : Lent) : Type 0 where
+pub record CameTo (ended : Result (Unit {0}) Stop) (tally : Tally) (steps : List Step) (old new : Lent) : Type 0 where
   pub sessions : List Session
   pub held : List ℕ
   pub taken : ℕ
@@ -71,14 +73,14 @@ pub record CameTo (ended : Result (Unit {0}) Stop) (refused : Bool) (steps : Lis
   pub entropy_after : List GName
   pub vault_after : List GName
   pub wire_after : List (List GName)
-  pub leads : Leads ended (talk steps nobody) (λ o. talks.Ends sessions) (outside out entropy vault wire false [] 0 old) (outside out_after entropy_after vault_after wire_after refused held taken new)
+  pub leads : Leads ended (talk steps nobody) (λ o. talks.Ends sessions) (outside out entropy vault wire nothing [] 0 old) (outside out_after entropy_after vault_after wire_after tally held taken new)
   pub read : IfOk ended (λ o. (held ≡ []) × IfSome new.replies (λ left. left ≡ []))
 
 -- what driving these steps leaves, by how it ended
 abbrev pub DrivesTo : Ran → List Step → Lent → Lent → Type 0
-DrivesTo ran.Done steps old new = CameTo (Ok tt) false steps old new
-DrivesTo ran.Refusals steps old new = CameTo (Ok tt) true steps old new
-DrivesTo (ran.Stopped stop) steps old new = (refused : Bool) × CameTo (Err stop) refused steps old new
+DrivesTo ran.Done steps old new = (tally : Tally) × CameTo (Ok tt) tally steps old new × (has_errors tally ≡ false)
+DrivesTo ran.Refusals steps old new = (tally : Tally) × CameTo (Ok tt) tally steps old new × (has_errors tally ≡ true)
+DrivesTo (ran.Stopped stop) steps old new = (tally : Tally) × CameTo (Err stop) tally steps old new
 DrivesTo (ran.Unread why) steps old new = ⊥
 
 -- ---- scripts

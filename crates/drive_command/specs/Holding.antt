@@ -1,5 +1,6 @@
 -- The bytes of replies that came and weren't taken.
-use Rattle.std.specs.Prelude.{◌≡◌, ℕ, ◌+◌, List, [], ◌++◌, length, Option, Some, None}
+use Rattle.std.specs.Prelude.{◌≡◌, ℕ, ◌+◌, List, [], ◌++◌, length, Result, Ok, Err}
+use Rattle.std.specs.declared.alloc.AllocError.{AllocError}
 use Rattle.wire_frames.specs.Frames.{IsNotYet, IsRefused, is_reply_kind}
 use Rattle.wire_messages.specs.declared.replies.Reply.{Reply}
 use Rattle.wire_spelling.specs.Spelling.{SpellsReply, reply_frame}
@@ -48,6 +49,6 @@ kind_of (next.Bad place) = stands.Bad
 kind_of next.OutOfMemory = stands.OutOfMemory
 
 -- the reply that the message is is lent, with the place behind its frame
-abbrev pub IsReadFront : Option Front → Message → ℕ → Type 0
-IsReadFront (Some front) message behind = (message ≡ Tells (reply_of front.reply)) × (front.behind ≡ behind)
-IsReadFront None message behind = Unit {0}
+abbrev pub IsReadFront : Result Front AllocError → Message → ℕ → Type 0
+IsReadFront (Ok front) message behind = (message ≡ Tells (reply_of front.reply)) × (front.behind ≡ behind)
+IsReadFront (Err e) message behind = Unit {0}

@@ -16,6 +16,7 @@ use ae_edge::vaults::Vault;
 use conversation::sessions::Session;
 use key_store::KeyStore;
 use run_words::stops::Stop;
+use run_words::tallies::Tally;
 use script_lang::steps::Step;
 use script_run::env::Env;
 use script_run::runs::Ran;
@@ -39,10 +40,10 @@ fn drive_lent<W: Sink, T: Sink, E: Entropy, V: Vault, L: Source>(
     ensures read { IfOk result (λ _. (env.new.line.holding.now.held ≡ []) × IfSome (L.left env.new.line.source.now) (λ left. left ≡ [])) }
     ensures leads { Leads result (talk steps.now sessions.old.items) (λ _. Ends sessions.new.items)
         (outside (env.old.out.ghost_name ∷ []) (env.old.entropy.ghost_name ∷ []) (env.old.vault.ghost_name ∷ []) ((env.old.line.tap.ghost_name ∷ []) ∷ (env.old.line.source.ghost_name ∷ []) ∷ [])
-        env.old.refused env.old.line.holding.now.held env.old.line.holding.now.at
+        env.old.tally env.old.line.holding.now.held env.old.line.holding.now.at
         (record { out = W.held env.old.out.now; tap = T.held env.old.line.tap.now; entropy = E.to_come env.old.entropy.now; keys = V.keys env.old.vault.now; replies = L.left env.old.line.source.now; out_faults = W.faults env.old.out.now; tap_faults = T.faults env.old.line.tap.now; entropy_faults = E.faults env.old.entropy.now; vault_faults = V.faults env.old.vault.now; reply_faults = L.faults env.old.line.source.now }))
         (outside (env.new.out.ghost_name ∷ []) (env.new.entropy.ghost_name ∷ []) (env.new.vault.ghost_name ∷ []) ((env.new.line.tap.ghost_name ∷ []) ∷ (env.new.line.source.ghost_name ∷ []) ∷ [])
-        env.new.refused env.new.line.holding.now.held env.new.line.holding.now.at
+        env.new.tally env.new.line.holding.now.held env.new.line.holding.now.at
         (record { out = W.held env.new.out.now; tap = T.held env.new.line.tap.now; entropy = E.to_come env.new.entropy.now; keys = V.keys env.new.vault.now; replies = L.left env.new.line.source.now; out_faults = W.faults env.new.out.now; tap_faults = T.faults env.new.line.tap.now; entropy_faults = E.faults env.new.entropy.now; vault_faults = V.faults env.new.vault.now; reply_faults = L.faults env.new.line.source.now })) }
 {
     run_all(alloc, env, sessions, steps)
@@ -76,7 +77,7 @@ pub fn drive_over<W: Sink, T: Sink, E: Entropy, V: Vault, L: Source>(
         out,
         entropy,
         vault,
-        refused: false,
+        tally: Tally::nothing(),
         line: ReplyLine {
             tap,
             source: replies,
@@ -85,13 +86,8 @@ pub fn drive_over<W: Sink, T: Sink, E: Entropy, V: Vault, L: Source>(
         store: &mut store,
     };
     match drive_lent(alloc, &mut env, &mut sessions, steps) {
-        Ok(()) => {
-            if env.refused {
-                Ran::Refusals
-            } else {
-                Ran::Done
-            }
-        }
+        Ok(()) if env.tally.has_errors() => Ran::Refusals,
+        Ok(()) => Ran::Done,
         Err(stop) => Ran::Stopped(stop),
     }
 }

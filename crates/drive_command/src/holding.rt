@@ -1,6 +1,6 @@
 //! The bytes of replies that came and weren't taken.
 
-ghost use Rattle.std.specs.Prelude.{◌≡◌, ◌≤◌, ◌<◌, ◌+◌, ◌-◌, ◌^◌, [], false, true, OnOk, IfSome, length};
+ghost use Rattle.std.specs.Prelude.{◌≡◌, ◌≤◌, ◌<◌, ◌+◌, ◌-◌, ◌^◌, [], false, true, OnOk, IfOk, length};
 ghost use Rattle.wire_messages.specs.declared.replies.Reply.{Reply};
 ghost use Rattle.wire_spelling.specs.Spelling.{reply_frame};
 ghost use Rattle.run_words.specs.Shares.{Begins};
@@ -42,17 +42,17 @@ fn kind_of(next: &Next<'_>) -> Stands
 }
 
 /// A reply that was read, and the place behind its frame.
-fn read_front(message: Message<'_>, behind: u64) -> Option<Front<'_>>
+fn read_front(message: Message<'_>, behind: u64) -> Result<Front<'_>, AllocError>
     ensures { IsReadFront result message.entry behind }
 {
     match message {
-        Message::Tells(reply) => Some(Front {
+        Message::Tells(reply) => Ok(Front {
             reply: Lent::Read(reply),
             behind,
         }),
         Message::Asks(request) => {
             drop(request);
-            None
+            Err(AllocError)
         }
     }
 }
@@ -134,10 +134,10 @@ impl Holding {
         stands
     }
 
-    /// The reply that stands first, where there is memory to read it. It borrows from the bytes.
-    pub fn front(&self, alloc: Global) -> Option<Front<'_>>
+    /// The reply that stands first. It borrows from the bytes.
+    pub fn front(&self, alloc: Global) -> Result<Front<'_>, AllocError>
         requires { (reply : Reply) × Begins reply self.now.held }
-        ensures { IfSome result (λ front. Begins (reply_of front.reply) self.now.held × (front.behind ≡ self.now.at + length (reply_frame (reply_of front.reply))) × (front.behind < 2 ^ 64)) }
+        ensures { IfOk result (λ front. Begins (reply_of front.reply) self.now.held × (front.behind ≡ self.now.at + length (reply_frame (reply_of front.reply))) × (front.behind < 2 ^ 64)) }
     {
         match self.feed.front(alloc) {
             Next::One {
@@ -145,7 +145,7 @@ impl Holding {
                 used,
                 message,
             } => read_front(message, place + used as u64),
-            Next::NotYet | Next::Bad { .. } | Next::OutOfMemory => None,
+            Next::NotYet | Next::Bad { .. } | Next::OutOfMemory => Err(AllocError),
         }
     }
 

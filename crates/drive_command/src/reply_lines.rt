@@ -9,7 +9,7 @@ use ae_edge::sources::{Source, Taken};
 use ae_edge::streams::PutAll;
 use script_run::lines::{Front, Lack, Line, Sent};
 use script_run::peer_lines::put_request;
-use std::alloc::Global;
+use std::alloc::{AllocError, Global};
 use wire_frames::{frames_are_read_back, streams_are_read_once};
 use wire_messages::requests::Request;
 
@@ -103,7 +103,7 @@ impl<T: Sink, L: Source> Line for ReplyLine<'_, T, L> {
         fetch_reply(alloc, &mut self.source, self.holding)
     }
 
-    fn front(&self, alloc: Global) -> Option<Front<'_>> {
+    fn front(&self, alloc: Global) -> Result<Front<'_>, AllocError> {
         self.holding.front(alloc)
     }
 

@@ -1,6 +1,7 @@
 //! Runs each script of the folder that it is started in, in the order of their names, over devices in memory and an
 //! empty server, and prints what it comes to: its name, its text, its status, and the kinds of the frames that passed.
-//! A script whose name ends in `.check.sql` is checked: its text is printed, and how the check ended.
+//! A script whose name ends in `.check.sql` is checked: its text is printed, and how the check ended. One whose name ends in
+//! `.summary.sql` is run with its summary in the place of its text.
 #![tactic(auto)]
 
 mod checks;
@@ -10,7 +11,7 @@ mod runs;
 use ae_edge::memory::sink::MemSink;
 use checks::{Check, check_of};
 use kinds::kinds_of;
-use runs::{Came, come_to};
+use runs::{Came, Puts, come_to};
 use std::io::Write;
 use std::{fs, io};
 
@@ -21,7 +22,7 @@ fn main(rt: HostRuntime) -> io::Result<()> {
         if name.ends_with(".check.sql") {
             print_check(&rt, script)?;
         } else {
-            print_came(&rt, &come_to(rt.alloc(), script)?)?;
+            print_came(&rt, &come_to(rt.alloc(), script, puts_of(name.as_str()))?)?;
         }
     }
     Ok(())
@@ -38,6 +39,15 @@ fn script_names(rt: &HostRuntime) -> io::Result<Vec<String>> {
     }
     names.sort()?;
     Ok(names)
+}
+
+// What the run of a script of that name puts.
+fn puts_of(name: &str) -> Puts {
+    if name.ends_with(".summary.sql") {
+        Puts::Summary
+    } else {
+        Puts::Text
+    }
 }
 
 fn print_check(rt: &HostRuntime, script: Vec<u8>) -> io::Result<()> {

@@ -7,6 +7,7 @@ use script_run::programs::run;
 use script_run::status::Status;
 use server_core::server::Server;
 use std::alloc::{AllocError, Global};
+use summary_command::commands::summarize;
 
 /// What a script came to: the status, the text, and the frames that passed.
 #[derive(Drop)]
@@ -14,6 +15,13 @@ pub(crate) struct Came {
     pub(crate) status: Status,
     pub(crate) text: MemSink,
     pub(crate) tap: MemSink,
+}
+
+/// What a run puts.
+#[derive(Clone, Copy, PartialEq, Eq, Debug)]
+pub(crate) enum Puts {
+    Text,
+    Summary,
 }
 
 /// The master key of the path `main`.
@@ -26,22 +34,33 @@ const MAIN: [u8; 32] = [
 const SPARE: [u8; 32] = [0xff; 32];
 
 /// Runs a script over an empty server, with two master keys, and with random bytes for sixteen cells.
-pub(crate) fn come_to(alloc: Global, script: Vec<u8>) -> Result<Came, AllocError> {
+pub(crate) fn come_to(alloc: Global, script: Vec<u8>, puts: Puts) -> Result<Came, AllocError> {
     let mut script = MemSource::new(script, 4096, Vec::new(alloc));
     let mut vault = two_keys(alloc)?;
     let mut entropy = each_byte_once(alloc)?;
     let mut text = MemSink::new(alloc, Vec::new(alloc));
     let mut tap = MemSink::new(alloc, Vec::new(alloc));
     let mut peer = Server::new(alloc);
-    let ran = run(
-        alloc,
-        &mut script,
-        &mut vault,
-        &mut entropy,
-        &mut text,
-        &mut tap,
-        &mut peer,
-    );
+    let ran = match puts {
+        Puts::Text => run(
+            alloc,
+            &mut script,
+            &mut vault,
+            &mut entropy,
+            &mut text,
+            &mut tap,
+            &mut peer,
+        ),
+        Puts::Summary => summarize(
+            alloc,
+            &mut script,
+            &mut vault,
+            &mut entropy,
+            &mut text,
+            &mut tap,
+            &mut peer,
+        ),
+    };
     Ok(Came {
         status: Status::from(ran),
         text,

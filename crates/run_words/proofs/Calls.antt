@@ -1,5 +1,5 @@
 -- One call after another: printing, asking, hearing, and what the driver does by itself.
-use Rattle.std.proofs.Common.{◌≡◌, ℕ, ◌≤◌, List, [], ◌∷◌, ◌++◌, Option, Some, None, Bool, true, false, ◌||◌, length, refl, sym, ◌∙◌, ap, subst, append-nil, inl, inr, arith}
+use Rattle.std.proofs.Common.{◌≡◌, ℕ, ◌≤◌, List, [], ◌∷◌, ◌++◌, Option, Some, None, length, refl, sym, ◌∙◌, ap, subst, append-nil, inl, inr, arith}
 use Rattle.std.specs.Prelude.{flat_map, IfSome}
 use Rattle.std.specs.Borrow.{GName}
 use Rattle.ae_base.specs.declared.batches.KeyMeta.{KeyMeta}
@@ -15,12 +15,14 @@ use Rattle.conversation.specs.declared.outcomes.Outcome.{Outcome}
 use Rattle.conversation.specs.declared.sessions.Session.{Session}
 use Rattle.conversation.specs.Devices.{Devices, AreOwn, HasShare}
 use Rattle.conversation.specs.Devices as own
-use Rattle.conversation.specs.Paths.{Event, Asked, Took, Strayed, Drew, Opened, Printed, Follows, stays, asks, takes_more, takes_last, strays, replies_to, taken_in, outcome_in, Waits, OpensAll, IsStray}
+use Rattle.conversation.specs.Paths.{Event, Asked, Took, Strayed, Drew, Opened, Printed, Follows, stays, asks, takes_more, takes_last, strays, replies_to, taken_in, Waits, OpensAll, IsStray}
 use Rattle.conversation.specs.Talk.{Talk, Stops, Asks, Hears, Heard, More, Got, hear, broken}
-use Rattle.run_words.specs.Printing.{printed_outcome, is_refusal, has_refusal}
+use Rattle.run_words.specs.Counting.{asked, counted, printed}
+use Rattle.run_words.specs.Printing.{printed_outcome}
 use Rattle.run_words.specs.Shares.{Desk, Wire, Outside, Serves, Stream, Streams, Comes, IsNext, coming, DeskPut, WirePut, WireRead, text_of, frames_of, exchanges_of, devices_of, with_devices}
 use Rattle.run_words.specs.Ways.{Goes, Halts, Breaks, AsksInPart, TakesOne, IsNextOf, IsNextOn, StaysWithin}
-use Rattle.run_words.proofs.Going.{desk_still, comes_still, stay, or_false, desk_front, wire_front, breaks_between, silent_by}
+use Rattle.run_words.specs.declared.tallies.Tally.{Tally}
+use Rattle.run_words.proofs.Going.{desk_still, comes_still, stay, desk_front, wire_front, breaks_between, silent_by}
 
 -- ---- events of the driver by itself leave text, tap and replies
 
@@ -49,14 +51,14 @@ no_exchanges (Took reply ∷ xs) h = absurd h
 no_exchanges (Strayed next ∷ xs) h = absurd h
 no_exchanges (Printed comes ∷ xs) h = absurd h
 
-no_outcomes : (xs : List Event) → AreOwn xs → flat_map outcome_in xs ≡ []
-no_outcomes [] h = refl
-no_outcomes (Drew bytes ∷ xs) h = no_outcomes xs h
-no_outcomes (Opened meta key ∷ xs) h = no_outcomes xs h
-no_outcomes (Asked request replies ∷ xs) h = absurd h
-no_outcomes (Took reply ∷ xs) h = absurd h
-no_outcomes (Strayed next ∷ xs) h = absurd h
-no_outcomes (Printed comes ∷ xs) h = absurd h
+own_uncounted : (xs : List Event) → AreOwn xs → (t : Tally) → counted xs t ≡ t
+own_uncounted [] h t = refl
+own_uncounted (Drew bytes ∷ xs) h t = own_uncounted xs h t
+own_uncounted (Opened meta key ∷ xs) h t = own_uncounted xs h t
+own_uncounted (Asked request replies ∷ xs) h t = absurd h
+own_uncounted (Took reply ∷ xs) h t = absurd h
+own_uncounted (Strayed next ∷ xs) h t = absurd h
+own_uncounted (Printed comes ∷ xs) h t = absurd h
 
 none_taken : (xs : List Event) → AreOwn xs → flat_map taken_in xs ≡ []
 none_taken [] h = refl
@@ -133,7 +135,7 @@ own_goes t u old x g = record {
     };
   };
   read = record {
-    refused = or_false old.desk.refused ∙ ap (λ w. old.desk.refused || has_refusal w) (sym (no_outcomes g.events g.own));
+    tally = sym (own_uncounted g.events g.own old.desk.tally);
     wire = record {
       comes = comes_still g.events (none_come g.events g.own) (own_waits g.events g.own) (own_streams g.events g.own) old.wire.stream old.wire.waiting;
       taken = let e : length (flat_map reply_frame (flat_map taken_in g.events)) ≡ 0 = ap (λ w. length (flat_map reply_frame w)) (none_taken g.events g.own) in omega arith;
@@ -155,11 +157,6 @@ keys_printed : (comes : Outcome) (keys : Option KeyMap) → IfSome keys (OpensAl
 keys_printed comes None = tt
 keys_printed comes (Some keys) = tt
 
-or_none : (b c : Bool) → b || (c || false) ≡ b || c
-or_none true c = refl
-or_none false true = refl
-or_none false false = refl
-
 twice_nil : (xs : List ℕ) → (xs ++ []) ++ [] ≡ xs
 twice_nil xs = append-nil (xs ++ []) ∙ append-nil xs
 
@@ -167,8 +164,8 @@ pub wire_printed : (comes : Outcome) (w : Wire) → WirePut Adds (Printed comes 
 wire_printed comes w = record { names = refl; tap = adds_none w.tap; log = adds_none w.log; state = told_same (Serves (Printed comes ∷ [])) (λ x. refl) w.state; count = omega arith }
 
 module _ (comes : Outcome) (d : Desk) (out : Option (List ℕ)) (faults : ℕ) (names : List GName) (same : names ≡ d.out_names) (count : d.out_faults ≤ faults) where
-  pub desk_printed : Adds (printed_outcome comes) d.out out → (refused : Bool) → DeskPut Adds (Printed comes ∷ []) d (record d { out_names = names; out = out; refused = refused; out_faults = faults })
-  desk_printed h refused = record {
+  pub desk_printed : Adds (printed_outcome comes) d.out out → (tally : Tally) → DeskPut Adds (Printed comes ∷ []) d (record d { out_names = names; out = out; tally = tally; out_faults = faults })
+  desk_printed h tally = record {
     out_same = same;
     entropy_same = refl;
     vault_same = refl;
@@ -200,16 +197,16 @@ printed_read comes w = record { comes = comes_still (Printed comes ∷ []) refl 
 
 module _ (comes : Outcome) (t u : Talk) (follows : Follows t (Printed comes ∷ []) u) (old : Outside) (out : Option (List ℕ)) (faults : ℕ) (names : List GName)
     (same : names ≡ old.desk.out_names) (count : old.desk.out_faults ≤ faults) where
-  pub printed_goes : Adds (printed_outcome comes) old.desk.out out → (refused : Bool) → refused ≡ old.desk.refused || is_refusal comes
-      → Goes t u old (record old { desk = record old.desk { out_names = names; out = out; refused = refused; out_faults = faults } })
-  printed_goes h refused r = record {
+  pub printed_goes : Adds (printed_outcome comes) old.desk.out out → (tally : Tally) → tally ≡ printed comes old.desk.tally
+      → Goes t u old (record old { desk = record old.desk { out_names = names; out = out; tally = tally; out_faults = faults } })
+  printed_goes h tally c = record {
     events = Printed comes ∷ [];
     follows = follows;
     put = record {
-      desk = desk_printed comes old.desk out faults names same count h refused;
+      desk = desk_printed comes old.desk out faults names same count h tally;
       wire = wire_printed comes old.wire;
     };
-    read = record { refused = r ∙ sym (or_none old.desk.refused (is_refusal comes)); wire = printed_read comes old.wire };
+    read = record { tally = c; wire = printed_read comes old.wire };
     limit = λ h. h;
   }
 
@@ -235,8 +232,8 @@ keys_asked : (request : Request) (replies : List Reply) (keys : Option KeyMap) �
 keys_asked request replies None = tt
 keys_asked request replies (Some keys) = tt
 
-desk_asked : (request : Request) (replies : List Reply) (d : Desk) → DeskPut Adds (Asked request replies ∷ []) d d
-desk_asked request replies d = record {
+desk_asked : (request : Request) (replies : List Reply) (d : Desk) (tally : Tally) → DeskPut Adds (Asked request replies ∷ []) d (record d { tally = tally })
+desk_asked request replies d tally = record {
   out_same = refl;
   entropy_same = refl;
   vault_same = refl;
@@ -252,12 +249,12 @@ desk_asked request replies d = record {
 -- a request was asked, and its replies wait
 pub asked_goes : (request : Request) (replies : List Reply) (t : Talk) (old : Outside) (wire : Wire)
     → WirePut Adds (Asked request replies ∷ []) old.wire wire → WireRead (Asked request replies ∷ []) old.wire wire → StaysWithin old.wire wire
-    → Goes (Asks request t) t old (record old { wire = wire })
-asked_goes request replies t old wire p r l = record {
+    → (tally : Tally) → tally ≡ asked old.desk.tally → Goes (Asks request t) t old (record { desk = record old.desk { tally = tally }; wire = wire })
+asked_goes request replies t old wire p r l tally c = record {
   events = Asked request replies ∷ [];
   follows = asks request replies t t [] (stays t);
-  put = record { desk = desk_asked request replies old.desk; wire = p };
-  read = record { refused = or_false old.desk.refused; wire = r };
+  put = record { desk = desk_asked request replies old.desk tally; wire = p };
+  read = record { tally = c; wire = r };
   limit = l;
 }
 
@@ -280,7 +277,7 @@ asked_breaks request t old wire (inr h) = record {
   goes = stay (Asks request t) old;
   one = omega arith;
   follows = inl (asks request h.0 t t [] (stays t), h.1);
-  put = record { desk = desk_front (Asked request h.0 ∷ []) old.desk old.desk (desk_asked request h.0 old.desk); wire = h.2 };
+  put = record { desk = desk_front (Asked request h.0 ∷ []) old.desk old.desk (desk_asked request h.0 old.desk old.desk.tally); wire = h.2 };
 }
 
 -- ---- hearing
@@ -308,7 +305,7 @@ took_goes reply t u old wire f h = record {
   events = Took reply ∷ [];
   follows = f;
   put = record { desk = desk_took reply old.desk; wire = h.put };
-  read = record { refused = or_false old.desk.refused; wire = h.read };
+  read = record { tally = refl; wire = h.read };
   limit = h.limit;
 }
 
@@ -357,6 +354,6 @@ strayed_goes session shown f next old s e = record {
     };
     wire = record { names = refl; tap = adds_none old.wire.tap; log = adds_none old.wire.log; state = told_same (Serves (Strayed next ∷ [])) (λ x. refl) old.wire.state; count = omega arith };
   };
-  read = record { refused = or_false old.desk.refused; wire = record { comes = comes_strayed next old.wire.stream old.wire.waiting e; taken = omega arith } };
+  read = record { tally = refl; wire = record { comes = comes_strayed next old.wire.stream old.wire.waiting e; taken = omega arith } };
   limit = λ h. h;
 }

@@ -1,7 +1,6 @@
 -- One way after another, with what all that a run touches has of them.
-use Rattle.std.proofs.Common.{◌≡◌, ℕ, ◌+◌, ◌≤◌, List, [], ◌∷◌, ◌++◌, Option, Some, None, Result, Ok, Err, Bool, true, false, ◌||◌, length, refl, sym, ◌∙◌, ap, subst, length-append, ◌⊎◌, inl, inr, arith}
+use Rattle.std.proofs.Common.{◌≡◌, ℕ, ◌+◌, ◌≤◌, List, [], ◌∷◌, ◌++◌, Option, Some, None, Result, Ok, Err, length, refl, sym, ◌∙◌, ap, subst, length-append, ◌⊎◌, inl, inr, arith}
 use Rattle.std.specs.Prelude.{flat_map, IfSome}
-use Rattle.std.proofs.lemmas.List.Folds.{list_any-append}
 use Rattle.std.proofs.lemmas.Grind.{flat_map-append}
 use Rattle.ae_edge.specs.Devices.{Rose, WhereTold, Adds, AddsFront}
 use Rattle.ae_edge.specs.Vaults.{KeyMap}
@@ -9,14 +8,15 @@ use Rattle.ae_edge.proofs.Told.{told_then, told_same, adds_none, adds_then, remo
 use Rattle.wire_messages.specs.declared.replies.Reply.{Reply}
 use Rattle.wire_spelling.specs.Spelling.{reply_frame}
 use Rattle.server_core.specs.Serve.{State}
-use Rattle.conversation.specs.Paths.{Event, Asked, Took, Strayed, Drew, Opened, Printed, stays, replies_to, taken_in, drawn_in, outcome_in, Waits, OpensAll}
+use Rattle.conversation.specs.Paths.{Event, Asked, Took, Strayed, Drew, Opened, Printed, stays, replies_to, taken_in, drawn_in, Waits, OpensAll}
 use Rattle.conversation.specs.Talk.{Talk}
 use Rattle.conversation.proofs.Going.{follows_then, opens_then}
-use Rattle.run_words.specs.Printing.{is_refusal, has_refusal}
+use Rattle.run_words.specs.Counting.{count, counted}
 use Rattle.run_words.specs.Shares.{Desk, Wire, Outside, Serves, Stream, Streams, Comes, coming, DeskPut, WirePut, HasPut, WireRead, HasRead, text_of, frames_of, exchanges_of}
 use Rattle.run_words.specs.Ways.{Goes, Halts, Lacks, Breaks, Fails, Leads, CantBeRead, IsSilent}
 use Rattle.run_words.specs.declared.stops.Stop.{Stop}
 use Rattle.run_words.specs.declared.stops.Stop.TheVariants as stop
+use Rattle.run_words.specs.declared.tallies.Tally.{Tally}
 
 waits_then : (xs ys : List Event) (a b c : List Reply) → Waits xs a b → Waits ys b c → Waits (xs ++ ys) a c
 waits_then [] ys a b c p q = subst (λ w. Waits ys w c) p q
@@ -72,10 +72,6 @@ drawn_then : (xs ys : List Event) (a b c : Option (List ℕ)) → WhereTold (λ 
 drawn_then xs ys a b c p q =
     subst (λ w. WhereTold (λ x y. x ≡ w ++ y) a c) (sym (flat_map-append drawn_in xs ys)) (removes_then (flat_map drawn_in xs) (flat_map drawn_in ys) a b c p q)
 
-or_assoc : (a b c : Bool) → (a || b) || c ≡ a || (b || c)
-or_assoc true b c = refl
-or_assoc false b c = refl
-
 desk_then : (xs ys : List Event) (a b c : Desk) → DeskPut Adds xs a b → DeskPut Adds ys b c → DeskPut Adds (xs ++ ys) a c
 desk_then xs ys a b c p q = record {
   out_same = q.out_same ∙ p.out_same;
@@ -121,16 +117,13 @@ wire_read_then xs ys a b c p q = record {
       omega arith;
 }
 
-refused_then : (xs ys : List Event) → has_refusal (flat_map outcome_in (xs ++ ys)) ≡ has_refusal (flat_map outcome_in xs) || has_refusal (flat_map outcome_in ys)
-refused_then xs ys =
-    ap has_refusal (flat_map-append outcome_in xs ys) ∙ list_any-append is_refusal (flat_map outcome_in xs) (flat_map outcome_in ys)
+pub counted_then : (xs ys : List Event) (t : Tally) → counted (xs ++ ys) t ≡ counted ys (counted xs t)
+counted_then [] ys t = refl
+counted_then (x ∷ xs) ys t = counted_then xs ys (count x t)
 
 read_then : (xs ys : List Event) (a b c : Outside) → HasRead xs a b → HasRead ys b c → HasRead (xs ++ ys) a c
 read_then xs ys a b c p q = record {
-  refused =
-      q.refused ∙ ap (λ r. r || has_refusal (flat_map outcome_in ys)) p.refused
-      ∙ or_assoc a.desk.refused (has_refusal (flat_map outcome_in xs)) (has_refusal (flat_map outcome_in ys))
-      ∙ ap (λ r. a.desk.refused || r) (sym (refused_then xs ys));
+  tally = q.tally ∙ ap (counted ys) p.tally ∙ sym (counted_then xs ys a.desk.tally);
   wire = wire_read_then xs ys a.wire b.wire c.wire p.wire q.wire;
 }
 
@@ -163,10 +156,6 @@ wire_still a = record { names = refl; tap = adds_none a.tap; log = adds_none a.l
 pub nothing_put : (a : Outside) → HasPut Adds [] a a
 nothing_put a = record { desk = desk_still a.desk; wire = wire_still a.wire }
 
-pub or_false : (a : Bool) → a ≡ a || false
-or_false true = refl
-or_false false = refl
-
 -- events that touch no reply
 pub comes_still : (events : List Event) → flat_map replies_to events ≡ [] → ((x : List Reply) → Waits events x x) → ((x : List ℕ) → Streams events x x) → (s : Option Stream) (waiting : List Reply)
     → Comes events s s waiting waiting
@@ -177,7 +166,7 @@ pub wire_unread : (a : Wire) → WireRead [] a a
 wire_unread a = record { comes = comes_still [] refl (λ x. refl) (λ x. refl) a.stream a.waiting; taken = omega arith }
 
 pub nothing_read : (a : Outside) → HasRead [] a a
-nothing_read a = record { refused = or_false a.desk.refused; wire = wire_unread a.wire }
+nothing_read a = record { tally = refl; wire = wire_unread a.wire }
 
 pub stay : (t : Talk) (a : Outside) → Goes t t a a
 stay t a = record { events = []; follows = stays t; put = nothing_put a; read = nothing_read a; limit = λ h. h }

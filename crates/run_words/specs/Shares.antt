@@ -1,5 +1,5 @@
 -- What is told of all that a run touches, and what each device has of the events of a conversation.
-use Rattle.std.specs.Prelude.{◌≡◌, ℕ, ◌+◌, ◌≤◌, List, [], ◌∷◌, ◌++◌, length, flat_map, Option, Some, None, IfSome, Bool, ◌||◌}
+use Rattle.std.specs.Prelude.{◌≡◌, ℕ, ◌+◌, ◌≤◌, List, [], ◌∷◌, ◌++◌, length, flat_map, Option, Some, None, IfSome}
 use Rattle.std.specs.Borrow.{GName}
 use Rattle.ae_edge.specs.Devices.{WhereTold, Adds}
 use Rattle.ae_edge.specs.Vaults.{KeyMap}
@@ -10,10 +10,12 @@ use Rattle.wire_spelling.specs.Spelling.{request_frame, reply_frame}
 use Rattle.server_core.specs.Serve.{State, serve}
 use Rattle.conversation.specs.Devices.{Devices}
 use Rattle.conversation.specs.Paths.{Event, Asked, Took, Strayed, Drew, Opened, Printed, replies_to, taken_in, drawn_in, outcome_in, Waits, OpensAll}
-use Rattle.run_words.specs.Printing.{printed_outcome, has_refusal}
+use Rattle.run_words.specs.Counting.{counted}
+use Rattle.run_words.specs.Printing.{printed_outcome}
+use Rattle.run_words.specs.declared.tallies.Tally.{Tally}
 
--- this side: what it is lent, the text, the random bytes to come and the keys, where they are told, whether a refusal was
--- printed, and the counts of faults
+-- this side: what it is lent, the text, the random bytes to come and the keys, where they are told, what is counted, and the
+-- counts of faults
 pub record Desk : Type 0 where
   pub out_names : List GName
   pub entropy_names : List GName
@@ -21,7 +23,7 @@ pub record Desk : Type 0 where
   pub out : Option (List ℕ)
   pub entropy : Option (List ℕ)
   pub keys : Option KeyMap
-  pub refused : Bool
+  pub tally : Tally
   pub out_faults : ℕ
   pub entropy_faults : ℕ
   pub vault_faults : ℕ
@@ -169,12 +171,12 @@ Comes events (Some s) (Some t) old new = (flat_map replies_to events ≡ []) × 
 Comes events None (Some t) old new = ⊥
 Comes events (Some s) None old new = ⊥
 
--- ---- what was read: the replies in order, and the bytes of their frames; and whether a refusal was printed
+-- ---- what was read: the replies in order, and the bytes of their frames; and what was counted
 
 pub record WireRead (events : List Event) (old new : Wire) : Type 0 where
   pub comes : Comes events old.stream new.stream old.waiting new.waiting
   pub taken : new.taken ≡ old.taken + length (flat_map reply_frame (flat_map taken_in events))
 
 pub record HasRead (events : List Event) (old new : Outside) : Type 0 where
-  pub refused : new.desk.refused ≡ old.desk.refused || has_refusal (flat_map outcome_in events)
+  pub tally : new.desk.tally ≡ counted events old.desk.tally
   pub wire : WireRead events old.wire new.wire

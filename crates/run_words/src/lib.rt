@@ -3,4 +3,5 @@
 #![tactic(auto)]
 
 pub mod stops;
+pub mod tallies;
 pub mod texts;

@@ -32,7 +32,7 @@ use Rattle.run_words.specs.Shares.{Stream, Wire, Outside, Serves, Begins, IsNext
 use Rattle.run_words.specs.Ways.{Goes, Breaks, Fails, Leads, IsStuckOn, IsFirstOf, IsFirst, IsNextOf, IsNextOn, TakesOne}
 use Rattle.run_words.specs.declared.stops.Stop.{Stop}
 use Rattle.run_words.specs.declared.stops.Stop.TheVariants as stop
-use Rattle.run_words.proofs.Going.{stay, or_false, desk_still, desk_front, wire_still, wire_unread, breaks_between, goes_then, fails_then, silent_by}
+use Rattle.run_words.proofs.Going.{stay, desk_still, desk_front, wire_still, wire_unread, breaks_between, goes_then, fails_then, silent_by}
 use Rattle.run_words.proofs.Calls.{own_goes, own_halts, own_breaks, heard_more, heard_last, strayed_goes}
 use Rattle.script_run.specs.declared.around.First.{First}
 use Rattle.script_run.specs.declared.around.First.TheVariants as first
@@ -58,7 +58,7 @@ first_next r wire h = first_of_next r wire.stream wire.waiting h
 
 -- the wire rests
 pub rests_goes : (t : Talk) (x : Outside) (wire : Wire) → Rests x.wire wire → Goes t t x (record x { wire = wire })
-rests_goes t x wire r = record { events = []; follows = stays t; put = record { desk = desk_still x.desk; wire = r.0 }; read = record { refused = or_false x.desk.refused; wire = r.1 }; limit = r.2 }
+rests_goes t x wire r = record { events = []; follows = stays t; put = record { desk = desk_still x.desk; wire = r.0 }; read = record { tally = refl; wire = r.1 }; limit = r.2 }
 
 pub rests_same : (wire : Wire) → Rests wire wire
 rests_same wire = (wire_still wire, wire_unread wire, λ h. h)

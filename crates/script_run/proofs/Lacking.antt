@@ -11,12 +11,14 @@ use Rattle.conversation.specs.declared.sessions.Session.{Session}
 use Rattle.conversation.specs.declared.sessions.Session.TheVariants.{Idle, Begun, Pending, Sent, Reading, Skipping}
 use Rattle.conversation.specs.Paths.{Follows, stays, prints_last, IsStray, replies_to}
 use Rattle.conversation.specs.Talk.{Talk, Ends, Stops, Hears, Heard, broken}
+use Rattle.run_words.specs.Counting.{printed}
 use Rattle.run_words.specs.Printing.{printed_listing}
 use Rattle.run_words.specs.Shares.{Desk, Stream, Wire, Outside, Comes, DeskPut, WirePut, WireRead, HasPut}
 use Rattle.run_words.specs.Ways.{Goes, Lacks, Breaks, Fails, CantBeRead, IsTooLong, IsStreamed, IsStuck, IsStuckOn, IsFirst, IsLeft, IsLeftOn, IsNextOn, StaysWithin, printed_off}
 use Rattle.run_words.specs.declared.stops.Stop.{Stop}
 use Rattle.run_words.specs.declared.stops.Stop.TheVariants as stop
-use Rattle.run_words.proofs.Going.{stay, or_false, desk_still, desk_front, wire_still, wire_front, wire_unread, wire_then, wire_read_then, goes_then, fails_then, silent_by}
+use Rattle.run_words.specs.declared.tallies.Tally.{Tally}
+use Rattle.run_words.proofs.Going.{stay, desk_still, desk_front, wire_still, wire_front, wire_unread, wire_then, wire_read_then, goes_then, fails_then, silent_by}
 use Rattle.run_words.proofs.Calls.{desk_printed, desk_cut, wire_printed, printed_read, strayed_goes}
 use Rattle.script_run.specs.declared.lines.Lack.{Lack}
 use Rattle.script_run.specs.declared.lines.Lack.TheVariants as lack
@@ -96,7 +98,7 @@ module _ (session : Session) (shown : Listing) (f : Heard → Talk) (x : Outside
           events = printed_off (broken session shown);
           follows = off_follows (broken session shown);
           put = put_off (broken session shown) h.1;
-          read = record { refused = h.2; wire = read_off (broken session shown) w };
+          read = record { tally = h.2; wire = read_off (broken session shown) w };
           limit = λ l. l;
         } in
         subst (λ s. Fails s (Hears session shown f) x After) (sym h.0)
@@ -127,7 +129,7 @@ module _ (session : Session) (shown : Listing) (f : Heard → Talk) (x : Outside
       goes = stay (Hears session shown f) x;
       awaits = tt;
       put = record { desk = h.1; wire = wire_so };
-      read = record { refused = h.2; wire = wire_read_then [] (printed_off (broken session shown)) x.wire w w q (read_off (broken session shown) w) };
+      read = record { tally = h.2; wire = wire_read_then [] (printed_off (broken session shown)) x.wire w w q (read_off (broken session shown) w) };
     }
 
     cut_lacks : IsStreamed w.stream → CutsOff result (broken session shown) x.desk desk → Fails result (Hears session shown f) x After
@@ -172,7 +174,7 @@ off_none lack.TooLong comes e = e
 off_none lack.OutOfMemory comes e = refl
 
 nothing_off : (why : Stop) (desk : Desk) → BreaksOff why why None desk desk
-nothing_off why desk = inl (refl, desk_still desk, or_false desk.refused)
+nothing_off why desk = inl (refl, desk_still desk, refl)
 
 pub fetch_misses : (session : Session) (shown : Listing) (f : Heard → Talk) (x : Outside) (w : Wire) (why : Lack) (result : Stop) (place : ℕ) → broken session shown ≡ None → place ≡ w.taken → result ≡ stop_at why place
     → Fetches (Err why) x.wire w → Fails result (Hears session shown f) x (record x { wire = w })
@@ -215,13 +217,14 @@ module _ (is : Bool) (shown : Listing) (why : Stop) (x : Outside) (i : is ≡ tr
   abbrev Put : Desk
   Put = record x.desk { out_names = names; out = out; out_faults = faults }
 
-  pub all_off : (result : Stop) → result ≡ why → Adds (printed_listing shown) x.desk.out out → BreaksOff result why (shown_if is shown) x.desk Put
-  all_off result e h =
-      subst (λ b. BreaksOff result why (shown_if b shown) x.desk Put) (sym i)
+  pub all_off : (result : Stop) → result ≡ why → Adds (printed_listing shown) x.desk.out out → (tally : Tally) → tally ≡ printed (outcome.Broken shown None) x.desk.tally
+      → BreaksOff result why (shown_if is shown) x.desk (record Put { tally = tally })
+  all_off result e h tally c =
+      subst (λ b. BreaksOff result why (shown_if b shown) x.desk (record Put { tally = tally })) (sym i)
       (inl (
         e,
-        desk_printed (outcome.Broken shown None) x.desk out faults names same count (subst (λ w. Adds w x.desk.out out) (sym (append-nil (printed_listing shown))) h) x.desk.refused,
-        or_false x.desk.refused,
+        desk_printed (outcome.Broken shown None) x.desk out faults names same count (subst (λ w. Adds w x.desk.out out) (sym (append-nil (printed_listing shown))) h) tally,
+        c,
       ))
 
   part : AddsFront (printed_listing shown) x.desk.out out → DeskPut AddsFront (printed_off (Some (outcome.Broken shown None))) x.desk Put
@@ -250,7 +253,7 @@ ends_lacking sessions x w p q = record {
   goes = stay (Ends sessions) x;
   awaits = tt;
   put = record { desk = desk_still x.desk; wire = p };
-  read = record { refused = or_false x.desk.refused; wire = q };
+  read = record { tally = refl; wire = q };
 }
 
 pub finish_fails : (sessions : List Session) (x : Outside) (w : Wire) (why : Lack) (place : ℕ) → place ≡ w.taken → Finishes (Err why) x.wire w → Fails (stop_at why place) (Ends sessions) x (record x { wire = w })

@@ -1,5 +1,5 @@
 -- What a run leaves of what it was lent.
-use Rattle.std.proofs.Common.{◌≡◌, ℕ, List, [], ◌∷◌, ◌++◌, Option, Result, Ok, Err, Bool, false, ◌⊎◌, sym, ◌∙◌, ap, subst, append-nil, arith}
+use Rattle.std.proofs.Common.{◌≡◌, ℕ, List, [], ◌∷◌, ◌++◌, Option, Result, Ok, Err, ◌⊎◌, length, sym, ◌∙◌, ap, subst, append-nil, arith}
 use Rattle.std.specs.List.{All}
 use Rattle.std.specs.Borrow.{GName}
 use Rattle.ae_edge.specs.Devices.{Rose, WhereTold}
@@ -10,13 +10,16 @@ use Rattle.conversation.specs.Paths.{Event}
 use Rattle.conversation.specs.Sessions.{nobody}
 use Rattle.conversation.specs.Talk.{Talk}
 use Rattle.plain_meaning.specs.Steps.{talk}
+use Rattle.run_words.specs.Counting.{nothing}
 use Rattle.run_words.specs.Shares.{Outside, Puts, HasPut}
 use Rattle.run_words.specs.Ways.{Goes, Lacks, Breaks, Fails, Leads}
 use Rattle.run_words.specs.declared.stops.Stop.{Stop}
 use Rattle.run_words.specs.declared.stops.Stop.TheVariants as stop
+use Rattle.run_words.specs.declared.tallies.Tally.{Tally}
 use Rattle.run_words.proofs.Going.{stay, breaks_between}
 use Rattle.script_lang.specs.declared.steps.Step.{Step}
 use Rattle.script_lang.specs.Limits.{IsProperStep, IsWithinLimits}
+use Rattle.script_run.specs.declared.runs.Count.{Count}
 use Rattle.script_run.specs.declared.runs.Ran.{Ran}
 use Rattle.script_run.specs.declared.runs.Ran.TheVariants as ran
 use Rattle.script_run.specs.declared.runs.Unread.TheVariants as unread
@@ -73,39 +76,37 @@ peer_same a b c d e = cc
 -- ---- how it ended
 
 -- it ended before it began
-pub unstarted : (steps : List Step) (lent : Lent) → RunsTo (ran.Stopped stop.OutOfMemory) steps lent lent
-unstarted steps lent = (
-  false,
-  record {
-    sessions = nobody;
-    waiting = [];
-    taken = 0;
-    out = [];
-    entropy = [];
-    vault = [];
-    wire = [];
-    out_after = [];
-    entropy_after = [];
-    vault_after = [];
-    wire_after = [];
-    leads = breaks_between _ _ _ _ (stay (talk steps nobody) (outside [] [] [] [] false [] 0 lent));
-    read = tt;
-  },
-)
+pub unstarted : (steps : List Step) (lent : Lent) → RunsTo (ran.Stopped stop.OutOfMemory) nothing steps lent lent
+unstarted steps lent = record {
+  sessions = nobody;
+  waiting = [];
+  taken = 0;
+  out = [];
+  entropy = [];
+  vault = [];
+  wire = [];
+  out_after = [];
+  entropy_after = [];
+  vault_after = [];
+  wire_after = [];
+  leads = breaks_between _ _ _ _ (stay (talk steps nobody) (outside [] [] [] [] nothing [] 0 lent));
+  read = tt;
+}
 
 -- ---- a script
 
-pub runs_script : (r : Ran) (bytes : List ℕ) (steps : List Step) (old new : Lent) → IsScript bytes steps → All IsWithinLimits steps → All IsProperStep steps → RunsTo r steps old new → RunsScript r bytes old new
-runs_script ran.Done bytes steps old new s l p h = record { steps = steps; script = s; limits = l; proper = p; runs = h }
-runs_script ran.Refusals bytes steps old new s l p h = record { steps = steps; script = s; limits = l; proper = p; runs = h }
-runs_script (ran.Stopped why) bytes steps old new s l p h = record { steps = steps; script = s; limits = l; proper = p; runs = h }
-runs_script (ran.Unread why) bytes steps old new s l p h = absurd h
+pub runs_script : (r : Ran) (count : Count) (bytes : List ℕ) (steps : List Step) (old new : Lent) → IsScript bytes steps → All IsWithinLimits steps → All IsProperStep steps → count.steps ≡ length steps
+    → RunsTo r count.tally steps old new → RunsScript r count bytes old new
+runs_script ran.Done count bytes steps old new s l p n h = record { steps = steps; script = s; limits = l; proper = p; counts = n; runs = h }
+runs_script ran.Refusals count bytes steps old new s l p n h = record { steps = steps; script = s; limits = l; proper = p; counts = n; runs = h }
+runs_script (ran.Stopped why) count bytes steps old new s l p n h = record { steps = steps; script = s; limits = l; proper = p; counts = n; runs = h }
+runs_script (ran.Unread why) count bytes steps old new s l p n h = absurd h
 
-pub was_read : (r : Ran) (steps : List Step) (old new : Lent) → RunsTo r steps old new → IsRead r
-was_read ran.Done steps old new h = tt
-was_read ran.Refusals steps old new h = tt
-was_read (ran.Stopped why) steps old new h = tt
-was_read (ran.Unread why) steps old new h = absurd h
+pub was_read : (r : Ran) (tally : Tally) (steps : List Step) (old new : Lent) → RunsTo r tally steps old new → IsRead r
+was_read ran.Done tally steps old new h = tt
+was_read ran.Refusals tally steps old new h = tt
+was_read (ran.Stopped why) tally steps old new h = tt
+was_read (ran.Unread why) tally steps old new h = absurd h
 
 -- ---- what was taken of it
 
@@ -127,35 +128,35 @@ pub read_it : (r : Ran) → IsRead r → r ≡ ran.Unread unread.ReadFault → �
 read_it r w e = subst IsRead e w
 
 -- a peer has no stream of replies
-pub of_peer : (r : Ran) (bytes : List ℕ) (old new : Lent) → RunsScript r bytes old new → IsOfPeer r
-of_peer ran.Done bytes old new h = tt
-of_peer ran.Refusals bytes old new h = tt
-of_peer (ran.Stopped (stop.BadReply place)) bytes old new h = tt
-of_peer (ran.Stopped stop.ReadFault) bytes old new h = let c = h.runs.1.leads in c.1
-of_peer (ran.Stopped stop.TooLong) bytes old new h = let c = h.runs.1.leads in c.1
-of_peer (ran.Stopped stop.EntropyFault) bytes old new h = tt
-of_peer (ran.Stopped stop.VaultFault) bytes old new h = tt
-of_peer (ran.Stopped stop.WriteFault) bytes old new h = tt
-of_peer (ran.Stopped stop.OutOfMemory) bytes old new h = tt
-of_peer (ran.Unread why) bytes old new h = tt
+pub of_peer : (r : Ran) (count : Count) (bytes : List ℕ) (old new : Lent) → RunsScript r count bytes old new → IsOfPeer r
+of_peer ran.Done count bytes old new h = tt
+of_peer ran.Refusals count bytes old new h = tt
+of_peer (ran.Stopped (stop.BadReply place)) count bytes old new h = tt
+of_peer (ran.Stopped stop.ReadFault) count bytes old new h = let c = h.runs.leads in c.1
+of_peer (ran.Stopped stop.TooLong) count bytes old new h = let c = h.runs.leads in c.1
+of_peer (ran.Stopped stop.EntropyFault) count bytes old new h = tt
+of_peer (ran.Stopped stop.VaultFault) count bytes old new h = tt
+of_peer (ran.Stopped stop.WriteFault) count bytes old new h = tt
+of_peer (ran.Stopped stop.OutOfMemory) count bytes old new h = tt
+of_peer (ran.Unread why) count bytes old new h = tt
 
 -- ---- a count rose
 
-came_rose : (P : Lent → Lent → Type 0) (s : Stop) (bytes : List ℕ) (old new : Lent) → RunsScript (ran.Stopped s) bytes old new
-    → ((steps : List Step) (refused : Bool) → CameTo (Err s) refused steps old new → P old new) → P old new
-came_rose P s bytes old new h f = f h.steps h.runs.0 h.runs.1
+stopped_rose : (P : Lent → Lent → Type 0) (s : Stop) (r : Ran) (count : Count) (bytes : List ℕ) (old new : Lent) → ((steps : List Step) → CameTo (Err s) count.tally steps old new → P old new)
+    → RunsScript r count bytes old new → r ≡ ran.Stopped s → P old new
+stopped_rose P s r count bytes old new f h e = let c = subst (λ w. RunsScript w count bytes old new) e h in f c.steps c.runs
 
-pub write_rose : (r : Ran) (bytes : List ℕ) (old new : Lent) → RunsScript r bytes old new → r ≡ ran.Stopped stop.WriteFault → Rose old.out_faults new.out_faults ⊎ Rose old.tap_faults new.tap_faults
-write_rose r bytes old new h e =
-    came_rose (λ x y. Rose x.out_faults y.out_faults ⊎ Rose x.tap_faults y.tap_faults) stop.WriteFault bytes old new (subst (λ w. RunsScript w bytes old new) e h)
-    (λ steps refused (c : CameTo (Err stop.WriteFault) refused steps old new). c.leads.1)
+pub write_rose : (r : Ran) (count : Count) (bytes : List ℕ) (old new : Lent) → RunsScript r count bytes old new → r ≡ ran.Stopped stop.WriteFault → Rose old.out_faults new.out_faults ⊎ Rose old.tap_faults new.tap_faults
+write_rose r count bytes old new =
+    stopped_rose (λ x y. Rose x.out_faults y.out_faults ⊎ Rose x.tap_faults y.tap_faults) stop.WriteFault r count bytes old new
+    (λ steps (c : CameTo (Err stop.WriteFault) count.tally steps old new). c.leads.1)
 
-pub entropy_rose : (r : Ran) (bytes : List ℕ) (old new : Lent) → RunsScript r bytes old new → r ≡ ran.Stopped stop.EntropyFault → Rose old.entropy_faults new.entropy_faults
-entropy_rose r bytes old new h e =
-    came_rose (λ x y. Rose x.entropy_faults y.entropy_faults) stop.EntropyFault bytes old new (subst (λ w. RunsScript w bytes old new) e h)
-    (λ steps refused (c : CameTo (Err stop.EntropyFault) refused steps old new). c.leads.1)
+pub entropy_rose : (r : Ran) (count : Count) (bytes : List ℕ) (old new : Lent) → RunsScript r count bytes old new → r ≡ ran.Stopped stop.EntropyFault → Rose old.entropy_faults new.entropy_faults
+entropy_rose r count bytes old new =
+    stopped_rose (λ x y. Rose x.entropy_faults y.entropy_faults) stop.EntropyFault r count bytes old new
+    (λ steps (c : CameTo (Err stop.EntropyFault) count.tally steps old new). c.leads.1)
 
-pub vault_rose : (r : Ran) (bytes : List ℕ) (old new : Lent) → RunsScript r bytes old new → r ≡ ran.Stopped stop.VaultFault → Rose old.vault_faults new.vault_faults
-vault_rose r bytes old new h e =
-    came_rose (λ x y. Rose x.vault_faults y.vault_faults) stop.VaultFault bytes old new (subst (λ w. RunsScript w bytes old new) e h)
-    (λ steps refused (c : CameTo (Err stop.VaultFault) refused steps old new). c.leads.1)
+pub vault_rose : (r : Ran) (count : Count) (bytes : List ℕ) (old new : Lent) → RunsScript r count bytes old new → r ≡ ran.Stopped stop.VaultFault → Rose old.vault_faults new.vault_faults
+vault_rose r count bytes old new =
+    stopped_rose (λ x y. Rose x.vault_faults y.vault_faults) stop.VaultFault r count bytes old new
+    (λ steps (c : CameTo (Err stop.VaultFault) count.tally steps old new). c.leads.1)

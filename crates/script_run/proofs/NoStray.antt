@@ -1,7 +1,5 @@
 -- A conversation that awaits each reply is never stuck on its way.
-use Rattle.std.proofs.Common.{◌≡◌, ℕ, ◌≤◌, List, [], ◌∷◌, ◌++◌, Option, Some, None, Err, Bool, false, refl, sym, subst, arith}
-use Rattle.std.specs.List.{All}
-use Rattle.ae_edge.specs.Devices.{WhereTold}
+use Rattle.std.proofs.Common.{◌≡◌, ℕ, List, [], ◌∷◌, ◌++◌, Option, Some, None, refl, sym, subst, arith}
 use Rattle.wire_messages.specs.Exchanges.{Served}
 use Rattle.wire_messages.specs.declared.replies.Reply.{Reply}
 use Rattle.server_core.specs.Serve.{State, serve, empty_state}
@@ -14,9 +12,11 @@ use Rattle.script_lang.specs.declared.steps.Step.{Step}
 use Rattle.plain_meaning.specs.Awaits.{IsHeardBy, IsHeard, Awaits}
 use Rattle.plain_meaning.specs.Laws.{RepliesAreAwaited}
 use Rattle.plain_meaning.specs.Steps.{talk}
+use Rattle.run_words.specs.Counting.{nothing}
 use Rattle.run_words.specs.Shares.{Outside, Serves}
 use Rattle.run_words.specs.Ways.{Fails, IsStuck}
 use Rattle.run_words.specs.declared.stops.Stop.TheVariants as stop
+use Rattle.script_run.specs.declared.runs.Count.{Count}
 use Rattle.script_run.specs.declared.runs.Ran.{Ran}
 use Rattle.script_run.specs.declared.runs.Ran.TheVariants as ran
 use Rattle.script_run.specs.declared.runs.Unread.TheVariants as unread
@@ -76,27 +76,29 @@ none_bad steps a place old new w q n h =
     let waits : Waits g.events [] new.wire.waiting = subst (λ x. Waits g.events x new.wire.waiting) q (waits_of g.events old.wire.stream new.wire.stream old.wire.waiting new.wire.waiting n g.read.wire.comes) in
     awaits_on h.rest v.0 new.wire.waiting (path_awaits (talk steps nobody) h.rest g.events g.follows [] new.wire.waiting waits empty_state v.0 v.1 a) (stuck_queue (talk steps nobody) h.rest old new n g h.place.0)
 
-pub runs_awaited : (law : RepliesAreAwaited) (place : ℕ) (bytes : List ℕ) (old new : Lent) → old.state ≡ Some empty_state → RunsScript (ran.Stopped (stop.BadReply place)) bytes old new → ⊥
-runs_awaited law place bytes old new w h =
-    let c = h.runs.1 in
-    none_bad h.steps (law h.steps h.limits) place (outside c.out c.entropy c.vault c.wire false [] 0 old)
-    (outside c.out_after c.entropy_after c.vault_after c.wire_after h.runs.0 c.waiting c.taken new) w refl refl c.leads
+pub runs_awaited : (law : RepliesAreAwaited) (place : ℕ) (count : Count) (bytes : List ℕ) (old new : Lent) → old.state ≡ Some empty_state → RunsScript (ran.Stopped (stop.BadReply place)) count bytes old new → ⊥
+runs_awaited law place count bytes old new w h =
+    let c = h.runs in
+    none_bad h.steps (law h.steps h.limits) place (outside c.out c.entropy c.vault c.wire nothing [] 0 old)
+    (outside c.out_after c.entropy_after c.vault_after c.wire_after count.tally c.waiting c.taken new) w refl refl c.leads
 
-pub never_bad : (law : RepliesAreAwaited) (r : Ran) (place : ℕ) (bytes : List ℕ) (old new : Lent) → old.state ≡ Some empty_state → RunsScript r bytes old new → ¬ (r ≡ ran.Stopped (stop.BadReply place))
-never_bad law r place bytes old new w h e = runs_awaited law place bytes old new w (subst (λ r. RunsScript r bytes old new) e h)
+pub never_bad : (law : RepliesAreAwaited) (r : Ran) (place : ℕ) (count : Count) (bytes : List ℕ) (old new : Lent) → old.state ≡ Some empty_state → RunsScript r count bytes old new
+    → ¬ (r ≡ ran.Stopped (stop.BadReply place))
+never_bad law r place count bytes old new w h e = runs_awaited law place count bytes old new w (subst (λ r. RunsScript r count bytes old new) e h)
 
 -- a good script is run to its end, or memory or a device fails
-pub runs_whole : (law : RepliesAreAwaited) (r : Ran) (bytes : List ℕ) (steps : List Step) (old new : Lent) → old.state ≡ Some empty_state → IsScript bytes steps → RunsScript r bytes old new → IsDoneOrFault r
-runs_whole law ran.Done bytes steps old new w s h = tt
-runs_whole law ran.Refusals bytes steps old new w s h = tt
-runs_whole law (ran.Stopped (stop.BadReply place)) bytes steps old new w s h = runs_awaited law place bytes old new w h
-runs_whole law (ran.Stopped stop.ReadFault) bytes steps old new w s h = h.runs.1.leads.1
-runs_whole law (ran.Stopped stop.TooLong) bytes steps old new w s h = h.runs.1.leads.1
-runs_whole law (ran.Stopped stop.EntropyFault) bytes steps old new w s h = tt
-runs_whole law (ran.Stopped stop.VaultFault) bytes steps old new w s h = tt
-runs_whole law (ran.Stopped stop.WriteFault) bytes steps old new w s h = tt
-runs_whole law (ran.Stopped stop.OutOfMemory) bytes steps old new w s h = tt
-runs_whole law (ran.Unread unread.ReadFault) bytes steps old new w s h = tt
-runs_whole law (ran.Unread unread.TooLong) bytes steps old new w s h = let a = s.within in let b = h.0 in absurd (omega arith)
-runs_whole law (ran.Unread (unread.BadLine line)) bytes steps old new w s h = let a = s.read in let b = h.1 in cc
-runs_whole law (ran.Unread unread.OutOfMemory) bytes steps old new w s h = tt
+pub runs_whole : (law : RepliesAreAwaited) (r : Ran) (count : Count) (bytes : List ℕ) (steps : List Step) (old new : Lent) → old.state ≡ Some empty_state → IsScript bytes steps → RunsScript r count bytes old new
+    → IsDoneOrFault r
+runs_whole law ran.Done count bytes steps old new w s h = tt
+runs_whole law ran.Refusals count bytes steps old new w s h = tt
+runs_whole law (ran.Stopped (stop.BadReply place)) count bytes steps old new w s h = runs_awaited law place count bytes old new w h
+runs_whole law (ran.Stopped stop.ReadFault) count bytes steps old new w s h = h.runs.leads.1
+runs_whole law (ran.Stopped stop.TooLong) count bytes steps old new w s h = h.runs.leads.1
+runs_whole law (ran.Stopped stop.EntropyFault) count bytes steps old new w s h = tt
+runs_whole law (ran.Stopped stop.VaultFault) count bytes steps old new w s h = tt
+runs_whole law (ran.Stopped stop.WriteFault) count bytes steps old new w s h = tt
+runs_whole law (ran.Stopped stop.OutOfMemory) count bytes steps old new w s h = tt
+runs_whole law (ran.Unread unread.ReadFault) count bytes steps old new w s h = tt
+runs_whole law (ran.Unread unread.TooLong) count bytes steps old new w s h = let a = s.within in let b = h.0 in absurd (omega arith)
+runs_whole law (ran.Unread (unread.BadLine line)) count bytes steps old new w s h = let a = s.read in let b = h.1 in cc
+runs_whole law (ran.Unread unread.OutOfMemory) count bytes steps old new w s h = tt

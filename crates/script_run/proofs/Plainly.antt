@@ -1,5 +1,5 @@
 -- What a run prints over a server is what its script means, once over the server's replies it means just that.
-use Rattle.std.proofs.Common.{◌≡◌, ◌≤◌, ℕ, ◌+◌, List, [], ◌∷◌, ◌++◌, Option, Some, None, Result, Ok, Err, Bool, true, false, ◌||◌, refl, sym, ◌∙◌, ap, subst, append_assoc, append-nil, length, arith}
+use Rattle.std.proofs.Common.{◌≡◌, ◌≤◌, ℕ, ◌+◌, List, [], ◌∷◌, ◌++◌, Option, Some, None, Result, Ok, Err, refl, sym, ◌∙◌, ap, subst, append_assoc, append-nil, length, arith}
 use Rattle.std.specs.Prelude.{flat_map, IfSome}
 use Rattle.std.specs.List.{All}
 use Rattle.std.proofs.lemmas.Grind.{flat_map-append}
@@ -20,11 +20,15 @@ use Rattle.script_lang.specs.Limits.{IsProperStep, IsWithinLimits}
 use Rattle.script_lang.specs.declared.steps.Step.{Step}
 use Rattle.plain_meaning.specs.Laws.{EndsWith, Agrees, ServedIsPlain}
 use Rattle.plain_meaning.specs.Steps.{talk}
+use Rattle.run_words.specs.Counting.{errors_in, rows_in, nothing, has_errors, counted}
 use Rattle.run_words.specs.Printing.{printed_outcome, print, has_refusal}
 use Rattle.run_words.specs.Shares.{Outside, Serves, text_of}
 use Rattle.run_words.specs.Ways.{Goes, Halts, Breaks, Fails, IsStuck}
 use Rattle.run_words.specs.declared.stops.Stop.{Stop}
 use Rattle.run_words.specs.declared.stops.Stop.TheVariants as stop
+use Rattle.run_words.specs.declared.tallies.Tally.{Tally}
+use Rattle.run_words.proofs.Counted.{errors_are, rows_are, has_errors_where}
+use Rattle.script_run.specs.declared.runs.Count.{Count}
 use Rattle.script_run.specs.declared.runs.Ran.{Ran}
 use Rattle.script_run.specs.declared.runs.Ran.TheVariants as ran
 use Rattle.script_run.specs.declared.runs.Unread.TheVariants as unread
@@ -165,8 +169,15 @@ module _ (keys : KeyMap) (steps : List Step) (wanted : List Outcome) (agrees : (
     pub done_prints : (sessions : List Session) → Goes (talk steps nobody) (Ends sessions) old new → new.wire.waiting ≡ [] → Adds (print wanted) old.desk.out new.desk.out
     done_prints sessions g e = subst (λ xs. Adds xs old.desk.out new.desk.out) (text_is g.events ∙ ap print (done_is sessions g e)) g.put.desk.out
 
-    pub done_refuses : (sessions : List Session) → Goes (talk steps nobody) (Ends sessions) old new → new.wire.waiting ≡ [] → new.desk.refused ≡ old.desk.refused || has_refusal wanted
-    done_refuses sessions g e = g.read.refused ∙ ap (λ xs. old.desk.refused || has_refusal xs) (done_is sessions g e)
+    pub done_counts : (sessions : List Session) → Goes (talk steps nobody) (Ends sessions) old new → new.wire.waiting ≡ [] → old.desk.tally ≡ nothing
+        → (has_errors new.desk.tally ≡ has_refusal wanted) × (new.desk.tally.errors ≡ errors_in wanted) × (new.desk.tally.rows ≡ rows_in wanted)
+    done_counts sessions g e n =
+        let c : new.desk.tally ≡ counted g.events nothing = g.read.tally ∙ ap (counted g.events) n in
+        let i = done_is sessions g e in (
+          ap has_errors c ∙ has_errors_where g.events ∙ ap has_refusal i,
+          ap (λ (t : Tally). t.errors) c ∙ errors_are g.events ∙ ap errors_in i,
+          ap (λ (t : Tally). t.rows) c ∙ rows_are g.events ∙ ap rows_in i,
+        )
 
     pub halts_prints : (P : Talk → Outside → Type 0) → Halts P (talk steps nobody) old new → AddsFront (print wanted) old.desk.out new.desk.out
     halts_prints P h = goes_prints h.rest old new st h.goes
@@ -183,17 +194,18 @@ module _ (law : ServedIsPlain) (keys : KeyMap) (steps : List Step) (limits : All
   agrees_so : (entropy : List ℕ) → AreBytes entropy → Agrees (over serve keys (talk steps nobody) 0 entropy empty_state []) (meaning keys steps)
   agrees_so entropy are = law keys steps limits proper entropy are
 
-  starts : (ended : Result (Unit {0}) Stop) (refused : Bool) (c : CameTo ended refused steps old new) → Starts keys (outside c.out c.entropy c.vault c.wire false [] 0 old)
-  starts ended refused c = record { state = state; keys = told; waiting = refl; queue = refl }
+  starts : (ended : Result (Unit {0}) Stop) (tally : Tally) (c : CameTo ended tally steps old new) → Starts keys (outside c.out c.entropy c.vault c.wire nothing [] 0 old)
+  starts ended tally c = record { state = state; keys = told; waiting = refl; queue = refl }
 
-  ends : (refused : Bool) → CameTo (Ok tt) refused steps old new → Adds (print (meaning keys steps)) old.out new.out × (has_refusal (meaning keys steps) ≡ refused)
-  ends refused c =
-      let x = outside c.out c.entropy c.vault c.wire false [] 0 old in
-      let y = outside c.out_after c.entropy_after c.vault_after c.wire_after refused c.waiting c.taken new in
-      let st = starts (Ok tt) refused c in (
-        done_prints keys steps (meaning keys steps) agrees_so x y st c.sessions c.leads c.read,
-        sym (done_refuses keys steps (meaning keys steps) agrees_so x y st c.sessions c.leads c.read),
-      )
+  prints : (tally : Tally) → CameTo (Ok tt) tally steps old new → Adds (print (meaning keys steps)) old.out new.out
+  prints tally c =
+      done_prints keys steps (meaning keys steps) agrees_so (outside c.out c.entropy c.vault c.wire nothing [] 0 old) (outside c.out_after c.entropy_after c.vault_after c.wire_after tally c.waiting c.taken new)
+      (starts (Ok tt) tally c) c.sessions c.leads c.read
+
+  pub counts : (tally : Tally) → CameTo (Ok tt) tally steps old new → (has_errors tally ≡ has_refusal (meaning keys steps)) × (tally.errors ≡ errors_in (meaning keys steps)) × (tally.rows ≡ rows_in (meaning keys steps))
+  counts tally c =
+      done_counts keys steps (meaning keys steps) agrees_so (outside c.out c.entropy c.vault c.wire nothing [] 0 old) (outside c.out_after c.entropy_after c.vault_after c.wire_after tally c.waiting c.taken new)
+      (starts (Ok tt) tally c) c.sessions c.leads c.read refl
 
   stops_at : (s : Stop) (x y : Outside) → Starts keys x → Fails s (talk steps nobody) x y → x.desk.out ≡ old.out → y.desk.out ≡ new.out → PrintsPlain (ran.Stopped s) keys steps old.out new.out
   stops_at (stop.BadReply place) x y st h e f = no_stray keys steps (meaning keys steps) agrees_so x y st place h
@@ -204,32 +216,32 @@ module _ (law : ServedIsPlain) (keys : KeyMap) (steps : List Step) (limits : All
   stops_at stop.WriteFault x y st h e f = rw (← e, ← f) (breaks_prints keys steps (meaning keys steps) agrees_so x y st h.0)
   stops_at stop.OutOfMemory x y st h e f = rw (← e, ← f) (breaks_prints keys steps (meaning keys steps) agrees_so x y st h)
 
-  stops : (s : Stop) (refused : Bool) → CameTo (Err s) refused steps old new → PrintsPlain (ran.Stopped s) keys steps old.out new.out
-  stops s refused c =
-      stops_at s (outside c.out c.entropy c.vault c.wire false [] 0 old) (outside c.out_after c.entropy_after c.vault_after c.wire_after refused c.waiting c.taken new)
-      (starts (Err s) refused c) c.leads refl refl
+  stops : (s : Stop) (tally : Tally) → CameTo (Err s) tally steps old new → PrintsPlain (ran.Stopped s) keys steps old.out new.out
+  stops s tally c =
+      stops_at s (outside c.out c.entropy c.vault c.wire nothing [] 0 old) (outside c.out_after c.entropy_after c.vault_after c.wire_after tally c.waiting c.taken new)
+      (starts (Err s) tally c) c.leads refl refl
 
-  pub steps_plain : (r : Ran) → RunsTo r steps old new → PrintsPlain r keys steps old.out new.out
-  steps_plain ran.Done c = ends false c
-  steps_plain ran.Refusals c = ends true c
-  steps_plain (ran.Stopped s) c = stops s c.0 c.1
-  steps_plain (ran.Unread why) c = absurd c
+  pub steps_plain : (r : Ran) (tally : Tally) → RunsTo r tally steps old new → PrintsPlain r keys steps old.out new.out
+  steps_plain ran.Done tally c = (prints tally c.0, let n = counts tally c.0 in sym n.0 ∙ c.1)
+  steps_plain ran.Refusals tally c = (prints tally c.0, let n = counts tally c.0 in sym n.0 ∙ c.1)
+  steps_plain (ran.Stopped s) tally c = stops s tally c
+  steps_plain (ran.Unread why) tally c = absurd c
 
 -- the steps of a script are one list
 pub one_script : (bytes : List ℕ) (steps others : List Step) → IsScript bytes steps → IsScript bytes others → others ≡ steps
 one_script bytes steps others s o = let a = s.read in let b = o.read in cc
 
-runs_so : (law : ServedIsPlain) (r : Ran) (keys : KeyMap) (bytes : List ℕ) (steps : List Step) (old new : Lent) → old.state ≡ Some empty_state → old.keys ≡ Some keys
-    → IsScript bytes steps → RunsSteps r bytes old new → PrintsPlain r keys steps old.out new.out
-runs_so law r keys bytes steps old new w k s h =
-    subst (λ ss. PrintsPlain r keys ss old.out new.out) (one_script bytes steps h.steps s h.script) (steps_plain law keys h.steps h.limits h.proper old new w k r h.runs)
+runs_so : (law : ServedIsPlain) (r : Ran) (count : Count) (keys : KeyMap) (bytes : List ℕ) (steps : List Step) (old new : Lent) → old.state ≡ Some empty_state → old.keys ≡ Some keys
+    → IsScript bytes steps → RunsSteps r count bytes old new → PrintsPlain r keys steps old.out new.out
+runs_so law r count keys bytes steps old new w k s h =
+    subst (λ ss. PrintsPlain r keys ss old.out new.out) (one_script bytes steps h.steps s h.script) (steps_plain law keys h.steps h.limits h.proper old new w k r count.tally h.runs)
 
-pub runs_plain : (law : ServedIsPlain) (r : Ran) (keys : KeyMap) (bytes : List ℕ) (steps : List Step) (old new : Lent) → old.state ≡ Some empty_state → old.keys ≡ Some keys
-    → IsScript bytes steps → RunsScript r bytes old new → PrintsPlain r keys steps old.out new.out
-runs_plain law ran.Done keys bytes steps old new w k s h = runs_so law ran.Done keys bytes steps old new w k s h
-runs_plain law ran.Refusals keys bytes steps old new w k s h = runs_so law ran.Refusals keys bytes steps old new w k s h
-runs_plain law (ran.Stopped why) keys bytes steps old new w k s h = runs_so law (ran.Stopped why) keys bytes steps old new w k s h
-runs_plain law (ran.Unread unread.ReadFault) keys bytes steps old new w k s h = ap (λ (x : Lent). x.out) h
-runs_plain law (ran.Unread unread.TooLong) keys bytes steps old new w k s h = ap (λ (x : Lent). x.out) h.1
-runs_plain law (ran.Unread (unread.BadLine line)) keys bytes steps old new w k s h = ap (λ (x : Lent). x.out) h.2
-runs_plain law (ran.Unread unread.OutOfMemory) keys bytes steps old new w k s h = ap (λ (x : Lent). x.out) h
+pub runs_plain : (law : ServedIsPlain) (r : Ran) (count : Count) (keys : KeyMap) (bytes : List ℕ) (steps : List Step) (old new : Lent) → old.state ≡ Some empty_state → old.keys ≡ Some keys
+    → IsScript bytes steps → RunsScript r count bytes old new → PrintsPlain r keys steps old.out new.out
+runs_plain law ran.Done count keys bytes steps old new w k s h = runs_so law ran.Done count keys bytes steps old new w k s h
+runs_plain law ran.Refusals count keys bytes steps old new w k s h = runs_so law ran.Refusals count keys bytes steps old new w k s h
+runs_plain law (ran.Stopped why) count keys bytes steps old new w k s h = runs_so law (ran.Stopped why) count keys bytes steps old new w k s h
+runs_plain law (ran.Unread unread.ReadFault) count keys bytes steps old new w k s h = ap (λ (x : Lent). x.out) h
+runs_plain law (ran.Unread unread.TooLong) count keys bytes steps old new w k s h = ap (λ (x : Lent). x.out) h.1
+runs_plain law (ran.Unread (unread.BadLine line)) count keys bytes steps old new w k s h = ap (λ (x : Lent). x.out) h.2
+runs_plain law (ran.Unread unread.OutOfMemory) count keys bytes steps old new w k s h = ap (λ (x : Lent). x.out) h

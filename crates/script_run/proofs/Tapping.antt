@@ -1,5 +1,5 @@
 -- What a run puts on its tap over a server is the transcript, or a front of it.
-use Rattle.std.proofs.Common.{◌≡◌, ◌≤◌, ℕ, ◌+◌, List, [], ◌∷◌, ◌++◌, Option, Some, None, Ok, Err, Bool, true, false, refl, sym, ◌∙◌, ap, subst, append_assoc, append-nil, length, arith}
+use Rattle.std.proofs.Common.{◌≡◌, ◌≤◌, ℕ, ◌+◌, List, [], ◌∷◌, ◌++◌, Option, Some, None, Ok, Err, refl, sym, ◌∙◌, ap, subst, append_assoc, append-nil, length, arith}
 use Rattle.std.specs.Prelude.{flat_map, IfSome, Result}
 use Rattle.std.proofs.lemmas.Grind.{flat_map-append}
 use Rattle.ae_edge.specs.Devices.{WhereTold, Adds, AddsFront, IsFront}
@@ -16,15 +16,20 @@ use Rattle.conversation.specs.Sessions.{nobody}
 use Rattle.conversation.specs.Talk.{Talk, Ends}
 use Rattle.script_lang.specs.declared.steps.Step.{Step}
 use Rattle.plain_meaning.specs.Steps.{talk}
+use Rattle.run_words.specs.Counting.{nothing, counted}
 use Rattle.run_words.specs.Shares.{Outside, Serves, frames_of, exchanges_of}
 use Rattle.run_words.specs.Ways.{Goes, Halts, Breaks, Fails}
 use Rattle.run_words.specs.declared.stops.Stop.{Stop}
 use Rattle.run_words.specs.declared.stops.Stop.TheVariants as stop
+use Rattle.run_words.specs.declared.tallies.Tally.{Tally}
+use Rattle.run_words.proofs.Counted.{requests_are}
+use Rattle.script_run.specs.declared.runs.Count.{Count}
 use Rattle.script_run.specs.declared.runs.Ran.{Ran}
 use Rattle.script_run.specs.declared.runs.Ran.TheVariants as ran
 use Rattle.script_run.specs.declared.runs.Unread.TheVariants as unread
 use Rattle.script_run.specs.Ends.{Lent, outside, CameTo, RunsTo, IsScript, RunsSteps, RunsScript}
-use Rattle.script_run.specs.Transcript.{exchange_frames, transcript, TapsWhole, TapsFront, TapsTranscript}
+use Rattle.script_run.specs.Transcript.{exchange_frames, exchanges, transcript, TapsWhole, TapsFront, TapsTranscript}
+use Rattle.script_run.specs.Transcript as transcripts
 use Rattle.script_run.proofs.Passing.{ahead, path_passes}
 use Rattle.script_run.proofs.Plainly.{Starts, one_script}
 use Rattle.script_run.proofs.Queued.{waits_of, lacks_after, breaks_follow, never_unread, never_long}
@@ -122,17 +127,26 @@ module _ (keys : KeyMap) (steps : List Step) where
   -- ---- to its end, no further, or cut
 
   module _ (old new : Outside) (st : Starts keys old) where
-    done_taps : (sessions : List Session) → Goes (talk steps nobody) (Ends sessions) old new → TapsWhole keys steps old.desk.entropy new.desk.entropy old.wire.tap new.wire.tap
-    done_taps sessions g =
+    done_exchanges : (sessions : List Session) (g : Goes (talk steps nobody) (Ends sessions) old new) → exchanges keys steps (flat_map drawn_in g.events) ≡ flat_map exchanges_of g.events
+    done_exchanges sessions g =
         let r = reached (Ends sessions) old new st g in
-        let a : (over serve keys (talk steps nobody) 0 (flat_map drawn_in g.events ++ []) empty_state []).exchanges ≡ flat_map exchanges_of g.events ++ [] = ap (λ (x : Passed State). x.exchanges) (r.is []) in
-        let b : (over serve keys (talk steps nobody) 0 (flat_map drawn_in g.events) empty_state []).exchanges ≡ flat_map exchanges_of g.events =
-        ap (λ d. (over serve keys (talk steps nobody) 0 d empty_state []).exchanges) (sym (append-nil (flat_map drawn_in g.events))) ∙ a ∙ append-nil (flat_map exchanges_of g.events) in
-        record {
-          drawn = flat_map drawn_in g.events;
-          share = g.put.desk.entropy;
-          tap = subst (λ xs. Adds xs old.wire.tap new.wire.tap) (frames_are g.events ∙ sym (ap (flat_map exchange_frames) b)) g.put.wire.tap;
-        }
+        let a : exchanges keys steps (flat_map drawn_in g.events ++ []) ≡ flat_map exchanges_of g.events ++ [] = ap (λ (x : Passed State). x.exchanges) (r.is []) in
+        ap (exchanges keys steps) (sym (append-nil (flat_map drawn_in g.events))) ∙ a ∙ append-nil (flat_map exchanges_of g.events)
+
+    done_taps : (sessions : List Session) → Goes (talk steps nobody) (Ends sessions) old new → TapsWhole keys steps old.desk.entropy new.desk.entropy old.wire.tap new.wire.tap
+    done_taps sessions g = record {
+      drawn = flat_map drawn_in g.events;
+      share = g.put.desk.entropy;
+      tap = subst (λ xs. Adds xs old.wire.tap new.wire.tap) (frames_are g.events ∙ sym (ap (flat_map exchange_frames) (done_exchanges sessions g))) g.put.wire.tap;
+    }
+
+    done_asks : (sessions : List Session) → Goes (talk steps nobody) (Ends sessions) old new → old.desk.tally ≡ nothing
+        → (drawn : List ℕ) × transcripts.Drew drawn old.desk.entropy new.desk.entropy × (new.desk.tally.requests ≡ length (exchanges keys steps drawn))
+    done_asks sessions g n = (
+      flat_map drawn_in g.events,
+      g.put.desk.entropy,
+      ap (λ (t : Tally). t.requests) (g.read.tally ∙ ap (counted g.events) n) ∙ requests_are g.events ∙ ap length (sym (done_exchanges sessions g)),
+    )
 
     halts_taps : (P : Talk → Outside → Type 0) → Halts P (talk steps nobody) old new → TapsFront keys steps old.desk.entropy new.desk.entropy old.wire.tap new.wire.tap
     halts_taps P h = record { drawn = flat_map drawn_in h.goes.events; share = h.goes.put.desk.entropy; tap = goes_taps h.rest old new st h.goes }
@@ -162,33 +176,38 @@ module _ (keys : KeyMap) (steps : List Step) where
 -- ---- a run of a script
 
 module _ (keys : KeyMap) (steps : List Step) (old new : Lent) (state : old.state ≡ Some empty_state) (told : old.keys ≡ Some keys) where
-  starts : (ended : Result (Unit {0}) Stop) (refused : Bool) (c : CameTo ended refused steps old new) → Starts keys (outside c.out c.entropy c.vault c.wire false [] 0 old)
-  starts ended refused c = record { state = state; keys = told; waiting = refl; queue = refl }
+  starts : (ended : Result (Unit {0}) Stop) (tally : Tally) (c : CameTo ended tally steps old new) → Starts keys (outside c.out c.entropy c.vault c.wire nothing [] 0 old)
+  starts ended tally c = record { state = state; keys = told; waiting = refl; queue = refl }
 
-  ends : (refused : Bool) → CameTo (Ok tt) refused steps old new → TapsWhole keys steps old.entropy new.entropy old.tap new.tap
-  ends refused c =
-      done_taps keys steps (outside c.out c.entropy c.vault c.wire false [] 0 old) (outside c.out_after c.entropy_after c.vault_after c.wire_after refused c.waiting c.taken new)
-      (starts (Ok tt) refused c) c.sessions c.leads
+  ends : (tally : Tally) → CameTo (Ok tt) tally steps old new → TapsWhole keys steps old.entropy new.entropy old.tap new.tap
+  ends tally c =
+      done_taps keys steps (outside c.out c.entropy c.vault c.wire nothing [] 0 old) (outside c.out_after c.entropy_after c.vault_after c.wire_after tally c.waiting c.taken new)
+      (starts (Ok tt) tally c) c.sessions c.leads
 
-  steps_tap : (r : Ran) → RunsTo r steps old new → TapsTranscript r keys steps old.entropy new.entropy old.tap new.tap
-  steps_tap ran.Done c = ends false c
-  steps_tap ran.Refusals c = ends true c
-  steps_tap (ran.Stopped why) c =
-      fails_taps keys steps (outside c.1.out c.1.entropy c.1.vault c.1.wire false [] 0 old) (outside c.1.out_after c.1.entropy_after c.1.vault_after c.1.wire_after c.0 c.1.waiting c.1.taken new)
-      (starts (Err why) c.0 c.1) why c.1.leads
-  steps_tap (ran.Unread why) c = absurd c
+  pub asks : (tally : Tally) → CameTo (Ok tt) tally steps old new → (drawn : List ℕ) × transcripts.Drew drawn old.entropy new.entropy × (tally.requests ≡ length (exchanges keys steps drawn))
+  asks tally c =
+      done_asks keys steps (outside c.out c.entropy c.vault c.wire nothing [] 0 old) (outside c.out_after c.entropy_after c.vault_after c.wire_after tally c.waiting c.taken new)
+      (starts (Ok tt) tally c) c.sessions c.leads refl
 
-taps_so : (r : Ran) (keys : KeyMap) (bytes : List ℕ) (steps : List Step) (old new : Lent) → old.state ≡ Some empty_state → old.keys ≡ Some keys → IsScript bytes steps → RunsSteps r bytes old new
+  steps_tap : (r : Ran) (tally : Tally) → RunsTo r tally steps old new → TapsTranscript r keys steps old.entropy new.entropy old.tap new.tap
+  steps_tap ran.Done tally c = ends tally c.0
+  steps_tap ran.Refusals tally c = ends tally c.0
+  steps_tap (ran.Stopped why) tally c =
+      fails_taps keys steps (outside c.out c.entropy c.vault c.wire nothing [] 0 old) (outside c.out_after c.entropy_after c.vault_after c.wire_after tally c.waiting c.taken new)
+      (starts (Err why) tally c) why c.leads
+  steps_tap (ran.Unread why) tally c = absurd c
+
+taps_so : (r : Ran) (count : Count) (keys : KeyMap) (bytes : List ℕ) (steps : List Step) (old new : Lent) → old.state ≡ Some empty_state → old.keys ≡ Some keys → IsScript bytes steps → RunsSteps r count bytes old new
     → TapsTranscript r keys steps old.entropy new.entropy old.tap new.tap
-taps_so r keys bytes steps old new w k s h =
-    subst (λ ss. TapsTranscript r keys ss old.entropy new.entropy old.tap new.tap) (one_script bytes steps h.steps s h.script) (steps_tap keys h.steps old new w k r h.runs)
+taps_so r count keys bytes steps old new w k s h =
+    subst (λ ss. TapsTranscript r keys ss old.entropy new.entropy old.tap new.tap) (one_script bytes steps h.steps s h.script) (steps_tap keys h.steps old new w k r count.tally h.runs)
 
-pub runs_tap : (r : Ran) (keys : KeyMap) (bytes : List ℕ) (steps : List Step) (old new : Lent) → old.state ≡ Some empty_state → old.keys ≡ Some keys → IsScript bytes steps → RunsScript r bytes old new
+pub runs_tap : (r : Ran) (count : Count) (keys : KeyMap) (bytes : List ℕ) (steps : List Step) (old new : Lent) → old.state ≡ Some empty_state → old.keys ≡ Some keys → IsScript bytes steps → RunsScript r count bytes old new
     → TapsTranscript r keys steps old.entropy new.entropy old.tap new.tap
-runs_tap ran.Done keys bytes steps old new w k s h = taps_so ran.Done keys bytes steps old new w k s h
-runs_tap ran.Refusals keys bytes steps old new w k s h = taps_so ran.Refusals keys bytes steps old new w k s h
-runs_tap (ran.Stopped why) keys bytes steps old new w k s h = taps_so (ran.Stopped why) keys bytes steps old new w k s h
-runs_tap (ran.Unread unread.ReadFault) keys bytes steps old new w k s h = ap (λ (x : Lent). x.tap) h
-runs_tap (ran.Unread unread.TooLong) keys bytes steps old new w k s h = ap (λ (x : Lent). x.tap) h.1
-runs_tap (ran.Unread (unread.BadLine line)) keys bytes steps old new w k s h = ap (λ (x : Lent). x.tap) h.2
-runs_tap (ran.Unread unread.OutOfMemory) keys bytes steps old new w k s h = ap (λ (x : Lent). x.tap) h
+runs_tap ran.Done count keys bytes steps old new w k s h = taps_so ran.Done count keys bytes steps old new w k s h
+runs_tap ran.Refusals count keys bytes steps old new w k s h = taps_so ran.Refusals count keys bytes steps old new w k s h
+runs_tap (ran.Stopped why) count keys bytes steps old new w k s h = taps_so (ran.Stopped why) count keys bytes steps old new w k s h
+runs_tap (ran.Unread unread.ReadFault) count keys bytes steps old new w k s h = ap (λ (x : Lent). x.tap) h
+runs_tap (ran.Unread unread.TooLong) count keys bytes steps old new w k s h = ap (λ (x : Lent). x.tap) h.1
+runs_tap (ran.Unread (unread.BadLine line)) count keys bytes steps old new w k s h = ap (λ (x : Lent). x.tap) h.2
+runs_tap (ran.Unread unread.OutOfMemory) count keys bytes steps old new w k s h = ap (λ (x : Lent). x.tap) h

@@ -1,11 +1,10 @@
 -- What an answer came to before it broke off, and how it was put.
-use Rattle.std.specs.Prelude.{◌≡◌, ◌⊎◌, flat_map, Option, Some, None, Bool, true, false, ◌||◌}
+use Rattle.std.specs.Prelude.{◌≡◌, ◌⊎◌, Option, Some, None, Bool, true, false}
 use Rattle.ae_edge.specs.Devices.{Adds, AddsFront, Rose}
-use Rattle.conversation.specs.Paths.{outcome_in}
 use Rattle.conversation.specs.declared.outcomes.Listing.{Listing}
 use Rattle.conversation.specs.declared.outcomes.Outcome.{Outcome}
 use Rattle.conversation.specs.declared.outcomes.Outcome.TheVariants as outcome
-use Rattle.run_words.specs.Printing.{has_refusal}
+use Rattle.run_words.specs.Counting.{counted}
 use Rattle.run_words.specs.Shares.{Desk, DeskPut}
 use Rattle.run_words.specs.Ways.{printed_off}
 use Rattle.run_words.specs.declared.stops.Stop.{Stop}
@@ -31,10 +30,10 @@ off_by lack.ReadFault comes = comes
 off_by lack.TooLong comes = comes
 off_by lack.OutOfMemory comes = None
 
--- it was put whole, and this is why it broke off
+-- it was put whole and counted, and this is why it broke off
 abbrev pub PutsOff : Stop → Stop → Option Outcome → Desk → Desk → Type 0
 PutsOff result why comes old new =
-    (result ≡ why) × DeskPut Adds (printed_off comes) old new × (new.refused ≡ old.refused || has_refusal (flat_map outcome_in (printed_off comes)))
+    (result ≡ why) × DeskPut Adds (printed_off comes) old new × (new.tally ≡ counted (printed_off comes) old.tally)
 
 -- of it a front was put
 abbrev pub CutsOff : Stop → Option Outcome → Desk → Desk → Type 0

@@ -1,5 +1,5 @@
 -- How a run ends, in words of what it was lent.
-use Rattle.std.specs.Prelude.{◌≡◌, ℕ, ◌≤◌, ◌<◌, ◌+◌, List, [], length, Option, None, Result, Ok, Err, Bool, true, false, IfOk}
+use Rattle.std.specs.Prelude.{◌≡◌, ℕ, ◌≤◌, ◌<◌, ◌+◌, List, [], length, Option, None, Result, Ok, Err, true, false, IfOk}
 use Rattle.std.specs.List.{All}
 use Rattle.std.specs.Borrow.{GName}
 use Rattle.ae_edge.specs.Streams.{HasTaken}
@@ -10,14 +10,17 @@ use Rattle.server_core.specs.Serve.{State}
 use Rattle.conversation.specs.declared.sessions.Session.{Session}
 use Rattle.conversation.specs.Sessions.{nobody}
 use Rattle.conversation.specs.Talk as talks
+use Rattle.run_words.specs.Counting.{nothing, has_errors}
 use Rattle.run_words.specs.Shares.{Outside}
 use Rattle.run_words.specs.Ways.{Leads}
 use Rattle.run_words.specs.declared.stops.Stop.{Stop}
 use Rattle.run_words.specs.declared.stops.Stop.TheVariants as stop
+use Rattle.run_words.specs.declared.tallies.Tally.{Tally}
 use Rattle.script_lang.specs.declared.steps.Step.{Step}
 use Rattle.script_lang.specs.Limits.{IsProperStep, IsWithinLimits}
 use Rattle.script_lang.specs.Script.{steps_of}
 use Rattle.plain_meaning.specs.Steps.{talk}
+use Rattle.script_run.specs.declared.runs.Count.{Count}
 use Rattle.script_run.specs.declared.runs.Ran.{Ran}
 use Rattle.script_run.specs.declared.runs.Ran.TheVariants as ran
 use Rattle.script_run.specs.declared.runs.Unread.TheVariants as unread
@@ -36,10 +39,10 @@ pub record Lent : Type 0 where
   pub entropy_faults : ℕ
   pub vault_faults : ℕ
 
--- with the names of what is lent, and what a run keeps for itself: whether a refusal was printed, the replies that wait, and how
--- many bytes those have that were taken
-abbrev pub outside : List GName → List GName → List GName → List (List GName) → Bool → List Reply → ℕ → Lent → Outside
-outside out_names entropy_names vault_names wire_names refused waiting taken l = record {
+-- with the names of what is lent, and what a run keeps for itself: what it counted, the replies that wait, and how many bytes those
+-- have that were taken
+abbrev pub outside : List GName → List GName → List GName → List (List GName) → Tally → List Reply → ℕ → Lent → Outside
+outside out_names entropy_names vault_names wire_names tally waiting taken l = record {
   desk = record {
     out_names = out_names;
     entropy_names = entropy_names;
@@ -47,7 +50,7 @@ outside out_names entropy_names vault_names wire_names refused waiting taken l =
     out = l.out;
     entropy = l.entropy;
     keys = l.keys;
-    refused = refused;
+    tally = tally;
     out_faults = l.out_faults;
     entropy_faults = l.entropy_faults;
     vault_faults = l.vault_faults;
@@ -55,8 +58,8 @@ outside out_names entropy_names vault_names wire_names refused waiting taken l =
   wire = record { names = wire_names; tap = l.tap; log = l.log; state = l.state; waiting = waiting; stream = None; taken = taken; faults = l.tap_faults };
 }
 
--- from 64 idle sessions the script's conversation was followed to its end, with no reply left, or stopped
-pub record CameTo (ended : Result (Unit {0}) Stop) (refused : Bool) (steps : List Step) (old new : Lent) : Type 0 where
+-- from 64 idle sessions the script's conversation was followed to its end, with no reply left, or stopped; so much was counted
+pub record CameTo (ended : Result (Unit {0}) Stop) (tally : Tally) (steps : List Step) (old new : Lent) : Type 0 where
   pub sessions : List Session
   pub waiting : List Reply
   pub taken : ℕ
@@ -68,15 +71,15 @@ pub record CameTo (ended : Result (Unit {0}) Stop) (refused : Bool) (steps : Lis
   pub entropy_after : List GName
   pub vault_after : List GName
   pub wire_after : List (List GName)
-  pub leads : Leads ended (talk steps nobody) (λ o. talks.Ends sessions) (outside out entropy vault wire false [] 0 old) (outside out_after entropy_after vault_after wire_after refused waiting taken new)
+  pub leads : Leads ended (talk steps nobody) (λ o. talks.Ends sessions) (outside out entropy vault wire nothing [] 0 old) (outside out_after entropy_after vault_after wire_after tally waiting taken new)
   pub read : IfOk ended (λ o. waiting ≡ [])
 
--- what a run of these steps leaves, by how it ended
-abbrev pub RunsTo : Ran → List Step → Lent → Lent → Type 0
-RunsTo ran.Done steps old new = CameTo (Ok tt) false steps old new
-RunsTo ran.Refusals steps old new = CameTo (Ok tt) true steps old new
-RunsTo (ran.Stopped stop) steps old new = (refused : Bool) × CameTo (Err stop) refused steps old new
-RunsTo (ran.Unread why) steps old new = ⊥
+-- what a run of these steps leaves, by how it ended and what it counted
+abbrev pub RunsTo : Ran → Tally → List Step → Lent → Lent → Type 0
+RunsTo ran.Done tally steps old new = CameTo (Ok tt) tally steps old new × (has_errors tally ≡ false)
+RunsTo ran.Refusals tally steps old new = CameTo (Ok tt) tally steps old new × (has_errors tally ≡ true)
+RunsTo (ran.Stopped stop) tally steps old new = CameTo (Err stop) tally steps old new
+RunsTo (ran.Unread why) tally steps old new = ⊥
 
 -- ---- scripts
 
@@ -90,22 +93,24 @@ pub record IsScript (bytes : List ℕ) (steps : List Step) : Type 0 where
   pub read : steps_of bytes ≡ Ok steps
 
 -- each step is of one of the sessions, with few parameters, whose names differ and whose values are proper
-pub record RunsSteps (r : Ran) (bytes : List ℕ) (old new : Lent) : Type 0 where
+pub record RunsSteps (r : Ran) (count : Count) (bytes : List ℕ) (old new : Lent) : Type 0 where
   pub steps : List Step
   pub script : IsScript bytes steps
   pub limits : All IsWithinLimits steps
   pub proper : All IsProperStep steps
-  pub runs : RunsTo r steps old new
+  pub counts : count.steps ≡ length steps
+  pub runs : RunsTo r count.tally steps old new
 
--- what a run of a script's bytes leaves, by how it ended; a script that is refused or can't be read leaves everything as it was
-abbrev pub RunsScript : Ran → List ℕ → Lent → Lent → Type 0
-RunsScript ran.Done bytes old new = RunsSteps ran.Done bytes old new
-RunsScript ran.Refusals bytes old new = RunsSteps ran.Refusals bytes old new
-RunsScript (ran.Stopped stop) bytes old new = RunsSteps (ran.Stopped stop) bytes old new
-RunsScript (ran.Unread unread.ReadFault) bytes old new = new ≡ old
-RunsScript (ran.Unread unread.TooLong) bytes old new = (most_script_bytes < length bytes) × (new ≡ old)
-RunsScript (ran.Unread (unread.BadLine line)) bytes old new = (length bytes ≤ most_script_bytes) × (steps_of bytes ≡ Err line) × (new ≡ old)
-RunsScript (ran.Unread unread.OutOfMemory) bytes old new = new ≡ old
+-- what a run of a script's bytes leaves, by how it ended and what it counted; a script that is refused or can't be read leaves everything as
+-- it was
+abbrev pub RunsScript : Ran → Count → List ℕ → Lent → Lent → Type 0
+RunsScript ran.Done count bytes old new = RunsSteps ran.Done count bytes old new
+RunsScript ran.Refusals count bytes old new = RunsSteps ran.Refusals count bytes old new
+RunsScript (ran.Stopped stop) count bytes old new = RunsSteps (ran.Stopped stop) count bytes old new
+RunsScript (ran.Unread unread.ReadFault) count bytes old new = new ≡ old
+RunsScript (ran.Unread unread.TooLong) count bytes old new = (most_script_bytes < length bytes) × (new ≡ old)
+RunsScript (ran.Unread (unread.BadLine line)) count bytes old new = (length bytes ≤ most_script_bytes) × (steps_of bytes ≡ Err line) × (new ≡ old)
+RunsScript (ran.Unread unread.OutOfMemory) count bytes old new = new ≡ old
 
 -- what was taken of a script's bytes: all of them, unless it wasn't read
 abbrev pub TakesScript : Ran → List ℕ → List ℕ → Type 0

@@ -16,9 +16,13 @@ use Rattle.script_run.specs.declared.runs.Ran.TheVariants as ran
 abbrev pub exchange_frames : Exchange → List ℕ
 exchange_frames e = request_frame e.request ++ flat_map reply_frame e.replies
 
--- what passes over a server that serves from the empty state, where these random bytes come
+-- what is asked and answered over a server that serves from the empty state, where these random bytes come
+abbrev pub exchanges : KeyMap → List Step → List ℕ → List Exchange
+exchanges keys steps entropy = (over serve keys (talk steps nobody) 0 entropy empty_state []).exchanges
+
+-- what passes there
 abbrev pub transcript : KeyMap → List Step → List ℕ → List ℕ
-transcript keys steps entropy = flat_map exchange_frames (over serve keys (talk steps nobody) 0 entropy empty_state []).exchanges
+transcript keys steps entropy = flat_map exchange_frames (exchanges keys steps entropy)
 
 -- these random bytes were drawn, where they are told
 abbrev pub Drew : List ℕ → Option (List ℕ) → Option (List ℕ) → Type 0

@@ -1,11 +1,10 @@
 //! All that a run touches.
 
-ghost use Rattle.std.specs.Prelude.{◌≡◌, ◌||◌, IfOk, MatchResult, string_bytes};
+ghost use Rattle.std.specs.Prelude.{◌≡◌, IfOk, MatchResult, string_bytes};
 ghost use Rattle.key_store.specs.Stores.{IsOf};
 ghost use Rattle.conversation.specs.declared.sessions.Session.{Session};
 ghost use Rattle.conversation.specs.Sessions.{Tells};
 ghost use Rattle.conversation.specs.Talk.{Talk, Hears, Heard, heard_answer, nothing_shown};
-ghost use Rattle.run_words.specs.Printing as printing;
 ghost use Rattle.run_words.specs.declared.stops.Stop.TheVariants as stop_is;
 ghost use Rattle.script_run.specs.Frames.{PutsBytes};
 ghost use Rattle.run_words.specs.Shares.{Outside, Desk};
@@ -30,7 +29,7 @@ use conversation::outcomes::{Listing, Outcome};
 use conversation::sessions::Session;
 use key_store::KeyStore;
 use run_words::stops::Stop;
-use run_words::texts::{is_refusal, listing_text, text_of};
+use run_words::tallies::{Page, Tally};
 use std::alloc::Global;
 use wire_messages::requests::Request;
 
@@ -40,13 +39,6 @@ fn put_text<W: Sink>(out: &mut W, text: String) -> PutAll
     ensures same { W.names out.new ≡ W.names out.old }
 {
     put_all(out, text.as_bytes())
-}
-
-/// Whether a refusal was printed by now.
-fn or_refusal(refused: bool, outcome: &Outcome) -> bool
-    ensures { result ≡ refused || printing.is_refusal outcome.now }
-{
-    refused || is_refusal(outcome)
 }
 
 /// Hears the description of a batch, which touches the wire alone.
@@ -64,8 +56,8 @@ fn hear_described<L: Line>(
         Err(lack) => return Err(stop_at(lack, line.place())),
     }
     let Front { reply, behind } = match line.front(alloc) {
-        Some(front) => front,
-        None => return Err(Stop::OutOfMemory),
+        Ok(front) => front,
+        Err(_) => return Err(Stop::OutOfMemory),
     };
     match described_by(alloc, session, reply) {
         Ok(answer) => {
@@ -93,8 +85,8 @@ pub struct Env<'a, W: Sink, E: Entropy, V: Vault, L: Line> {
     pub out: W,
     pub entropy: E,
     pub vault: V,
-    /// Whether a refusal was printed.
-    pub refused: bool,
+    /// What was counted.
+    pub tally: Tally,
     pub line: L,
     pub store: &'a mut KeyStore,
 }
@@ -108,7 +100,7 @@ impl<W: Sink, E: Entropy, V: Vault, L: Line> Around for Env<'_, W, E, V, L> {
         out = W.held e.out;
         entropy = E.to_come e.entropy;
         keys = V.keys e.vault;
-        refused = e.refused;
+        tally = e.tally;
         out_faults = W.faults e.out;
         entropy_faults = E.faults e.entropy;
         vault_faults = V.faults e.vault;
@@ -119,8 +111,15 @@ impl<W: Sink, E: Entropy, V: Vault, L: Line> Around for Env<'_, W, E, V, L> {
     ghost kept = { λ e. e.store.now };
 
     fn ask(&mut self, alloc: Global, request: &Request<'_>) -> Result<(), Stop> {
+        let tally = match self.tally.asked() {
+            Ok(tally) => tally,
+            Err(_) => return Err(Stop::OutOfMemory),
+        };
         match self.line.ask(alloc, request) {
-            Sent::Whole => Ok(()),
+            Sent::Whole => {
+                self.tally = tally;
+                Ok(())
+            }
             Sent::WriteFault => Err(Stop::WriteFault),
             Sent::OutOfMemory => Err(Stop::OutOfMemory),
         }
@@ -134,13 +133,13 @@ impl<W: Sink, E: Entropy, V: Vault, L: Line> Around for Env<'_, W, E, V, L> {
     }
 
     fn print(&mut self, alloc: Global, outcome: &Outcome) -> Result<(), Stop> {
-        let text = match text_of(alloc, outcome) {
-            Ok(text) => text,
+        let Page { text, tally } = match self.tally.page_of(alloc, outcome) {
+            Ok(page) => page,
             Err(_) => return Err(Stop::OutOfMemory),
         };
         match put_text(&mut self.out, text) {
             PutAll::Whole => {
-                self.refused = or_refusal(self.refused, outcome);
+                self.tally = tally;
                 Ok(())
             }
             PutAll::WriteFault => Err(Stop::WriteFault),
@@ -181,8 +180,8 @@ impl<W: Sink, E: Entropy, V: Vault, L: Line> Around for Env<'_, W, E, V, L> {
             Err(lack) => return Err(stop_at(lack, self.line.place())),
         }
         let Front { reply, behind } = match self.line.front(alloc) {
-            Some(front) => front,
-            None => return Err(Stop::OutOfMemory),
+            Ok(front) => front,
+            Err(_) => return Err(Stop::OutOfMemory),
         };
         match replied_by(alloc, self.store, &mut self.vault, session, reply) {
             Ok(answer) => {
@@ -209,8 +208,8 @@ impl<W: Sink, E: Entropy, V: Vault, L: Line> Around for Env<'_, W, E, V, L> {
             Err(lack) => return Err(self.break_off(alloc, lack, reads, shown)),
         }
         let Front { reply, behind } = match self.line.front(alloc) {
-            Some(front) => front,
-            None => return Err(Stop::OutOfMemory),
+            Ok(front) => front,
+            Err(_) => return Err(Stop::OutOfMemory),
         };
         match replied_by(alloc, self.store, &mut self.vault, session, reply) {
             Ok(answer) => {
@@ -227,20 +226,23 @@ impl<W: Sink, E: Entropy, V: Vault, L: Line> Env<'_, W, E, V, L> {
     /// Puts what an answer came to before it broke off, and says why it did.
     fn break_off(&mut self, alloc: Global, lack: Lack, reads: bool, shown: &Listing) -> Stop
         ensures off { BreaksOff result (stop_at lack (L.wire self.old.line).taken) (shown_if (is_shown lack reads) shown.now)
-            (desk (W.names self.old.out) (E.names self.old.entropy) (V.names self.old.vault) (W.held self.old.out) (E.to_come self.old.entropy) (V.keys self.old.vault) self.old.refused (W.faults self.old.out) (E.faults self.old.entropy) (V.faults self.old.vault))
-            (desk (W.names self.new.out) (E.names self.new.entropy) (V.names self.new.vault) (W.held self.new.out) (E.to_come self.new.entropy) (V.keys self.new.vault) self.new.refused (W.faults self.new.out) (E.faults self.new.entropy) (V.faults self.new.vault)) }
+            (desk (W.names self.old.out) (E.names self.old.entropy) (V.names self.old.vault) (W.held self.old.out) (E.to_come self.old.entropy) (V.keys self.old.vault) self.old.tally (W.faults self.old.out) (E.faults self.old.entropy) (V.faults self.old.vault))
+            (desk (W.names self.new.out) (E.names self.new.entropy) (V.names self.new.vault) (W.held self.new.out) (E.to_come self.new.entropy) (V.keys self.new.vault) self.new.tally (W.faults self.new.out) (E.faults self.new.entropy) (V.faults self.new.vault)) }
         ensures wire { L.wire self.new.line ≡ L.wire self.old.line }
     {
         let why = stop_at(lack, self.line.place());
         if !is_shown(lack, reads) {
             return why;
         }
-        let text = match listing_text(alloc, shown) {
-            Ok(text) => text,
+        let Page { text, tally } = match self.tally.page_of_listing(alloc, shown) {
+            Ok(page) => page,
             Err(_) => return Stop::OutOfMemory,
         };
         match put_text(&mut self.out, text) {
-            PutAll::Whole => why,
+            PutAll::Whole => {
+                self.tally = tally;
+                why
+            }
             PutAll::WriteFault => Stop::WriteFault,
             PutAll::OutOfMemory => Stop::OutOfMemory,
         }

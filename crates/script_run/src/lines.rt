@@ -1,6 +1,6 @@
 //! The other side of the wire.
 
-ghost use Rattle.std.specs.Prelude.{◌≡◌, ◌<◌, ◌^◌, ◌+◌, IfOk, IfSome, length};
+ghost use Rattle.std.specs.Prelude.{◌≡◌, ◌<◌, ◌^◌, ◌+◌, IfOk, length};
 ghost use Rattle.wire_messages.specs.declared.replies.Reply.{Reply};
 ghost use Rattle.wire_spelling.specs.Spelling.{reply_frame};
 ghost use Rattle.run_words.specs.Shares.{Wire};
@@ -61,10 +61,10 @@ pub trait Line {
     fn fetch(&mut self, alloc: Global) -> Result<(), Lack>
         ensures { Fetches result (wire self.old) (wire self.new) };
 
-    /// The reply that stands first, where there is memory to read it.
-    fn front(&self, alloc: Global) -> Option<Front<'_>>
+    /// The reply that stands first.
+    fn front(&self, alloc: Global) -> Result<Front<'_>, AllocError>
         requires { (reply : Reply) × IsFirst reply (wire self.now) }
-        ensures { IfSome result (λ front. IsFirst (reply_of front.reply) (wire self.now) × (front.behind ≡ (wire self.now).taken + length (reply_frame (reply_of front.reply))) × (front.behind < 2 ^ 64)) };
+        ensures { IfOk result (λ front. IsFirst (reply_of front.reply) (wire self.now) × (front.behind ≡ (wire self.now).taken + length (reply_frame (reply_of front.reply))) × (front.behind < 2 ^ 64)) };
 
     /// How many bytes the frames of the replies have that were taken.
     fn place(&self) -> u64

@@ -11,7 +11,7 @@ use ae_base::lists::Seq;
 use ae_edge::sinks::Sink;
 use ae_edge::streams::{PutAll, put_all};
 use server_core::peers::Peer;
-use std::alloc::Global;
+use std::alloc::{AllocError, Global};
 use std::collections::VecDeque;
 use wire_messages::replies::Reply;
 use wire_messages::requests::Request;
@@ -126,18 +126,15 @@ impl<T: Sink, P: Peer> Line for PeerLine<'_, T, P> {
         }
     }
 
-    fn front(&self, alloc: Global) -> Option<Front<'_>> {
-        let reply = match self.waiting.replies.front() {
-            Some(reply) => reply,
-            None => return None,
+    fn front(&self, alloc: Global) -> Result<Front<'_>, AllocError> {
+        let Some(reply) = self.waiting.replies.front() else {
+            return Err(AllocError);
         };
-        match behind(alloc, self.taken, reply) {
-            Ok(behind) => Some(Front {
-                reply: Lent::Kept(reply),
-                behind,
-            }),
-            Err(_) => None,
-        }
+        let behind = behind(alloc, self.taken, reply)?;
+        Ok(Front {
+            reply: Lent::Kept(reply),
+            behind,
+        })
     }
 
     fn place(&self) -> u64 {

@@ -9,7 +9,7 @@ ghost use Rattle.script_run.specs.declared.runs.Unread.TheVariants as unread;
 ghost use Rattle.script_run.specs.Ends.{IsOfPeer, IsRead, RunsScript, TakesScript, most_script_bytes};
 ghost use Rattle.script_run.specs.RunOf.{IsRunOf};
 
-use crate::runs::{Ran, Unread, run_over};
+use crate::runs::{Count, Ran, Run, Unread, run_over};
 use ae_base::blobs::Blob;
 use ae_edge::entropies::Entropy;
 use ae_edge::sinks::Sink;
@@ -17,12 +17,26 @@ use ae_edge::sources::Source;
 use ae_edge::streams::{ReadAll, read_all};
 use ae_edge::vaults::Vault;
 use plain_meaning::laws::{replies_are_awaited, served_is_plain};
+use run_words::tallies::Tally;
 use script_lang::scripts::{ScriptFault, read_script};
 use server_core::peers::Peer;
 use std::alloc::Global;
 
 /// The most bytes that a script has.
 pub const MOST_SCRIPT_BYTES: usize = 16_777_216;
+
+/// A script that wasn't run.
+fn unread(why: Unread) -> Run
+    ensures { result.ran ≡ ran.Unread why }
+{
+    Run {
+        ran: Ran::Unread(why),
+        count: Count {
+            steps: 0,
+            tally: Tally::nothing(),
+        },
+    }
+}
 
 fn run_bytes<V: Vault, E: Entropy, W: Sink, T: Sink, P: Peer>(
     alloc: Global,
@@ -32,22 +46,22 @@ fn run_bytes<V: Vault, E: Entropy, W: Sink, T: Sink, P: Peer>(
     out: &mut W,
     tap: &mut T,
     peer: &mut P,
-) -> Ran
+) -> Run
     requires within { length script.now ≤ most_script_bytes }
-    ensures content { RunsScript result script.now
+    ensures content { RunsScript result.ran result.count script.now
         (record { out = W.held out.old; tap = T.held tap.old; entropy = E.to_come entropy.old; keys = V.keys vault.old; log = P.log peer.old; state = P.state peer.old; out_faults = W.faults out.old; tap_faults = T.faults tap.old; entropy_faults = E.faults entropy.old; vault_faults = V.faults vault.old })
         (record { out = W.held out.new; tap = T.held tap.new; entropy = E.to_come entropy.new; keys = V.keys vault.new; log = P.log peer.new; state = P.state peer.new; out_faults = W.faults out.new; tap_faults = T.faults tap.new; entropy_faults = E.faults entropy.new; vault_faults = V.faults vault.new }) }
-    ensures read { IsRead result }
+    ensures read { IsRead result.ran }
 {
     match read_script(alloc, script.as_slice()) {
         Ok(steps) => run_over(alloc, steps.as_slice(), vault, entropy, out, tap, peer),
-        Err(ScriptFault::BadLine(line)) => Ran::Unread(Unread::BadLine(line)),
-        Err(ScriptFault::OutOfMemory) => Ran::Unread(Unread::OutOfMemory),
+        Err(ScriptFault::BadLine(line)) => unread(Unread::BadLine(line)),
+        Err(ScriptFault::OutOfMemory) => unread(Unread::OutOfMemory),
     }
 }
 
 /// Reads a script and runs it, over any peer.
-fn run_source<S: Source, V: Vault, E: Entropy, W: Sink, T: Sink, P: Peer>(
+pub fn run_source<S: Source, V: Vault, E: Entropy, W: Sink, T: Sink, P: Peer>(
     alloc: Global,
     script: &mut S,
     vault: &mut V,
@@ -55,21 +69,21 @@ fn run_source<S: Source, V: Vault, E: Entropy, W: Sink, T: Sink, P: Peer>(
     out: &mut W,
     tap: &mut T,
     peer: &mut P,
-) -> Ran
-    ensures content { (bytes : List ℕ) × IfSome (S.left script.old) (λ left. bytes ≡ left) × RunsScript result bytes
+) -> Run
+    ensures content { (bytes : List ℕ) × IfSome (S.left script.old) (λ left. bytes ≡ left) × RunsScript result.ran result.count bytes
         (record { out = W.held out.old; tap = T.held tap.old; entropy = E.to_come entropy.old; keys = V.keys vault.old; log = P.log peer.old; state = P.state peer.old; out_faults = W.faults out.old; tap_faults = T.faults tap.old; entropy_faults = E.faults entropy.old; vault_faults = V.faults vault.old })
         (record { out = W.held out.new; tap = T.held tap.new; entropy = E.to_come entropy.new; keys = V.keys vault.new; log = P.log peer.new; state = P.state peer.new; out_faults = W.faults out.new; tap_faults = T.faults tap.new; entropy_faults = E.faults entropy.new; vault_faults = V.faults vault.new }) }
-    ensures taken { WhereTold (TakesScript result) (S.left script.old) (S.left script.new) }
-    ensures read { result ≡ ran.Unread unread.ReadFault → Rose (S.faults script.old) (S.faults script.new) }
-    ensures write { result ≡ ran.Stopped stop.WriteFault → Rose (W.faults out.old) (W.faults out.new) ⊎ Rose (T.faults tap.old) (T.faults tap.new) }
-    ensures entropy { result ≡ ran.Stopped stop.EntropyFault → Rose (E.faults entropy.old) (E.faults entropy.new) }
-    ensures vault { result ≡ ran.Stopped stop.VaultFault → Rose (V.faults vault.old) (V.faults vault.new) }
+    ensures taken { WhereTold (TakesScript result.ran) (S.left script.old) (S.left script.new) }
+    ensures read { result.ran ≡ ran.Unread unread.ReadFault → Rose (S.faults script.old) (S.faults script.new) }
+    ensures write { result.ran ≡ ran.Stopped stop.WriteFault → Rose (W.faults out.old) (W.faults out.new) ⊎ Rose (T.faults tap.old) (T.faults tap.new) }
+    ensures entropy { result.ran ≡ ran.Stopped stop.EntropyFault → Rose (E.faults entropy.old) (E.faults entropy.new) }
+    ensures vault { result.ran ≡ ran.Stopped stop.VaultFault → Rose (V.faults vault.old) (V.faults vault.new) }
 {
     match read_all(script, alloc, MOST_SCRIPT_BYTES) {
         ReadAll::Whole(bytes) => run_bytes(alloc, &bytes, vault, entropy, out, tap, peer),
-        ReadAll::TooLong => Ran::Unread(Unread::TooLong),
-        ReadAll::ReadFault => Ran::Unread(Unread::ReadFault),
-        ReadAll::OutOfMemory => Ran::Unread(Unread::OutOfMemory),
+        ReadAll::TooLong => unread(Unread::TooLong),
+        ReadAll::ReadFault => unread(Unread::ReadFault),
+        ReadAll::OutOfMemory => unread(Unread::OutOfMemory),
     }
 }
 
@@ -108,5 +122,5 @@ pub fn run<S: Source, V: Vault, E: Entropy, W: Sink, T: Sink, P: Peer>(
 {
     served_is_plain();
     replies_are_awaited();
-    run_source(alloc, script, vault, entropy, out, tap, peer)
+    run_source(alloc, script, vault, entropy, out, tap, peer).ran
 }

@@ -16,6 +16,7 @@ use ae_edge::vaults::Vault;
 use conversation::sessions::Session;
 use key_store::KeyStore;
 use run_words::stops::Stop;
+use run_words::tallies::Tally;
 use script_lang::steps::Step;
 use server_core::peers::Peer;
 use std::alloc::Global;
@@ -46,6 +47,21 @@ pub enum Ran {
     Unread(Unread),
 }
 
+/// What a run counted.
+#[derive(Clone, Copy, PartialEq, Eq, Debug)]
+pub struct Count {
+    /// The steps of its script.
+    pub steps: usize,
+    pub tally: Tally,
+}
+
+/// A run: how it ended, and what it counted.
+#[derive(Clone, Copy, PartialEq, Eq, Debug)]
+pub struct Run {
+    pub ran: Ran,
+    pub count: Count,
+}
+
 /// The same devices are lent after it.
 fn run_lent<W: Sink, T: Sink, E: Entropy, V: Vault, P: Peer>(
     alloc: Global,
@@ -63,10 +79,10 @@ fn run_lent<W: Sink, T: Sink, E: Entropy, V: Vault, P: Peer>(
     ensures read { IfOk result (λ _. env.new.line.waiting.now.replies.items ≡ []) }
     ensures leads { Leads result (talk steps.now sessions.old.items) (λ _. Ends sessions.new.items)
         (outside (env.old.out.ghost_name ∷ []) (env.old.entropy.ghost_name ∷ []) (env.old.vault.ghost_name ∷ []) ((env.old.line.tap.ghost_name ∷ []) ∷ (env.old.line.peer.ghost_name ∷ []) ∷ [])
-        env.old.refused env.old.line.waiting.now.replies.items env.old.line.taken
+        env.old.tally env.old.line.waiting.now.replies.items env.old.line.taken
         (record { out = W.held env.old.out.now; tap = T.held env.old.line.tap.now; entropy = E.to_come env.old.entropy.now; keys = V.keys env.old.vault.now; log = P.log env.old.line.peer.now; state = P.state env.old.line.peer.now; out_faults = W.faults env.old.out.now; tap_faults = T.faults env.old.line.tap.now; entropy_faults = E.faults env.old.entropy.now; vault_faults = V.faults env.old.vault.now }))
         (outside (env.new.out.ghost_name ∷ []) (env.new.entropy.ghost_name ∷ []) (env.new.vault.ghost_name ∷ []) ((env.new.line.tap.ghost_name ∷ []) ∷ (env.new.line.peer.ghost_name ∷ []) ∷ [])
-        env.new.refused env.new.line.waiting.now.replies.items env.new.line.taken
+        env.new.tally env.new.line.waiting.now.replies.items env.new.line.taken
         (record { out = W.held env.new.out.now; tap = T.held env.new.line.tap.now; entropy = E.to_come env.new.entropy.now; keys = V.keys env.new.vault.now; log = P.log env.new.line.peer.now; state = P.state env.new.line.peer.now; out_faults = W.faults env.new.out.now; tap_faults = T.faults env.new.line.tap.now; entropy_faults = E.faults env.new.entropy.now; vault_faults = V.faults env.new.vault.now })) }
 {
     run_all(alloc, env, sessions, steps)
@@ -82,18 +98,27 @@ pub fn run_over<W: Sink, T: Sink, E: Entropy, V: Vault, P: Peer>(
     out: &mut W,
     tap: &mut T,
     peer: &mut P,
-) -> Ran
-    ensures { RunsTo result steps.now
+) -> Run
+    ensures steps { result.count.steps ≡ length steps.now }
+    ensures runs { RunsTo result.ran result.count.tally steps.now
         (record { out = W.held out.old; tap = T.held tap.old; entropy = E.to_come entropy.old; keys = V.keys vault.old; log = P.log peer.old; state = P.state peer.old; out_faults = W.faults out.old; tap_faults = T.faults tap.old; entropy_faults = E.faults entropy.old; vault_faults = V.faults vault.old })
         (record { out = W.held out.new; tap = T.held tap.new; entropy = E.to_come entropy.new; keys = V.keys vault.new; log = P.log peer.new; state = P.state peer.new; out_faults = W.faults out.new; tap_faults = T.faults tap.new; entropy_faults = E.faults entropy.new; vault_faults = V.faults vault.new }) }
 {
+    let mut count = Count {
+        steps: steps.len(),
+        tally: Tally::nothing(),
+    };
+    let unstarted = Run {
+        ran: Ran::Stopped(Stop::OutOfMemory),
+        count,
+    };
     let mut sessions = match nobody(alloc) {
         Ok(sessions) => sessions,
-        Err(_) => return Ran::Stopped(Stop::OutOfMemory),
+        Err(_) => return unstarted,
     };
     let mut store = match KeyStore::new(alloc) {
         Ok(store) => store,
-        Err(_) => return Ran::Stopped(Stop::OutOfMemory),
+        Err(_) => return unstarted,
     };
     let mut waiting = Waiting {
         replies: VecDeque::new(alloc),
@@ -102,7 +127,7 @@ pub fn run_over<W: Sink, T: Sink, E: Entropy, V: Vault, P: Peer>(
         out,
         entropy,
         vault,
-        refused: false,
+        tally: count.tally,
         line: PeerLine {
             tap,
             peer,
@@ -111,14 +136,12 @@ pub fn run_over<W: Sink, T: Sink, E: Entropy, V: Vault, P: Peer>(
         },
         store: &mut store,
     };
-    match run_lent(alloc, &mut env, &mut sessions, steps) {
-        Ok(()) => {
-            if env.refused {
-                Ran::Refusals
-            } else {
-                Ran::Done
-            }
-        }
+    let ended = run_lent(alloc, &mut env, &mut sessions, steps);
+    count.tally = env.tally;
+    let ran = match ended {
+        Ok(()) if count.tally.has_errors() => Ran::Refusals,
+        Ok(()) => Ran::Done,
         Err(stop) => Ran::Stopped(stop),
-    }
+    };
+    Run { ran, count }
 }

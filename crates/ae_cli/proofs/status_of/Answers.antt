@@ -9,3 +9,6 @@ returns-in_default-clause-run c = λ r. (ran.Unread unread.OutOfMemory, refl)
 
 pub returns-in_default-clause-driven : goal.returns-in_default-clause-driven
 returns-in_default-clause-driven c = λ r. (ran.Unread unread.OutOfMemory, refl)
+
+pub returns-in_default-clause-summed : goal.returns-in_default-clause-summed
+returns-in_default-clause-summed c = λ r. (ran.Unread unread.OutOfMemory, refl)

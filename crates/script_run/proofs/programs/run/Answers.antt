@@ -5,13 +5,13 @@ use Rattle.script_run.proofs.RunsAre.{run_of}
 use Rattle.script_run.proofs.programs.run.Goals as goal
 
 pub returns-clause-run : goal.returns-clause-run
-returns-clause-run g c = let h = c.run_source.ensures.content in (h.0, h.1, run_of c.served_is_plain.ensures c.replies_are_awaited.ensures _ _ _ _ h.2)
+returns-clause-run g c = let h = c.run_source.ensures.content in (h.0, h.1, run_of c.served_is_plain.ensures c.replies_are_awaited.ensures _ _ _ _ _ h.2)
 
 pub returns-clause-awaited : goal.returns-clause-awaited
-returns-clause-awaited g c = λ w place e. let h = c.run_source.ensures.content in never_bad c.replies_are_awaited.ensures _ place h.0 _ _ w h.2 e
+returns-clause-awaited g c = λ w place e. let h = c.run_source.ensures.content in never_bad c.replies_are_awaited.ensures _ place _ h.0 _ _ w h.2 e
 
 pub returns-clause-of_peer : goal.returns-clause-of_peer
-returns-clause-of_peer g c = let h = c.run_source.ensures.content in of_peer _ h.0 _ _ h.2
+returns-clause-of_peer g c = let h = c.run_source.ensures.content in of_peer _ _ h.0 _ _ h.2
 
 pub returns-clause-taken : goal.returns-clause-taken
 returns-clause-taken g c = c.run_source.ensures.taken

@@ -3,9 +3,9 @@ use Rattle.std.proofs.Common.{refl, arith}
 use Rattle.script_run.proofs.Waiting.{front_some}
 use Rattle.script_run.proofs.peer_lines.PeerLineLine.front.Goals as goal
 
-pub returns-in-Ok : goal.returns-in-Ok
-returns-in-Ok g c = (
+pub returns : goal.returns
+returns g c = (
   front_some _ _ (let v = c.in-Some.ensures.variant in let o = c.args.self.now.waiting.now.replies.ok.0 in omega (arith, v.0 refl)) c.in-Some.ensures.lookup,
-  c.in-Ok.ensures.0,
-  c.in-Ok.ensures.1,
+  c.in_ok-behind.ensures.0,
+  c.in_ok-behind.ensures.1,
 )
