@@ -52,7 +52,7 @@ IsBlock-map : (f : ℕ → ℕ) → ((k : ℕ) → f k < 256) → IsBlock (map f
 IsBlock-map f low = (length-map-range_with_len f 0 16, AreBytes-map f 16 low)
 
 -- a block of what f gives at each place, where that is the byte there
-block_by : (f : ℕ → ℕ) (s : List ℕ) → IsBlock s → ((k : ℕ) → f k ≡ slice_index s k) → map f (range_with_len 0 16) ≡ s
+pub block_by : (f : ℕ → ℕ) (s : List ℕ) → IsBlock s → ((k : ℕ) → f k ≡ slice_index s k) → map f (range_with_len 0 16) ≡ s
 block_by f s block same = sym (fill_by_all f s 16 0 block.0 (λ k _. sym (same k)))
 
 pub IsBlock-sub_bytes : (s : List ℕ) → IsBlock s → IsBlock (sub_bytes s)
@@ -122,7 +122,7 @@ pub IsBlock-inv_mix_columns : (s : List ℕ) → IsBlock s → IsBlock (inv_mix_
 unfolding inv_mix_columns product_byte
 IsBlock-inv_mix_columns s block = IsBlock-map (λ k. product_byte inv_mix_polynomial s (k % 4) (k / 4)) (λ k. product_byte-lt inv_mix_polynomial s (k % 4) (k / 4) block)
 
-four_joined : (a b c d p q r s : List ℕ) → a ≡ p → b ≡ q → c ≡ r → d ≡ s
+pub four_joined : (a b c d p q r s : List ℕ) → a ≡ p → b ≡ q → c ≡ r → d ≡ s
     → concat (a ∷ b ∷ c ∷ d ∷ []) ≡ concat (p ∷ q ∷ r ∷ s ∷ [])
 four_joined a b c d p q r s e f g h = rw (e, f, g, h) refl
 

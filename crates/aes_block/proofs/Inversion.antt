@@ -1,5 +1,5 @@
 -- The inverse cipher undoes the cipher, and the cipher the inverse cipher.
-use Rattle.std.proofs.Common.{◌≡◌, ℕ, zero, suc, ◌+◌, ◌-◌, List, ap, ◌∙◌, arith}
+use Rattle.std.proofs.Common.{◌≡◌, ℕ, zero, suc, ◌+◌, ◌-◌, List, length, refl, ap, ◌∙◌, arith}
 use Rattle.aes_block.specs.Aes.{IsBlock, IsKey, add_round_key, cipher, decrypted, encrypted, expanded_key, inv_cipher, inv_mix_columns, inv_rounds, inv_shift_rows, inv_sub_bytes, mix_columns, rounds, shift_rows, sub_bytes}
 use Rattle.aes_block.proofs.Blocks.{AreWords, IsBlock-add_round_key, IsBlock-inv_mix_columns, IsBlock-inv_shift_rows, IsBlock-inv_sub_bytes, IsBlock-mix_columns, IsBlock-shift_rows, IsBlock-sub_bytes, add_round_key-twice, inv_mix_columns-mix_columns, inv_shift_rows-shift_rows, inv_sub_bytes-sub_bytes, mix_columns-inv_mix_columns, shift_rows-inv_shift_rows, sub_bytes-inv_sub_bytes}
 use Rattle.aes_block.proofs.KeyBytes.{AreWords-key_words}
@@ -34,7 +34,7 @@ module _ (words : List (List ℕ)) (keys : AreWords words) where
       let moved = IsBlock-forth (rounds words block n) before in
       IsBlock-add_round_key words (n + 1) (mix_columns (forth (rounds words block n))) keys (IsBlock-mix_columns (forth (rounds words block n)) moved)
 
-  IsBlock-inv_rounds : (block : List ℕ) → IsBlock block → (n : ℕ) → IsBlock (inv_rounds words block n)
+  pub IsBlock-inv_rounds : (block : List ℕ) → IsBlock block → (n : ℕ) → IsBlock (inv_rounds words block n)
   unfolding inv_rounds
   IsBlock-inv_rounds block is zero = IsBlock-add_round_key words 14 block keys is
   IsBlock-inv_rounds block is (suc n) =
@@ -120,3 +120,7 @@ IsBlock-encrypted key block is_key is = IsBlock-cipher (expanded_key key) (AreWo
 pub IsBlock-decrypted : (key block : List ℕ) → IsKey key → IsBlock block → IsBlock (decrypted key block)
 unfolding decrypted
 IsBlock-decrypted key block is_key is = IsBlock-inv_cipher (expanded_key key) (AreWords-key_words key 52 is_key.1) block is
+
+pub length-decrypted : (key block : List ℕ) → length (decrypted key block) ≡ 16
+unfolding decrypted inv_cipher add_round_key
+length-decrypted key block = refl

@@ -64,7 +64,7 @@ AreWords-key_words key (suc n) bytes =
 
 -- ---- the first eight words
 
-length-key_words : (key : List ℕ) (n : ℕ) → length (key_words key n) ≡ n + 8
+pub length-key_words : (key : List ℕ) (n : ℕ) → length (key_words key n) ≡ n + 8
 unfolding key_words
 length-key_words key zero = refl
 length-key_words key (suc n) =

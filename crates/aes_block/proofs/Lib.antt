@@ -1,5 +1,7 @@
 pub mod Blocks
 mod Computed
+mod Entries
+mod Equivalence
 mod Expansion
 mod Inverses
 pub mod Inversion
@@ -8,5 +10,6 @@ mod Linear
 mod Mixing
 mod Products
 mod RoundSteps
+mod States
 mod Vectors
 pub mod Xoring

@@ -10,7 +10,7 @@ use Rattle.aes_block.proofs.Computed.{same_below, SameBelow}
 use Rattle.aes_block.proofs.Linear.{product-lt, product-xor, xor-exchange}
 
 -- the sum of two sums
-sum_of_four-xor : (f g : ℕ → ℕ) → bit_xor (sum_of_four f) (sum_of_four g) ≡ sum_of_four (λ i. bit_xor (f i) (g i))
+pub sum_of_four-xor : (f g : ℕ → ℕ) → bit_xor (sum_of_four f) (sum_of_four g) ≡ sum_of_four (λ i. bit_xor (f i) (g i))
 sum_of_four-xor f g =
     rw (
       xor-exchange (bit_xor (bit_xor (f 0) (f 1)) (f 2)) (f 3) (bit_xor (bit_xor (g 0) (g 1)) (g 2)) (g 3),
@@ -89,7 +89,7 @@ row_back a b undoes r low w bytes =
       twice-at a b undoes r 3 (w 3) low (omega arith) (bytes 3),
     ) refl
 
-four_same : (a b c d p q r s : ℕ) → a ≡ p → b ≡ q → c ≡ r → d ≡ s → (a ∷ b ∷ c ∷ d ∷ []) ≡ (p ∷ q ∷ r ∷ s ∷ [])
+pub four_same : (a b c d p q r s : ℕ) → a ≡ p → b ≡ q → c ≡ r → d ≡ s → (a ∷ b ∷ c ∷ d ∷ []) ≡ (p ∷ q ∷ r ∷ s ∷ [])
 four_same a b c d p q r s e f g h = cc
 
 pub word_back : (a b : List ℕ) → Undoes a b → (w : ℕ → ℕ) → ((i : ℕ) → w i < 256)

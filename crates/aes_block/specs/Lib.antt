@@ -1,3 +1,5 @@
 pub mod Aes
 pub mod Bytes
+pub mod Columns
+pub mod Equivalent
 pub mod Field

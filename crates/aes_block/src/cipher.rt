@@ -1,10 +1,10 @@
 // The block cipher under a key.
 
-ghost use Rattle.std.specs.Prelude.{◌≡◌, ℕ, List};
+ghost use Rattle.std.specs.Prelude.{◌≡◌, ℕ, List, map};
 ghost use Rattle.aes_block.specs.Aes.{IsBlock, decrypted, encrypted};
 
-use crate::key::expanded_key;
-use crate::rounds::{cipher, inv_cipher};
+use crate::key::{inv_key_words, key_columns};
+use crate::rounds::{cipher, equivalent_cipher};
 use std::marker::Model;
 
 /// AES-256 under one key (FIPS 197): encrypts and decrypts blocks of 16 bytes.
@@ -12,27 +12,35 @@ use std::marker::Model;
 /// A contract sees it as the 32 bytes of its key.
 #[derive(Drop)]
 pub struct Aes256 {
-    words: [[u8; 4]; 60],
+    words: [u32; 60],
+    inverse_words: [u32; 60],
 }
 
 impl Model for Aes256 {
     ghost use Rattle.std.specs.Prelude.{◌≡◌, ℕ, List};
     ghost use Rattle.aes_block.specs.Aes.{IsKey, expanded_key, key_of};
+    ghost use Rattle.aes_block.specs.Columns.{words_of};
+    ghost use Rattle.aes_block.specs.Equivalent.{inv_key_words};
 
     ghost Value = { List ℕ };
 
-    ghost view = { λ a. key_of a.words };
+    ghost view = { λ a. key_of (words_of a.words) };
 
-    ghost invariant = { λ a. IsKey (key_of a.words) × (a.words ≡ expanded_key (key_of a.words)) };
+    ghost invariant = { λ a. IsKey (key_of (words_of a.words))
+        × (words_of a.words ≡ expanded_key (key_of (words_of a.words)))
+        × (words_of a.inverse_words ≡ inv_key_words (words_of a.words)) };
 }
 
 impl Aes256 {
-    /// The cipher under `key`, whose key words are computed here, once (section 5.2).
+    /// The cipher under `key`, whose key words are computed here, once, for both directions (sections 5.2 and
+    /// 5.3.5).
     pub fn new(key: &[u8; 32]) -> Aes256
         ensures { result ≡ key.now }
     {
+        let words = key_columns(key);
         Aes256 {
-            words: expanded_key(key),
+            words,
+            inverse_words: inv_key_words(&words),
         }
     }
 
@@ -49,6 +57,18 @@ impl Aes256 {
         ensures undoes { encrypted self.now result ≡ block.now }
         ensures only { (b : List ℕ) → IsBlock b → encrypted self.now b ≡ block.now → b ≡ result }
     {
-        inv_cipher(&self.words, block)
+        equivalent_cipher(&self.inverse_words, block)
+    }
+
+    /// Eight blocks, each decrypted under the key.
+    pub fn decrypt8(&self, blocks: &[[u8; 16]; 8]) -> [[u8; 16]; 8]
+        ensures value { result ≡ map (decrypted self.now) blocks.now }
+        ensures undoes { map (encrypted self.now) result ≡ blocks.now }
+    {
+        let mut decrypted = [[0; 16]; 8];
+        for i in 0..8 {
+            decrypted[i] = self.decrypt(&blocks[i]);
+        }
+        decrypted
     }
 }

@@ -1,10 +1,26 @@
 // The key expansion (FIPS 197, section 5.2).
 
 ghost use Rattle.std.specs.Prelude.{◌≡◌, ◌<◌, ◌≤◌, length, take};
-ghost use Rattle.aes_block.specs.Aes.{changed_word, expanded_key, key_word, key_words, next_word, rot_word, sub_word};
+ghost use Rattle.aes_block.specs.Aes.{changed_word, expanded_key, key_word, key_words, next_word, rot_word, sub_byte, sub_word, word_sum};
+ghost use Rattle.aes_block.specs.Columns.{word_of, words_of};
+ghost use Rattle.aes_block.specs.Equivalent.{inv_key_word, inv_key_words};
 
-use crate::state::{sub_byte, word_sum};
-use crate::tables::RCON;
+use crate::columns::{column, inv_mixed_word};
+use crate::tables::{RCON, SBOX};
+
+#[tactic(auto, using(crate::proofs::Inverses::by_tables))]
+fn sub_byte(byte: u8) -> u8
+    ensures { result ≡ sub_byte byte }
+{
+    SBOX[byte as usize]
+}
+
+// The sum of two words: their bytes' exclusive or.
+fn word_sum(v: [u8; 4], w: [u8; 4]) -> [u8; 4]
+    ensures { result ≡ word_sum v w }
+{
+    [v[0] ^ w[0], v[1] ^ w[1], v[2] ^ w[2], v[3] ^ w[3]]
+}
 
 fn rot_word(word: [u8; 4]) -> [u8; 4]
     ensures { result ≡ rot_word word }
@@ -64,8 +80,8 @@ fn first_words(key: &[u8; 32]) -> [[u8; 4]; 60]
     words
 }
 
-/// The 60 key words.
-pub(crate) fn expanded_key(key: &[u8; 32]) -> [[u8; 4]; 60]
+// The 60 key words.
+fn expanded_key(key: &[u8; 32]) -> [[u8; 4]; 60]
     ensures { result ≡ expanded_key key.now }
 {
     let mut words = first_words(key);
@@ -73,4 +89,33 @@ pub(crate) fn expanded_key(key: &[u8; 32]) -> [[u8; 4]; 60]
         words[i] = next_word(&words, i);
     }
     words
+}
+
+/// The key words in columns.
+pub(crate) fn key_columns(key: &[u8; 32]) -> [u32; 60]
+    ensures { words_of result ≡ expanded_key key.now }
+{
+    expanded_key(key).map(column)
+}
+
+fn inv_key_word(words: &[u32; 60], i: usize) -> u32
+    requires { i < 60 }
+    ensures { word_of result ≡ inv_key_word (words_of words.now) i }
+{
+    if 4 <= i && i < 56 {
+        inv_mixed_word(words[i])
+    } else {
+        words[i]
+    }
+}
+
+/// The key words of the equivalent inverse cipher (section 5.3.5).
+pub(crate) fn inv_key_words(words: &[u32; 60]) -> [u32; 60]
+    ensures { words_of result ≡ inv_key_words (words_of words.now) }
+{
+    let mut inverse = [0; 60];
+    for i in 0..60 {
+        inverse[i] = inv_key_word(words, i);
+    }
+    inverse
 }

@@ -4,7 +4,7 @@
 
 mod bytes;
 mod cipher;
-mod field;
+mod columns;
 mod key;
 mod laws;
 mod rounds;

@@ -1,31 +1,34 @@
-// The cipher and the inverse cipher over the key words (FIPS 197, sections 5.1 and 5.3).
+// The cipher and the equivalent inverse cipher over the key words (FIPS 197, sections 5.1 and 5.3.5).
 
 ghost use Rattle.std.specs.Prelude.{◌≡◌};
-ghost use Rattle.aes_block.specs.Aes.{cipher, inv_cipher};
+ghost use Rattle.aes_block.specs.Aes.{cipher};
+ghost use Rattle.aes_block.specs.Columns.{words_of};
+ghost use Rattle.aes_block.specs.Equivalent.{equivalent_cipher};
 
 use crate::state::{
-    add_round_key, inv_mix_columns, inv_shift_rows, inv_sub_bytes, mix_columns, shift_rows,
-    sub_bytes,
+    add_round_key, block_of, columns_of, inv_mixed, inv_substituted, mixed, substituted,
 };
 
 /// Cipher: fourteen rounds, the last without MixColumns.
-pub(crate) fn cipher(words: &[[u8; 4]; 60], block: &[u8; 16]) -> [u8; 16]
-    ensures { result ≡ cipher words.now block.now }
+pub(crate) fn cipher(words: &[u32; 60], block: &[u8; 16]) -> [u8; 16]
+    ensures { result ≡ cipher (words_of words.now) block.now }
 {
-    let mut state = add_round_key(words, 0, *block);
+    let mut state = add_round_key(words, 0, columns_of(block));
     for round in 1..14 {
-        state = add_round_key(words, round, mix_columns(shift_rows(sub_bytes(state))));
+        let next = mixed(words, round, state);
+        state = next;
     }
-    add_round_key(words, 14, shift_rows(sub_bytes(state)))
+    block_of(add_round_key(words, 14, substituted(state)))
 }
 
-/// InvCipher: the rounds' inverses, the last first.
-pub(crate) fn inv_cipher(words: &[[u8; 4]; 60], block: &[u8; 16]) -> [u8; 16]
-    ensures { result ≡ inv_cipher words.now block.now }
+/// EqInvCipher: the rounds' inverses, the last first.
+pub(crate) fn equivalent_cipher(words: &[u32; 60], block: &[u8; 16]) -> [u8; 16]
+    ensures { result ≡ equivalent_cipher (words_of words.now) block.now }
 {
-    let mut state = add_round_key(words, 14, *block);
+    let mut state = add_round_key(words, 14, columns_of(block));
     for round in (1..14).rev() {
-        state = inv_mix_columns(add_round_key(words, round, inv_sub_bytes(inv_shift_rows(state))));
+        let next = inv_mixed(words, round, state);
+        state = next;
     }
-    add_round_key(words, 0, inv_sub_bytes(inv_shift_rows(state)))
+    block_of(add_round_key(words, 0, inv_substituted(state)))
 }

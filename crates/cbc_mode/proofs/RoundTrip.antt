@@ -11,7 +11,7 @@ use Rattle.aes_block.specs.Bytes.{AreBytes, xored}
 use Rattle.aes_block.proofs.Xoring.{length-xored, AreBytes-xored, xored-xored}
 use Rattle.cbc_mode.specs.Cbc.{padded, chained, unchained, blocks_of, cbc, decrypted_cbc}
 use Rattle.cbc_mode.proofs.Blocks.{length-concat, concat-blocks_of, blocks_of-concat}
-use Rattle.cbc_mode.proofs.Unchaining.{IsUndone, IsUnchained-undone}
+use Rattle.cbc_mode.proofs.Unchaining.{IsUnchained-undone}
 use Rattle.cbc_mode.proofs.Padding.{unpadded-padded, padded-unpadded, cbc-unpadded}
 use Rattle.cbc_mode.proofs.Decrypting.{decrypted_cbc-whole, decrypted_cbc-IsDecrypted, IsWhole, to_whole_test}
 
@@ -98,10 +98,9 @@ cbc-IsReadBack key iv bytes decrypts ciphertext block all =
     }
 
 all_undone : (key : List ℕ) (blocks : List (List ℕ)) → ((block : List ℕ) → IsBlock block → encrypted key (decrypted key block) ≡ block)
-    → ((block : List ℕ) → IsBlock block → IsBlock (decrypted key block)) → AllByRecursion IsBlock blocks → AllByRecursion (IsUndone key) blocks
-all_undone key [] encrypts plaintext all = tt
-all_undone key (block ∷ blocks) encrypts plaintext all =
-    (record { back = encrypts block all.0; long = (plaintext block all.0).0 }, all_undone key blocks encrypts plaintext all.1)
+    → AllByRecursion IsBlock blocks → AllByRecursion (λ block. encrypted key (decrypted key block) ≡ block) blocks
+all_undone key [] encrypts all = tt
+all_undone key (block ∷ blocks) encrypts all = (encrypts block all.0, all_undone key blocks encrypts all.1)
 
 unchained-are_blocks : (key previous : List ℕ) (blocks : List (List ℕ)) → ((block : List ℕ) → IsBlock block → IsBlock (decrypted key block))
     → IsBlock previous → AllByRecursion IsBlock blocks → AllByRecursion IsBlock (unchained key previous blocks)
@@ -127,7 +126,7 @@ decrypted_cbc-IsEncryptedAgain key iv bytes plain encrypts plaintext block all e
     let d = decrypted_cbc-IsDecrypted key iv bytes plain e in
     let are_blocks = blocks_of-are_blocks bytes all in
     let padded_bytes = concat (unchained key iv (blocks_of bytes)) in
-    let u = IsUnchained-undone key iv bytes block.0 d.whole.even (all_undone key (blocks_of bytes) encrypts plaintext are_blocks) in
+    let u = IsUnchained-undone key iv bytes block.0 d.whole.even (all_undone key (blocks_of bytes) encrypts are_blocks) in
     let there = d.whole.there in
     let len = u.len in
     let whole : length padded_bytes % 16 ≡ 0 = rw len d.whole.even in

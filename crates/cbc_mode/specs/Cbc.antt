@@ -1,6 +1,6 @@
 use Rattle.std.specs.Prelude.{◌≡◌, ℕ, ◌-◌, ◌/◌, ◌%◌, ◌&&◌, ◌==◌, ◌≢◌, ◌⊎◌, Bool, nat_lt, nat_le, if◌then◌else◌, List, [], ◌∷◌, ◌++◌, length, take, drop, replicate, slice_index, Option, Some, None, Result, Ok, Err}
 use Rattle.std.specs.Global.{Vec}
-use Rattle.std.specs.List.{concat, list_all}
+use Rattle.std.specs.List.{All, concat, list_all}
 use Rattle.std.specs.Option.{ok_or}
 use Rattle.std.specs.Simd.{first_chunks}
 use Rattle.aes_block.specs.Aes.{encrypted, decrypted}
@@ -39,6 +39,16 @@ chained key previous (block ∷ blocks) =
 abbrev pub unchained : List ℕ → List ℕ → List (List ℕ) → List (List ℕ)
 unchained key previous [] = []
 unchained key previous (block ∷ blocks) = xored (decrypted key block) previous ∷ unchained key block blocks
+
+-- encrypting gives each of the blocks back where it is decrypted
+abbrev pub AreUndone : List ℕ → List (List ℕ) → Type 0
+AreUndone key blocks = All (λ block. encrypted key (decrypted key block) ≡ block) blocks
+
+-- the bytes that blocks decrypt to were put at the end of the old bytes, and the last is the block that goes into the
+-- one after them: so whatever blocks come next
+abbrev pub Unchains : List ℕ → List ℕ → List (List ℕ) → List ℕ → List ℕ → List ℕ → Type 0
+Unchains key previous blocks last old new =
+    (more : List (List ℕ)) → old ++ concat (unchained key previous (blocks ++ more)) ≡ new ++ concat (unchained key last more)
 
 -- the ciphertext of bytes under a key and an initialization vector
 unfoldable pub cbc : List ℕ → List ℕ → List ℕ → List ℕ

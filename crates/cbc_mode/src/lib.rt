@@ -2,13 +2,14 @@
 #![tactic(auto)]
 
 ghost use Rattle.std.specs.Prelude.{◌≡◌, ◌==◌, ℕ, ◌+◌, ◌-◌, ◌*◌, ◌/◌, ◌%◌, ◌<◌, ◌≤◌, ◌↔◌, List, length, take, None, Some, Ok, IfOk, IsErrOf, MatchOption};
-ghost use Rattle.std.specs.List.{concat, list_all};
+ghost use Rattle.std.specs.List.{concat, flat_map, list_all};
 ghost use Rattle.aes_block.specs.Aes.{IsBlock, IsKey};
-ghost use Rattle.aes_block.specs.Bytes.{AreBytes};
-ghost use Rattle.cbc_mode.specs.Cbc.{padded, unpadded, unchained, blocks_of, chained, cbc, decrypted_cbc, is_whole_blocks, DecryptsTo, IsBadLength};
+ghost use Rattle.aes_block.specs.Bytes.{AreBytes, xored};
+ghost use Rattle.cbc_mode.specs.Cbc.{padded, unpadded, unchained, blocks_of, chained, cbc, decrypted_cbc, is_whole_blocks, AreUndone, DecryptsTo, IsBadLength, Unchains};
 
-use aes_block::{Aes256, xor};
+use aes_block::Aes256;
 use std::alloc::{AllocError, Global};
+use std::simd::u8x16;
 use thiserror::Error;
 
 /// Why a ciphertext is not decrypted.
@@ -62,12 +63,75 @@ pub fn encrypt(
     let mut ciphertext = Vec::with_capacity(alloc, (blocks.len() + 1) * 16)?;
     let mut previous = *iv;
     for block in blocks {
-        previous = key.encrypt(&xor(block, &previous));
+        previous = key.encrypt(&sum(block, &previous));
         ciphertext.extend_from_slice(&previous)?;
     }
-    let last = key.encrypt(&xor(&padded_block(rest), &previous));
+    let last = key.encrypt(&sum(&padded_block(rest), &previous));
     ciphertext.extend_from_slice(&last)?;
     Ok(ciphertext)
+}
+
+// The exclusive or of two blocks, all bytes at once.
+fn sum(a: &[u8; 16], b: &[u8; 16]) -> [u8; 16]
+    ensures { result ≡ xored a.now b.now }
+{
+    (u8x16::from_array(*a) ^ u8x16::from_array(*b)).to_array()
+}
+
+// Eight blocks decrypted, each added to the block before it, the first to `previous`.
+fn unchained8(key: &Aes256, previous: &[u8; 16], blocks: &[[u8; 16]; 8]) -> [[u8; 16]; 8]
+    ensures value { result ≡ unchained key.now previous.now blocks.now }
+    ensures undone { AreUndone key.now blocks.now }
+{
+    let decrypted = key.decrypt8(blocks);
+    let mut added = *previous;
+    let mut plain = [[0; 16]; 8];
+    for i in 0..8 {
+        plain[i] = sum(&decrypted[i], &added);
+        added = blocks[i];
+    }
+    plain
+}
+
+// Puts what the blocks decrypt to at the end, and gives the block that the next one is added to.
+fn append_eights(
+    plaintext: &mut Vec<u8>,
+    key: &Aes256,
+    iv: [u8; 16],
+    eights: &[[[u8; 16]; 8]],
+) -> Result<[u8; 16], AllocError>
+    ensures ahead { IfOk result (λ last. Unchains key.now iv (flat_map (λ eight. eight) eights.now)
+        last plaintext.old.items plaintext.new.items) }
+    ensures undone { IfOk result
+        (λ _. AreUndone key.now (flat_map (λ eight. eight) eights.now)) }
+{
+    let mut previous = iv;
+    for eight in eights {
+        let plain = unchained8(key, &previous, eight);
+        plaintext.extend_from_slice(plain.as_flattened())?;
+        previous = eight[7];
+    }
+    Ok(previous)
+}
+
+// The same, block after block.
+fn append_blocks(
+    plaintext: &mut Vec<u8>,
+    key: &Aes256,
+    iv: [u8; 16],
+    blocks: &[[u8; 16]],
+) -> Result<[u8; 16], AllocError>
+    ensures ahead { IfOk result (λ last. Unchains key.now iv blocks.now
+        last plaintext.old.items plaintext.new.items) }
+    ensures undone { IfOk result (λ _. AreUndone key.now blocks.now) }
+{
+    let mut previous = iv;
+    for block in blocks {
+        let decrypted = key.decrypt(block);
+        plaintext.extend_from_slice(&sum(&decrypted, &previous))?;
+        previous = *block;
+    }
+    Ok(previous)
 }
 
 // The decrypted bytes, with their padding.
@@ -85,13 +149,10 @@ fn decrypt_blocks(
     ensures len { IfOk result (λ plaintext. length plaintext.items ≡ length bytes.now) }
 {
     let (blocks, _) = bytes.as_chunks::<16>();
+    let (eights, rest) = blocks.as_chunks::<8>();
     let mut plaintext = Vec::with_capacity(alloc, bytes.len())?;
-    let mut previous = *iv;
-    for block in blocks {
-        let decrypted = key.decrypt(block);
-        plaintext.extend_from_slice(&xor(&decrypted, &previous))?;
-        previous = *block;
-    }
+    let last = append_eights(&mut plaintext, key, *iv, eights)?;
+    append_blocks(&mut plaintext, key, last, rest)?;
     Ok(plaintext)
 }
 

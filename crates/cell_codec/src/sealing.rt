@@ -4,8 +4,7 @@ ghost use Rattle.cell_codec.specs.Cells.{version, sealed, sealed_det, iv_of};
 use crate::tags::tag_of;
 use crate::{BLOCK_LENGTH, HEAD_LENGTH, VERSION};
 use ae_base::cells::Cell;
-use aes_block::Aes256;
-use hmac_kdf::{CellKeys, Mac};
+use hmac_kdf::CellKeys;
 use std::alloc::{AllocError, Global};
 
 /// The most bytes that are sealed in one cell.
@@ -40,7 +39,7 @@ pub fn seal_rnd(
     ensures value { IfOk result (λ cell. cell ≡ sealed keys.now iv.now bytes.now) }
     ensures len { IfOk result (λ cell. length cell ≡ 49 + (length bytes.now / 16 + 1) * 16) }
 {
-    let ciphertext = cbc_mode::encrypt(alloc, &Aes256::new(keys.enc_key()), iv, bytes)?;
+    let ciphertext = cbc_mode::encrypt(alloc, keys.cipher(), iv, bytes)?;
     let tag = tag_of(keys, iv, &ciphertext);
     joined(alloc, &tag, iv, &ciphertext)
 }
@@ -67,7 +66,7 @@ fn joined(
 fn deterministic_iv(keys: &CellKeys, bytes: &[u8]) -> [u8; 16]
     ensures { result ≡ iv_of keys.now bytes.now }
 {
-    let mut mac = Mac::new(keys.iv_key());
+    let mut mac = keys.iv_mac();
     mac.add(bytes);
     let code = mac.finish();
     let mut iv = [0; 16];

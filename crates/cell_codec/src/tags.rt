@@ -3,7 +3,7 @@ ghost use Rattle.std.specs.Str.{bytes_eq};
 ghost use Rattle.cell_codec.specs.Cells.{tag_of};
 
 use crate::VERSION;
-use hmac_kdf::{CellKeys, Mac};
+use hmac_kdf::CellKeys;
 
 /// How many bytes the version takes, which the MAC covers too.
 const VERSION_LENGTH: u8 = 1;
@@ -12,7 +12,7 @@ const VERSION_LENGTH: u8 = 1;
 pub(crate) fn tag_of(keys: &CellKeys, iv: &[u8; 16], ciphertext: &[u8]) -> [u8; 32]
     ensures { result ≡ tag_of keys.now iv.now ciphertext.now }
 {
-    let mut mac = Mac::new(keys.mac_key());
+    let mut mac = keys.tag_mac();
     mac.add(&[VERSION]);
     mac.add(iv);
     mac.add(ciphertext);

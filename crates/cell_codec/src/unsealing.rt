@@ -7,7 +7,6 @@ use crate::faults::CellFault;
 use crate::shapes::is_cell_length;
 use crate::tags::{are_equal, tag_of};
 use ae_base::cells::Cell;
-use aes_block::Aes256;
 use cbc_mode::CbcFault;
 use hmac_kdf::CellKeys;
 use std::alloc::Global;
@@ -41,12 +40,7 @@ pub fn unseal_bytes(alloc: Global, keys: &CellKeys, cell: &[u8]) -> Result<Vec<u
     if !are_equal(parts.tag, &tag_of(keys, parts.iv, parts.ciphertext)) {
         return Err(CellFault::BadTag);
     }
-    match cbc_mode::decrypt(
-        alloc,
-        &Aes256::new(keys.enc_key()),
-        parts.iv,
-        parts.ciphertext,
-    ) {
+    match cbc_mode::decrypt(alloc, keys.cipher(), parts.iv, parts.ciphertext) {
         Ok(bytes) => Ok(bytes),
         Err(CbcFault::BadLength) => Err(CellFault::BadLength),
         Err(CbcFault::NotPadded) => Err(CellFault::BadPadding),

@@ -5,7 +5,7 @@ ghost use Rattle.std.specs.Prelude.{◌≤◌};
 use crate::values::{Column, ty_of};
 use ae_base::cells::Cell;
 use cell_codec::{CellFault, cell_len, seal_det, seal_rnd, shape_ok, unseal};
-use hmac_kdf::CellKeys;
+use hmac_kdf::{CellKeys, Mac};
 use std::alloc::Global;
 use std::test::Fail;
 
@@ -57,6 +57,31 @@ fn whole_cells(rt: HostRuntime) -> Result<(), Fail> {
     assert_eq!(rt; cell.bytes(), RANDOMIZED.as_slice());
     let bytes = unseal(alloc, &keys, &cell)?;
     assert_eq!(rt; bytes.as_slice(), b"a\0b\0c\0d\0e\0f\0g\0h\0".as_slice());
+    Ok(())
+}
+
+// What Python's modules give as the HMAC-SHA-256 under the key of the cells of all the lengths below, one after another.
+const ALL_LENGTHS: [u8; 32] = [
+    0x05, 0xbb, 0x32, 0x84, 0xda, 0x0b, 0x78, 0x3d, 0xfc, 0x5a, 0x67, 0x80, 0x41, 0x0d, 0x03, 0x5e,
+    0x48, 0x51, 0x57, 0x18, 0x8e, 0xea, 0xd0, 0x24, 0x7c, 0x58, 0x65, 0x1a, 0x57, 0x00, 0xf5, 0xd7,
+];
+
+// 1 to 13 blocks, of the bytes 0, 1, 2 and so on.
+#[test]
+fn each_length_to_200(rt: HostRuntime) -> Result<(), Fail> {
+    let alloc = rt.alloc();
+    let keys = CellKeys::derive(&CEK);
+    let mut all = Mac::new(&CEK);
+    let mut bytes = Vec::new(alloc);
+    for next in 0..201u8 {
+        assert!(rt; bytes.len() <= 200);
+        let cell = seal_rnd(alloc, &keys, &IV, &bytes)?;
+        let opened = unseal(alloc, &keys, &cell)?;
+        assert_eq!(rt; opened.as_slice(), bytes.as_slice());
+        all.add(cell.bytes());
+        bytes.push(next)?;
+    }
+    assert_eq!(rt; all.finish(), ALL_LENGTHS);
     Ok(())
 }
 

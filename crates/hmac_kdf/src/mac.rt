@@ -39,6 +39,16 @@ impl Mac {
         }
     }
 
+    /// The same message under the same key, to go on from.
+    pub fn copy(&self) -> Mac
+        ensures { result ≡ self.now }
+    {
+        Mac {
+            inner: self.inner.clone().unwrap(),
+            outer: self.outer.clone().unwrap(),
+        }
+    }
+
     /// Adds `piece` to the end of the message.
     pub fn add(&mut self, piece: &[u8])
         ensures { (key message : List ℕ) → Holds self.old key message

@@ -8,13 +8,13 @@ pub loop-block-preserved : goal.loop-block-preserved
 loop-block-preserved c =
     rw c.in_ok-extend_from_slice.ensures.items
     (IsChainedBelow-more _ _ _ _ _ _ _ c.loop-block.invariant c.loop-block-test.true
-    (c.encrypt-previous.ensures ∙ ap (λ (mixed : List ℕ). encrypted c.args.key.now mixed) c.xor.ensures.value) (omega arith))
+    (c.encrypt-previous.ensures ∙ ap (λ (mixed : List ℕ). encrypted c.args.key.now mixed) c.sum.ensures) (omega arith))
 
 pub returns-clause-value : goal.returns-clause-value
 returns-clause-value c =
     rw c.in_ok-extend_from_slice-2.ensures.items
     (IsChainedBelow-last _ _ _ _ _ _ _ _ c.loop-block.invariant (omega arith)
-    (c.encrypt-last.ensures ∙ ap (λ (mixed : List ℕ). encrypted c.args.key.now mixed) c.xor-2.ensures.value)
+    (c.encrypt-last.ensures ∙ ap (λ (mixed : List ℕ). encrypted c.args.key.now mixed) c.sum-2.ensures)
     ∙ cbc-cut _ _ _ _ _ _ c.as_chunks.ensures.front c.as_chunks.ensures.back c.padded_block.ensures)
 
 pub returns-clause-len : goal.returns-clause-len
