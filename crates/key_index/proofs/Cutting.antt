@@ -1,0 +1,13 @@
+-- What a row has in the columns of a key, one after another.
+use Rattle.std.proofs.Common.{◌≡◌, ℕ, ◌+◌, ◌<◌, List, [], ◌∷◌, ◌++◌, length, get_or, take, ap, sym, ◌∙◌}
+use Rattle.std.proofs.lemmas.List.{take_more}
+use Rattle.ae_base.specs.Atoms.{Atom}
+use Rattle.scalar.specs.Eval.{atom_at}
+use Rattle.operators.specs.Alike.{key_of}
+use Rattle.operators.proofs.Grouping.{atom_read, map-push}
+
+pub key_more : (places : List ℕ) (row : List Atom) (i : ℕ) (atom : Atom) (done : List Atom) → done ≡ key_of (take i places) row → i < length places → get_or places i 0 < length row → atom ≡ get_or row (get_or places i 0) atom
+    → done ++ atom ∷ [] ≡ key_of (take (i + 1) places) row
+key_more places row i atom done d lt within e =
+    ap (λ l. l ++ atom ∷ []) d ∙ ap (λ a. key_of (take i places) row ++ a ∷ []) (atom_read row (get_or places i 0) atom within e) ∙ sym (map-push (atom_at row) (take i places) (get_or places i 0))
+    ∙ ap (λ ps. key_of ps row) (sym (take_more places i 0 lt))

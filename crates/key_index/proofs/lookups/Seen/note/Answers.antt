@@ -1,0 +1,10 @@
+-- The keys are looked through as they are seen.
+use Rattle.std.proofs.Common.{not, ap, sym, ◌∙◌}
+use Rattle.operators.specs.Alike.{are_alike}
+use Rattle.operators.proofs.Grouping.{any-map}
+use Rattle.key_index.proofs.lookups.Seen.note.Goals as goal
+
+pub returns-clause-fresh : goal.returns-clause-fresh
+returns-clause-fresh g c =
+    rw (← c.key.view_is, ← c.self.view_is)
+    (c.in_ok-insert.ensures.added ∙ ap not (sym (any-map (are_alike c.key.inside.atoms.items) (λ key. key.now.items) c.self.inside.keys.keys)))

@@ -1,0 +1,130 @@
+ghost use Rattle.std.specs.Prelude.{◌≡◌, ◌++◌, ◌∷◌, [], List, length, map, not, false, filter, ◌==◌, nat_lt, OnOk, OnErr};
+ghost use Rattle.std.specs.List.{list_any};
+ghost use Rattle.ae_base.specs.Atoms.{Atom};
+ghost use Rattle.operators.specs.Alike.{are_alike};
+ghost use Rattle.key_index.specs.Places.{nothing, places_at, HasPlaces};
+
+use crate::keys::{Kept, Key};
+use ae_base::sameness::Same;
+use indexmap::IndexSet;
+use std::alloc::{AllocError, Global};
+use std::marker::Model;
+
+/// The places of rows by their keys.
+#[derive(Drop)]
+pub struct KeyIndex<K: Same> {
+    keys: IndexSet<Vec<Kept<K>>>,
+    lists: Vec<Vec<usize>>,
+}
+
+impl<K: Same> Model for KeyIndex<K> {
+    ghost use Rattle.std.specs.Prelude.{◌≡◌, map, length};
+    ghost use Rattle.key_index.specs.Places.{Keyed};
+
+    ghost Value = { Keyed };
+
+    ghost view = { λ i. record { keys = map (λ key. key.items) i.keys.keys; lists = map (λ list. list.items) i.lists.items } };
+
+    ghost invariant = { λ i. length i.lists.items ≡ length i.keys.keys };
+}
+
+impl<K: Same> KeyIndex<K> {
+    /// No rows yet. It takes no memory.
+    pub fn new(alloc: Global) -> KeyIndex<K>
+        ensures { result ≡ nothing }
+    {
+        KeyIndex {
+            keys: IndexSet::new(alloc),
+            lists: Vec::new(alloc),
+        }
+    }
+
+    /// The places of the rows with a key, in the order in which they were put in. It takes no
+    /// memory.
+    pub fn places_of(&self, key: &Key<K>) -> &[usize]
+        ensures { result.now ≡ places_at self.now key.now }
+    {
+        match self.keys.get_index_of(&key.atoms) {
+            Some(place) => self.lists[place].as_slice(),
+            None => &[],
+        }
+    }
+
+    /// Takes out a place of a key. It takes no memory.
+    pub fn remove(&mut self, key: &Key<K>, place: usize)
+        ensures { HasPlaces self.old self.new key.now (filter (λ p. not (p == place)) (places_at self.old key.now)) }
+    {
+        if let Some(at) = self.keys.get_index_of(&key.atoms) {
+            take_out(&mut self.lists[at], place);
+        }
+    }
+
+    /// Takes out all places from this one on, of every key. It takes no memory.
+    pub fn forget_from(&mut self, place: usize)
+        ensures { (key : List Atom) → places_at self.new key ≡ filter (λ p. nat_lt p place) (places_at self.old key) }
+    {
+        keep_before(&mut self.lists, place);
+    }
+
+    /// Puts in a place behind the others of a key. Without memory all keys have the places that
+    /// they had.
+    pub fn insert(&mut self, alloc: Global, key: Key<K>, place: usize) -> Result<(), AllocError>
+        ensures ok { OnOk result (HasPlaces self.old self.new key (places_at self.old key ++ place ∷ [])) }
+        ensures err { OnErr result (self.new ≡ self.old) }
+    {
+        match self.keys.get_index_of(&key.atoms) {
+            Some(at) => {
+                match self.lists[at].push(place) {
+                    Ok(()) => Ok(()),
+                    Err(_) => Err(AllocError),
+                }
+            }
+            None => self.insert_new(alloc, key, place),
+        }
+    }
+
+    fn insert_new(&mut self, alloc: Global, key: Key<K>, place: usize) -> Result<(), AllocError>
+        requires { list_any (are_alike key) self.old.keys ≡ false }
+        ensures ok { OnOk result (HasPlaces self.old self.new key (place ∷ [])) }
+        ensures err { OnErr result (self.new ≡ self.old) }
+    {
+        let list = vec![in alloc; place]?;
+        self.lists.reserve(1)?;
+        let Key { atoms } = key;
+        let added = self.keys.insert(atoms)?;
+        if added {
+            self.lists.push_reserved(list);
+        }
+        Ok(())
+    }
+}
+
+/// Keeps those of each list that come before a place.
+fn keep_before(lists: &mut Vec<Vec<usize>>, place: usize)
+    ensures lists { map (λ list. list.items) lists.new.items ≡ map (filter (λ p. nat_lt p place)) (map (λ list. list.items) lists.old.items) }
+    ensures len { length lists.new.items ≡ length lists.old.items }
+{
+    cut_each(lists, place);
+}
+
+fn cut_each(lists: &mut [Vec<usize>], place: usize)
+    ensures { map (λ list. list.items) lists.new ≡ map (filter (λ p. nat_lt p place)) (map (λ list. list.items) lists.old) }
+{
+    for list in lists.iter_mut() {
+        cut_from(list, place);
+    }
+}
+
+/// Takes out of a list the places from this one on.
+fn cut_from(list: &mut Vec<usize>, place: usize)
+    ensures { list.new.items ≡ filter (λ p. nat_lt p place) list.old.items }
+{
+    list.retain(|p| *p < place);
+}
+
+/// Takes a place out of a list.
+fn take_out(list: &mut Vec<usize>, place: usize)
+    ensures { list.new.items ≡ filter (λ p. not (p == place)) list.old.items }
+{
+    list.retain(|p| *p != place);
+}

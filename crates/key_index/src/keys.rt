@@ -1,0 +1,103 @@
+ghost use Rattle.std.specs.Prelude.{◌≡◌, ◌<◌, length, IfOk};
+ghost use Rattle.std.specs.List.{All};
+ghost use Rattle.operators.specs.Alike.{key_of};
+
+use ae_base::atoms::{Atom, Row};
+use ae_base::lists::Duplicate;
+use ae_base::sameness::Same;
+use operators::alike::Alike;
+use std::alloc::{AllocError, Global};
+use std::hash::{Hash, Hasher};
+use std::marker::Model;
+
+/// An atom of its own, compared as unique keys do: NULL is like NULL.
+#[derive(Drop)]
+pub(crate) struct Kept<K: Same> {
+    atom: Atom<K>,
+}
+
+impl<K: Same> Model for Kept<K> {
+    ghost use Rattle.std.specs.Prelude.{List, ℕ};
+    ghost use Rattle.ae_base.specs.declared.atoms.AtomOf.{AtomOf};
+
+    ghost Value = { AtomOf (List ℕ) };
+
+    ghost view = { λ k. k.atom };
+}
+
+impl<K: Same> PartialEq for Kept<K> {
+    ghost use Rattle.ae_base.specs.Atoms.{alike};
+    ghost use Rattle.operators.specs.AlikeLaws.{alike-Decides};
+    ghost use Rattle.std.specs.Cmp.{partial_equiv_from_equiv, decided};
+
+    ghost eq = { alike };
+
+    ghost laws = { partial_equiv_from_equiv (decided alike alike-Decides) };
+
+    fn eq(&self, other: &Kept<K>) -> bool {
+        self.atom.alike(&other.atom)
+    }
+}
+
+impl<K: Same> Eq for Kept<K> {
+    ghost use Rattle.ae_base.specs.Atoms.{alike};
+    ghost use Rattle.operators.specs.AlikeLaws.{alike-Decides};
+    ghost use Rattle.std.specs.Cmp.{decided};
+
+    ghost laws = { decided alike alike-Decides };
+}
+
+impl<K: Same> Hash for Kept<K> {
+    ghost use Rattle.std.proofs.Common.{ap};
+    ghost use Rattle.operators.specs.AlikeLaws.{alike-Decides};
+    ghost use Rattle.operators.specs.Hashed.{atom_fed};
+
+    ghost hash_input = { atom_fed K.fed };
+
+    ghost respects_eq = { λ a b h. ap (atom_fed K.fed) ((alike-Decides a b).0 h) };
+
+    fn hash<H: Hasher>(&self, state: &mut H) {
+        Alike::new(&self.atom).hash(state)
+    }
+}
+
+/// What a row has in the columns of a key.
+#[derive(Drop)]
+pub struct Key<K: Same> {
+    pub(crate) atoms: Vec<Kept<K>>,
+}
+
+impl<K: Same> Model for Key<K> {
+    ghost use Rattle.std.specs.Prelude.{List, ℕ};
+    ghost use Rattle.ae_base.specs.declared.atoms.AtomOf.{AtomOf};
+
+    ghost Value = { List (AtomOf (List ℕ)) };
+
+    ghost view = { λ k. k.atoms.items };
+}
+
+impl<K: Same> Key<K> {
+    /// A key of these atoms.
+    pub fn copied(alloc: Global, row: &Row<K>) -> Result<Key<K>, AllocError>
+        ensures { IfOk result (λ key. key ≡ row.now) }
+    {
+        let mut atoms = Vec::with_capacity(alloc, row.len())?;
+        for atom in row.as_slice() {
+            atoms.push(Kept { atom: atom.copy()? })?;
+        }
+        Ok(Key { atoms })
+    }
+
+    /// What a row has in the columns of these places.
+    pub fn of_row(alloc: Global, places: &[usize], row: &Row<K>) -> Result<Key<K>, AllocError>
+        requires { All (λ place. place < length row.now) places.now }
+        ensures { IfOk result (λ key. key ≡ key_of places.now row.now) }
+    {
+        let mut atoms = Vec::with_capacity(alloc, places.len())?;
+        for place in places {
+            let atom = row.get(*place).copy()?;
+            atoms.push(Kept { atom })?;
+        }
+        Ok(Key { atoms })
+    }
+}

@@ -1,0 +1,112 @@
+ghost use Rattle.std.specs.Prelude.{◌≡◌, ◌<◌, ◌+◌, ◌++◌, [], ◌∷◌, length, true, not, IfOk};
+ghost use Rattle.std.specs.List.{list_any};
+ghost use Rattle.operators.specs.Alike.{are_alike};
+ghost use Rattle.key_index.specs.Lookups.{first_alike, looked_up};
+
+use crate::index::KeyIndex;
+use crate::keys::{Kept, Key};
+use ae_base::sameness::Same;
+use counting::Steps;
+use indexmap::IndexSet;
+use std::alloc::{AllocError, Global};
+use std::marker::{Brand, Model};
+use std::sync::ledger::{Blank, Ledger};
+
+/// Keys that were seen, found again by their hash.
+#[derive(Drop)]
+struct Seen<'a, K: Same> {
+    keys: IndexSet<&'a Vec<Kept<K>>>,
+}
+
+impl<'a, K: Same> Model for Seen<'a, K> {
+    ghost use Rattle.std.specs.Prelude.{List, ℕ, map};
+    ghost use Rattle.ae_base.specs.declared.atoms.AtomOf.{AtomOf};
+
+    ghost Value = { List (List (AtomOf (List ℕ))) };
+
+    ghost view = { λ s. map (λ key. key.now.items) s.keys.keys };
+}
+
+impl<'a, K: Same> Seen<'a, K> {
+    fn new(alloc: Global) -> Seen<'a, K>
+        ensures { result ≡ [] }
+    {
+        Seen {
+            keys: IndexSet::new(alloc),
+        }
+    }
+
+    /// Notes a key, and answers whether none before is alike to it.
+    fn note(&mut self, key: &'a Key<K>) -> Result<bool, AllocError>
+        ensures fresh { IfOk result (λ fresh. fresh ≡ not (list_any (are_alike key.now) self.old)) }
+        ensures noted { IfOk result (λ fresh. fresh ≡ true → self.new ≡ self.old ++ key.now ∷ []) }
+    {
+        Ok(self.keys.insert(&key.atoms)?)
+    }
+}
+
+/// The place, in the list, of the first of some new keys that is in the index or before it in the
+/// list. Each key up to and with that one is looked up once.
+pub fn first_alike<K: Same, L: Ledger>(
+    alloc: Global,
+    index: &KeyIndex<K>,
+    keys: &[Key<K>],
+    lookups: &mut Steps<L>,
+) -> Result<Option<usize>, AllocError>
+    ensures place { IfOk result (λ place. place ≡ first_alike index.now keys.now) }
+    ensures lookups { IfOk result (λ place. lookups.new ≡ lookups.old + looked_up (length keys.now) place) }
+{
+    let mut seen = Seen::new(alloc);
+    let place = first_among(index, keys, &mut seen, lookups);
+    drop(seen);
+    place
+}
+
+fn first_among<'a, K: Same, L: Ledger>(
+    index: &KeyIndex<K>,
+    keys: &'a [Key<K>],
+    seen: &mut Seen<'a, K>,
+    lookups: &mut Steps<L>,
+) -> Result<Option<usize>, AllocError>
+    requires none { seen.old ≡ [] }
+    ensures place { IfOk result (λ place. place ≡ first_alike index.now keys.now) }
+    ensures lookups { IfOk result (λ place. lookups.new ≡ lookups.old + looked_up (length keys.now) place) }
+{
+    for i in 0..keys.len() {
+        let key = &keys[i];
+        lookups.tick();
+        if !index.places_of(key).is_empty() {
+            return Ok(Some(i));
+        }
+        if !seen.note(key)? {
+            return Ok(Some(i));
+        }
+    }
+    Ok(None)
+}
+
+/// `first_alike` where nobody counts.
+pub fn first_uncounted<K: Same>(
+    alloc: Global,
+    index: &KeyIndex<K>,
+    keys: &[Key<K>],
+) -> Result<Option<usize>, AllocError>
+    ensures { IfOk result (λ place. place ≡ first_alike index.now keys.now) }
+{
+    first_from::<K, Brand>(alloc, index, keys, Blank::new(1))
+}
+
+fn first_from<K: Same, L: Ledger>(
+    alloc: Global,
+    index: &KeyIndex<K>,
+    keys: &[Key<K>],
+    blank: Blank,
+) -> Result<Option<usize>, AllocError>
+    requires name { blank.name ≡ L.name }
+    requires parts { blank.parts ≡ L.parts }
+    requires some { 0 < blank.parts }
+    ensures { IfOk result (λ place. place ≡ first_alike index.now keys.now) }
+{
+    let mut lookups = Steps::<L>::new(blank);
+    first_alike(alloc, index, keys, &mut lookups)
+}

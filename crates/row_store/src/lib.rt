@@ -1,0 +1,6 @@
+//! The rows of a table, in pages of at most 256.
+#![tactic(auto)]
+
+pub mod pages;
+mod places;
+pub mod tables;

@@ -1,0 +1,290 @@
+ghost use Rattle.std.specs.Prelude.{◌≡◌, ◌<◌, ◌≤◌, ◌+◌, ◌*◌, ◌/◌, ◌++◌, ◌∷◌, [], length, slice_index_or, slice_set, remove, IfOk, OnOk};
+ghost use Rattle.std.specs.List.{All};
+ghost use Rattle.std.specs.Vec.{vec_capacity};
+ghost use Rattle.row_store.specs.Paged.{IsPaged, IsKept, IsPlace, flat, lengths, last_room, settled, merged_at, can_merge};
+
+use crate::pages::Page;
+use crate::places::{Place, find};
+use ae_base::atoms::Row;
+use ae_base::lists::Duplicate;
+use std::alloc::{AllocError, Global};
+use std::marker::Model;
+
+/// The rows of one table.
+pub type Table<K> = Paged<Row<K>>;
+
+/// Rows in pages of at most 256, of which two neighbours always have more than 256 together.
+#[derive(Drop)]
+pub struct Paged<T> {
+    pages: Vec<Page<T>>,
+    ready: Vec<Page<T>>,
+    count: usize,
+    spare: usize,
+}
+
+impl<T> Model for Paged<T> {
+    ghost use Rattle.std.specs.Prelude.{◌≡◌, ◌<◌, ◌≤◌, ◌+◌, ◌*◌, ◌^◌, length};
+    ghost use Rattle.std.specs.Vec.{vec_capacity};
+    ghost use Rattle.row_store.specs.Paged.{Stored, IsKept, flat, lengths, last_room};
+
+    ghost Value = { Stored T };
+
+    ghost view = { λ t. record { rows = flat t.pages.items; spare = t.spare } };
+
+    ghost invariant = { λ t. record {
+      kept : IsKept t.pages.items t.ready.items (vec_capacity t.pages);
+      count : t.count ≡ length (flat t.pages.items);
+      spare : t.spare ≤ last_room (lengths t.pages.items) + 256 * length t.ready.items;
+      fits : t.count + t.spare < 2 ^ 64;
+    } };
+}
+
+impl<T: Drop> Paged<T> {
+    /// No rows yet. It takes no memory.
+    pub fn new(alloc: Global) -> Paged<T>
+        ensures { result ≡ record { rows = []; spare = 0 } }
+    {
+        Paged {
+            pages: Vec::new(alloc),
+            ready: Vec::new(alloc),
+            count: 0,
+            spare: 0,
+        }
+    }
+
+    /// How many rows there are.
+    pub fn len(&self) -> usize
+        ensures { result ≡ length self.now.rows }
+    {
+        self.count
+    }
+
+    /// The rows, page by page.
+    pub fn rows(&self) -> &[Page<T>]
+        ensures { flat result.now ≡ self.now.rows }
+    {
+        self.pages.as_slice()
+    }
+
+    /// How many pages there are.
+    pub fn pages(&self) -> usize
+        ensures dense { 257 * (result / 2) ≤ length self.now.rows }
+        ensures enough { length self.now.rows ≤ 256 * result }
+    {
+        self.pages.len()
+    }
+
+    /// The row at a place, from 0.
+    pub fn get(&self, i: usize) -> &T
+        requires { i < length self.now.rows }
+        ensures { (default : T) → result.now ≡ slice_index_or self.now.rows i default }
+    {
+        let place = find(self.pages.as_slice(), i);
+        self.pages[place.page].get(place.at)
+    }
+
+    /// Puts a row in the place of another. It takes no memory.
+    pub fn replace(&mut self, i: usize, row: T)
+        requires { i < length self.old.rows }
+        ensures rows { self.new.rows ≡ slice_set self.old.rows i row }
+        ensures spare { self.new.spare ≡ self.old.spare }
+    {
+        let place = find(self.pages.as_slice(), i);
+        self.pages[place.page].set(place.at, row);
+    }
+
+    /// Makes room for so many more rows, if there is memory for it; the rows stay.
+    pub fn reserve(&mut self, alloc: Global, n: usize) -> Result<(), AllocError>
+        ensures rows { self.new.rows ≡ self.old.rows }
+        ensures spare { OnOk result (n ≤ self.new.spare) }
+    {
+        if self.spare < n {
+            self.make_ready(alloc, n)?;
+        }
+        Ok(())
+    }
+
+    fn make_ready(&mut self, alloc: Global, n: usize) -> Result<(), AllocError>
+        ensures rows { self.new.rows ≡ self.old.rows }
+        ensures spare { OnOk result (n ≤ self.new.spare) }
+    {
+        if n > usize::MAX - self.count {
+            return Err(AllocError);
+        }
+        fill(alloc, &mut self.pages, &mut self.ready, n / 256 + 1)?;
+        self.spare = n;
+        Ok(())
+    }
+
+    /// Puts a row at the end. It takes no memory.
+    pub fn append(&mut self, row: T)
+        requires { 0 < self.old.spare }
+        ensures rows { self.new.rows ≡ self.old.rows ++ row ∷ [] }
+        ensures spare { self.new.spare + 1 ≡ self.old.spare }
+    {
+        push(&mut self.pages, &mut self.ready, row);
+        self.count += 1;
+        self.spare -= 1;
+    }
+
+    /// Takes out the row at a place; those behind it move up. It takes no memory.
+    pub fn remove(&mut self, i: usize)
+        requires { i < length self.old.rows }
+        ensures { self.new.rows ≡ remove self.old.rows i }
+    {
+        let place = find(self.pages.as_slice(), i);
+        take_out(&mut self.pages, i, place);
+        self.count -= 1;
+        self.spare = 0;
+    }
+}
+
+impl<T: Duplicate> Paged<T> {
+    /// A table with equal rows.
+    pub fn copy(&self) -> Result<Paged<T>, AllocError>
+        ensures { IfOk result (λ copy. copy.rows ≡ self.now.rows) }
+    {
+        let alloc = *self.pages.allocator();
+        let mut copy = Paged::new(alloc);
+        for page in &self.pages {
+            copy.append_copies(alloc, page.rows())?;
+        }
+        Ok(copy)
+    }
+
+    /// Puts copies of some rows at the end.
+    fn append_copies(&mut self, alloc: Global, rows: &[T]) -> Result<(), AllocError>
+        ensures { OnOk result (self.new.rows ≡ self.old.rows ++ rows.now) }
+    {
+        for row in rows {
+            let copy = row.copy()?;
+            self.reserve(alloc, 1)?;
+            self.append(copy);
+        }
+        Ok(())
+    }
+}
+
+/// Has at least so many empty pages ready.
+fn fill<T: Drop>(
+    alloc: Global,
+    pages: &mut Vec<Page<T>>,
+    ready: &mut Vec<Page<T>>,
+    count: usize,
+) -> Result<(), AllocError>
+    requires { IsKept pages.old.items ready.old.items (vec_capacity pages.old) }
+    ensures pages { pages.new.items ≡ pages.old.items }
+    ensures kept { IsKept pages.new.items ready.new.items (vec_capacity pages.new) }
+    ensures more { length ready.old.items ≤ length ready.new.items }
+    ensures count { OnOk result (count ≤ length ready.new.items) }
+{
+    for step in ready.len()..count {
+        match add_ready(alloc, pages, ready) {
+            Ok(()) => {}
+            Err(error) => return Err(error),
+        }
+        let _ = step;
+    }
+    Ok(())
+}
+
+/// One more empty page.
+fn add_ready<T: Drop>(
+    alloc: Global,
+    pages: &mut Vec<Page<T>>,
+    ready: &mut Vec<Page<T>>,
+) -> Result<(), AllocError>
+    requires { IsKept pages.old.items ready.old.items (vec_capacity pages.old) }
+    ensures pages { pages.new.items ≡ pages.old.items }
+    ensures kept { IsKept pages.new.items ready.new.items (vec_capacity pages.new) }
+    ensures more { length ready.old.items ≤ length ready.new.items }
+    ensures count { OnOk result (length ready.new.items ≡ length ready.old.items + 1) }
+{
+    let page = Page::new(alloc)?;
+    match pages.reserve(ready.len() + 1) {
+        Ok(()) => {}
+        Err(error) => return Err(error),
+    }
+    match ready.push(page) {
+        Ok(()) => Ok(()),
+        Err(_) => Err(AllocError),
+    }
+}
+
+/// Puts a row into the last page, or else into an empty one.
+fn push<T: Drop>(pages: &mut Vec<Page<T>>, ready: &mut Vec<Page<T>>, row: T)
+    requires kept { IsKept pages.old.items ready.old.items (vec_capacity pages.old) }
+    requires room { 0 < last_room (lengths pages.old.items) + 256 * length ready.old.items }
+    ensures rows { flat pages.new.items ≡ flat pages.old.items ++ row ∷ [] }
+    ensures kept { IsKept pages.new.items ready.new.items (vec_capacity pages.new) }
+    ensures room { last_room (lengths pages.new.items) + 256 * length ready.new.items + 1 ≡ last_room (lengths pages.old.items) + 256 * length ready.old.items }
+{
+    if 0 < last_room(pages.as_slice()) {
+        let last = pages.len() - 1;
+        pages[last].push(row);
+        return;
+    }
+    let mut page = ready.pop().unwrap();
+    page.push(row);
+    pages.push_reserved(page);
+}
+
+/// The room in the last page.
+fn last_room<T: Drop>(pages: &[Page<T>]) -> usize
+    ensures { result ≡ last_room (lengths pages.now) }
+{
+    let count = pages.len();
+    if count == 0 {
+        return 0;
+    }
+    256 - pages[count - 1].len()
+}
+
+/// Takes out a row, and has its page share one with a neighbour where they fit.
+fn take_out<T: Drop>(pages: &mut Vec<Page<T>>, i: usize, place: Place)
+    requires paged { IsPaged (lengths pages.old.items) }
+    requires place { IsPlace pages.old.items i place.page place.at }
+    ensures rows { flat pages.new.items ≡ remove (flat pages.old.items) i }
+    ensures paged { IsPaged (lengths pages.new.items) }
+    ensures length { length pages.new.items ≤ length pages.old.items }
+    ensures capacity { vec_capacity pages.new ≡ vec_capacity pages.old }
+{
+    pages[place.page].remove(place.at);
+    settle(pages, place.page);
+}
+
+fn settle<T: Drop>(pages: &mut Vec<Page<T>>, page: usize)
+    requires { page < length pages.old.items }
+    ensures pages { pages.new.items ≡ settled page pages.old.items }
+    ensures capacity { vec_capacity pages.new ≡ vec_capacity pages.old }
+{
+    merge(pages, page);
+    if page == 0 {
+        return;
+    }
+    merge(pages, page - 1);
+}
+
+/// Puts the rows of the next page into a page, where they fit.
+fn merge<T: Drop>(pages: &mut Vec<Page<T>>, page: usize)
+    requires { page < length pages.old.items }
+    ensures pages { pages.new.items ≡ merged_at page pages.old.items }
+    ensures capacity { vec_capacity pages.new ≡ vec_capacity pages.old }
+{
+    if !can_merge(pages.as_slice(), page) {
+        return;
+    }
+    let next = pages.remove(page + 1);
+    pages[page].take_all(next);
+}
+
+/// Whether a page and the next one fit into one.
+fn can_merge<T: Drop>(pages: &[Page<T>], page: usize) -> bool
+    requires { page < length pages.now }
+    ensures { result ≡ can_merge page pages.now }
+{
+    if page + 1 >= pages.len() {
+        return false;
+    }
+    pages[page].len() + pages[page + 1].len() <= 256
+}

@@ -1,0 +1,7 @@
+//! Tests of rows in pages, and of the index of a key.
+#![tactic(auto)]
+
+#[cfg(test)]
+mod indexes;
+#[cfg(test)]
+mod pages;
