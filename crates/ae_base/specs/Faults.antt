@@ -30,6 +30,9 @@ code_of (fault.Exists name) = 60
 code_of (fault.NoSuch name) = 61
 code_of (fault.KeyInUse name) = 62
 code_of fault.Full = 63
+code_of (fault.Conflict table counts) = 64
+code_of fault.InTransaction = 65
+code_of fault.NoTransaction = 66
 
 abbrev pub name_of : SqlFault → List ℕ
 name_of fault.Syntax = codes "Syntax"
@@ -57,8 +60,12 @@ name_of (fault.Exists name) = codes "Exists"
 name_of (fault.NoSuch name) = codes "NoSuch"
 name_of (fault.KeyInUse name) = codes "KeyInUse"
 name_of fault.Full = codes "Full"
+name_of (fault.Conflict table counts) = codes "Conflict"
+name_of fault.InTransaction = codes "InTransaction"
+name_of fault.NoTransaction = codes "NoTransaction"
 
--- the detail behind the name: a place, a name, a parameter with its @, two versions or a number
+-- the detail behind the name: a place, a name, a parameter with its @, two versions, a number, or a table
+-- and its two change counts
 abbrev pub at_place : ℕ → List ℕ
 at_place at = codes " at " ++ decimal at
 
@@ -67,6 +74,9 @@ of_name name = codes " " ++ encode_utf8_all name
 
 abbrev pub of_param : List ℕ → List ℕ
 of_param name = codes " @" ++ encode_utf8_all name
+
+abbrev pub seen_and_now : ℕ → ℕ → List ℕ
+seen_and_now seen now = codes " seen " ++ decimal seen ++ codes " now " ++ decimal now
 
 abbrev pub detail_of : SqlFault → List ℕ
 detail_of fault.Syntax = []
@@ -81,7 +91,7 @@ detail_of (fault.NoKey name) = of_name name
 detail_of (fault.NotGrouped at) = at_place at
 detail_of (fault.TypeClash at) = at_place at
 detail_of (fault.EncryptionClash at) = at_place at
-detail_of (fault.Moved versions) = codes " seen " ++ decimal versions.seen ++ codes " now " ++ decimal versions.now
+detail_of (fault.Moved versions) = seen_and_now versions.seen versions.now
 detail_of (fault.ParamClash name) = of_param name
 detail_of (fault.BadCell name) = of_param name
 detail_of fault.Overflow = []
@@ -94,6 +104,9 @@ detail_of (fault.Exists name) = of_name name
 detail_of (fault.NoSuch name) = of_name name
 detail_of (fault.KeyInUse name) = of_name name
 detail_of fault.Full = []
+detail_of (fault.Conflict table counts) = of_name table ++ seen_and_now counts.seen counts.now
+detail_of fault.InTransaction = []
+detail_of fault.NoTransaction = []
 
 -- the printed line, in UTF-8 and without its end: error, the code, the name and the detail
 abbrev pub printed : SqlFault → List ℕ

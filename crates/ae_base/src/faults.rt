@@ -1,4 +1,4 @@
-ghost use Rattle.std.specs.Prelude.{◌≡◌, ◌≢◌, ◌↔◌, IfSome, IsSome};
+ghost use Rattle.std.specs.Prelude.{◌≡◌, ◌≢◌, ◌<◌, ◌↔◌, IfSome, IsSome};
 ghost use Rattle.ae_base.specs.Versions.{IsUniqueNumber};
 ghost use Rattle.ae_base.specs.Faults.{code_of, name_of};
 
@@ -51,6 +51,54 @@ impl Versions {
     pub fn now(self) -> u64
         ensures version { result ≡ self.now }
         ensures differ { self.seen ≢ self.now }
+    {
+        self.now
+    }
+}
+
+/// The change count of a table as a transaction saw it, and the greater one that stands.
+#[derive(Clone, Copy)]
+pub struct ChangeCounts {
+    seen: u64,
+    now: u64,
+}
+
+impl Model for ChangeCounts {
+    ghost use Rattle.std.specs.Prelude.{◌<◌};
+    ghost use Rattle.ae_base.specs.Versions as specs;
+
+    ghost Value = { specs.ChangeCounts };
+
+    ghost view = { λ c. record { seen = c.seen; now = c.now } };
+
+    ghost invariant = { λ c. c.seen < c.now };
+
+    ghost inverse = { λ c. record { seen = c.seen; now = c.now } };
+}
+
+impl ChangeCounts {
+    /// The counts, where the count rose.
+    pub fn that_rose(seen: u64, now: u64) -> Option<ChangeCounts>
+        ensures counts { IfSome result (λ c. c ≡ record { seen = seen; now = now }) }
+        ensures exactly { IsSome result ↔ (seen < now) }
+    {
+        if seen < now {
+            return Some(ChangeCounts { seen, now });
+        }
+        None
+    }
+
+    /// The count that the transaction saw.
+    pub fn seen(self) -> u64
+        ensures { result ≡ self.seen }
+    {
+        self.seen
+    }
+
+    /// The count that stands.
+    pub fn now(self) -> u64
+        ensures count { result ≡ self.now }
+        ensures rose { self.seen < self.now }
     {
         self.now
     }
@@ -152,6 +200,12 @@ pub enum SqlFault {
     KeyInUse(Name),
     /// A limit of the catalog reached.
     Full,
+    /// A table that the transaction used has changed since its BEGIN.
+    Conflict { table: Name, counts: ChangeCounts },
+    /// A BEGIN or a definition inside a transaction.
+    InTransaction,
+    /// A COMMIT or ROLLBACK without a transaction.
+    NoTransaction,
 }
 
 impl SqlFault {
@@ -185,6 +239,9 @@ impl SqlFault {
             SqlFault::NoSuch(_) => 61,
             SqlFault::KeyInUse(_) => 62,
             SqlFault::Full => 63,
+            SqlFault::Conflict { .. } => 64,
+            SqlFault::InTransaction => 65,
+            SqlFault::NoTransaction => 66,
         }
     }
 
@@ -218,6 +275,9 @@ impl SqlFault {
             SqlFault::NoSuch(_) => "NoSuch",
             SqlFault::KeyInUse(_) => "KeyInUse",
             SqlFault::Full => "Full",
+            SqlFault::Conflict { .. } => "Conflict",
+            SqlFault::InTransaction => "InTransaction",
+            SqlFault::NoTransaction => "NoTransaction",
         }
     }
 }
@@ -237,7 +297,9 @@ impl fmt::Display for SqlFault {
             | SqlFault::Overflow
             | SqlFault::TooManyRows
             | SqlFault::TableFull
-            | SqlFault::Full => Ok(()),
+            | SqlFault::Full
+            | SqlFault::InTransaction
+            | SqlFault::NoTransaction => Ok(()),
             SqlFault::NumberTooWide { at }
             | SqlFault::NotGrouped { at }
             | SqlFault::TypeClash { at }
@@ -258,6 +320,15 @@ impl fmt::Display for SqlFault {
                 write!(f, " seen {} now {}", versions.seen(), versions.now())
             }
             SqlFault::DuplicateKey(number) => write!(f, " {}", number.number()),
+            SqlFault::Conflict { table, counts } => {
+                write!(
+                    f,
+                    " {} seen {} now {}",
+                    table.as_str(),
+                    counts.seen(),
+                    counts.now()
+                )
+            }
         }
     }
 }
@@ -290,6 +361,14 @@ impl Duplicate for SqlFault {
             SqlFault::NoSuch(name) => SqlFault::NoSuch(name.copy()?),
             SqlFault::KeyInUse(name) => SqlFault::KeyInUse(name.copy()?),
             SqlFault::Full => SqlFault::Full,
+            SqlFault::Conflict { table, counts } => {
+                SqlFault::Conflict {
+                    table: table.copy()?,
+                    counts: *counts,
+                }
+            }
+            SqlFault::InTransaction => SqlFault::InTransaction,
+            SqlFault::NoTransaction => SqlFault::NoTransaction,
         })
     }
 }

@@ -78,7 +78,8 @@ pub fn ae_main<S: Source, V: Vault, E: Entropy, L: Source, W: Sink, T: Sink, P: 
     ensures named { is_run words.now ≡ true → IsOfRun result }
     // A run: there are bytes, the script's where it tells them, of which this is a run. Over any peer: how far its conversation was
     // followed, what each device has of it, and why it was followed no further (`content`). Over a peer that serves from the empty
-    // state: a good script is run to its end, unless memory or a device fails (`complete`); and with keys that are told, the text is
+    // state: a good script is run to its end, unless memory or a device fails (`complete`); its requests are served one after another,
+    // and transactions take effect one after another, each whole at its COMMIT (`serial`); and with keys that are told, the text is
     // plain SQL's over the same values, whatever columns are protected (`plain`), and the tap has the frames of the conversation over
     // that server, with the cells sealed under the random bytes that were drawn (`transcript`).
     ensures run { is_run words.now ≡ true → (ran : Ran) × (result ≡ status_of ran) × (bytes : List ℕ) × IfSome (S.left script.old) (λ left. bytes ≡ left) × IsRunOf ran bytes
@@ -117,7 +118,8 @@ pub fn ae_main<S: Source, V: Vault, E: Entropy, L: Source, W: Sink, T: Sink, P: 
     ensures checked { is_check words.now ≡ true → (checked : Checked) × (result ≡ status_of_checking checked) × (bytes : List ℕ) × IfSome (S.left script.old) (λ left. bytes ≡ left) × ChecksScript checked bytes (W.held out.old) (W.held out.new) }
     ensures checked_taken { is_check words.now ≡ true → (checked : Checked) × (result ≡ status_of_checking checked) × WhereTold (check.Takes checked) (S.left script.old) (S.left script.new) }
     ensures checked_alone { is_check words.now ≡ true → (vault.new ≡ vault.old) × (entropy.new ≡ entropy.old) × (tap.new ≡ tap.old) × (peer.new ≡ peer.old) }
-    // Serving: what was taken of the script, and what was put for it, by how it ended; nothing else is touched.
+    // Serving: what was taken of the script, and what was put for it, by how it ended; and that transactions took effect one after
+    // another. Nothing else is touched.
     ensures served { is_serve words.now ≡ true → (served : Served) × (result ≡ status_of_serving served) × Serves served (S.left script.old) (S.left script.new) (W.held out.old) (W.held out.new) }
     // Where the script tells its bytes: by how those within the limit end, and the frames of the replies to their requests.
     ensures served_exactly { is_serve words.now ≡ true → (bytes frames : List ℕ) (end : End) (after : State) → S.left script.old ≡ Some bytes → ServeAll (take most_input_bytes bytes) end frames after

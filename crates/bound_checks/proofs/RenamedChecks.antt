@@ -176,6 +176,7 @@ module _ (f : ℕ → ℕ) (columns : List ColumnSite) (params others : List Ty)
       (both (flat_map (join_clashes of_all) q.joins) (filter_clashes of_all q.filter) _ _
       (each uses_in_join (renamed_join f) (join_clashes of_all) (join_clashes of_others) (λ j k. condition j.on k) q.joins (left (λ p. list_any (uses_in_join p) q.joins) (λ p. uses_in_filter p q.filter) later))
       (filter q.filter (right (λ p. list_any (uses_in_join p) q.joins) (λ p. uses_in_filter p q.filter) later)))
+  statement (bound.Control control) h = refl
 
 -- ---- what isn't grouped
 
@@ -241,6 +242,7 @@ module _ (f : ℕ → ℕ) where
   statement_alone (bound.Update update) = refl
   statement_alone (bound.Delete delete) = refl
   statement_alone (bound.Select q) = query_alone q
+  statement_alone (bound.Control control) = refl
 
   -- ---- the length
 
@@ -255,6 +257,7 @@ module _ (f : ℕ → ℕ) where
   long (bound.Update update) = refl
   long (bound.Delete delete) = refl
   long (bound.Select q) = ap (λ n. (n == 0) || nat_lt 512 n) (length-map q.items (renamed_item f))
+  long (bound.Control control) = refl
 
   too_long : (params : List Ty) (b : Bound) → is_too_long (renamed f params b) ≡ is_too_long b
   too_long params b =

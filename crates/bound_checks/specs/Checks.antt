@@ -39,6 +39,7 @@ is_long_statement (bound.Insert insert) = false
 is_long_statement (bound.Update update) = false
 is_long_statement (bound.Delete delete) = false
 is_long_statement (bound.Select query) = (length query.items == 0) || nat_lt 512 (length query.items)
+is_long_statement (bound.Control control) = false
 
 -- nor more than 8,192 rules
 abbrev pub is_too_long : Bound → Bool

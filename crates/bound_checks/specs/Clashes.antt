@@ -157,6 +157,7 @@ statement_clashes types (bound.Insert insert) = flat_map (row_clashes types inse
 statement_clashes types (bound.Update update) = flat_map (assignment_clashes types) update.assignments ++ filter_clashes types update.filter
 statement_clashes types (bound.Delete delete) = filter_clashes types delete.filter
 statement_clashes types (bound.Select query) = query_clashes types query
+statement_clashes types (bound.Control control) = []
 
 abbrev pub clashes : Bound → List ℕ
 clashes bound = statement_clashes (record { columns = bound.columns; params = bound.params }) bound.statement

@@ -71,6 +71,7 @@ statement_ungrouped (bound.Insert insert) = []
 statement_ungrouped (bound.Update update) = []
 statement_ungrouped (bound.Delete delete) = []
 statement_ungrouped (bound.Select query) = query_ungrouped query
+statement_ungrouped (bound.Control control) = []
 
 abbrev pub ungrouped : Bound → List ℕ
 ungrouped bound = statement_ungrouped bound.statement

@@ -372,6 +372,7 @@ pub(crate) fn statement_clashes(
         | BoundStatement::CreateTable(_)
         | BoundStatement::DropTable(_)
         | BoundStatement::DropMaster(_)
-        | BoundStatement::DropKey(_) => Ok(()),
+        | BoundStatement::DropKey(_)
+        | BoundStatement::Control(_) => Ok(()),
     }
 }

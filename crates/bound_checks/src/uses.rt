@@ -41,7 +41,8 @@ fn uses_in_statement(place: usize, statement: &BoundStatement) -> bool
         | BoundStatement::CreateTable(_)
         | BoundStatement::DropTable(_)
         | BoundStatement::DropMaster(_)
-        | BoundStatement::DropKey(_) => false,
+        | BoundStatement::DropKey(_)
+        | BoundStatement::Control(_) => false,
     }
 }
 

@@ -339,6 +339,18 @@ impl Catalog {
     }
 }
 
+impl Duplicate for Catalog {
+    fn copy(&self) -> Result<Catalog, AllocError> {
+        Ok(Catalog {
+            masters: self.masters.copy()?,
+            keys: self.keys.copy()?,
+            tables: self.tables.copy()?,
+            next_id: self.next_id,
+            version: self.version,
+        })
+    }
+}
+
 /// Whether a value so encrypted is under the column key of a number.
 fn is_under(enc: Enc, id: KeyId) -> bool
     ensures { result ≡ is_under id enc }

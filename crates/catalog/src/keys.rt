@@ -38,3 +38,23 @@ impl ColumnKey {
         })
     }
 }
+
+impl Duplicate for MasterKey {
+    fn copy(&self) -> Result<MasterKey, AllocError> {
+        Ok(MasterKey {
+            name: self.name.copy()?,
+            path: self.path.copy()?,
+        })
+    }
+}
+
+impl Duplicate for ColumnKey {
+    fn copy(&self) -> Result<ColumnKey, AllocError> {
+        Ok(ColumnKey {
+            id: self.id,
+            name: self.name.copy()?,
+            master: self.master.copy()?,
+            wrapped: self.wrapped.copy()?,
+        })
+    }
+}

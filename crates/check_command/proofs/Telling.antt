@@ -1,5 +1,5 @@
 -- What a server replies to a batch that is begun is awaited, and tells its description or why there is none.
-use Rattle.std.proofs.Common.{◌≡◌, ◌<◌, ◌≤◌, arith, List, [], ◌∷◌, length, Option, Some, None, Result, Ok, Err, refl, sym, ap, ◌∙◌, subst}
+use Rattle.std.proofs.Common.{◌≡◌, ◌<◌, ◌≤◌, arith, ℕ, List, [], ◌∷◌, length, Option, Some, None, Result, Ok, Err, refl, sym, ap, ◌∙◌, subst}
 use Rattle.std.specs.Prelude.{unwrap_or, slice_index_or}
 use Rattle.std.proofs.lemmas.List.{length-map}
 use Rattle.ae_base.specs.declared.batches.Batch.{Batch}
@@ -10,12 +10,11 @@ use Rattle.enc_types.specs.Laws.{TypingsAreOfColumns}
 use Rattle.enc_types.specs.UsedAlone.{is_used}
 use Rattle.resolve.specs.Bind.{type_of}
 use Rattle.resolve.specs.Laws.{BoundStatementsAre}
-use Rattle.engine.specs.Worlds.{World}
 use Rattle.wire_messages.specs.Messages.{Description}
 use Rattle.wire_messages.specs.declared.replies.Reply.{Reply}
 use Rattle.wire_messages.specs.declared.replies.Reply.TheVariants as reply
 use Rattle.server_core.specs.Describing.{Meant, understood, description, describe}
-use Rattle.server_core.specs.Serve.{described}
+use Rattle.server_core.specs.Serve.{State, catalog_of, described}
 use Rattle.conversation.specs.Batches.{why_unfit}
 use Rattle.conversation.specs.Pending.{Pending, uses_of}
 use Rattle.conversation.specs.Sessions as held
@@ -38,70 +37,70 @@ use Rattle.check_command.specs.Asked.{said_of, IsToldOf, IsAsked, TellsAs, Answe
 use Rattle.check_command.specs.declared.describing.Asked.TheVariants as asked
 
 -- it is awaited, and says so
-abbrev pub IsHeardAs : World → Batch → Option (Turn DescribeAnswer) → Type 0
-IsHeardAs w batch (Some turn) = TellsAs w batch turn.answer turn.after
-IsHeardAs w batch None = ⊥
+abbrev pub IsHeardAs : State → ℕ → Batch → Option (Turn DescribeAnswer) → Type 0
+IsHeardAs state number batch (Some turn) = TellsAs state number batch turn.answer turn.after
+IsHeardAs state number batch None = ⊥
 
-module _ (bound : BoundStatementsAre) (typings : TypingsAreOfColumns) (w : World) (batch : Batch) (params : HasParams batch) where
+module _ (bound : BoundStatementsAre) (typings : TypingsAreOfColumns) (state : State) (number : ℕ) (batch : Batch) (params : HasParams batch) where
   -- each declared parameter has an encryption, where it is used
-  found : (meant : Meant) → understood w.catalog batch.text (declared batch) ≡ Ok meant
-      → encs_of batch.params (description w.catalog (declared batch) meant).params ≡ Some (told_among (is_used meant.bound) 0 meant.encs)
+  found : (meant : Meant) → understood (catalog_of state number) batch.text (declared batch) ≡ Ok meant
+      → encs_of batch.params (description (catalog_of state number) (declared batch) meant).params ≡ Some (told_among (is_used meant.bound) 0 meant.encs)
   found meant e =
-      let parts = parts_of w.catalog batch.text (declared batch) meant e in
-      let over_all = bound w.catalog parts.statement (declared batch) meant.bound parts.binds in
+      let parts = parts_of (catalog_of state number) batch.text (declared batch) meant e in
+      let over_all = bound (catalog_of state number) parts.statement (declared batch) meant.bound parts.binds in
       let long : length meant.encs ≡ length batch.params =
       (typings meant.bound meant.encs parts.infers).0 ∙ ap length over_all.params ∙ length-map (declared batch) type_of ∙ length-map batch.params (λ (q : Param). q.declaration) in
       encs_found meant.bound 0 batch.params meant.encs long params.1
 
-  told_encs : (d : Description) → describe w.catalog batch.text (declared batch) ≡ Ok d → (es : List (Option Enc)) × (encs_of batch.params d.params ≡ Some es)
+  told_encs : (d : Description) → describe (catalog_of state number) batch.text (declared batch) ≡ Ok d → (es : List (Option Enc)) × (encs_of batch.params d.params ≡ Some es)
   told_encs d e =
-      let h = bind_ok (understood w.catalog batch.text (declared batch)) (λ meant. Ok (description w.catalog (declared batch) meant)) d e in
-      let is : description w.catalog (declared batch) h.0 ≡ d = cc in
+      let h = bind_ok (understood (catalog_of state number) batch.text (declared batch)) (λ meant. Ok (description (catalog_of state number) (declared batch) meant)) d e in
+      let is : description (catalog_of state number) (declared batch) h.0 ≡ d = cc in
       (told_among (is_used h.0.bound) 0 h.0.encs, ap (λ (x : Description). encs_of batch.params x.params) (sym is) ∙ found h.0 h.1)
 
-  described_so : (d : Description) → describe w.catalog batch.text (declared batch) ≡ Ok d → (o : Option (List (Option Enc))) → encs_of batch.params d.params ≡ o → (es : List (Option Enc)) → o ≡ Some es
-      → IsHeardAs w batch (described_as batch d o)
+  described_so : (d : Description) → describe (catalog_of state number) batch.text (declared batch) ≡ Ok d → (o : Option (List (Option Enc))) → encs_of batch.params d.params ≡ o → (es : List (Option Enc)) → o ≡ Some es
+      → IsHeardAs state number batch (described_as batch d o)
   described_so d e (Some xs) i es s =
       let p : record { batch = batch; version = d.version; keys = d.keys; encs = xs } ≡ pending batch d = ap (λ (o : Option (List (Option Enc))). let v : Pending = record { batch = batch; version = d.version; keys = d.keys; encs = unwrap_or o [] } in v) (sym i) in
       (d, e, ap session.Pending p, ap (λ (v : Pending). described_params d.keys (uses_of v)) p)
   described_so d e None i es s = absurd cc
 
-  pub hears : (r : Result Description SqlFault) → describe w.catalog batch.text (declared batch) ≡ r → (x : Reply) → x ∷ [] ≡ (described w r).replies → IsHeardAs w batch (held.described (session.Begun batch) x)
+  pub hears : (r : Result Description SqlFault) → describe (catalog_of state number) batch.text (declared batch) ≡ r → (x : Reply) → x ∷ [] ≡ (described state r).replies → IsHeardAs state number batch (held.described (session.Begun batch) x)
   hears (Ok d) e x h =
       let i : x ≡ reply.Described d = cc in
       let t = told_encs d e in
-      subst (λ y. IsHeardAs w batch (held.described (session.Begun batch) y)) (sym i) (described_so d e (encs_of batch.params d.params) refl t.0 t.1)
+      subst (λ y. IsHeardAs state number batch (held.described (session.Begun batch) y)) (sym i) (described_so d e (encs_of batch.params d.params) refl t.0 t.1)
   hears (Err f) e x h =
       let i : x ≡ reply.Refused f = cc in
-      subst (λ y. IsHeardAs w batch (held.described (session.Begun batch) y)) (sym i) e
+      subst (λ y. IsHeardAs state number batch (held.described (session.Begun batch) y)) (sym i) e
 
 -- there is one reply
-one_reply : (w : World) (r : Result Description SqlFault) → length (described w r).replies ≡ 1
-one_reply w (Ok d) = refl
-one_reply w (Err f) = refl
+one_reply : (state : State) (r : Result Description SqlFault) → length (described state r).replies ≡ 1
+one_reply state (Ok d) = refl
+one_reply state (Err f) = refl
 
 pub told_one : (s : Session) (replies : List Reply) → IsToldOf s replies → length replies ≡ 1
-told_one s replies t = ap length t.told ∙ one_reply t.world (describe t.world.catalog t.batch.text (declared t.batch))
+told_one s replies t = ap length t.told ∙ one_reply t.state (describe (catalog_of t.state t.number) t.batch.text (declared t.batch))
 
-answers_of : (w : World) (batch : Batch) (o : Option (Turn DescribeAnswer)) (r : Result DescribeAnswer Halt) (old after : Session) → IsHeardAs w batch o → Describes r o old after → AnswersOf w batch r after
-answers_of w batch (Some turn) (Ok x) old after h e =
+answers_of : (state : State) (number : ℕ) (batch : Batch) (o : Option (Turn DescribeAnswer)) (r : Result DescribeAnswer Halt) (old after : Session) → IsHeardAs state number batch o → Describes r o old after → AnswersOf state number batch r after
+answers_of state number batch (Some turn) (Ok x) old after h e =
     let i : turn ≡ record { answer = x; after = after } = cc in
-    subst (λ (t : Turn DescribeAnswer). TellsAs w batch t.answer t.after) i h
-answers_of w batch None r old after h e = absurd h
-answers_of w batch (Some turn) (Err halt.BadReply) old after h e = let i = e.0 in absurd cc
-answers_of w batch (Some turn) (Err halt.OutOfMemory) old after h e = tt
-answers_of w batch (Some turn) (Err halt.EntropyFault) old after h e = absurd e
-answers_of w batch (Some turn) (Err halt.VaultFault) old after h e = absurd e
+    subst (λ (t : Turn DescribeAnswer). TellsAs state number batch t.answer t.after) i h
+answers_of state number batch None r old after h e = absurd h
+answers_of state number batch (Some turn) (Err halt.BadReply) old after h e = let i = e.0 in absurd cc
+answers_of state number batch (Some turn) (Err halt.OutOfMemory) old after h e = tt
+answers_of state number batch (Some turn) (Err halt.EntropyFault) old after h e = absurd e
+answers_of state number batch (Some turn) (Err halt.VaultFault) old after h e = absurd e
 
-pub told_answers : BoundStatementsAre → TypingsAreOfColumns → (w : World) (batch : Batch) → HasParams batch → (s : Session) → s ≡ session.Begun batch → (x : Reply) → x ∷ [] ≡ said_of w batch
-    → (r : Result DescribeAnswer Halt) (after : Session) → Describes r (held.described s x) s after → AnswersOf w batch r after
-told_answers bound typings w batch params s b x t r after h =
-    answers_of w batch (held.described s x) r s after
-    (subst (λ y. IsHeardAs w batch (held.described y x)) (sym b) (hears bound typings w batch params (describe w.catalog batch.text (declared batch)) refl x t)) h
+pub told_answers : BoundStatementsAre → TypingsAreOfColumns → (state : State) (number : ℕ) (batch : Batch) → HasParams batch → (s : Session) → s ≡ session.Begun batch → (x : Reply) → x ∷ [] ≡ said_of state number batch
+    → (r : Result DescribeAnswer Halt) (after : Session) → Describes r (held.described s x) s after → AnswersOf state number batch r after
+told_answers bound typings state number batch params s b x t r after h =
+    answers_of state number batch (held.described s x) r s after
+    (subst (λ y. IsHeardAs state number batch (held.described y x)) (sym b) (hears bound typings state number batch params (describe (catalog_of state number) batch.text (declared batch)) refl x t)) h
 
 -- what is asked of a batch
-pub ready_is : (w : World) (batch : Batch) (p : Pending) (params : List DescribedParam) → why_unfit batch ≡ None → TellsAs w batch (Ready params) (session.Pending p) → IsAsked w batch (asked.Ready p params)
-ready_is w batch p params fit h =
+pub ready_is : (state : State) (number : ℕ) (batch : Batch) (p : Pending) (params : List DescribedParam) → why_unfit batch ≡ None → TellsAs state number batch (Ready params) (session.Pending p) → IsAsked state number batch (asked.Ready p params)
+ready_is state number batch p params fit h =
     let i : session.Pending p ≡ session.Pending (pending batch h.0) = h.2 in
     let e : p ≡ pending batch h.0 = cc in
     (fit, (h.0, h.1, e), h.3 ∙ ap (λ (v : Pending). described_params v.keys (uses_of v)) (sym e))

@@ -7,12 +7,13 @@ use Rattle.ae_base.specs.declared.batches.Batch.{Batch}
 use Rattle.ae_base.specs.declared.batches.Param.{Param}
 use Rattle.ae_base.specs.declared.batches.ParamDecl.{ParamDecl}
 use Rattle.ae_base.specs.declared.faults.SqlFault.{SqlFault}
+use Rattle.ae_base.specs.declared.faults.SqlFault.TheVariants as fault
 use Rattle.ae_base.specs.declared.types.Enc.{Enc}
 use Rattle.sql_tree.specs.Bound.{BoundStatement, Bound}
 use Rattle.sql_tree.specs.Bound as bound
 use Rattle.sql_tree.specs.Statements.{Statement}
 use Rattle.sql_tree.specs.Statements as tree
-use Rattle.sql_tree.specs.Uses.{uses, renamed_statement}
+use Rattle.sql_tree.specs.Uses.{uses}
 use Rattle.bound_checks.specs.Checks.{checked}
 use Rattle.catalog.specs.Catalogs.{Catalog, with_master, with_key, with_table, without_master, without_key, without_table}
 use Rattle.enc_types.specs.UsedAlone.{used_among, is_used, alone}
@@ -20,15 +21,18 @@ use Rattle.resolve.specs.Bind.{bind, bound_over, table_sites}
 use Rattle.resolve.specs.Bind as binding
 use Rattle.resolve.specs.Definitions.{key_path, wrapped_key, master_for, bind_table}
 use Rattle.resolve.specs.Laws.{PreparedAlone}
-use Rattle.engine.specs.Step.{Outcome, Defined, outcome, done_by, step}
+use Rattle.engine.specs.Step.{Answer, Defined, outcome, done_by, step}
 use Rattle.engine.specs.Worlds.{World}
+use Rattle.transactions.specs.Counted.{Counted, CountedOutcome, Execution, target, changed_by, counted, raised_at, execution}
+use Rattle.transactions.specs.Counted as transactions
+use Rattle.transactions.specs.Stores.{Ask, Executes, ask_by, ask_of, Transaction, Transacted, transaction_at, transacted, transact}
 use Rattle.wire_messages.specs.Messages.{Description}
 use Rattle.wire_messages.specs.declared.params.UsedParam.{UsedParam}
 use Rattle.wire_messages.specs.declared.replies.Reply.{Reply}
 use Rattle.wire_messages.specs.declared.requests.Request.{Request}
 use Rattle.wire_messages.specs.declared.requests.Request.TheVariants.{Execute}
 use Rattle.server_core.specs.Describing.{Meant, understood, used_from, description}
-use Rattle.server_core.specs.Serve.{answered, serve}
+use Rattle.server_core.specs.Serve.{State, catalog_of, answered, serve}
 use Rattle.wire_messages.specs.Exchanges.{Served}
 use Rattle.conversation.specs.declared.outcomes.Outcome as comes_to
 use Rattle.conversation.specs.declared.outcomes.Outcome.TheVariants as outcome_of
@@ -38,14 +42,14 @@ use Rattle.conversation.specs.Sessions.{encs_of, with_enc}
 use Rattle.conversation.specs.declared.sessions.Session.TheVariants.{Idle}
 use Rattle.plain_meaning.specs.Reference.{Came, came, declared, pending}
 use Rattle.plain_meaning.specs.Reference as plain
-use Rattle.plain_meaning.proofs.Understood.{parts_of, understood_alone}
+use Rattle.plain_meaning.proofs.Understood.{parts_of, understood_alone, transact_alone}
 use Rattle.check_command.proofs.Following.{bind_ok}
 use Rattle.check_command.specs.Asked.{AnswersAs, ComesTo, IsDefinition}
 use Rattle.check_command.specs.Check.{defines, is_definition, reads_definition}
 
 -- ---- the bound statement
 
-abbrev IsDefining : BoundStatement → Type 0
+abbrev pub IsDefining : BoundStatement → Type 0
 IsDefining (bound.CreateMaster name path) = Unit {0}
 IsDefining (bound.CreateKey name master wrapped) = Unit {0}
 IsDefining (bound.CreateTable table) = Unit {0}
@@ -56,6 +60,7 @@ IsDefining (bound.Insert insert) = ⊥
 IsDefining (bound.Update update) = ⊥
 IsDefining (bound.Delete delete) = ⊥
 IsDefining (bound.Select query) = ⊥
+IsDefining (bound.Control control) = ⊥
 
 bound_so : (b c : Bound) → (let r : Result Bound SqlFault = Ok b in r ≡ Ok c) → IsDefining b.statement → IsDefining c.statement
 bound_so b c e h = let i : b ≡ c = cc in subst (λ (x : Bound). IsDefining x.statement) i h
@@ -78,6 +83,7 @@ named_defines catalog (tree.Insert table columns rows) declarations b d e = absu
 named_defines catalog (tree.Update table assignments filter) declarations b d e = absurd cc
 named_defines catalog (tree.Delete table filter) declarations b d e = absurd cc
 named_defines catalog (tree.Select query) declarations b d e = absurd cc
+named_defines catalog (tree.Control control) declarations b d e = absurd cc
 
 bind_defines : (catalog : Catalog) (s : Statement) (declarations : List ParamDecl) (b : Bound) → is_definition s ≡ true → bind catalog s declarations ≡ Ok b → IsDefining b.statement
 unfolding bind
@@ -99,6 +105,7 @@ unused (bound.Insert insert) b e h place = absurd h
 unused (bound.Update update) b e h place = absurd h
 unused (bound.Delete delete) b e h place = absurd h
 unused (bound.Select query) b e h place = absurd h
+unused (bound.Control control) b e h place = absurd h
 
 module _ (b : Bound) (none : (place : ℕ) → uses place b ≡ false) where
   used_none : {A : Type 0} (place : ℕ) (xs : List A) → used_among (is_used b) place xs ≡ []
@@ -117,45 +124,44 @@ no_encs (p ∷ ps) = let h = no_encs ps in (None ∷ h.0, ap (with_enc None) h.1
 no_uses : (ps : List Param) (used : List UsedParam) → used ≡ [] → uses_in ps (unwrap_or (encs_of ps used) []) ≡ []
 no_uses ps used e = let h = no_encs ps in let i = h.1 in rw e (rw i (h.2))
 
--- ---- and does the same without them
+-- ---- it is executed as a statement outside transactions, or refused in one
 
-renamed_same : (f : ℕ → ℕ) (s : BoundStatement) → IsDefining s → renamed_statement f s ≡ s
-renamed_same f (bound.CreateMaster name path) h = refl
-renamed_same f (bound.CreateKey name master wrapped) h = refl
-renamed_same f (bound.CreateTable table) h = refl
-renamed_same f (bound.DropTable name) h = refl
-renamed_same f (bound.DropMaster name) h = refl
-renamed_same f (bound.DropKey name) h = refl
-renamed_same f (bound.Insert insert) h = absurd h
-renamed_same f (bound.Update update) h = absurd h
-renamed_same f (bound.Delete delete) h = absurd h
-renamed_same f (bound.Select query) h = absurd h
+asks_so : (s : BoundStatement) (e : Execution) → IsDefining s → ask_by s e ≡ Executes e
+asks_so (bound.CreateMaster name path) e h = refl
+asks_so (bound.CreateKey name master wrapped) e h = refl
+asks_so (bound.CreateTable table) e h = refl
+asks_so (bound.DropTable name) e h = refl
+asks_so (bound.DropMaster name) e h = refl
+asks_so (bound.DropKey name) e h = refl
+asks_so (bound.Insert insert) e h = absurd h
+asks_so (bound.Update update) e h = absurd h
+asks_so (bound.Delete delete) e h = absurd h
+asks_so (bound.Select query) e h = absurd h
+asks_so (bound.Control control) e h = absurd h
 
-done_same : (w : World) (b c : Bound) (es fs : List Enc) (xs ys : List Atom) (s : BoundStatement) → IsDefining s → done_by w b es s xs ≡ done_by w c fs s ys
-done_same w b c es fs xs ys (bound.CreateMaster name path) h = refl
-done_same w b c es fs xs ys (bound.CreateKey name master wrapped) h = refl
-done_same w b c es fs xs ys (bound.CreateTable table) h = refl
-done_same w b c es fs xs ys (bound.DropTable name) h = refl
-done_same w b c es fs xs ys (bound.DropMaster name) h = refl
-done_same w b c es fs xs ys (bound.DropKey name) h = refl
-done_same w b c es fs xs ys (bound.Insert insert) h = absurd h
-done_same w b c es fs xs ys (bound.Update update) h = absurd h
-done_same w b c es fs xs ys (bound.Delete delete) h = absurd h
-done_same w b c es fs xs ys (bound.Select query) h = absurd h
+-- it changes no rows
+no_rows : (s : BoundStatement) → IsDefining s → (target s ≡ None) × (transactions.is_definition s ≡ true)
+no_rows (bound.CreateMaster name path) h = (refl, refl)
+no_rows (bound.CreateKey name master wrapped) h = (refl, refl)
+no_rows (bound.CreateTable table) h = (refl, refl)
+no_rows (bound.DropTable name) h = (refl, refl)
+no_rows (bound.DropMaster name) h = (refl, refl)
+no_rows (bound.DropKey name) h = (refl, refl)
+no_rows (bound.Insert insert) h = absurd h
+no_rows (bound.Update update) h = absurd h
+no_rows (bound.Delete delete) h = absurd h
+no_rows (bound.Select query) h = absurd h
+no_rows (bound.Control control) h = absurd h
 
-step_same : (w : World) (b : Bound) (es fs : List Enc) (xs ys : List Atom) → IsDefining b.statement → step w (alone b) fs ys ≡ step w b es xs
-step_same w b es fs xs ys h =
-    ap (λ s. outcome w (done_by w (alone b) fs s ys)) (renamed_same _ b.statement h) ∙ ap (outcome w) (done_same w (alone b) b fs es ys xs b.statement h)
+-- it is done, or refused
+abbrev AnswersDone : Result Answer SqlFault → Type 0
+AnswersDone a = (a ≡ Ok Defined) ⊎ ((f : SqlFault) × (a ≡ Err f))
 
--- it is done, or refused, which leaves the world
-abbrev pub IsDone : World → Outcome → Type 0
-IsDone w o = (o.answer ≡ Ok Defined) ⊎ ((f : SqlFault) × (o.answer ≡ Err f) × (o.world ≡ w))
-
-made : (w : World) (r : Result Catalog SqlFault) (g : Catalog → World) → IsDone w (outcome w (r >>= λ catalog. Ok (record { answer = Defined; world = g catalog })))
+made : (w : World) (r : Result Catalog SqlFault) (g : Catalog → World) → AnswersDone (outcome w (r >>= λ catalog. Ok (record { answer = Defined; world = g catalog }))).answer
 made w (Ok catalog) g = inl refl
-made w (Err f) g = inr (f, refl, refl)
+made w (Err f) g = inr (f, refl)
 
-done_so : (w : World) (b : Bound) (es : List Enc) (xs : List Atom) (s : BoundStatement) → IsDefining s → IsDone w (outcome w (done_by w b es s xs))
+done_so : (w : World) (b : Bound) (es : List Enc) (xs : List Atom) (s : BoundStatement) → IsDefining s → AnswersDone (outcome w (done_by w b es s xs)).answer
 done_so w b es xs (bound.CreateMaster name path) h = made w (with_master w.catalog name path) _
 done_so w b es xs (bound.CreateKey name master wrapped) h = made w (with_key w.catalog name master wrapped) _
 done_so w b es xs (bound.CreateTable table) h = made w (with_table w.catalog table.def) _
@@ -166,82 +172,147 @@ done_so w b es xs (bound.Insert insert) h = absurd h
 done_so w b es xs (bound.Update update) h = absurd h
 done_so w b es xs (bound.Delete delete) h = absurd h
 done_so w b es xs (bound.Select query) h = absurd h
+done_so w b es xs (bound.Control control) h = absurd h
+
+-- it is done, or refused, which leaves the state; no session gets a transaction by it, or loses one
+pub record IsDone (state : State) (t : Transacted) : Type 0 where
+  pub done : (t.answer ≡ Ok Defined) ⊎ ((f : SqlFault) × (t.answer ≡ Err f) × (t.after ≡ state))
+  pub sessions : t.after.sessions ≡ state.sessions
+
+abbrev outside : Counted → BoundStatement → Result Answer SqlFault → World → CountedOutcome
+outside c s a w = let o = counted c s a w in record { answer = o.answer; after = raised_at o.after (changed_by s o.answer) }
+
+outside_so : (c : Counted) (s : BoundStatement) (a : Result Answer SqlFault) (w : World) → target s ≡ None → AnswersDone a
+    → ((outside c s a w).answer ≡ Ok Defined) ⊎ ((f : SqlFault) × ((outside c s a w).answer ≡ Err f) × ((outside c s a w).after ≡ c))
+outside_so c s a w t (inl e) = rw (e, t) (inl refl)
+outside_so c s a w t (inr h) = let e = h.1 in rw e (inr (h.0, refl, refl))
+
+transacts_so : (state : State) (number : ℕ) (e : Execution) → IsDefining e.bound.statement → IsDone state (transact state number (ask_of e))
+transacts_so state number e h =
+    subst (λ (ask : Ask). IsDone state (transact state number ask)) (sym (asks_so e.bound.statement e h)) (by (transaction_at state number))
+  where
+    by : (o : Option Transaction) → IsDone state (transacted state number o (Executes e))
+    by None =
+        let c = state.shared in
+        let w = c.world in
+        let s = e.bound.statement in
+        let o = step w e.bound e.encs e.params in
+        let d = outside_so c s o.answer o.world (no_rows s h).0 (done_so w e.bound e.encs e.params s h) in
+        record { done = elim d [ inl x ↦ inl x | inr x ↦ inr (x.0, x.1, ap (λ (after : Counted). let v : State = record state { shared = after } in v) x.2) ]; sessions = refl }
+    by (Some t) = let d = (no_rows e.bound.statement h).1 in rw d (record { done = inr (fault.InTransaction, refl, refl); sessions = refl })
 
 -- ---- what it comes to
 
--- the reply says what it means, and the world after it is that
-abbrev pub ExecutesAs : World → ℕ → Pending → Came → Type 0
-ExecutesAs w number p c =
-    let s = serve w (Execute number p.version p.batch.text []) in
-    AnswersAs s.replies c.comes × (c.world ≡ s.after)
+-- a definition that is understood is one that is bound
+pub defining_of : (catalog : Catalog) (batch : Batch) (meant : Meant) → defines batch.text ≡ true → understood catalog batch.text (declared batch) ≡ Ok meant → IsDefining meant.bound.statement
+defining_of catalog batch meant defining e =
+    let parts = parts_of catalog batch.text (declared batch) meant e in
+    bind_defines catalog parts.statement (declared batch) meant.bound (ap reads_definition (sym parts.reads) ∙ defining) parts.binds
 
-answers_so : (w : World) (o : Outcome) → IsDone w o → AnswersAs (answered w o.world o.answer).replies (plain.answered [] w.catalog o.answer) × (o.world ≡ (answered w o.world o.answer).after)
-answers_so w o (inl e) = rw e (refl, refl)
-answers_so w o (inr h) = let e = h.1 in let i = h.2 in rw e (refl, i)
+abbrev pub atoms_of : Batch → List Atom
+atoms_of batch = map (λ (q : Param). plain_atom q.value) batch.params
 
-module _ (law : PreparedAlone) (w : World) (batch : Batch) (meant : Meant) (number : ℕ) (defining : defines batch.text ≡ true) (e : understood w.catalog batch.text (declared batch) ≡ Ok meant) where
+pub definition_done : (state : State) (number : ℕ) (batch : Batch) (meant : Meant) → defines batch.text ≡ true → understood (catalog_of state number) batch.text (declared batch) ≡ Ok meant
+    → IsDone state (transact state number (ask_of (execution meant.bound meant.encs (atoms_of batch))))
+definition_done state number batch meant defining e = transacts_so state number (execution meant.bound meant.encs (atoms_of batch)) (defining_of (catalog_of state number) batch meant defining e)
+
+-- the reply says what it means, and the state after it is that
+pub record ExecutesAs (state : State) (number : ℕ) (p : Pending) (c : Came) : Type 0 where
+  pub replies : AnswersAs (serve state (Execute number p.version p.batch.text [])).replies c.comes
+  pub after : c.state ≡ (serve state (Execute number p.version p.batch.text [])).after
+  pub sessions : c.state.sessions ≡ state.sessions
+
+answers_so : (catalog : Catalog) (state : State) (t : Transacted) → IsDone state t
+    → AnswersAs (answered catalog t.answer t.after).replies (plain.answered [] catalog t.answer) × (t.after ≡ (answered catalog t.answer t.after).after)
+answers_so catalog state t d = elim d.done [
+  | inl e ↦ rw e (refl, refl)
+  | inr h ↦ let e = h.1 in rw e (refl, refl)
+]
+
+module _ (law : PreparedAlone) (state : State) (number : ℕ) (batch : Batch) (meant : Meant) (defining : defines batch.text ≡ true)
+    (e : understood (catalog_of state number) batch.text (declared batch) ≡ Ok meant) where
+  abbrev here : Catalog
+  here = catalog_of state number
+
   abbrev d : Description
-  d = description w.catalog (declared batch) meant
+  d = description here (declared batch) meant
 
   abbrev p : Pending
   p = pending batch d
 
-  is_defining : IsDefining meant.bound.statement
-  is_defining =
-      let parts = parts_of w.catalog batch.text (declared batch) meant e in
-      bind_defines w.catalog parts.statement (declared batch) meant.bound (ap reads_definition (sym parts.reads) ∙ defining) parts.binds
-
   none_used : (place : ℕ) → uses place meant.bound ≡ false
-  none_used = unused meant.bound.statement meant.bound refl is_defining
+  none_used = unused meant.bound.statement meant.bound refl (defining_of here batch meant defining e)
 
   no_use : uses_of p ≡ []
   no_use = no_uses batch.params d.params (none_told meant.bound none_used 0 (declared batch) meant.encs)
 
-  alone_is : understood w.catalog batch.text [] ≡ Ok (record { bound = alone meant.bound; encs = [] })
+  alone_is : understood here batch.text [] ≡ Ok (record { bound = alone meant.bound; encs = [] })
   alone_is =
-      let u = understood_alone law w.catalog batch.text (declared batch) meant (parts_of w.catalog batch.text (declared batch) meant e) in
-      ap (understood w.catalog batch.text) (sym (used_none meant.bound none_used 0 (declared batch))) ∙ u
+      let u = understood_alone law here batch.text (declared batch) meant (parts_of here batch.text (declared batch) meant e) in
+      ap (understood here batch.text) (sym (used_none meant.bound none_used 0 (declared batch))) ∙ u
       ∙ ap (λ (es : List Enc). let v : Meant = record { bound = alone meant.bound; encs = es } in Ok v) (used_none meant.bound none_used 0 meant.encs)
 
-  abbrev atoms : List Atom
-  atoms = map (λ (q : Param). plain_atom q.value) batch.params
+  abbrev did : Transacted
+  did = transact state number (ask_of (execution meant.bound meant.encs (atoms_of batch)))
 
-  abbrev did : Outcome
-  did = step w meant.bound meant.encs atoms
+  -- and does the same without its parameters
+  alone_does : transact state number (ask_of (execution (alone meant.bound) [] [])) ≡ did
+  alone_does =
+      let es = used_none meant.bound none_used 0 meant.encs in
+      let xs = used_none meant.bound none_used 0 (atoms_of batch) in
+      ap (λ es. transact state number (ask_of (execution (alone meant.bound) es []))) (sym es)
+      ∙ ap (λ xs. transact state number (ask_of (execution (alone meant.bound) (used_among (is_used meant.bound) 0 meant.encs) xs))) (sym xs)
+      ∙ transact_alone state number meant.bound meant.encs (atoms_of batch)
 
-  serves_so : serve w (Execute number p.version p.batch.text []) ≡ answered w did.world did.answer
+  serves_so : serve state (Execute number p.version p.batch.text []) ≡ answered here did.answer did.after
   serves_so =
-      let v = eq-eqb w.catalog.version w.catalog.version refl in
+      let v = eq-eqb here.version here.version refl in
       let a = alone_is in
-      let s = step_same w meant.bound meant.encs [] atoms [] is_defining in
-      rw (v, a, s) refl
+      rw (v, a) (ap (λ (t : Transacted). answered here t.answer t.after) alone_does)
 
-  means_so : plain.executed [] w p ≡ came (plain.answered [] w.catalog did.answer) Idle did.world
+  means_so : plain.executed [] state number p ≡ came (plain.answered [] here did.answer) Idle did.after
   means_so =
-      let v = eq-eqb w.catalog.version w.catalog.version refl in
-      ap (λ us. plain.executed_with [] w p (plain.why_unopened [] p.keys (map (λ (u : Use). u.enc) us))) no_use
+      let v = eq-eqb here.version here.version refl in
+      ap (λ us. plain.executed_with [] state number p (plain.why_unopened [] p.keys (map (λ (u : Use). u.enc) us))) no_use
       ∙ rw (v, e) refl
 
-  runs_so : ExecutesAs w number p (plain.executed [] w p)
+  runs_so : ExecutesAs state number p (plain.executed [] state number p)
   runs_so =
-      let a = answers_so w did (done_so w meant.bound meant.encs atoms meant.bound.statement is_defining) in
+      let done = definition_done state number batch meant defining e in
+      let a = answers_so here state did done in
       let s = serves_so in
       let m = means_so in
-      rw (s, m) a
+      subst (ExecutesAs state number p) (sym m) (record {
+        replies = subst (λ (x : Served State). AnswersAs x.replies (plain.answered [] here did.answer)) (sym s) a.0;
+        after = a.1 ∙ ap (λ (x : Served State). x.after) (sym s);
+        sessions = done.sessions;
+      })
 
-pub runs_definition : PreparedAlone → (w : World) (p : Pending) (number : ℕ) → IsDefinition w p → ExecutesAs w number p (plain.executed [] w p)
-runs_definition law w p number h =
-    let q = bind_ok (understood w.catalog h.batch.text (declared h.batch)) (λ meant. Ok (description w.catalog (declared h.batch) meant)) h.description h.described in
-    let is : description w.catalog (declared h.batch) q.0 ≡ h.description = cc in
-    subst (λ (x : Pending). ExecutesAs w number x (plain.executed [] w x)) (ap (pending h.batch) is ∙ sym h.is) (runs_so law w h.batch q.0 number h.defines q.1)
+pub runs_definition : PreparedAlone → (state : State) (number : ℕ) (p : Pending) → IsDefinition state number p → ExecutesAs state number p (plain.executed [] state number p)
+runs_definition law state number p h =
+    let here = catalog_of state number in
+    let q = bind_ok (understood here h.batch.text (declared h.batch)) (λ meant. Ok (description here (declared h.batch) meant)) h.description h.described in
+    let is : description here (declared h.batch) q.0 ≡ h.description = cc in
+    subst (λ (x : Pending). ExecutesAs state number x (plain.executed [] state number x)) (ap (pending h.batch) is ∙ sym h.is) (runs_so law state number h.batch q.0 h.defines q.1)
 
 -- ---- its one reply
 
-pub replies_so : (w now : World) (number : ℕ) (p : Pending) (c : Came) (r : Request) (replies seen : List Reply) → ExecutesAs w number p c → r ≡ Execute number p.version p.batch.text []
-    → serve w r ≡ record { replies = replies; after = now } → seen ≡ replies → AnswersAs seen c.comes × (c.world ≡ now)
-replies_so w now number p c r replies seen h i s e =
-    let same : serve w (Execute number p.version p.batch.text []) ≡ record { replies = replies; after = now } = ap (serve w) (sym i) ∙ s in
-    (subst (λ xs. AnswersAs xs c.comes) (ap (λ (x : Served World). x.replies) same ∙ sym e) (h.0), h.1 ∙ ap (λ (x : Served World). x.after) same)
+-- what the reply says, and the state after it
+pub record Replied (state now : State) (seen : List Reply) (c : Came) : Type 0 where
+  pub says : AnswersAs seen c.comes
+  pub after : c.state ≡ now
+  pub sessions : now.sessions ≡ state.sessions
+
+pub replies_so : (state now : State) (number : ℕ) (p : Pending) (c : Came) (r : Request) (replies seen : List Reply) → ExecutesAs state number p c → r ≡ Execute number p.version p.batch.text []
+    → serve state r ≡ record { replies = replies; after = now } → seen ≡ replies → Replied state now seen c
+replies_so state now number p c r replies seen h i s e =
+    let same : serve state (Execute number p.version p.batch.text []) ≡ record { replies = replies; after = now } = ap (serve state) (sym i) ∙ s in
+    let after : c.state ≡ now = h.after ∙ ap (λ (x : Served State). x.after) same in
+    record {
+      says = subst (λ xs. AnswersAs xs c.comes) (ap (λ (x : Served State). x.replies) same ∙ sym e) h.replies;
+      after = after;
+      sessions = ap (λ (x : State). x.sessions) (sym after) ∙ h.sessions;
+    }
 
 one_outcome : (replies : List Reply) (a b : comes_to.Outcome) → AnswersAs replies a → AnswersAs replies b → a ≡ b
 one_outcome replies outcome_of.Defined outcome_of.Defined h g = refl
@@ -264,6 +335,6 @@ one_outcome replies (outcome_of.Changed count) b h g = absurd h
 one_outcome replies (outcome_of.Described params) b h g = absurd h
 one_outcome replies (outcome_of.Failed f) b h g = absurd h
 
-pub comes_so : (c : Came) (now : World) (replies : List Reply) (r : Result comes_to.Outcome AllocError) → AnswersAs replies c.comes → c.world ≡ now → IfOk r (AnswersAs replies) → IfOk r (ComesTo c now)
+pub comes_so : (c : Came) (now : State) (replies : List Reply) (r : Result comes_to.Outcome AllocError) → AnswersAs replies c.comes → c.state ≡ now → IfOk r (AnswersAs replies) → IfOk r (ComesTo c now)
 comes_so c now replies (Ok comes) h w g = (one_outcome replies c.comes comes h g, w)
 comes_so c now replies (Err e) h w g = tt

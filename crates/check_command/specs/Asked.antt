@@ -2,7 +2,6 @@
 use Rattle.std.specs.Prelude.{◌≡◌, ◌==◌, ℕ, List, [], ◌∷◌, Some, None, Result, Ok, Err, Bool, true, false}
 use Rattle.ae_base.specs.Faults.{code_of}
 use Rattle.ae_base.specs.declared.batches.Batch.{Batch}
-use Rattle.engine.specs.Worlds.{World}
 use Rattle.wire_messages.specs.Messages.{Description}
 use Rattle.wire_messages.specs.declared.replies.Done.TheVariants as done
 use Rattle.wire_messages.specs.declared.replies.Reply.{Reply}
@@ -10,7 +9,7 @@ use Rattle.wire_messages.specs.declared.replies.Reply.TheVariants as reply
 use Rattle.wire_messages.specs.declared.requests.Request.{Request}
 use Rattle.wire_messages.specs.declared.requests.Request.TheVariants as request
 use Rattle.server_core.specs.Describing.{describe}
-use Rattle.server_core.specs.Serve.{described}
+use Rattle.server_core.specs.Serve.{State, catalog_of, described}
 use Rattle.enc_types.specs.Laws.{TypingsAreOfColumns}
 use Rattle.resolve.specs.Laws.{BoundStatementsAre}
 use Rattle.conversation.specs.Batches.{why_unfit}
@@ -30,6 +29,10 @@ use Rattle.check_command.specs.Check.{defines}
 use Rattle.check_command.specs.declared.describing.Asked.{Asked}
 use Rattle.check_command.specs.declared.describing.Asked.TheVariants as asked
 
+-- it asks for the description of this batch, in this session
+abbrev pub AsksFor : ℕ → Batch → Request → Type 0
+AsksFor number batch r = r ≡ request.Describe number batch.text (declared batch)
+
 -- the batch that is begun is asked to be described
 pub record AsksOf (r : Request) (s : Session) : Type 0 where
   pub number : ℕ
@@ -37,56 +40,57 @@ pub record AsksOf (r : Request) (s : Session) : Type 0 where
   pub params : HasParams batch
   pub fit : why_unfit batch ≡ None
   pub begun : s ≡ session.Begun batch
-  pub asks : r ≡ request.Describe number batch.text (declared batch)
+  pub asks : AsksFor number batch r
 
--- what a server in this world replies
-abbrev pub said_of : World → Batch → List Reply
-said_of world batch = (described world (describe world.catalog batch.text (declared batch))).replies
+-- what a server in this state replies to this session
+abbrev pub said_of : State → ℕ → Batch → List Reply
+said_of state number batch = (described state (describe (catalog_of state number) batch.text (declared batch))).replies
 
 -- the replies are those to the batch that is begun, over a server that binds and types as the laws say
 pub record IsToldOf (s : Session) (replies : List Reply) : Type 0 where
-  pub world : World
+  pub state : State
+  pub number : ℕ
   pub batch : Batch
   pub params : HasParams batch
   pub fit : why_unfit batch ≡ None
   pub begun : s ≡ session.Begun batch
-  pub told : replies ≡ said_of world batch
+  pub told : replies ≡ said_of state number batch
   pub bound : BoundStatementsAre
   pub typings : TypingsAreOfColumns
 
 -- it is described, and its parameters are told; or the server refuses; or it may not be sent
-abbrev pub IsAsked : World → Batch → Asked → Type 0
-IsAsked world batch (asked.Ready p params) =
-    (why_unfit batch ≡ None) × ((d : Description) × (describe world.catalog batch.text (declared batch) ≡ Ok d) × (p ≡ pending batch d)) × (params ≡ described_params p.keys (uses_of p))
-IsAsked world batch (asked.Refused f) = (why_unfit batch ≡ None) × (describe world.catalog batch.text (declared batch) ≡ Err f)
-IsAsked world batch (asked.Unfit f) = why_unfit batch ≡ Some f
+abbrev pub IsAsked : State → ℕ → Batch → Asked → Type 0
+IsAsked state number batch (asked.Ready p params) =
+    (why_unfit batch ≡ None) × ((d : Description) × (describe (catalog_of state number) batch.text (declared batch) ≡ Ok d) × (p ≡ pending batch d)) × (params ≡ described_params p.keys (uses_of p))
+IsAsked state number batch (asked.Refused f) = (why_unfit batch ≡ None) × (describe (catalog_of state number) batch.text (declared batch) ≡ Err f)
+IsAsked state number batch (asked.Unfit f) = why_unfit batch ≡ Some f
 
 -- what the driver's answer to a description says of a batch, and the session after it
-abbrev pub TellsAs : World → Batch → DescribeAnswer → Session → Type 0
-TellsAs world batch (answer.Ready params) after =
-    (d : Description) × (describe world.catalog batch.text (declared batch) ≡ Ok d) × (after ≡ session.Pending (pending batch d))
+abbrev pub TellsAs : State → ℕ → Batch → DescribeAnswer → Session → Type 0
+TellsAs state number batch (answer.Ready params) after =
+    (d : Description) × (describe (catalog_of state number) batch.text (declared batch) ≡ Ok d) × (after ≡ session.Pending (pending batch d))
     × (params ≡ described_params d.keys (uses_of (pending batch d)))
-TellsAs world batch (answer.Refused f) after = describe world.catalog batch.text (declared batch) ≡ Err f
+TellsAs state number batch (answer.Refused f) after = describe (catalog_of state number) batch.text (declared batch) ≡ Err f
 
 -- the reply is awaited
-abbrev pub AnswersOf : World → Batch → Result DescribeAnswer Halt → Session → Type 0
-AnswersOf world batch (Ok x) after = TellsAs world batch x after
-AnswersOf world batch (Err halt.OutOfMemory) after = Unit {0}
-AnswersOf world batch (Err halt.BadReply) after = ⊥
-AnswersOf world batch (Err halt.EntropyFault) after = ⊥
-AnswersOf world batch (Err halt.VaultFault) after = ⊥
+abbrev pub AnswersOf : State → ℕ → Batch → Result DescribeAnswer Halt → Session → Type 0
+AnswersOf state number batch (Ok x) after = TellsAs state number batch x after
+AnswersOf state number batch (Err halt.OutOfMemory) after = Unit {0}
+AnswersOf state number batch (Err halt.BadReply) after = ⊥
+AnswersOf state number batch (Err halt.EntropyFault) after = ⊥
+AnswersOf state number batch (Err halt.VaultFault) after = ⊥
 
--- a definition was described in this world
-pub record IsDefinition (world : World) (p : Pending) : Type 0 where
+-- a definition was described in this state, to this session
+pub record IsDefinition (state : State) (number : ℕ) (p : Pending) : Type 0 where
   pub batch : Batch
   pub description : Description
-  pub described : describe world.catalog batch.text (declared batch) ≡ Ok description
+  pub described : describe (catalog_of state number) batch.text (declared batch) ≡ Ok description
   pub is : p ≡ pending batch description
   pub defines : defines batch.text ≡ true
 
--- what it came to, and the world after it
-abbrev pub ComesTo : Came → World → Outcome → Type 0
-ComesTo c after comes = (c.comes ≡ comes) × (c.world ≡ after)
+-- what it came to, and the state after it
+abbrev pub ComesTo : Came → State → Outcome → Type 0
+ComesTo c after comes = (c.comes ≡ comes) × (c.state ≡ after)
 
 -- EncryptionClash
 abbrev pub is_clash : Outcome → Bool

@@ -1,6 +1,6 @@
--- What `check` comes to: the walk of the plaintext meaning from an empty world, in which a definition is executed, every other batch ends
--- with its description, and nothing stays pending. Behind a clash stands a chain of rules that shows it.
-use Rattle.std.specs.Prelude.{◌≡◌, ◌⊎◌, ℕ, List, [], ◌∷◌, ◌++◌, flat_map, codes, decimal, encode_utf8_all, Option, Some, None, Result, Ok, Err, Bool, true, false}
+-- What `check` comes to: the walk of the plaintext meaning from the empty state, in which a definition is executed, every other batch ends
+-- with its description, and nothing stays pending. So no session ever has a transaction. Behind a clash stands a chain of rules that shows it.
+use Rattle.std.specs.Prelude.{◌≡◌, ◌⊎◌, ℕ, List, [], ◌∷◌, ◌++◌, flat_map, replicate, codes, decimal, encode_utf8_all, Option, Some, None, Result, Ok, Err, Bool, true, false}
 use Rattle.ae_base.specs.declared.batches.Batch.{Batch}
 use Rattle.ae_base.specs.declared.faults.SqlFault.{SqlFault}
 use Rattle.ae_edge.specs.Devices.{IsFront}
@@ -8,9 +8,9 @@ use Rattle.sql_tree.specs.Bound.{Bound}
 use Rattle.sql_tree.specs.Statements.{Statement}
 use Rattle.sql_tree.specs.Statements as tree
 use Rattle.sql_grammar.specs.Texts.{parsed}
-use Rattle.engine.specs.Worlds.{World}
 use Rattle.server_core.specs.Describing.{named}
 use Rattle.server_core.specs.Explaining.{Explains}
+use Rattle.server_core.specs.Serve.{State, catalog_of}
 use Rattle.conversation.specs.Batches.{why_unfit}
 use Rattle.conversation.specs.Pending.{Pending}
 use Rattle.conversation.specs.declared.faults.DriverFault.{DriverFault}
@@ -35,6 +35,7 @@ is_definition (tree.Insert table columns rows) = false
 is_definition (tree.Update table assignments filter) = false
 is_definition (tree.Delete table filter) = false
 is_definition (tree.Select query) = false
+is_definition (tree.Control control) = false
 
 abbrev pub reads_definition : Result Statement SqlFault → Bool
 reads_definition (Ok statement) = is_definition statement
@@ -47,13 +48,17 @@ defines text = reads_definition (parsed (encode_utf8_all text))
 -- ---- what a batch comes to
 
 -- once it is described, a definition is executed; every other batch ends there. No key is there to open.
-abbrev pub described_only : World → Bool → Pending → Came
-described_only world true = executed [] world
-described_only world false = waits world
+abbrev pub described_only : State → ℕ → Bool → Pending → Came
+described_only state number true = executed [] state number
+described_only state number false = waits state
 
--- from an idle session
-abbrev pub checked : World → Batch → Came
-checked world batch = begins world batch (described_only world (defines batch.text)) Idle
+-- a batch of this session, which is idle
+abbrev pub checked : State → ℕ → Batch → Came
+checked state number batch = begins state number batch (described_only state number (defines batch.text)) Idle
+
+-- no session has a transaction
+abbrev pub HasNoTransaction : State → Type 0
+HasNoTransaction state = state.sessions ≡ replicate 64 None
 
 -- ---- what is printed
 
@@ -66,37 +71,42 @@ Chains None bound places = Explains bound places
 Chains (Some f) bound places = places ≡ []
 
 -- the lines of a batch: what it comes to, and for each rule of a chain `because at` its place
-pub record AreLinesOf (world : World) (batch : Batch) (lines : List ℕ) : Type 0 where
+pub record AreLinesOf (state : State) (number : ℕ) (batch : Batch) (lines : List ℕ) : Type 0 where
   pub chain : List ℕ
-  pub chains : Chains (why_unfit batch) (named world.catalog batch.text (declared batch)) chain
-  pub is : lines ≡ printed_outcome (checked world batch).comes ++ flat_map because chain
+  pub chains : Chains (why_unfit batch) (named (catalog_of state number) batch.text (declared batch)) chain
+  pub is : lines ≡ printed_outcome (checked state number batch).comes ++ flat_map because chain
 
 -- ---- a script
 
+-- a batch, and the number of its session
+pub record SessionBatch : Type 0 where
+  pub number : ℕ
+  pub batch : Batch
+
 -- the batches of a script: `:describe` ends one as `GO` does, and `:execute` is nothing
-abbrev pub batch_in : Step → List Batch
-batch_in (Whole number batch) = batch ∷ []
-batch_in (Half number batch) = batch ∷ []
+abbrev pub batch_in : Step → List SessionBatch
+batch_in (Whole number batch) = record { number = number; batch = batch } ∷ []
+batch_in (Half number batch) = record { number = number; batch = batch } ∷ []
 batch_in (Execute number) = []
 
-abbrev pub batches : List Step → List Batch
+abbrev pub batches : List Step → List SessionBatch
 batches steps = flat_map batch_in steps
 
 -- what the batches come to, one after another
-abbrev pub outcomes : World → List Batch → List Outcome
-outcomes world [] = []
-outcomes world (batch ∷ more) = (checked world batch).comes ∷ outcomes (checked world batch).world more
+abbrev pub outcomes : State → List SessionBatch → List Outcome
+outcomes state [] = []
+outcomes state (b ∷ more) = (checked state b.number b.batch).comes ∷ outcomes (checked state b.number b.batch).state more
 
 -- the text is the lines of the batches, one after another
-abbrev pub IsCheck : World → List Batch → List ℕ → Type 0
-IsCheck world [] text = text ≡ []
-IsCheck world (batch ∷ more) text =
-    (lines rest : List ℕ) × AreLinesOf world batch lines × IsCheck (checked world batch).world more rest × (text ≡ lines ++ rest)
+abbrev pub IsCheck : State → List SessionBatch → List ℕ → Type 0
+IsCheck state [] text = text ≡ []
+IsCheck state (b ∷ more) text =
+    (lines rest : List ℕ) × AreLinesOf state b.number b.batch lines × IsCheck (checked state b.number b.batch).state more rest × (text ≡ lines ++ rest)
 
 -- the text is a front of that: nothing, a front of the first batch's lines, or all of these and a front of what follows
-abbrev pub IsCheckFront : World → List Batch → List ℕ → Type 0
-IsCheckFront world [] text = text ≡ []
-IsCheckFront world (batch ∷ more) text =
+abbrev pub IsCheckFront : State → List SessionBatch → List ℕ → Type 0
+IsCheckFront state [] text = text ≡ []
+IsCheckFront state (b ∷ more) text =
     (text ≡ [])
-    ⊎ ((lines : List ℕ) × AreLinesOf world batch lines
-    × (IsFront text lines ⊎ ((rest : List ℕ) × IsCheckFront (checked world batch).world more rest × (text ≡ lines ++ rest))))
+    ⊎ ((lines : List ℕ) × AreLinesOf state b.number b.batch lines
+    × (IsFront text lines ⊎ ((rest : List ℕ) × IsCheckFront (checked state b.number b.batch).state more rest × (text ≡ lines ++ rest))))

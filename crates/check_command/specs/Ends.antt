@@ -2,10 +2,10 @@
 use Rattle.std.specs.Prelude.{◌≡◌, ◌⊎◌, ℕ, ◌≤◌, ◌<◌, ◌+◌, List, [], length, Option, Ok, Err, Bool, true, false}
 use Rattle.ae_edge.specs.Devices.{Adds}
 use Rattle.ae_edge.specs.Streams.{HasTaken}
-use Rattle.engine.specs.Worlds.{empty_world}
 use Rattle.run_words.specs.Printing.{has_refusal}
 use Rattle.script_lang.specs.Script.{steps_of}
 use Rattle.script_lang.specs.declared.steps.Step.{Step}
+use Rattle.server_core.specs.Serve.{empty_state}
 use Rattle.check_command.specs.Check.{batches, outcomes, IsCheck, IsCheckFront}
 use Rattle.check_command.specs.declared.steps.Checked.{Checked}
 use Rattle.check_command.specs.declared.steps.Checked.TheVariants as ended
@@ -19,11 +19,11 @@ most_script_bytes = 16777216
 -- the check of the steps was put, and a batch was refused or none was
 abbrev pub PutsCheck : Bool → List Step → Option (List ℕ) → Option (List ℕ) → Type 0
 PutsCheck refused steps old new =
-    ((text : List ℕ) × IsCheck empty_world (batches steps) text × Adds text old new) × (has_refusal (outcomes empty_world (batches steps)) ≡ refused)
+    ((text : List ℕ) × IsCheck empty_state (batches steps) text × Adds text old new) × (has_refusal (outcomes empty_state (batches steps)) ≡ refused)
 
 -- a front of it was put
 abbrev pub PutsCheckFront : List Step → Option (List ℕ) → Option (List ℕ) → Type 0
-PutsCheckFront steps old new = (text : List ℕ) × IsCheckFront empty_world (batches steps) text × Adds text old new
+PutsCheckFront steps old new = (text : List ℕ) × IsCheckFront empty_state (batches steps) text × Adds text old new
 
 -- the check of steps ended so
 abbrev pub ChecksTo : Checked → List Step → Option (List ℕ) → Option (List ℕ) → Type 0

@@ -22,7 +22,8 @@ pub fn outcome_of(
     batch: &Batch,
 ) -> Result<Outcome, AllocError>
     requires { HasParams batch.now }
-    ensures { IfOk result (ComesTo (check.checked server.old batch.now) server.new) }
+    ensures comes { IfOk result (ComesTo (check.checked server.old number batch.now) server.new) }
+    ensures sessions { server.new.sessions ≡ server.old.sessions }
 {
     let defines = defines(alloc, &batch.text)?;
     match describe(alloc, server, number, batch) {

@@ -28,8 +28,9 @@ pub fn defined(
     number: SessionId,
     pending: Pending,
 ) -> Result<Outcome, AllocError>
-    requires { IsDefinition server.old pending }
-    ensures { IfOk result (ComesTo (executed [] server.old pending) server.new) }
+    requires { IsDefinition server.old number pending }
+    ensures comes { IfOk result (ComesTo (executed [] server.old number pending) server.new) }
+    ensures sessions { server.new.sessions ≡ server.old.sessions }
 {
     prepared_alone();
     let request = execution(alloc, number, pending);

@@ -41,6 +41,7 @@ fn is_definition(statement: &Statement) -> bool
         Statement::Insert { .. }
         | Statement::Update { .. }
         | Statement::Delete { .. }
+        | Statement::Control(_)
         | Statement::Select(_) => false,
     }
 }

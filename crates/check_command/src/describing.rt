@@ -1,12 +1,12 @@
 //! A batch is described.
 
-ghost use Rattle.std.specs.Prelude.{◌≡◌, IfOk, None};
+ghost use Rattle.std.specs.Prelude.{◌≡◌, ℕ, IfOk, None};
 ghost use Rattle.ae_base.specs.declared.batches.Batch.{Batch};
 ghost use Rattle.conversation.specs.Batches.{why_unfit};
 ghost use Rattle.conversation.specs.declared.sessions.Session.TheVariants as session_of;
 ghost use Rattle.script_lang.specs.Limits.{HasParams};
-ghost use Rattle.engine.specs.Worlds.{World};
-ghost use Rattle.check_command.specs.Asked.{AnswersOf, AsksOf, IsAsked, IsToldOf, said_of};
+ghost use Rattle.server_core.specs.Serve.{State};
+ghost use Rattle.check_command.specs.Asked.{AnswersOf, AsksFor, AsksOf, IsAsked, IsToldOf, said_of};
 
 use ae_base::batches::Batch;
 use ae_base::faults::SqlFault;
@@ -43,7 +43,7 @@ pub fn describe(
     batch: &Batch,
 ) -> Result<Asked, AllocError>
     requires { HasParams batch.now }
-    ensures asked { IfOk result (IsAsked server.old batch.now) }
+    ensures asked { IfOk result (IsAsked server.old number batch.now) }
     ensures same { server.new ≡ server.old }
 {
     let Turn { answer, after } = begin(alloc, Session::Idle, number, batch.copy()?);
@@ -68,7 +68,7 @@ fn heard(
     session: Session,
 ) -> Result<Asked, AllocError>
     requires { AsksOf request session }
-    ensures asked { (batch : Batch) → session ≡ session_of.Begun batch → IfOk result (IsAsked server.old batch) }
+    ensures asked { (number : ℕ) (batch : Batch) → session ≡ session_of.Begun batch → AsksFor number batch request.entry → IfOk result (IsAsked server.old number batch) }
     ensures same { server.new ≡ server.old }
 {
     bound_statements_are();
@@ -87,7 +87,7 @@ fn heard(
 /// What the replies to a description tell: there is one.
 fn told(alloc: Global, session: Session, replies: &[Reply<'static>]) -> Result<Asked, AllocError>
     requires { IsToldOf session replies.now }
-    ensures { (world : World) (batch : Batch) → session ≡ session_of.Begun batch → replies.now ≡ said_of world batch → IfOk result (IsAsked world batch) }
+    ensures { (state : State) (number : ℕ) (batch : Batch) → session ≡ session_of.Begun batch → replies.now ≡ said_of state number batch → IfOk result (IsAsked state number batch) }
 {
     let [reply] = replies else { unreachable!() };
     answered(described(alloc, session, reply))
@@ -95,8 +95,8 @@ fn told(alloc: Global, session: Session, replies: &[Reply<'static>]) -> Result<A
 
 /// What the driver's answer to a description says.
 fn answered(turn: Turn<Result<DescribeAnswer, Halt>>) -> Result<Asked, AllocError>
-    requires { (world : World) × (batch : Batch) × AnswersOf world batch turn.answer turn.after }
-    ensures { (world : World) (batch : Batch) → why_unfit batch ≡ None → AnswersOf world batch turn.answer turn.after → IfOk result (IsAsked world batch) }
+    requires { (state : State) × (number : ℕ) × (batch : Batch) × AnswersOf state number batch turn.answer turn.after }
+    ensures { (state : State) (number : ℕ) (batch : Batch) → why_unfit batch ≡ None → AnswersOf state number batch turn.answer turn.after → IfOk result (IsAsked state number batch) }
 {
     let Turn { answer, after } = turn;
     match answer {

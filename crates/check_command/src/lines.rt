@@ -53,7 +53,7 @@ pub fn is_clash(outcome: &Outcome) -> bool
 /// The places of the rules of a chain for which a batch has no encryption typing.
 pub fn chain_of(alloc: Global, server: &Server, batch: &Batch) -> Result<Seq<u32>, AllocError>
     requires { why_unfit batch.now ≡ None }
-    ensures { IfOk result (Explains (named server.now.catalog batch.now.text (declared batch.now))) }
+    ensures { IfOk result (Explains (named server.now.shared.world.catalog batch.now.text (declared batch.now))) }
 {
     let declarations = declared(alloc, &batch.params)?;
     let text = statement(&batch.text);

@@ -1,17 +1,16 @@
 //! The steps of a script, checked one after another.
 
-ghost use Rattle.std.specs.Prelude.{◌≡◌, ◌||◌, IfOk};
+ghost use Rattle.std.specs.Prelude.{◌≡◌, ◌||◌, ℕ, IfOk};
 ghost use Rattle.std.specs.List.{All};
 ghost use Rattle.ae_edge.specs.Devices.{Rose};
 ghost use Rattle.conversation.specs.Batches.{why_unfit};
-ghost use Rattle.engine.specs.Worlds.{World};
 ghost use Rattle.plain_meaning.specs.Reference.{declared};
 ghost use Rattle.script_lang.specs.Limits.{HasParams, IsWithinLimits};
 ghost use Rattle.server_core.specs.Describing.{named};
-ghost use Rattle.server_core.specs.Serve.{empty_state};
+ghost use Rattle.server_core.specs.Serve.{State, catalog_of, empty_state};
 ghost use Rattle.check_command.specs.Asked.{ComesTo};
 ghost use Rattle.check_command.specs.Check as check;
-ghost use Rattle.check_command.specs.Check.{Chains};
+ghost use Rattle.check_command.specs.Check.{Chains, HasNoTransaction};
 ghost use Rattle.check_command.specs.Ends.{ChecksTo};
 ghost use Rattle.check_command.specs.Puts.{AreLines, CountsPut, PutsBatch, PutsStep};
 
@@ -67,8 +66,9 @@ fn chain_behind(
     batch: &Batch,
     outcome: &Outcome,
 ) -> Result<Seq<u32>, AllocError>
-    requires { (world : World) × ComesTo (check.checked world batch.now) server.now outcome.now }
-    ensures { (world : World) → ComesTo (check.checked world batch.now) server.now outcome.now → IfOk result (Chains (why_unfit batch.now) (named world.catalog batch.now.text (declared batch.now))) }
+    requires comes { (state : State) × (number : ℕ) × ComesTo (check.checked state number batch.now) server.now outcome.now }
+    requires alone { HasNoTransaction server.now }
+    ensures { (state : State) (number : ℕ) → ComesTo (check.checked state number batch.now) server.now outcome.now → IfOk result (Chains (why_unfit batch.now) (named (catalog_of state number) batch.now.text (declared batch.now))) }
 {
     if !is_clash(outcome) {
         return Ok(Seq::new(alloc));
@@ -82,8 +82,9 @@ fn lines_for(
     batch: &Batch,
     outcome: &Outcome,
 ) -> Result<Lines, AllocError>
-    requires { (world : World) × ComesTo (check.checked world batch.now) server.now outcome.now }
-    ensures { (world : World) → ComesTo (check.checked world batch.now) server.now outcome.now → IfOk result (AreLines world server.now batch.now) }
+    requires comes { (state : State) × (number : ℕ) × ComesTo (check.checked state number batch.now) server.now outcome.now }
+    requires alone { HasNoTransaction server.now }
+    ensures { (state : State) (number : ℕ) → ComesTo (check.checked state number batch.now) server.now outcome.now → IfOk result (AreLines state server.now number batch.now) }
 {
     let chain = chain_behind(alloc, server, batch, outcome)?;
     Ok(Lines {
@@ -99,8 +100,10 @@ fn lines_of(
     number: SessionId,
     batch: &Batch,
 ) -> Result<Lines, AllocError>
-    requires { HasParams batch.now }
-    ensures { IfOk result (AreLines server.old server.new batch.now) }
+    requires params { HasParams batch.now }
+    requires alone { HasNoTransaction server.old }
+    ensures lines { IfOk result (AreLines server.old server.new number batch.now) }
+    ensures sessions { server.new.sessions ≡ server.old.sessions }
 {
     let outcome = outcome_of(alloc, server, number, batch)?;
     let lines = lines_for(alloc, server, batch, &outcome);
@@ -116,8 +119,10 @@ fn check_batch<W: Sink>(
     batch: &Batch,
     out: &mut W,
 ) -> Result<bool, Unput>
-    requires { HasParams batch.now }
-    ensures puts { PutsBatch result server.old server.new batch.now (W.held out.old) (W.held out.new) }
+    requires params { HasParams batch.now }
+    requires alone { HasNoTransaction server.old }
+    ensures puts { PutsBatch result server.old server.new number batch.now (W.held out.old) (W.held out.new) }
+    ensures sessions { server.new.sessions ≡ server.old.sessions }
     ensures counts { CountsPut result (W.faults out.old) (W.faults out.new) }
 {
     let lines = match lines_of(alloc, server, number, batch) {
@@ -138,7 +143,9 @@ fn check_step<W: Sink>(
     step: &Step,
     out: &mut W,
 ) -> Result<bool, Unput>
-    requires { IsWithinLimits step.now }
+    requires limits { IsWithinLimits step.now }
+    requires alone { HasNoTransaction server.old }
+    ensures sessions { server.new.sessions ≡ server.old.sessions }
     ensures puts { PutsStep result server.old server.new step.now (W.held out.old) (W.held out.new) }
     ensures counts { CountsPut result (W.faults out.old) (W.faults out.new) }
 {

@@ -186,6 +186,7 @@ module _ (f : ℕ → ℕ) where
   statement (bound.Update update) = joined (flat_map assignment_rules update.assignments) (filter_rules update.filter) _ _ (each (renamed_assignment f) assignment_rules assignment_rules assignment update.assignments) (filter update.filter)
   statement (bound.Delete delete) = filter delete.filter
   statement (bound.Select q) = query q
+  statement (bound.Control control) = refl
 
   pub at_renamed : (r : Rule) → at_of (renamed_rule f r) ≡ at_of r
   at_renamed (Same x y at) = refl

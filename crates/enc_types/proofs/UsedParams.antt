@@ -177,6 +177,7 @@ module _ (K : ℕ → Type 0) where
       (each uses_in_assignment assignment_rules (λ x g. ((tt, site x.value g), operand x.value g)) update.assignments a) (filter update.filter b)
   statement (bound.Delete delete) h = filter delete.filter h
   statement (bound.Select q) h = query q h
+  statement (bound.Control control) h = tt
 
   placed_known : (r : Rule) (rs : List Rule) → KnownRule K r → AllKnown K rs → AllKnown K (placed r rs)
   placed_known r [] k l = (k, tt)

@@ -80,6 +80,7 @@ module _ (p n : ℕ) where
       either (list_any (uses_in_item p) q.items) (list_any (uses_in_join p) q.joins || uses_in_filter p q.filter) (p < n) h
       (one_of (λ (i : BoundItem). IsPlacedValue (length columns) n i.value) (uses_in_item p) (p < n) (λ i g u. item (length columns) i.value g u) q.items k.items)
       (λ g. either (list_any (uses_in_join p) q.joins) (uses_in_filter p q.filter) (p < n) g (joins (length columns) q.from.width q.joins k.joins) (filter (length columns) q.filter k.filter))
+  statement columns (bound.Control control) k h = absurd cc
 
 pub used_within : (b : Bound) → IsWellPlaced b → (p : ℕ) → uses p b ≡ true → p < length b.params
 used_within b k p h = statement p (length b.params) b.columns b.statement k h

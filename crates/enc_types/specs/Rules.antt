@@ -141,6 +141,7 @@ statement_rules (bound.Insert insert) = flat_map (row_rules insert.named) insert
 statement_rules (bound.Update update) = flat_map assignment_rules update.assignments ++ filter_rules update.filter
 statement_rules (bound.Delete delete) = filter_rules delete.filter
 statement_rules (bound.Select query) = query_rules query
+statement_rules (bound.Control control) = []
 
 -- ---- the list of rules, in the order of their places; those of one place stand as above
 

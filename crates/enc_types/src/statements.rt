@@ -42,7 +42,8 @@ fn of_statement(statement: &BoundStatement, rules: &mut Seq<Rule>) -> Result<(),
         | BoundStatement::CreateKey { .. }
         | BoundStatement::DropTable(_)
         | BoundStatement::DropMaster(_)
-        | BoundStatement::DropKey(_) => Ok(()),
+        | BoundStatement::DropKey(_)
+        | BoundStatement::Control(_) => Ok(()),
         BoundStatement::CreateTable(table) => ask_each(table.keyed.as_slice(), rules),
         BoundStatement::Insert(insert) => of_insert(insert, rules),
         BoundStatement::Update(update) => of_update(update, rules),

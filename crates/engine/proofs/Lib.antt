@@ -3,10 +3,12 @@ pub mod Contents
 pub mod GivingAlike
 pub mod Kept
 pub mod Moving
+pub mod Planned
 pub mod Rowwise
 pub mod Shown
 pub mod Simulating
 pub mod Suited
+pub mod Swapping
 pub mod Tables
 pub mod Updating
 pub mod Walks

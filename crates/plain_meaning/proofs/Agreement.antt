@@ -1,6 +1,6 @@
 -- Over the server a script comes to its plaintext meaning, sealed values and all.
 use Rattle.std.proofs.Common.{◌≡◌, inl, ℕ, suc, ◌+◌, ◌-◌, List, [], ◌∷◌, ◌++◌, map, length, Option, Some, None, Result, Ok, Err, Bool, true, false, cond, refl, sym, ap, ◌∙◌, subst, arith}
-use Rattle.std.specs.Prelude.{◌==◌}
+use Rattle.std.specs.Prelude.{◌==◌, slice_set}
 use Rattle.std.specs.List.{All, AllZip}
 use Rattle.std.proofs.lemmas.Bool.{eqb-true}
 use Rattle.std.proofs.lemmas.List.{length-map}
@@ -12,27 +12,31 @@ use Rattle.ae_base.specs.declared.batches.Param.{Param}
 use Rattle.ae_base.specs.declared.faults.SqlFault.{SqlFault}
 use Rattle.ae_base.specs.declared.faults.SqlFault.TheVariants.{Moved}
 use Rattle.ae_edge.specs.Vaults.{KeyMap}
-use Rattle.sql_tree.specs.Bound.{Bound}
 use Rattle.catalog.specs.Catalogs.{Catalog}
 use Rattle.enc_types.specs.Laws.{TypingsAreOfColumns}
 use Rattle.enc_types.specs.UsedAlone.{used_among, is_used, alone}
 use Rattle.resolve.specs.Bind.{type_of}
 use Rattle.resolve.specs.Laws.{BoundStatementsAre, PreparedAlone}
 use Rattle.engine.specs.BoundOn.{IsBoundOn}
-use Rattle.engine.specs.Laws.{StepRenamed, StepKeepsWorlds, RowsAreShown, TypedStatementsAreAdmitted, StepSimulates}
-use Rattle.engine.specs.Step.{Answer, Rows, Changed, Defined, Outcome, done_by, step}
+use Rattle.engine.specs.Laws.{StepKeepsWorlds, RowsAreShown, TypedStatementsAreAdmitted}
+use Rattle.engine.specs.Step.{Answer, Rows, Changed, Defined, step}
+use Rattle.transactions.specs.Counted.{Counted, Execution, execution}
+use Rattle.transactions.specs.Laws.{TransactionsKeepStores, TransactionsSimulate}
+use Rattle.transactions.specs.Stores.{Ask, Executes, ask_of, Transaction, Transacted, transaction_at, seen_by, world_of, transact}
+use Rattle.transactions.proofs.Asking.{asks_alike, may_ask, same_execution, rows_by_step}
+use Rattle.transactions.proofs.Seen.{seen_well, seen_alike, shared_by, slot_of, set_back}
+use Rattle.catalog.specs.WellFormed.{IsCatalog}
 use Rattle.engine.specs.WellTyped.{AreValuesOf, IsAnswerOf, AreResults}
-use Rattle.engine.specs.Worlds.{World, empty_world}
 use Rattle.engine.specs.declared.answers.ResultColumn.{ResultColumn}
 use Rattle.wire_messages.specs.Messages.{Header}
 use Rattle.wire_messages.specs.declared.columns.SentColumn.{SentColumn}
 use Rattle.wire_messages.specs.declared.replies.Done.TheVariants.{Answered}
 use Rattle.wire_messages.specs.declared.replies.Reply.TheVariants.{Row, Ended}
 use Rattle.server_core.proofs.Understanding.{parts_of}
-use Rattle.server_core.specs.Describing.{Meant, understood, description, keys_of}
+use Rattle.server_core.specs.Describing.{Meant, understood, describe, description, keys_of}
 use Rattle.server_core.specs.Params.{declaration_of, suited}
-use Rattle.server_core.specs.Serve.{refused, described, answered, executed, sent_column, header, serve}
-use Rattle.server_core.specs.States.{IsState, is_short}
+use Rattle.server_core.specs.Serve.{State, empty_state, catalog_of, described, answered, executed, sent_column, header, serve}
+use Rattle.server_core.specs.States.{is_short}
 use Rattle.conversation.specs.Batches.{why_unfit, unless}
 use Rattle.conversation.specs.Drive.{End, Done, Dry, BadReply, Listened, Caught, passed_on, over}
 use Rattle.conversation.specs.Pending.{Pending, Use, uses_in, uses_of}
@@ -48,18 +52,17 @@ use Rattle.script_lang.specs.declared.steps.Step.{Step}
 use Rattle.ae_base.specs.declared.batches.KeyMeta.{KeyMeta}
 use Rattle.ae_base.specs.declared.types.Enc.{Enc}
 use Rattle.aes_block.specs.Bytes.{AreBytes}
-use Rattle.catalog.specs.Laws.{DefinitionsAreFollowed, IdsAreNotReused, KeysAreTold}
+use Rattle.catalog.specs.Laws.{DefinitionsKeepCatalogs, DefinitionsAreFollowed, IdsAreNotReused, KeysAreTold}
 use Rattle.scalar.specs.Classes.{BothAnswer, RowsCorrespond}
-use Rattle.engine.specs.Correspond.{WorldsCorrespond, AnswersCorrespond, class_of_result}
+use Rattle.engine.specs.Correspond.{AnswersCorrespond, class_of_result}
 use Rattle.engine.specs.Typed.{param_classes, IsTypedBy}
 use Rattle.wire_messages.specs.declared.params.SentParam.{SentParam}
 use Rattle.wire_messages.specs.declared.replies.Reply.{Reply}
 use Rattle.hmac_kdf.specs.Keys.{Keys}
 use Rattle.plain_meaning.specs.Laws.{Agrees, EndsWith, ServedIsPlain}
-use Rattle.plain_meaning.specs.Reference.{Came, came, declared, pending, means, reference}
+use Rattle.plain_meaning.specs.Reference.{Came, came, declared, means, reference}
 use Rattle.plain_meaning.specs.Steps.{number_of, turn, talk}
 use Rattle.sql_tree.specs.Bound as bound
-use Rattle.engine.specs.Step as engine
 use Rattle.engine.proofs.Kept.{has_master}
 use Rattle.wire_messages.specs.declared.requests.Request.TheVariants as request
 use Rattle.conversation.specs.declared.outcomes.Outcome as outcomes
@@ -68,15 +71,15 @@ use Rattle.conversation.specs.declared.sessions.Session.TheVariants as session
 use Rattle.conversation.proofs.Fitting.{fit_fits}
 use Rattle.script_lang.specs.declared.steps.Step.TheVariants as steps_of
 use Rattle.plain_meaning.specs.Reference as plain
-use Rattle.plain_meaning.proofs.Between.{beside, StandsFor, IsSendableParam, DescribedAs, HoldsBatch, Holds, AllHold, all_newer, hold_place, hold_set, none_held, empty_stands}
+use Rattle.plain_meaning.proofs.Between.{StandsFor, IsSendableParam, DescribedAs, HoldsBatch, HoldsIn, AllHold, seen_told, sessions_told, stores_longer, all_told_longer, all_go, hold_place, all_held, empty_stands}
 use Rattle.plain_meaning.proofs.Growing.{step_grows}
-use Rattle.plain_meaning.proofs.History.{Known}
-use Rattle.plain_meaning.proofs.Pairs.{stands, Standing, standing_is_one_to_one, standing_is_within, contents_longer}
+use Rattle.plain_meaning.proofs.History.{IsTold, Grows}
+use Rattle.plain_meaning.proofs.Pairs.{Extends, stands, Standing, standing_is_one_to_one, standing_is_within}
 use Rattle.plain_meaning.proofs.Sealed.{SealLaws}
 use Rattle.plain_meaning.proofs.Sending.{Each, each_over, told_among, params_used, encs_used, encs_found, all_fit}
 use Rattle.plain_meaning.proofs.Talk.{AreSealed, encs_in, types_shown, sealing_agrees, opening_agrees, rows_opened, rows_skipped}
 use Rattle.plain_meaning.proofs.Told.{IsMetaOf, are_told}
-use Rattle.plain_meaning.proofs.Understood.{understood_alone, step_alone}
+use Rattle.plain_meaning.proofs.Understood.{understood_alone, transact_alone}
 use Rattle.plain_meaning.proofs.Used.{tys_in, plain_in, atoms_in, uses_sendable, all_sendable, sent_declared, sent_suited, sent_typed, sent_stands, sent_long, encs_there, columns_there, used_encs, types_declared}
 use Rattle.plain_meaning.proofs.Versions.{Newer, step_leaves}
 
@@ -86,19 +89,20 @@ pub record Laws : Type 0 where
   pub prepared : PreparedAlone
   pub typings : TypingsAreOfColumns
   pub admitted : TypedStatementsAreAdmitted
-  pub renamed : StepRenamed
   pub keeps : StepKeepsWorlds
+  pub keeps_stores : TransactionsKeepStores
   pub shown : RowsAreShown
-  pub simulates : StepSimulates
+  pub simulates : TransactionsSimulate
   pub reused : IdsAreNotReused
   pub followed : DefinitionsAreFollowed
   pub told : KeysAreTold
+  pub catalogs : DefinitionsKeepCatalogs
   pub seals : SealLaws
 
 -- ---- outcomes, one after another
 
-abbrev text : (Session → World → List outcomes.Outcome) → Came → List outcomes.Outcome
-text rest c = c.comes ∷ rest c.session c.world
+abbrev text : (Session → State → List outcomes.Outcome) → Came → List outcomes.Outcome
+text rest c = c.comes ∷ rest c.session c.state
 
 printed : (comes : outcomes.Outcome) (end : End) (outs wanted : List outcomes.Outcome) → EndsWith end outs wanted → EndsWith end (comes ∷ outs) (comes ∷ wanted)
 printed comes (Done sessions) outs wanted h = ap (λ xs. comes ∷ xs) h
@@ -118,10 +122,6 @@ titles_sent (c ∷ cs) = ap (λ ts. c.title ∷ ts) (titles_sent cs)
 pub whole_count : (rows : List (List Atom)) → length rows ≡ 0 + length rows
 whole_count rows = omega arith
 
-pub stays : (w : World) (r : Result engine.Done SqlFault) (f : SqlFault) → (engine.outcome w r).answer ≡ Err f → (engine.outcome w r).world ≡ w
-stays w (Ok done) f e = absurd cc
-stays w (Err g) f e = refl
-
 -- ---- what is sent
 
 abbrev pub encs_alone : Meant → List Enc
@@ -131,45 +131,48 @@ abbrev pub plain_atoms_of : Batch → List Atom
 plain_atoms_of batch = map (λ (q : Param). plain_atom q.value) batch.params
 
 -- the statement over the parameters that it uses alone, over the atoms that are sent
-abbrev pub done_alone : World → Meant → List SentParam → Outcome
-done_alone w meant sent = step w (alone meant.bound) (encs_alone meant) (atoms_in sent)
+abbrev pub execution_alone : Meant → List SentParam → Execution
+execution_alone meant sent = record { bound = alone meant.bound; encs = encs_alone meant; params = atoms_in sent }
+
+abbrev pub done_alone : State → ℕ → Meant → List SentParam → Transacted
+done_alone state n meant sent = transact state n (ask_of (execution_alone meant sent))
 
 -- what is sent is executed so, over values that stand for the plain ones
-pub record Ready (keys : KeyMap) (history : List KeyMeta) (w : World) (p : Pending) (meant : Meant) (sent : List SentParam) : Type 0 where
-  pub served : executed w (understood w.catalog p.batch.text (map declaration_of sent) >>= λ meant. suited meant.encs sent >>= λ atoms. Ok (meant, atoms))
-      ≡ answered w (done_alone w meant sent).world (done_alone w meant sent).answer
-  pub on : IsBoundOn w.catalog (alone meant.bound) (encs_alone meant) (atoms_in sent)
+pub record Ready (keys : KeyMap) (history : List KeyMeta) (now : State) (n : ℕ) (p : Pending) (meant : Meant) (sent : List SentParam) : Type 0 where
+  pub served : executed now n (understood (catalog_of now n) p.batch.text (map declaration_of sent) >>= λ meant. suited meant.encs sent >>= λ atoms. Ok (meant, atoms))
+      ≡ answered (catalog_of now n) (done_alone now n meant sent).answer (done_alone now n meant sent).after
+  pub on : IsBoundOn (catalog_of now n) (alone meant.bound) (encs_alone meant) (atoms_in sent)
   pub admitted : IsTypedBy (encs_alone meant) (alone meant.bound)
   pub values : AreValuesOf is_short (alone meant.bound).params (encs_alone meant) (atoms_in sent)
   pub pairs : RowsCorrespond (Standing keys history) (param_classes (alone meant.bound).params (encs_alone meant)) (atoms_in sent) (used_among (is_used meant.bound) 0 (plain_atoms_of p.batch))
   pub encs : encs_in (uses_of p) ≡ encs_alone meant
   pub types : tys_in (uses_of p) ≡ (alone meant.bound).params
   pub metas : Each (IsMetaOf p.keys history) (encs_in (uses_of p))
-  pub shown : (columns : List ResultColumn) (rows : List (List Atom)) → (done_alone w meant sent).answer ≡ Ok (Rows columns rows) → Each (λ (c : ResultColumn). IsMetaOf (keys_of w.catalog (plain.encs_shown columns)) history c.enc) columns
+  pub shown : (columns : List ResultColumn) (rows : List (List Atom)) → (done_alone now n meant sent).answer ≡ Ok (Rows columns rows) → Each (λ (c : ResultColumn). IsMetaOf (keys_of (catalog_of now n) (plain.encs_shown columns)) history c.enc) columns
 
-module _ (laws : Laws) (keys : KeyMap) (history : List KeyMeta) (w : World) (known : Known history w.catalog) (state : IsState w) where
+module _ (laws : Laws) (keys : KeyMap) (history : List KeyMeta) (now : State) (n : ℕ) (known : IsTold history (catalog_of now n)) (well : IsCatalog (catalog_of now n)) where
   -- the keys that are told with a description are those of the history
-  pub keys_told : (p : Pending) → DescribedAs w.catalog p → Each (IsMetaOf p.keys history) (encs_in (uses_of p))
+  pub keys_told : (p : Pending) → DescribedAs (catalog_of now n) p → Each (IsMetaOf p.keys history) (encs_in (uses_of p))
   keys_told p d =
       let b = d.meant.bound in
       let es = encs_alone d.meant in
-      let parts = parts_of w.catalog p.batch.text (declared p.batch) d.meant d.understood in
-      let ready = laws.prepared w.catalog parts.statement (declared p.batch) b d.meant.encs parts.binds parts.infers in
-      let over_alone = laws.bound w.catalog parts.statement (used_among (is_used b) 0 (declared p.batch)) (alone b) ready.is_bound in
+      let parts = parts_of (catalog_of now n) p.batch.text (declared p.batch) d.meant d.understood in
+      let ready = laws.prepared (catalog_of now n) parts.statement (declared p.batch) b d.meant.encs parts.binds parts.infers in
+      let over_alone = laws.bound (catalog_of now n) parts.statement (used_among (is_used b) 0 (declared p.batch)) (alone b) ready.is_bound in
       let encs_are : encs_in (uses_of p) ≡ es = ap (λ os. encs_in (uses_in p.batch.params os)) d.encs ∙ encs_used (is_used b) 0 p.batch.params d.meant.encs d.long in
-      let there = encs_there w.catalog (alone b).columns (over_alone.keys state.catalog) es (laws.typings (alone b) es ready.is_inferred).1 in
-      subst (λ ms. Each (IsMetaOf ms history) (encs_in (uses_of p))) (sym d.metas) (subst (Each (IsMetaOf (keys_of w.catalog es) history)) (sym encs_are) (are_told laws.told history w.catalog state.catalog known es there))
+      let there = encs_there (catalog_of now n) (alone b).columns (over_alone.keys well) es (laws.typings (alone b) es ready.is_inferred).1 in
+      subst (λ ms. Each (IsMetaOf ms history) (encs_in (uses_of p))) (sym d.metas) (subst (Each (IsMetaOf (keys_of (catalog_of now n) es) history)) (sym encs_are) (are_told laws.told history (catalog_of now n) well known es there))
 
-  pub is_ready : (p : Pending) → Each IsSendableParam p.batch.params → (d : DescribedAs w.catalog p) → (sent : List SentParam) → AreSealed keys p.keys (uses_of p) sent → Ready keys history w p d.meant sent
+  pub is_ready : (p : Pending) → Each IsSendableParam p.batch.params → (d : DescribedAs (catalog_of now n) p) → (sent : List SentParam) → AreSealed keys p.keys (uses_of p) sent → Ready keys history now n p d.meant sent
   is_ready p sendable d sent sealed =
       let meant = d.meant in
       let b = meant.bound in
       let ps = p.batch.params in
       let used = is_used b in
       let es = encs_alone meant in
-      let parts = parts_of w.catalog p.batch.text (declared p.batch) meant d.understood in
-      let ready = laws.prepared w.catalog parts.statement (declared p.batch) b meant.encs parts.binds parts.infers in
-      let over_alone = laws.bound w.catalog parts.statement (used_among used 0 (declared p.batch)) (alone b) ready.is_bound in
+      let parts = parts_of (catalog_of now n) p.batch.text (declared p.batch) meant d.understood in
+      let ready = laws.prepared (catalog_of now n) parts.statement (declared p.batch) b meant.encs parts.binds parts.infers in
+      let over_alone = laws.bound (catalog_of now n) parts.statement (used_among used 0 (declared p.batch)) (alone b) ready.is_bound in
       let plain_atoms = plain_atoms_of p.batch in
       let us = uses_in ps (told_among used 0 meant.encs) in
       let same_uses : uses_of p ≡ us = ap (uses_in ps) d.encs in
@@ -177,30 +180,30 @@ module _ (laws : Laws) (keys : KeyMap) (history : List KeyMeta) (w : World) (kno
       let fit = uses_sendable ps (told_among used 0 meant.encs) sendable in
       let encs_are : encs_in us ≡ es = encs_used used 0 ps meant.encs d.long in
       let tys_are : tys_in us ≡ (alone b).params =
-      params_used used (λ (q : Param). q.declaration.ty) 0 ps meant.encs d.long ∙ ap (used_among used 0) (types_declared ps ∙ sym (laws.bound w.catalog parts.statement (declared p.batch) b parts.binds).params) in
+      params_used used (λ (q : Param). q.declaration.ty) 0 ps meant.encs d.long ∙ ap (used_among used 0) (types_declared ps ∙ sym (laws.bound (catalog_of now n) parts.statement (declared p.batch) b parts.binds).params) in
       let plain_are : plain_in us ≡ used_among used 0 plain_atoms = params_used used (λ (q : Param). plain_atom q.value) 0 ps meant.encs d.long in
       let names : map declaration_of sent ≡ used_among used 0 (declared p.batch) = sent_declared laws.seals keys p.keys us sent s ∙ params_used used (λ (q : Param). q.declaration) 0 ps meant.encs d.long in
-      let u : understood w.catalog p.batch.text (map declaration_of sent) ≡ Ok (record { bound = alone b; encs = es }) =
-      ap (understood w.catalog p.batch.text) names ∙ understood_alone laws.prepared w.catalog p.batch.text (declared p.batch) meant parts in
+      let u : understood (catalog_of now n) p.batch.text (map declaration_of sent) ≡ Ok (record { bound = alone b; encs = es }) =
+      ap (understood (catalog_of now n) p.batch.text) names ∙ understood_alone laws.prepared (catalog_of now n) p.batch.text (declared p.batch) meant parts in
       let atoms = atoms_in sent in
       let suits : suited es sent ≡ Ok atoms = ap (λ es. suited es sent) (sym encs_are) ∙ sent_suited laws.seals keys p.keys us sent fit s in
       let many : length atoms ≡ length (alone b).params = sent_long laws.seals keys p.keys us sent s ∙ sym (length-map us (λ (u : Use). u.param.declaration.ty)) ∙ ap length tys_are in
       let typings = laws.typings (alone b) es ready.is_inferred in
-      let on : IsBoundOn w.catalog (alone b) es atoms = record {
+      let on : IsBoundOn (catalog_of now n) (alone b) es atoms = record {
         placed = over_alone.placed;
         tables = over_alone.tables;
-        master = has_master w.catalog (alone b).statement over_alone.master;
+        master = has_master (catalog_of now n) (alone b).statement over_alone.master;
         keys = over_alone.keys;
         encs = typings.0;
         values = many;
       } in
-      let catalog = state.catalog in
+      let catalog = well in
       let sites = over_alone.keys catalog in
-      let there = encs_there w.catalog (alone b).columns sites es typings.1 in
+      let there = encs_there (catalog_of now n) (alone b).columns sites es typings.1 in
       let metas : Each (IsMetaOf p.keys history) (encs_in us) = subst (λ us. Each (IsMetaOf p.keys history) (encs_in us)) same_uses (keys_told p d) in
       record {
-        served = ap (λ r. executed w (r >>= λ meant. suited meant.encs sent >>= λ atoms. Ok (meant, atoms))) u
-            ∙ ap (λ r. executed w (r >>= λ atoms. Ok (record { bound = alone b; encs = es }, atoms))) suits;
+        served = ap (λ r. executed now n (r >>= λ meant. suited meant.encs sent >>= λ atoms. Ok (meant, atoms))) u
+            ∙ ap (λ r. executed now n (r >>= λ atoms. Ok (record { bound = alone b; encs = es }, atoms))) suits;
         on = on;
         admitted = laws.admitted (alone b) es over_alone.placed ready.is_inferred;
         values = subst (λ tys. AreValuesOf is_short tys es atoms) tys_are (subst (λ es. AreValuesOf is_short (tys_in us) es atoms) encs_are (sent_typed laws.seals keys p.keys us sent fit s));
@@ -211,20 +214,20 @@ module _ (laws : Laws) (keys : KeyMap) (history : List KeyMeta) (w : World) (kno
         types = ap tys_in same_uses ∙ tys_are;
         metas = keys_told p d;
         shown = λ columns rows e.
-            each_over (IsMetaOf (keys_of w.catalog (plain.encs_shown columns)) history) (λ (c : ResultColumn). c.enc) columns
-            (are_told laws.told history w.catalog catalog known (plain.encs_shown columns)
-            (columns_there w.catalog (alone b) es sites there columns (laws.shown w (alone b) es atoms columns rows on e).shown));
+            each_over (IsMetaOf (keys_of (catalog_of now n) (plain.encs_shown columns)) history) (λ (c : ResultColumn). c.enc) columns
+            (are_told laws.told history (catalog_of now n) catalog known (plain.encs_shown columns)
+            (columns_there (catalog_of now n) (alone b) es sites there columns (laws.shown (world_of now n).world (alone b) es atoms columns rows on (rows_by_step now n (execution_alone meant sent) columns rows (alone b).statement e)).shown));
       }
 
   -- ---- what is described
 
   -- a batch that is described as its statement is understood
-  pub is_held : (batch : Batch) → HasParams batch → HasProperParams batch → why_unfit batch ≡ None → (meant : Meant) → understood w.catalog batch.text (declared batch) ≡ Ok meant
-      → (encs_of batch.params (description w.catalog (declared batch) meant).params ≡ Some (told_among (is_used meant.bound) 0 meant.encs))
-      × HoldsBatch w.catalog (record { batch = batch; version = w.catalog.version; keys = (description w.catalog (declared batch) meant).keys; encs = told_among (is_used meant.bound) 0 meant.encs })
+  pub is_held : (batch : Batch) → HasParams batch → HasProperParams batch → why_unfit batch ≡ None → (meant : Meant) → understood (catalog_of now n) batch.text (declared batch) ≡ Ok meant
+      → (encs_of batch.params (description (catalog_of now n) (declared batch) meant).params ≡ Some (told_among (is_used meant.bound) 0 meant.encs))
+      × HoldsBatch (catalog_of now n) (record { batch = batch; version = (catalog_of now n).version; keys = (description (catalog_of now n) (declared batch) meant).keys; encs = told_among (is_used meant.bound) 0 meant.encs })
   is_held batch params proper fit meant e =
-      let parts = parts_of w.catalog batch.text (declared batch) meant e in
-      let over_all = laws.bound w.catalog parts.statement (declared batch) meant.bound parts.binds in
+      let parts = parts_of (catalog_of now n) batch.text (declared batch) meant e in
+      let over_all = laws.bound (catalog_of now n) parts.statement (declared batch) meant.bound parts.binds in
       let long : length meant.encs ≡ length batch.params =
       (laws.typings meant.bound meant.encs parts.infers).0 ∙ ap length over_all.params ∙ length-map (declared batch) type_of ∙ length-map batch.params (λ (q : Param). q.declaration) in
       let long_declared : length meant.encs ≡ length (declared batch) = long ∙ sym (length-map batch.params (λ (q : Param). q.declaration)) in (
@@ -232,170 +235,255 @@ module _ (laws : Laws) (keys : KeyMap) (history : List KeyMeta) (w : World) (kno
         record {
           past = omega arith;
           sendable = all_sendable batch.params proper (all_fit batch.params (fit_fits batch fit));
-          same = λ v. record { meant = meant; understood = e; long = long; encs = refl; metas = ap (keys_of w.catalog) (used_encs meant.bound 0 (declared batch) meant.encs long_declared) };
+          same = λ v. record { meant = meant; understood = e; long = long; encs = refl; metas = ap (keys_of (catalog_of now n)) (used_encs meant.bound 0 (declared batch) meant.encs long_declared) };
         },
       )
 
 module _ (laws : Laws) (keys : KeyMap) where
-  -- whatever a turn comes to, over worlds that go on from these, it goes on as it is meant
-  abbrev pub Onward : World → (Session → Talk) → (Session → World → List outcomes.Outcome) → Type 0
-  Onward w k rest = (after : Session) (now : World) (others : List (List (List Atom))) (history : List KeyMeta) (taken : ℕ) (left : List ℕ) → AreBytes left → StandsFor keys history now others → Newer w.catalog now.catalog
-      → Holds now.catalog after → Agrees (over serve keys (k after) taken left now []) (rest after (beside now others))
+  -- the session goes on, and no other one is touched
+  pub record Goes (state : State) (n : ℕ) (now : State) (after : Session) : Type 0 where
+    pub newer : Newer state.shared.world.catalog now.shared.world.catalog
+    pub slot : Option Transaction
+    pub sessions : now.sessions ≡ slice_set state.sessions (n - 1) slot
+    pub held : HoldsIn now.shared slot after
 
-  module _ (w : World) (others : List (List (List Atom))) (history : List KeyMeta) (st : StandsFor keys history w others) (k : Session → Talk) (rest : Session → World → List outcomes.Outcome) (go : Onward w k rest) where
-    abbrev plainly : World
-    plainly = beside w others
+  -- whatever a turn comes to, over states that go on from these, it goes on as it is meant
+  abbrev pub Onward : State → ℕ → (Session → Talk) → (Session → State → List outcomes.Outcome) → Type 0
+  Onward state n k rest = (after : Session) (now beside : State) (history : List KeyMeta) (taken : ℕ) (left : List ℕ) → AreBytes left → StandsFor keys history now beside → Goes state n now after
+      → Agrees (over serve keys (k after) taken left now []) (rest after beside)
 
-    prints : (comes : outcomes.Outcome) (after : Session) (taken : ℕ) (left : List ℕ) → AreBytes left → Holds w.catalog after
-        → Agrees (over serve keys (Prints comes (k after)) taken left w []) (comes ∷ rest after plainly)
-    prints comes after taken left a h = printed comes _ _ _ (go after w others history taken left a st (inl refl) h)
+  -- what is executed over both goes on in both
+  pub record StandsOn (history : List KeyMeta) (state : State) (n : ℕ) (now beside : State) : Type 0 where
+    pub later : List KeyMeta
+    pub longer : Extends history later
+    pub stands : StandsFor keys later now beside
+    pub goes : Goes state n now session.Idle
+
+  abbrev plain_alone : Meant → Pending → Execution
+  plain_alone meant p = record { bound = alone meant.bound; encs = encs_alone meant; params = used_among (is_used meant.bound) 0 (plain_atoms_of p.batch) }
+
+  pub stands_on : (state plainly : State) (n : ℕ) (history : List KeyMeta) → StandsFor keys history state plainly → (meant : Meant) (sent : List SentParam) (p : Pending) → Ready keys history state n p meant sent
+      → StandsOn history state n (done_alone state n meant sent).after (transact plainly n (ask_of (plain_alone meant p))).after
+  stands_on state plainly n history st meant sent p r =
+      let e = execution_alone meant sent in
+      let f = plain_alone meant p in
+      let did = transact state n (ask_of e) in
+      let other = transact plainly n (ask_of f) in
+      let may = may_ask is_short (world_of state n).world e.bound.statement e (record { bound = r.on; typed = r.admitted; values = r.values }) in
+      let alike_asked = asks_alike (Standing keys history) e.bound.statement e f (record { bound = refl; encs = refl; params = r.pairs }) in
+      let sim = laws.simulates is_short (stands keys history) state plainly n (ask_of e) (ask_of f) (standing_is_one_to_one keys history) (standing_is_within keys history) st.state st.stores alike_asked may in
+      let kept = laws.keeps_stores is_short state n (ask_of e) st.state may in
+      let slot = slot_of state n (ask_of e) in
+      let told = seen_told keys history state plainly n st in
+      let grown : Grows history did.after.shared.world.catalog = shared_by (Grows history) state n (ask_of e) (record { later = history; longer = λ id m x. x; known = st.known }) (λ x is none. stepped x is none) in
+      record {
+        later = grown.later;
+        longer = grown.longer;
+        stands = record {
+          known = grown.known;
+          told = all_told_longer keys history grown.later grown.longer did.after.sessions (sessions_told history state did.after n slot told st.told);
+          stores = stores_longer keys history grown.later grown.longer did.after other.after sim.stores;
+          state = kept.0;
+        };
+        goes = record {
+          newer = shared_by (Newer state.shared.world.catalog) state n (ask_of e) (inl refl) (λ x is none. step_leaves state.shared.world x.bound x.encs x.params);
+          slot = slot.slot;
+          sessions = slot.sessions;
+          held = tt;
+        };
+      }
+    where
+      executes : Execution → Ask
+      executes x = Executes x
+
+      seen_is : transaction_at state n ≡ None → world_of state n ≡ state.shared
+      seen_is none = ap (seen_by state.shared) none
+
+      alone_stepped : transaction_at state n ≡ None → Grows history (step state.shared.world (alone meant.bound) (encs_alone meant) (atoms_in sent)).world.catalog
+      alone_stepped none =
+          let same = seen_is none in
+          let on = subst (λ (c : Counted). IsBoundOn c.world.catalog (alone meant.bound) (encs_alone meant) (atoms_in sent)) same r.on in
+          let kept = laws.keeps is_short state.shared.world (alone meant.bound) (encs_alone meant) (atoms_in sent) st.state.shared.world on r.admitted r.values in
+          step_grows laws.reused laws.followed history state.shared.world st.state.shared.world.catalog st.known (alone meant.bound) (encs_alone meant) (atoms_in sent) on.master kept.0.catalog
+
+      stepped : (x : Execution) → ask_of (execution_alone meant sent) ≡ executes x → transaction_at state n ≡ None → Grows history (step state.shared.world x.bound x.encs x.params).world.catalog
+      stepped x is none = subst (λ (x : Execution). Grows history (step state.shared.world x.bound x.encs x.params).world.catalog) (same_execution (alone meant.bound).statement (execution_alone meant sent) x is) (alone_stepped none)
+
+  module _ (state plainly : State) (n : ℕ) (history : List KeyMeta) (st : StandsFor keys history state plainly) (k : Session → Talk) (rest : Session → State → List outcomes.Outcome) (go : Onward state n k rest) where
+    abbrev here : Catalog
+    here = catalog_of state n
+
+    abbrev Held : Session → Type 0
+    Held s = HoldsIn state.shared (transaction_at state n) s
+
+    nothing : Held session.Idle
+    nothing = tt
+
+    well : IsCatalog (catalog_of state n)
+    well = (seen_well is_short state n st.state).world.catalog
+
+    known_here : IsTold history (catalog_of state n)
+    known_here = seen_told keys history state plainly n st
+
+    prints : (comes : outcomes.Outcome) (after : Session) (taken : ℕ) (left : List ℕ) → AreBytes left → Held after
+        → Agrees (over serve keys (Prints comes (k after)) taken left state []) (comes ∷ rest after plainly)
+    prints comes after taken left a h =
+        printed comes _ _ _ (go after state plainly history taken left a st (record { newer = inl refl; slot = transaction_at state n; sessions = set_back state.sessions (n - 1) None; held = h }))
 
     -- ---- an answer
 
-    module _ (now : World) (more : List (List (List Atom))) (later : List KeyMeta) (after : StandsFor keys later now more) (newer : Newer w.catalog now.catalog) where
-      abbrev onward : (taken : ℕ) (left : List ℕ) → AreBytes left → Agrees (over serve keys (k session.Idle) taken left now []) (rest session.Idle (beside now more))
-      onward taken left a = go session.Idle now more later taken left a after newer tt
+    module _ (now beside : State) (later : List KeyMeta) (after : StandsFor keys later now beside) (goes : Goes state n now session.Idle) where
+      abbrev onward : (taken : ℕ) (left : List ℕ) → AreBytes left → Agrees (over serve keys (k session.Idle) taken left now []) (rest session.Idle beside)
+      onward taken left a = go session.Idle now beside later taken left a after goes
 
-      says : (comes : outcomes.Outcome) (taken : ℕ) (left : List ℕ) → AreBytes left → Agrees (over serve keys (Prints comes (k session.Idle)) taken left now []) (comes ∷ rest session.Idle (beside now more))
+      says : (comes : outcomes.Outcome) (taken : ℕ) (left : List ℕ) → AreBytes left → Agrees (over serve keys (Prints comes (k session.Idle)) taken left now []) (comes ∷ rest session.Idle beside)
       says comes taken left a = printed comes _ _ _ (onward taken left a)
 
       caught : (comes : outcomes.Outcome) (left : List ℕ) (l : Listened) (n : ℕ) → AreBytes left → l ≡ Caught (Said (Some comes) session.Idle) n []
-          → Agrees (passed_on (λ heard n more. over serve keys (rows_on k heard) n left now more) left now l) (comes ∷ rest session.Idle (beside now more))
+          → Agrees (passed_on (λ heard n more. over serve keys (rows_on k heard) n left now more) left now l) (comes ∷ rest session.Idle beside)
       caught comes left l n a e = rw e (says comes n left a)
 
       skipped : (left : List ℕ) (l : Listened) (n : ℕ) → AreBytes left → l ≡ Caught (Said None session.Idle) n []
-          → Agrees (passed_on (λ heard n more. over serve keys (over_on k heard) n left now more) left now l) (rest session.Idle (beside now more))
+          → Agrees (passed_on (λ heard n more. over serve keys (over_on k heard) n left now more) left now l) (rest session.Idle beside)
       skipped left l n a e = rw e (onward n left a)
 
-      rows_agree : (columns : List ResultColumn) (rows others : List (List Atom)) (taken : ℕ) (left : List ℕ) → AreBytes left → Each (λ (c : ResultColumn). IsMetaOf (keys_of w.catalog (plain.encs_shown columns)) history c.enc) columns
+      rows_agree : (columns : List ResultColumn) (rows others : List (List Atom)) (taken : ℕ) (left : List ℕ) → AreBytes left → Each (λ (c : ResultColumn). IsMetaOf (keys_of here (plain.encs_shown columns)) history c.enc) columns
           → AreResults is_short columns rows → AllZip (RowsCorrespond (Standing keys history) (map class_of_result columns)) rows others
-          → Agrees (over serve keys (reading (header w.catalog columns) k) taken left now (map Row rows ++ Ended (Answered (length rows)) ∷ [])) (plain.answered keys w.catalog (Ok (Rows columns others)) ∷ rest session.Idle (beside now more))
+          → Agrees (over serve keys (reading (header here columns) k) taken left now (map Row rows ++ Ended (Answered (length rows)) ∷ [])) (plain.answered keys here (Ok (Rows columns others)) ∷ rest session.Idle beside)
       rows_agree columns rows others taken left a m typed pairs =
-          let h : Header = header w.catalog columns in
-          let metas = keys_of w.catalog (plain.encs_shown columns) in
+          let h : Header = header here columns in
+          let metas = keys_of here (plain.encs_shown columns) in
           let types = types_sent columns in
           let titles = titles_sent columns in
           let queue : List Reply = map Row rows ++ Ended (Answered (length rows)) ∷ [] in
           let onrows : List ColumnType → List (Option Keys) → Talk = λ t ks. Hears (session.Reading t ks 0) (record { titles = titles_of h; rows = [] }) (rows_on k) in
           let fails : List ColumnType → DriverFault → Talk = λ t f. Prints (outcome.Failed f) (rested k (session.Skipping t 0)) in
           let talk_is : reading h k ≡ opening metas (types_shown columns) (onrows (types_shown columns)) (fails (types_shown columns)) = ap (λ (t : List ColumnType). opening metas t (onrows t) (fails t)) types in
-          let wanted = plain.answered keys w.catalog (Ok (Rows columns others)) in
+          let wanted = plain.answered keys here (Ok (Rows columns others)) in
           let listing = plain.titled columns others in
-          subst (λ (t : Talk). Agrees (over serve keys t taken left now queue) (wanted ∷ rest session.Idle (beside now more))) (sym talk_is)
-          (opening_agrees keys now (wanted ∷ rest session.Idle (beside now more)) metas taken left queue columns (onrows (types_shown columns)) (fails (types_shown columns))
+          subst (λ (t : Talk). Agrees (over serve keys t taken left now queue) (wanted ∷ rest session.Idle beside)) (sym talk_is)
+          (opening_agrees keys now (wanted ∷ rest session.Idle beside) metas taken left queue columns (onrows (types_shown columns)) (fails (types_shown columns))
           (λ os none opened.
-          let heard = rows_opened keys now (wanted ∷ rest session.Idle (beside now more)) is_short history metas columns os m opened rows others typed pairs (titles_of h) [] 0 (length rows) taken (whole_count rows) in
+          let heard = rows_opened keys now (wanted ∷ rest session.Idle beside) is_short history metas columns os m opened rows others typed pairs (titles_of h) [] 0 (length rows) taken (whole_count rows) in
           let is : wanted ≡ outcome.Rows (record { titles = titles_of h; rows = map (map plain.value_of) others }) =
           ap (plain.shown listing) none ∙ ap (λ t. outcome.Rows (record { titles = t; rows = map (map plain.value_of) others })) (sym titles) in
-          subst (λ (o : outcomes.Outcome). Agrees (over serve keys (onrows (types_shown columns) os) taken left now queue) (o ∷ rest session.Idle (beside now more))) (sym is)
+          subst (λ (o : outcomes.Outcome). Agrees (over serve keys (onrows (types_shown columns) os) taken left now queue) (o ∷ rest session.Idle beside)) (sym is)
           (caught (outcome.Rows (record { titles = titles_of h; rows = map (map plain.value_of) others })) left _ heard.0 a heard.1))
           (λ f some.
-          let heard = rows_skipped keys now (wanted ∷ rest session.Idle (beside now more)) is_short history metas columns rows others typed pairs nothing_shown 0 (length rows) taken (whole_count rows) in
+          let heard = rows_skipped keys now (wanted ∷ rest session.Idle beside) is_short history metas columns rows others typed pairs nothing_shown 0 (length rows) taken (whole_count rows) in
           let is : wanted ≡ outcome.Failed f = ap (plain.shown listing) some in
-          subst (λ (o : outcomes.Outcome). Agrees (over serve keys (fails (types_shown columns) f) taken left now queue) (o ∷ rest session.Idle (beside now more))) (sym is)
+          subst (λ (o : outcomes.Outcome). Agrees (over serve keys (fails (types_shown columns) f) taken left now queue) (o ∷ rest session.Idle beside)) (sym is)
           (printed (outcome.Failed f) _ _ _ (skipped left _ heard.0 a heard.1))))
 
-      answer_agrees : (taken : ℕ) (left : List ℕ) (x y : Result Answer SqlFault) → AreBytes left → BothAnswer (AnswersCorrespond (Standing keys history)) x y → ((f : SqlFault) → x ≡ Err f → now ≡ w) → IsAnswerOf is_short x
-          → ((columns : List ResultColumn) (rows : List (List Atom)) → x ≡ Ok (Rows columns rows) → Each (λ (c : ResultColumn). IsMetaOf (keys_of w.catalog (plain.encs_shown columns)) history c.enc) columns)
-          → let s = answered w now x in
-          Agrees (over serve keys (Hears session.Sent nothing_shown (answered_on k)) taken left s.after s.replies) (plain.answered keys w.catalog y ∷ rest session.Idle (beside now more))
-      answer_agrees taken left (Ok (Rows columns rows)) (Ok (Rows columns2 rows2)) a c err typed told =
+      answer_agrees : (taken : ℕ) (left : List ℕ) (x y : Result Answer SqlFault) → AreBytes left → BothAnswer (AnswersCorrespond (Standing keys history)) x y → IsAnswerOf is_short x
+          → ((columns : List ResultColumn) (rows : List (List Atom)) → x ≡ Ok (Rows columns rows) → Each (λ (c : ResultColumn). IsMetaOf (keys_of here (plain.encs_shown columns)) history c.enc) columns)
+          → let s = answered here x now in
+          Agrees (over serve keys (Hears session.Sent nothing_shown (answered_on k)) taken left s.after s.replies) (plain.answered keys here y ∷ rest session.Idle beside)
+      answer_agrees taken left (Ok (Rows columns rows)) (Ok (Rows columns2 rows2)) a c typed told =
           let e = c.0 in
           rw e (rows_agree columns rows rows2 (suc taken) left a (told columns rows refl) typed c.1)
-      answer_agrees taken left (Ok (Changed count)) (Ok (Changed other)) a c err typed told = rw c (says (outcome.Changed count) (suc taken) left a)
-      answer_agrees taken left (Ok Defined) (Ok Defined) a c err typed told = says outcome.Defined (suc taken) left a
-      answer_agrees taken left (Err f) (Err g) a c err typed told =
-          let e = err f refl in
-          rw c (subst (λ (v : World). Agrees (over serve keys (Hears session.Sent nothing_shown (answered_on k)) taken left v (refused v f).replies) (outcome.Refused f ∷ rest session.Idle (beside now more))) e
-          (says (outcome.Refused f) (suc taken) left a))
-      answer_agrees taken left (Ok (Rows columns rows)) (Ok (Changed other)) a c err typed told = absurd c
-      answer_agrees taken left (Ok (Rows columns rows)) (Ok Defined) a c err typed told = absurd c
-      answer_agrees taken left (Ok (Rows columns rows)) (Err g) a c err typed told = absurd c
-      answer_agrees taken left (Ok (Changed count)) (Ok (Rows columns2 rows2)) a c err typed told = absurd c
-      answer_agrees taken left (Ok (Changed count)) (Ok Defined) a c err typed told = absurd c
-      answer_agrees taken left (Ok (Changed count)) (Err g) a c err typed told = absurd c
-      answer_agrees taken left (Ok Defined) (Ok (Rows columns2 rows2)) a c err typed told = absurd c
-      answer_agrees taken left (Ok Defined) (Ok (Changed other)) a c err typed told = absurd c
-      answer_agrees taken left (Ok Defined) (Err g) a c err typed told = absurd c
-      answer_agrees taken left (Err f) (Ok y) a c err typed told = absurd c
+      answer_agrees taken left (Ok (Changed count)) (Ok (Changed other)) a c typed told = rw c (says (outcome.Changed count) (suc taken) left a)
+      answer_agrees taken left (Ok Defined) (Ok Defined) a c typed told = says outcome.Defined (suc taken) left a
+      answer_agrees taken left (Err f) (Err g) a c typed told = rw c (says (outcome.Refused f) (suc taken) left a)
+      answer_agrees taken left (Ok (Rows columns rows)) (Ok (Changed other)) a c typed told = absurd c
+      answer_agrees taken left (Ok (Rows columns rows)) (Ok Defined) a c typed told = absurd c
+      answer_agrees taken left (Ok (Rows columns rows)) (Err g) a c typed told = absurd c
+      answer_agrees taken left (Ok (Changed count)) (Ok (Rows columns2 rows2)) a c typed told = absurd c
+      answer_agrees taken left (Ok (Changed count)) (Ok Defined) a c typed told = absurd c
+      answer_agrees taken left (Ok (Changed count)) (Err g) a c typed told = absurd c
+      answer_agrees taken left (Ok Defined) (Ok (Rows columns2 rows2)) a c typed told = absurd c
+      answer_agrees taken left (Ok Defined) (Ok (Changed other)) a c typed told = absurd c
+      answer_agrees taken left (Ok Defined) (Err g) a c typed told = absurd c
+      answer_agrees taken left (Err f) (Ok y) a c typed told = absurd c
 
     -- ---- what is pending is executed
 
-    runs_agrees : (p : Pending) → HoldsBatch w.catalog p → DescribedAs w.catalog p → (sent : List SentParam) → AreSealed keys p.keys (uses_of p) sent → (taken : ℕ) (left : List ℕ) → AreBytes left
-        → let s = executed w (understood w.catalog p.batch.text (map declaration_of sent) >>= λ meant. suited meant.encs sent >>= λ atoms. Ok (meant, atoms)) in
-        Agrees (over serve keys (Hears session.Sent nothing_shown (answered_on k)) taken left s.after s.replies) (text rest (plain.stepped keys plainly p.batch (understood w.catalog p.batch.text (declared p.batch))))
+    runs_agrees : (p : Pending) → HoldsBatch here p → DescribedAs here p → (sent : List SentParam) → AreSealed keys p.keys (uses_of p) sent → (taken : ℕ) (left : List ℕ) → AreBytes left
+        → let s = executed state n (understood here p.batch.text (map declaration_of sent) >>= λ meant. suited meant.encs sent >>= λ atoms. Ok (meant, atoms)) in
+        Agrees (over serve keys (Hears session.Sent nothing_shown (answered_on k)) taken left s.after s.replies) (text rest (plain.stepped keys plainly n p.batch (understood (catalog_of plainly n) p.batch.text (declared p.batch))))
     runs_agrees p h d sent sealed taken left a =
         let meant = d.meant in
         let b = meant.bound in
         let es = encs_alone meant in
         let plain_atoms = plain_atoms_of p.batch in
-        let r = is_ready laws keys history w st.known st.state p h.sendable d sent sealed in
+        let used_atoms = used_among (is_used b) 0 plain_atoms in
+        let r = is_ready laws keys history state n known_here well p h.sendable d sent sealed in
         let atoms = atoms_in sent in
-        let did = step w (alone b) es atoms in
-        let other = step plainly (alone b) es (used_among (is_used b) 0 plain_atoms) in
+        let e = execution_alone meant sent in
+        let f : Execution = record { bound = alone b; encs = es; params = used_atoms } in
+        let did = transact state n (ask_of e) in
+        let other = transact plainly n (ask_of f) in
         let served = r.served in
-        let worlds : WorldsCorrespond (Standing keys history) w plainly = record { catalog = refl; contents = st.pairs } in
-        let sim = laws.simulates (stands keys history) w plainly (alone b) es atoms (used_among (is_used b) 0 plain_atoms) (standing_is_one_to_one keys history) (standing_is_within keys history) st.state.keys worlds r.pairs r.on r.admitted in
-        let kept = laws.keeps is_short w (alone b) es atoms st.state r.on r.admitted r.values in
-        let follows = step_leaves w (alone b) es atoms in
-        let grown = step_grows laws.reused laws.followed history w st.state.catalog st.known (alone b) es atoms r.on.master kept.0.catalog in
-        let more = other.world.contents in
-        let after : StandsFor keys grown.later did.world more = record {
-          known = grown.known;
-          pairs = contents_longer keys history grown.later grown.longer did.world.catalog.tables did.world.contents more sim.worlds.contents;
-          state = kept.0;
-        } in
-        let all_agrees = answer_agrees did.world more grown.later after (follows) taken left did.answer other.answer a sim.answers
-        (λ f e. stays w (done_by w (alone b) es (alone b).statement atoms) f e) kept.1 r.shown in
-        let whole = step plainly b meant.encs plain_atoms in
-        let same : other ≡ whole = step_alone laws.renamed plainly b meant.encs plain_atoms in
-        let world_is : beside did.world more ≡ other.world = ap (λ (c : Catalog). let v : World = record { catalog = c; contents = more } in v) (sym sim.worlds.catalog) in
-        let meant_so : plain.answered keys w.catalog other.answer ∷ rest session.Idle (beside did.world more) ≡ plain.answered keys w.catalog whole.answer ∷ rest session.Idle whole.world =
-        ap (λ v. plain.answered keys w.catalog other.answer ∷ rest session.Idle v) world_is ∙ ap (λ (o : Outcome). plain.answered keys w.catalog o.answer ∷ rest session.Idle o.world) same in
-        let e = d.understood in
-        rw (served, e) (subst (λ wanted. Agrees (over serve keys (Hears session.Sent nothing_shown (answered_on k)) taken left (answered w did.world did.answer).after (answered w did.world did.answer).replies) wanted) meant_so all_agrees)
+        let may = may_ask is_short (world_of state n).world e.bound.statement e (record { bound = r.on; typed = r.admitted; values = r.values }) in
+        let alike_asked = asks_alike (Standing keys history) e.bound.statement e f (record { bound = refl; encs = refl; params = r.pairs }) in
+        let sim = laws.simulates is_short (stands keys history) state plainly n (ask_of e) (ask_of f) (standing_is_one_to_one keys history) (standing_is_within keys history) st.state st.stores alike_asked may in
+        let kept = laws.keeps_stores is_short state n (ask_of e) st.state may in
+        let on = stands_on state plainly n history st meant sent p r in
+        let all_agrees = answer_agrees did.after other.after on.later on.stands on.goes taken left did.answer other.answer a sim.answers kept.1 r.shown in
+        let whole = transact plainly n (ask_of (execution b meant.encs plain_atoms)) in
+        let same : other ≡ whole = transact_alone plainly n b meant.encs plain_atoms in
+        let catalog_is : catalog_of plainly n ≡ here = (seen_alike (Standing keys history) state plainly n st.stores).worlds.catalog in
+        let meant_so : plain.answered keys here other.answer ∷ rest session.Idle other.after ≡ plain.answered keys (catalog_of plainly n) whole.answer ∷ rest session.Idle whole.after =
+        ap (λ (o : Transacted). plain.answered keys here o.answer ∷ rest session.Idle o.after) same ∙ ap (λ (c : Catalog). plain.answered keys c whole.answer ∷ rest session.Idle whole.after) (sym catalog_is) in
+        let u : understood (catalog_of plainly n) p.batch.text (declared p.batch) ≡ Ok meant = ap (λ (c : Catalog). understood c p.batch.text (declared p.batch)) catalog_is ∙ d.understood in
+        rw (served, u) (subst (λ wanted. Agrees (over serve keys (Hears session.Sent nothing_shown (answered_on k)) taken left (answered here did.answer did.after).after (answered here did.answer did.after).replies) wanted) meant_so all_agrees)
 
-    asked_agrees : (p : Pending) → HoldsBatch w.catalog p → (sent : List SentParam) → AreSealed keys p.keys (uses_of p) sent → (taken : ℕ) (left : List ℕ) → AreBytes left → (b : Bool) → (p.version == w.catalog.version) ≡ b
-        → let moved : SqlFault = Moved (record { seen = p.version; now = w.catalog.version }) in
-        let s = executed w (cond b (understood w.catalog p.batch.text (map declaration_of sent)) (Err moved) >>= λ meant. suited meant.encs sent >>= λ atoms. Ok (meant, atoms)) in
+    asked_agrees : (p : Pending) → HoldsBatch here p → (sent : List SentParam) → AreSealed keys p.keys (uses_of p) sent → (taken : ℕ) (left : List ℕ) → AreBytes left → (b : Bool) → (p.version == here.version) ≡ b
+        → let moved : SqlFault = Moved (record { seen = p.version; now = here.version }) in
+        let s = executed state n (cond b (understood here p.batch.text (map declaration_of sent)) (Err moved) >>= λ meant. suited meant.encs sent >>= λ atoms. Ok (meant, atoms)) in
         Agrees (over serve keys (Hears session.Sent nothing_shown (answered_on k)) taken left s.after s.replies)
-        (text rest (cond b (plain.stepped keys plainly p.batch (understood w.catalog p.batch.text (declared p.batch))) (came (outcome.Refused moved) session.Idle plainly)))
-    asked_agrees p h sent s taken left a true e = runs_agrees p h (h.same (eqb-true p.version w.catalog.version e)) sent s taken left a
-    asked_agrees p h sent s taken left a false e = prints (outcome.Refused (Moved (record { seen = p.version; now = w.catalog.version }))) session.Idle (suc taken) left a tt
+        (text rest (cond b (plain.stepped keys plainly n p.batch (understood (catalog_of plainly n) p.batch.text (declared p.batch))) (came (outcome.Refused moved) session.Idle plainly)))
+    asked_agrees p h sent s taken left a true e = runs_agrees p h (h.same (eqb-true p.version here.version e)) sent s taken left a
+    asked_agrees p h sent s taken left a false e = prints (outcome.Refused (Moved (record { seen = p.version; now = here.version }))) session.Idle (suc taken) left a nothing
 
-    executing_agrees : (number : ℕ) (p : Pending) → HoldsBatch w.catalog p → (taken : ℕ) (left : List ℕ) → AreBytes left
-        → Agrees (over serve keys (executing number (session.Pending p) k) taken left w []) (text rest (plain.executed keys plainly p))
-    executing_agrees number p h taken left a =
+    abbrev seen_here : catalog_of plainly n ≡ here
+    seen_here = (seen_alike (Standing keys history) state plainly n st.stores).worlds.catalog
+
+    executing_agrees : (p : Pending) → HoldsBatch here p → (taken : ℕ) (left : List ℕ) → AreBytes left
+        → Agrees (over serve keys (executing n (session.Pending p) k) taken left state []) (text rest (plain.executed keys plainly n p))
+    executing_agrees p h taken left a =
         let onward : Session → Talk = λ after. Hears after nothing_shown (answered_on k) in
-        sealing_agrees keys w (text rest (plain.executed keys plainly p)) p.keys taken (uses_of p)
-        (λ params. asked onward k (Ok (request.Execute number p.version p.batch.text params)) session.Sent) (λ f. asked onward k (Err f) session.Idle) left a
-        (λ sent more b none s. rw none (asked_agrees p h sent s taken more b (p.version == w.catalog.version) refl))
-        (λ f more b some. rw some (prints (outcome.Failed f) session.Idle taken more b tt))
+        let wanted = text rest (plain.executed keys plainly n p) in
+        sealing_agrees keys state (text rest (plain.executed keys plainly n p)) p.keys taken (uses_of p)
+        (λ params. asked onward k (Ok (request.Execute n p.version p.batch.text params)) session.Sent) (λ f. asked onward k (Err f) session.Idle) left a
+        (λ sent more b none s. rw none (versioned sent s more b))
+        (λ f more b some. rw some (prints (outcome.Failed f) session.Idle taken more b nothing))
+      where
+        versioned : (sent : List SentParam) → AreSealed keys p.keys (uses_of p) sent → (more : List ℕ) → AreBytes more
+            → let moved : SqlFault = Moved (record { seen = p.version; now = here.version }) in
+            let x = executed state n (cond (p.version == here.version) (understood here p.batch.text (map declaration_of sent)) (Err moved) >>= λ meant. suited meant.encs sent >>= λ atoms. Ok (meant, atoms)) in
+            Agrees (over serve keys (Hears session.Sent nothing_shown (answered_on k)) taken more x.after x.replies) (text rest (plain.executed_with keys plainly n p None))
+        versioned sent s more b =
+            subst (λ (v : ℕ). let moved : SqlFault = Moved (record { seen = p.version; now = here.version }) in
+            let x = executed state n (cond (p.version == here.version) (understood here p.batch.text (map declaration_of sent)) (Err moved) >>= λ meant. suited meant.encs sent >>= λ atoms. Ok (meant, atoms)) in
+            Agrees (over serve keys (Hears session.Sent nothing_shown (answered_on k)) taken more x.after x.replies)
+            (text rest (cond (p.version == v) (plain.stepped keys plainly n p.batch (understood (catalog_of plainly n) p.batch.text (declared p.batch))) (came (outcome.Refused (Moved (record { seen = p.version; now = v }))) session.Idle plainly))))
+            (sym (ap (λ (c : Catalog). c.version) seen_here)) (asked_agrees p h sent s taken more b (p.version == here.version) refl)
 
     -- ---- a batch is described
 
-    module _ (number : ℕ) (batch : Batch) (params : HasParams batch) (proper : HasProperParams batch) (ready : Pending → Talk) (readied : Pending → Came) (taken : ℕ) (left : List ℕ) (a : AreBytes left)
-        (ready_agrees : (p : Pending) → HoldsBatch w.catalog p → Agrees (over serve keys (ready p) (suc taken) left w []) (text rest (readied p))) where
+    module _ (batch : Batch) (params : HasParams batch) (proper : HasProperParams batch) (ready : Pending → Talk) (readied : Pending → Came) (taken : ℕ) (left : List ℕ) (a : AreBytes left)
+        (ready_agrees : (p : Pending) → HoldsBatch here p → p.version ≡ here.version → Agrees (over serve keys (ready p) (suc taken) left state []) (text rest (readied p))) where
       abbrev awaiting : Talk
       awaiting = Hears (session.Begun batch) nothing_shown (described_on ready k)
 
-      described_agrees : why_unfit batch ≡ None → (r : Result Meant SqlFault) → understood w.catalog batch.text (declared batch) ≡ r
-          → let d = r >>= λ meant. Ok (description w.catalog (declared batch) meant) in
-          let s = described w d in
+      described_agrees : why_unfit batch ≡ None → (r : Result Meant SqlFault) → understood here batch.text (declared batch) ≡ r
+          → let d = r >>= λ meant. Ok (description here (declared batch) meant) in
+          let s = described state d in
           Agrees (over serve keys awaiting taken left s.after s.replies) (text rest (plain.described plainly batch readied d))
       described_agrees fit (Ok meant) e =
-          let h = is_held laws keys history w st.known st.state batch params proper fit meant e in
+          let h = is_held laws keys history state n known_here well batch params proper fit meant e in
           let found = h.0 in
-          rw found (ready_agrees (record { batch = batch; version = w.catalog.version; keys = (description w.catalog (declared batch) meant).keys; encs = told_among (is_used meant.bound) 0 meant.encs }) h.1)
-      described_agrees fit (Err f) e = prints (outcome.Refused f) session.Idle (suc taken) left a tt
+          rw found (ready_agrees (record { batch = batch; version = here.version; keys = (description here (declared batch) meant).keys; encs = told_among (is_used meant.bound) 0 meant.encs }) h.1 refl)
+      described_agrees fit (Err f) e = prints (outcome.Refused f) session.Idle (suc taken) left a nothing
 
       begun_agrees : (o : Option DriverFault) → why_unfit batch ≡ o
-          → let t = begun number (unless o batch) in
-          Agrees (over serve keys (asked (λ after. Hears after nothing_shown (described_on ready k)) k t.answer t.after) taken left w []) (text rest (plain.begun plainly batch readied o))
-      begun_agrees (Some f) e = prints (outcome.Failed f) session.Idle taken left a tt
-      begun_agrees None e = described_agrees e (understood w.catalog batch.text (declared batch)) refl
+          → let t = begun n (unless o batch) in
+          Agrees (over serve keys (asked (λ after. Hears after nothing_shown (described_on ready k)) k t.answer t.after) taken left state []) (text rest (plain.begun plainly n batch readied o))
+      begun_agrees (Some f) e = prints (outcome.Failed f) session.Idle taken left a nothing
+      begun_agrees None e = subst (λ (c : Catalog). Agrees (over serve keys (asked (λ after. Hears after nothing_shown (described_on ready k)) k (begun n (unless None batch)).answer (begun n (unless None batch)).after) taken left state []) (text rest (plain.described plainly batch readied (describe c batch.text (declared batch))))) (sym seen_here) (described_agrees e (understood here batch.text (declared batch)) refl)
 
-      begins_agrees : (before : Session) → Holds w.catalog before → Agrees (over serve keys (describing number batch before ready k) taken left w []) (text rest (plain.begins plainly batch readied before))
+      begins_agrees : (before : Session) → Held before → Agrees (over serve keys (describing n batch before ready k) taken left state []) (text rest (plain.begins plainly n batch readied before))
       begins_agrees session.Idle h = begun_agrees (why_unfit batch) refl
       begins_agrees (session.Pending p) h = prints (outcome.Failed StillPending) (session.Pending p) taken left a h
       begins_agrees (session.Begun other) h = absurd h
@@ -403,35 +491,37 @@ module _ (laws : Laws) (keys : KeyMap) where
       begins_agrees (session.Reading columns ks count) h = absurd h
       begins_agrees (session.Skipping columns count) h = absurd h
 
-    -- ---- a turn
+  -- ---- a turn
 
-    turn_agrees : (step : Step) → IsWithinLimits step → IsProperStep step → (before : Session) → Holds w.catalog before → (taken : ℕ) (left : List ℕ) → AreBytes left
-        → Agrees (over serve keys (turn step before k) taken left w []) (text rest (means keys step before plainly))
-    turn_agrees (steps_of.Whole number batch) within proper before h taken left a =
-        begins_agrees number batch within.1 proper (λ p. executing number (session.Pending p) k) (plain.executed keys plainly) taken left a (λ p held. executing_agrees number p held (suc taken) left a) before h
-    turn_agrees (steps_of.Half number batch) within proper before h taken left a =
-        begins_agrees number batch within.1 proper (λ p. Prints (outcome.Described (described_params p.keys (uses_of p))) (k (session.Pending p))) (plain.waits plainly) taken left a
-        (λ p held. prints (outcome.Described (described_params p.keys (uses_of p))) (session.Pending p) (suc taken) left a held) before h
-    turn_agrees (steps_of.Execute number) within proper (session.Pending p) h taken left a = executing_agrees number p h taken left a
-    turn_agrees (steps_of.Execute number) within proper session.Idle h taken left a = prints (outcome.Failed NothingPending) session.Idle taken left a tt
-    turn_agrees (steps_of.Execute number) within proper (session.Begun batch) h taken left a = absurd h
-    turn_agrees (steps_of.Execute number) within proper session.Sent h taken left a = absurd h
-    turn_agrees (steps_of.Execute number) within proper (session.Reading columns ks count) h taken left a = absurd h
-    turn_agrees (steps_of.Execute number) within proper (session.Skipping columns count) h taken left a = absurd h
+  turn_agrees : (step : Step) (state plainly : State) (history : List KeyMeta) (st : StandsFor keys history state plainly) (k : Session → Talk) (rest : Session → State → List outcomes.Outcome) (go : Onward state (number_of step) k rest)
+      → IsWithinLimits step → IsProperStep step → (before : Session) → HoldsIn state.shared (transaction_at state (number_of step)) before → (taken : ℕ) (left : List ℕ) → AreBytes left
+      → Agrees (over serve keys (turn step before k) taken left state []) (text rest (means keys step before plainly))
+  turn_agrees (steps_of.Whole number batch) state plainly history st k rest go within proper before h taken left a =
+      begins_agrees state plainly number history st k rest go batch within.1 proper (λ p. executing number (session.Pending p) k) (plain.executed keys plainly number) taken left a
+      (λ p held v. executing_agrees state plainly number history st k rest go p held (suc taken) left a) before h
+  turn_agrees (steps_of.Half number batch) state plainly history st k rest go within proper before h taken left a =
+      begins_agrees state plainly number history st k rest go batch within.1 proper (λ p. Prints (outcome.Described (described_params p.keys (uses_of p))) (k (session.Pending p))) (plain.waits plainly) taken left a
+      (λ p held v. prints state plainly number history st k rest go (outcome.Described (described_params p.keys (uses_of p))) (session.Pending p) (suc taken) left a held) before h
+  turn_agrees (steps_of.Execute number) state plainly history st k rest go within proper (session.Pending p) h taken left a = executing_agrees state plainly number history st k rest go p h taken left a
+  turn_agrees (steps_of.Execute number) state plainly history st k rest go within proper session.Idle h taken left a = prints state plainly number history st k rest go (outcome.Failed NothingPending) session.Idle taken left a h
+  turn_agrees (steps_of.Execute number) state plainly history st k rest go within proper (session.Begun batch) h taken left a = absurd h
+  turn_agrees (steps_of.Execute number) state plainly history st k rest go within proper session.Sent h taken left a = absurd h
+  turn_agrees (steps_of.Execute number) state plainly history st k rest go within proper (session.Reading columns ks count) h taken left a = absurd h
+  turn_agrees (steps_of.Execute number) state plainly history st k rest go within proper (session.Skipping columns count) h taken left a = absurd h
 
   -- ---- the steps
 
-  talk_agrees : (steps : List Step) → All IsWithinLimits steps → All IsProperStep steps → (sessions : List Session) (w : World) (others : List (List (List Atom))) (history : List KeyMeta) (taken : ℕ) (left : List ℕ) → AreBytes left
-      → StandsFor keys history w others → AllHold w.catalog sessions → Agrees (over serve keys (talk steps sessions) taken left w []) (reference keys steps sessions (beside w others))
-  talk_agrees [] within proper sessions w others history taken left a st h = refl
-  talk_agrees (step ∷ steps) within proper sessions w others history taken left a st h =
+  talk_agrees : (steps : List Step) → All IsWithinLimits steps → All IsProperStep steps → (sessions : List Session) (state plainly : State) (history : List KeyMeta) (taken : ℕ) (left : List ℕ) → AreBytes left
+      → StandsFor keys history state plainly → AllHold state sessions → Agrees (over serve keys (talk steps sessions) taken left state []) (reference keys steps sessions plainly)
+  talk_agrees [] within proper sessions state plainly history taken left a st h = refl
+  talk_agrees (step ∷ steps) within proper sessions state plainly history taken left a st h =
       let number = number_of step in
-      turn_agrees w others history st (λ after. talk steps (with_session sessions number after)) (λ after now. reference keys steps (with_session sessions number after) now)
-      (λ after now more later n left b stands newer held. talk_agrees steps (All-tail IsWithinLimits step steps within) (All-tail IsProperStep step steps proper) (with_session sessions number after) now more later n left b stands
-      (hold_set now.catalog sessions (number - 1) after (all_newer w.catalog now.catalog newer sessions h) held))
-      step (All-head IsWithinLimits step steps within) (All-head IsProperStep step steps proper) (session_at sessions number) (hold_place w.catalog sessions (number - 1) h) taken left a
+      turn_agrees step state plainly history st (λ after. talk steps (with_session sessions number after)) (λ after now. reference keys steps (with_session sessions number after) now)
+      (λ after now beside later m left b stands goes. talk_agrees steps (All-tail IsWithinLimits step steps within) (All-tail IsProperStep step steps proper) (with_session sessions number after) now beside later m left b stands
+      (all_go state now number sessions after goes.slot goes.newer goes.sessions goes.held h))
+      (All-head IsWithinLimits step steps within) (All-head IsProperStep step steps proper) (session_at sessions number) (hold_place state number sessions h) taken left a
 
 -- ---- from the beginning
 
 pub served_is_plain : Laws → ServedIsPlain
-served_is_plain laws keys steps within proper entropy bytes = talk_agrees laws keys steps within proper nobody empty_world [] [] 0 entropy bytes (empty_stands keys) (none_held empty_world.catalog 64)
+served_is_plain laws keys steps within proper entropy bytes = talk_agrees laws keys steps within proper nobody empty_state empty_state [] 0 entropy bytes (empty_stands laws.catalogs keys) all_held

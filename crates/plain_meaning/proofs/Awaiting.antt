@@ -1,9 +1,9 @@
 -- Over the server from the empty state each reply is awaited: whatever is asked, the server's replies are of their kinds, and its rows of their columns.
-use Rattle.std.proofs.Common.{◌≡◌, inl, inr, ℕ, ◌+◌, List, [], ◌∷◌, ◌++◌, map, length, Option, Some, None, Result, Ok, Err, Bool, true, false, cond, refl, sym, ap, ◌∙◌, subst, arith, eq-eqb}
-use Rattle.std.specs.Prelude.{◌==◌}
+use Rattle.std.proofs.Common.{◌≡◌, inl, inr, ℕ, zero, suc, ◌+◌, List, [], ◌∷◌, ◌++◌, map, length, Option, Some, None, Result, Ok, Err, Bool, true, false, cond, refl, sym, ap, ◌∙◌, subst, arith, eq-eqb}
+use Rattle.std.specs.Prelude.{◌==◌, replicate}
 use Rattle.std.specs.List.{All, AllZip}
 use Rattle.std.proofs.lemmas.List.{length-map}
-use Rattle.std.proofs.lemmas.List.Elements.{All-head, All-tail}
+use Rattle.std.proofs.lemmas.List.Elements.{All-nil, All-cons, All-head, All-tail}
 use Rattle.ae_base.specs.Atoms.{Atom, plain_atom}
 use Rattle.ae_base.specs.Results.{◌>>=◌}
 use Rattle.ae_base.specs.declared.atoms.AtomOf.TheVariants as atom
@@ -24,12 +24,19 @@ use Rattle.resolve.specs.Bind.{type_of}
 use Rattle.resolve.specs.Laws.{BoundStatementsAre}
 use Rattle.scalar.specs.Classes.{BothAnswer, Correspond, RowsCorrespond, class_of}
 use Rattle.engine.specs.BoundOn.{IsBoundOn}
-use Rattle.engine.specs.Correspond.{Related, AnswersCorrespond, WorldsCorrespond, class_of_result}
-use Rattle.engine.specs.Laws.{StepKeepsWorlds, TypedStatementsAreAdmitted, StepSimulates}
-use Rattle.engine.specs.Step.{Answer, Rows, Changed, Defined, step}
+use Rattle.engine.specs.Correspond.{Related, AnswersCorrespond, class_of_result}
+use Rattle.engine.specs.Laws.{TypedStatementsAreAdmitted}
+use Rattle.catalog.specs.Catalogs.{Catalog}
+use Rattle.catalog.specs.Laws.{DefinitionsKeepCatalogs}
+use Rattle.transactions.specs.Counted.{Execution, nothing_counted, execution}
+use Rattle.transactions.specs.Laws.{TransactionsKeepStores, TransactionsSimulate}
+use Rattle.transactions.specs.Stores.{ask_of, world_of, transact}
+use Rattle.transactions.specs.WellKept.{IsOpen}
+use Rattle.transactions.proofs.Asking.{asks_alike, may_ask}
+use Rattle.server_core.proofs.Alike.{no_sessions}
+use Rattle.engine.specs.Step.{Answer, Rows, Changed, Defined}
 use Rattle.engine.specs.Typed.{param_classes}
 use Rattle.engine.specs.WellTyped.{IsAtomOf, AreValuesOf, AreResults, IsAnswerOf}
-use Rattle.engine.specs.Worlds.{World, empty_world}
 use Rattle.engine.specs.declared.answers.ResultColumn.{ResultColumn}
 use Rattle.engine.proofs.Kept.{has_master}
 use Rattle.wire_messages.specs.Messages.{Header}
@@ -40,7 +47,7 @@ use Rattle.wire_messages.specs.declared.replies.Reply.TheVariants.{Row, Ended}
 use Rattle.server_core.proofs.Understanding.{parts_of}
 use Rattle.server_core.specs.Describing.{Meant, understood, description}
 use Rattle.server_core.specs.Params.{declaration_of, suited}
-use Rattle.server_core.specs.Serve.{State, serve, header, described, answered, executed}
+use Rattle.server_core.specs.Serve.{State, empty_state, catalog_of, serve, header, described, answered, executed}
 use Rattle.conversation.specs.Batches.{why_unfit, unless}
 use Rattle.conversation.specs.Cells.{det_atom, rnd_atom, is_atom_of, is_row_of, read_atoms}
 use Rattle.conversation.specs.Pending.{Pending, Use, uses_of}
@@ -62,18 +69,18 @@ use Rattle.plain_meaning.specs.Laws.{RepliesAreAwaited}
 use Rattle.plain_meaning.specs.Steps.{number_of, turn, talk}
 use Rattle.plain_meaning.specs.Reference.{declared}
 use Rattle.plain_meaning.proofs.Agreement.{types_sent, whole_count}
-use Rattle.plain_meaning.proofs.ItsOwn.{any_cell, own_cell, own_is_one_to_one, own_is_within, are_own, IsOwnWorld}
+use Rattle.plain_meaning.proofs.ItsOwn.{any_cell, own_cell, own_is_one_to_one, own_is_within, are_own, IsOwnState}
 use Rattle.plain_meaning.proofs.Sending.{encs_found, told_among}
 use Rattle.plain_meaning.proofs.Talk.{kind_of_type, types_shown}
-use Rattle.catalog.proofs.Kept.{nothing_kept}
 
 -- the laws of the layers below
 pub record Laws : Type 0 where
   pub bound : BoundStatementsAre
   pub typings : TypingsAreOfColumns
   pub admitted : TypedStatementsAreAdmitted
-  pub keeps : StepKeepsWorlds
-  pub simulates : StepSimulates
+  pub keeps : TransactionsKeepStores
+  pub simulates : TransactionsSimulate
+  pub catalogs : DefinitionsKeepCatalogs
 
 -- ---- keys and random bytes, whichever they are
 
@@ -188,15 +195,18 @@ module _ (columns : List ResultColumn) (total : ℕ) where
 module _ (laws : Laws) where
   -- whatever a turn comes to, the conversation goes on so that each reply is awaited
   abbrev Onward : (Session → Talk) → Type 0
-  Onward k = (after : Session) (now : World) → IsOwnWorld now → Awaits serve (k after) now []
+  Onward k = (after : Session) (now : State) → IsOwnState now → Awaits serve (k after) now []
 
-  module _ (w : World) (own : IsOwnWorld w) (k : Session → Talk) (go : Onward k) where
+  module _ (state : State) (n : ℕ) (own : IsOwnState state) (k : Session → Talk) (go : Onward k) where
+    abbrev here : Catalog
+    here = catalog_of state n
+
     -- ---- an answer
 
-    rows_await : (now : World) → IsOwnWorld now → (columns : List ResultColumn) (rows : List (List Atom)) → AreResults any_cell columns rows → AllZip (RowsCorrespond (Related own_cell) (map class_of_result columns)) rows rows
-        → Awaits serve (reading (header w.catalog columns) k) now (map Row rows ++ Ended (Answered (length rows)) ∷ [])
+    rows_await : (now : State) → IsOwnState now → (columns : List ResultColumn) (rows : List (List Atom)) → AreResults any_cell columns rows → AllZip (RowsCorrespond (Related own_cell) (map class_of_result columns)) rows rows
+        → Awaits serve (reading (header here columns) k) now (map Row rows ++ Ended (Answered (length rows)) ∷ [])
     rows_await now o columns rows t c =
-        let h : Header = header w.catalog columns in
+        let h : Header = header here columns in
         let queue : List Reply = map Row rows ++ Ended (Answered (length rows)) ∷ [] in
         let onrows : List ColumnType → List (Option Keys) → Talk = λ types ks. Hears (session.Reading types ks 0) (record { titles = titles_of h; rows = [] }) (rows_on k) in
         let fails : List ColumnType → DriverFault → Talk = λ types f. Prints (outcome.Failed f) (rested k (session.Skipping types 0)) in
@@ -206,32 +216,32 @@ module _ (laws : Laws) where
         (λ os. read columns (length rows) now k (go session.Idle now o) os rows t c (record { titles = titles_of h; rows = [] }) 0 (whole_count rows))
         (λ f. skipped columns (length rows) (λ heard left. Awaits serve (over_on k heard) now left) rows t c nothing_shown 0 (whole_count rows) (go session.Idle now o)))
 
-    answer_awaits : (now : World) → IsOwnWorld now → (x : Result Answer SqlFault) → IsAnswerOf any_cell x → BothAnswer (AnswersCorrespond (Related own_cell)) x x
-        → let s = answered w now x in Awaits serve (Hears session.Sent nothing_shown (answered_on k)) s.after s.replies
+    answer_awaits : (now : State) → IsOwnState now → (x : Result Answer SqlFault) → IsAnswerOf any_cell x → BothAnswer (AnswersCorrespond (Related own_cell)) x x
+        → let s = answered here x now in Awaits serve (Hears session.Sent nothing_shown (answered_on k)) s.after s.replies
     answer_awaits now o (Ok (Rows columns rows)) t c = rows_await now o columns rows t c.1
     answer_awaits now o (Ok (Changed count)) t c = go session.Idle now o
     answer_awaits now o (Ok Defined) t c = go session.Idle now o
-    answer_awaits now o (Err f) t c = go session.Idle w own
+    answer_awaits now o (Err f) t c = go session.Idle now o
 
     -- ---- what is pending is executed, whatever values are sent
 
-    step_awaits : (version : ℕ) (text : List ℕ) (sent : List SentParam) (meant : Meant) (atoms : List Atom) → understood w.catalog text (map declaration_of sent) ≡ Ok meant → suited meant.encs sent ≡ Ok atoms
-        → let done = step w meant.bound meant.encs atoms in
-        let s = answered w done.world done.answer in
+    step_awaits : (version : ℕ) (text : List ℕ) (sent : List SentParam) (meant : Meant) (atoms : List Atom) → understood here text (map declaration_of sent) ≡ Ok meant → suited meant.encs sent ≡ Ok atoms
+        → let done = transact state n (ask_of (execution meant.bound meant.encs atoms)) in
+        let s = answered here done.answer done.after in
         Awaits serve (Hears session.Sent nothing_shown (answered_on k)) s.after s.replies
     step_awaits version text sent meant atoms u s =
         let b = meant.bound in
         let declarations = map declaration_of sent in
-        let parts = parts_of w.catalog text declarations meant u in
-        let bound = laws.bound w.catalog parts.statement declarations b parts.binds in
+        let parts = parts_of here text declarations meant u in
+        let bound = laws.bound here parts.statement declarations b parts.binds in
         let typings = laws.typings b meant.encs parts.infers in
         let types : map type_of declarations ≡ b.params = sym bound.params in
         let many : length b.params ≡ length sent = ap length bound.params ∙ length-map declarations type_of ∙ length-map sent declaration_of in
         let owns = are_own meant.encs sent atoms (typings.0 ∙ many) s in
-        let on : IsBoundOn w.catalog b meant.encs atoms = record {
+        let on : IsBoundOn here b meant.encs atoms = record {
           placed = bound.placed;
           tables = bound.tables;
-          master = has_master w.catalog b.statement bound.master;
+          master = has_master here b.statement bound.master;
           keys = bound.keys;
           encs = typings.0;
           values = owns.count ∙ sym many;
@@ -239,97 +249,104 @@ module _ (laws : Laws) where
         let admitted = laws.admitted b meant.encs bound.placed parts.infers in
         let values : AreValuesOf any_cell b.params meant.encs atoms = subst (λ tys. AreValuesOf any_cell tys meant.encs atoms) types owns.typed in
         let pairs : RowsCorrespond (Related own_cell) (param_classes b.params meant.encs) atoms atoms = subst (λ tys. RowsCorrespond (Related own_cell) (param_classes tys meant.encs) atoms atoms) types owns.paired in
-        let worlds : WorldsCorrespond (Related own_cell) w w = record { catalog = refl; contents = own.paired } in
-        let kept = laws.keeps any_cell w b meant.encs atoms own.typed on admitted values in
-        let sim = laws.simulates own_cell w w b meant.encs atoms atoms own_is_one_to_one own_is_within own.typed.keys worlds pairs on admitted in
-        let done = step w b meant.encs atoms in
-        answer_awaits done.world (record { typed = kept.0; paired = sim.worlds.contents }) done.answer kept.1 sim.answers
+        let e : Execution = record { bound = b; encs = meant.encs; params = atoms } in
+        let may = may_ask any_cell (world_of state n).world b.statement e (record { bound = on; typed = admitted; values = values }) in
+        let alike_asked = asks_alike (Related own_cell) b.statement e e (record { bound = refl; encs = refl; params = pairs }) in
+        let kept = laws.keeps any_cell state n (ask_of e) own.typed may in
+        let sim = laws.simulates any_cell own_cell state state n (ask_of e) (ask_of e) own_is_one_to_one own_is_within own.typed own.paired alike_asked may in
+        let done = transact state n (ask_of e) in
+        answer_awaits done.after (record { typed = kept.0; paired = sim.stores }) done.answer kept.1 sim.answers
 
-    suits_await : (version : ℕ) (text : List ℕ) (sent : List SentParam) (meant : Meant) → understood w.catalog text (map declaration_of sent) ≡ Ok meant → (r : Result (List Atom) SqlFault) → suited meant.encs sent ≡ r
-        → let s = executed w (r >>= λ atoms. Ok (meant, atoms)) in Awaits serve (Hears session.Sent nothing_shown (answered_on k)) s.after s.replies
+    suits_await : (version : ℕ) (text : List ℕ) (sent : List SentParam) (meant : Meant) → understood here text (map declaration_of sent) ≡ Ok meant → (r : Result (List Atom) SqlFault) → suited meant.encs sent ≡ r
+        → let s = executed state n (r >>= λ atoms. Ok (meant, atoms)) in Awaits serve (Hears session.Sent nothing_shown (answered_on k)) s.after s.replies
     suits_await version text sent meant u (Ok atoms) s = step_awaits version text sent meant atoms u s
-    suits_await version text sent meant u (Err f) s = go session.Idle w own
+    suits_await version text sent meant u (Err f) s = go session.Idle state own
 
-    means_await : (version : ℕ) (text : List ℕ) (sent : List SentParam) (r : Result Meant SqlFault) → understood w.catalog text (map declaration_of sent) ≡ r
-        → let s = executed w (r >>= λ meant. suited meant.encs sent >>= λ atoms. Ok (meant, atoms)) in Awaits serve (Hears session.Sent nothing_shown (answered_on k)) s.after s.replies
+    means_await : (version : ℕ) (text : List ℕ) (sent : List SentParam) (r : Result Meant SqlFault) → understood here text (map declaration_of sent) ≡ r
+        → let s = executed state n (r >>= λ meant. suited meant.encs sent >>= λ atoms. Ok (meant, atoms)) in Awaits serve (Hears session.Sent nothing_shown (answered_on k)) s.after s.replies
     means_await version text sent (Ok meant) u = suits_await version text sent meant u (suited meant.encs sent) refl
-    means_await version text sent (Err f) u = go session.Idle w own
+    means_await version text sent (Err f) u = go session.Idle state own
 
     asked_awaits : (version : ℕ) (text : List ℕ) (sent : List SentParam) (t : Bool)
-        → let moved : SqlFault = Moved (record { seen = version; now = w.catalog.version }) in
-        let s = executed w (cond t (understood w.catalog text (map declaration_of sent)) (Err moved) >>= λ meant. suited meant.encs sent >>= λ atoms. Ok (meant, atoms)) in
+        → let moved : SqlFault = Moved (record { seen = version; now = here.version }) in
+        let s = executed state n (cond t (understood here text (map declaration_of sent)) (Err moved) >>= λ meant. suited meant.encs sent >>= λ atoms. Ok (meant, atoms)) in
         Awaits serve (Hears session.Sent nothing_shown (answered_on k)) s.after s.replies
-    asked_awaits version text sent true = means_await version text sent (understood w.catalog text (map declaration_of sent)) refl
-    asked_awaits version text sent false = go session.Idle w own
+    asked_awaits version text sent true = means_await version text sent (understood here text (map declaration_of sent)) refl
+    asked_awaits version text sent false = go session.Idle state own
 
-    pending_awaits : (number : ℕ) (p : Pending) → Awaits serve (executing number (session.Pending p) k) w []
-    pending_awaits number p =
+    pending_awaits : (p : Pending) → Awaits serve (executing n (session.Pending p) k) state []
+    pending_awaits p =
         let onward : Session → Talk = λ after. Hears after nothing_shown (answered_on k) in
-        sealing_awaits w [] p.keys (uses_of p)
-        (λ params. asked onward k (Ok (request.Execute number p.version p.batch.text params)) session.Sent) (λ f. asked onward k (Err f) session.Idle)
-        (λ sent. asked_awaits p.version p.batch.text sent (p.version == w.catalog.version))
-        (λ f. go session.Idle w own)
+        sealing_awaits state [] p.keys (uses_of p)
+        (λ params. asked onward k (Ok (request.Execute n p.version p.batch.text params)) session.Sent) (λ f. asked onward k (Err f) session.Idle)
+        (λ sent. asked_awaits p.version p.batch.text sent (p.version == here.version))
+        (λ f. go session.Idle state own)
 
-    executing_awaits : (number : ℕ) (before : Session) → Awaits serve (executing number before k) w []
-    executing_awaits number (session.Pending p) = pending_awaits number p
-    executing_awaits number session.Idle = go session.Idle w own
-    executing_awaits number (session.Begun batch) = go (session.Begun batch) w own
-    executing_awaits number session.Sent = go session.Sent w own
-    executing_awaits number (session.Reading columns ks count) = go (session.Reading columns ks count) w own
-    executing_awaits number (session.Skipping columns count) = go (session.Skipping columns count) w own
+    executing_awaits : (before : Session) → Awaits serve (executing n before k) state []
+    executing_awaits (session.Pending p) = pending_awaits p
+    executing_awaits session.Idle = go session.Idle state own
+    executing_awaits (session.Begun batch) = go (session.Begun batch) state own
+    executing_awaits session.Sent = go session.Sent state own
+    executing_awaits (session.Reading columns ks count) = go (session.Reading columns ks count) state own
+    executing_awaits (session.Skipping columns count) = go (session.Skipping columns count) state own
 
     -- ---- a batch is described
 
-    module _ (number : ℕ) (batch : Batch) (params : HasParams batch) (ready : Pending → Talk) (ready_awaits : (p : Pending) → Awaits serve (ready p) w []) where
-      described_awaits : (r : Result Meant SqlFault) → understood w.catalog batch.text (declared batch) ≡ r
-          → let s = described w (r >>= λ meant. Ok (description w.catalog (declared batch) meant)) in
+    module _ (batch : Batch) (params : HasParams batch) (ready : Pending → Talk) (ready_awaits : (p : Pending) → Awaits serve (ready p) state []) where
+      described_awaits : (r : Result Meant SqlFault) → understood here batch.text (declared batch) ≡ r
+          → let s = described state (r >>= λ meant. Ok (description here (declared batch) meant)) in
           Awaits serve (Hears (session.Begun batch) nothing_shown (described_on ready k)) s.after s.replies
       described_awaits (Ok meant) e =
-          let parts = parts_of w.catalog batch.text (declared batch) meant e in
-          let bound = laws.bound w.catalog parts.statement (declared batch) meant.bound parts.binds in
+          let parts = parts_of here batch.text (declared batch) meant e in
+          let bound = laws.bound here parts.statement (declared batch) meant.bound parts.binds in
           let long : length meant.encs ≡ length batch.params =
           (laws.typings meant.bound meant.encs parts.infers).0 ∙ ap length bound.params ∙ length-map (declared batch) type_of ∙ length-map batch.params (λ (q : Param). q.declaration) in
           let found = encs_found meant.bound 0 batch.params meant.encs long params.1 in
           let told = told_among (is_used meant.bound) 0 meant.encs in
-          let d = description w.catalog (declared batch) meant in
-          rw found (ready_awaits (record { batch = batch; version = w.catalog.version; keys = d.keys; encs = told }))
-      described_awaits (Err f) e = go session.Idle w own
+          let d = description here (declared batch) meant in
+          rw found (ready_awaits (record { batch = batch; version = here.version; keys = d.keys; encs = told }))
+      described_awaits (Err f) e = go session.Idle state own
 
       begun_awaits : (o : Option DriverFault)
-          → let t = begun number (unless o batch) in Awaits serve (asked (λ after. Hears after nothing_shown (described_on ready k)) k t.answer t.after) w []
-      begun_awaits (Some f) = go session.Idle w own
-      begun_awaits None = described_awaits (understood w.catalog batch.text (declared batch)) refl
+          → let t = begun n (unless o batch) in Awaits serve (asked (λ after. Hears after nothing_shown (described_on ready k)) k t.answer t.after) state []
+      begun_awaits (Some f) = go session.Idle state own
+      begun_awaits None = described_awaits (understood here batch.text (declared batch)) refl
 
-      describing_awaits : (before : Session) → Awaits serve (describing number batch before ready k) w []
+      describing_awaits : (before : Session) → Awaits serve (describing n batch before ready k) state []
       describing_awaits session.Idle = begun_awaits (why_unfit batch)
-      describing_awaits (session.Pending p) = go (session.Pending p) w own
-      describing_awaits (session.Begun other) = go (session.Begun other) w own
-      describing_awaits session.Sent = go session.Sent w own
-      describing_awaits (session.Reading columns ks count) = go (session.Reading columns ks count) w own
-      describing_awaits (session.Skipping columns count) = go (session.Skipping columns count) w own
+      describing_awaits (session.Pending p) = go (session.Pending p) state own
+      describing_awaits (session.Begun other) = go (session.Begun other) state own
+      describing_awaits session.Sent = go session.Sent state own
+      describing_awaits (session.Reading columns ks count) = go (session.Reading columns ks count) state own
+      describing_awaits (session.Skipping columns count) = go (session.Skipping columns count) state own
 
-    -- ---- a turn
+  -- ---- a turn
 
-    turn_awaits : (step : Step) → IsWithinLimits step → (before : Session) → Awaits serve (turn step before k) w []
-    turn_awaits (steps_of.Whole number batch) within before = describing_awaits number batch within.1 (λ p. executing number (session.Pending p) k) (pending_awaits number) before
-    turn_awaits (steps_of.Half number batch) within before =
-        describing_awaits number batch within.1 (λ p. Prints (outcome.Described (described_params p.keys (uses_of p))) (k (session.Pending p))) (λ p. go (session.Pending p) w own) before
-    turn_awaits (steps_of.Execute number) within before = executing_awaits number before
+  turn_awaits : (step : Step) (state : State) → IsOwnState state → (k : Session → Talk) → Onward k → IsWithinLimits step → (before : Session) → Awaits serve (turn step before k) state []
+  turn_awaits (steps_of.Whole number batch) state own k go within before =
+      describing_awaits state number own k go batch within.1 (λ p. executing number (session.Pending p) k) (pending_awaits state number own k go) before
+  turn_awaits (steps_of.Half number batch) state own k go within before =
+      describing_awaits state number own k go batch within.1 (λ p. Prints (outcome.Described (described_params p.keys (uses_of p))) (k (session.Pending p))) (λ p. go (session.Pending p) state own) before
+  turn_awaits (steps_of.Execute number) state own k go within before = executing_awaits state number own k go before
 
-  talk_awaits : (steps : List Step) → All IsWithinLimits steps → (sessions : List Session) (w : World) → IsOwnWorld w → Awaits serve (talk steps sessions) w []
-  talk_awaits [] within sessions w own = refl
-  talk_awaits (step ∷ steps) within sessions w own =
+  talk_awaits : (steps : List Step) → All IsWithinLimits steps → (sessions : List Session) (state : State) → IsOwnState state → Awaits serve (talk steps sessions) state []
+  talk_awaits [] within sessions state own = refl
+  talk_awaits (step ∷ steps) within sessions state own =
       let number = number_of step in
-      turn_awaits w own (λ after. talk steps (with_session sessions number after)) (λ after now o. talk_awaits steps (All-tail IsWithinLimits step steps within) (with_session sessions number after) now o)
-      step (All-head IsWithinLimits step steps within) (session_at sessions number)
+      turn_awaits step state own (λ after. talk steps (with_session sessions number after)) (λ after now o. talk_awaits steps (All-tail IsWithinLimits step steps within) (with_session sessions number after) now o)
+      (All-head IsWithinLimits step steps within) (session_at sessions number)
 
 -- ---- from the beginning
 
-empty_is_own : IsOwnWorld empty_world
-empty_is_own = record {
-  typed = record { catalog = nothing_kept; shaped = tt; keys = λ k d lt. absurd (omega arith); tables = tt };
-  paired = tt;
+no_slots : (n : ℕ) → All (IsOpen any_cell nothing_counted) (replicate n None)
+no_slots zero = All-nil (IsOpen any_cell nothing_counted)
+no_slots (suc n) = All-cons (IsOpen any_cell nothing_counted) None (replicate n None) tt (no_slots n)
+
+empty_is_own : DefinitionsKeepCatalogs → IsOwnState empty_state
+empty_is_own law = record {
+  typed = record { shared = record { world = record { catalog = law.0; shaped = tt; keys = λ k d lt. absurd (omega arith); tables = tt }; counts = refl }; sessions = no_slots 64 };
+  paired = record { shared = record { worlds = record { catalog = refl; contents = tt }; counts = refl }; sessions = no_sessions (Related own_cell) 64 };
 }
 
 pub replies_are_awaited : Laws → RepliesAreAwaited
-replies_are_awaited laws steps within = talk_awaits laws steps within nobody empty_world empty_is_own
+replies_are_awaited laws steps within = talk_awaits laws steps within nobody empty_state (empty_is_own laws.catalogs)

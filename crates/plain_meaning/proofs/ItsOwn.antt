@@ -14,10 +14,12 @@ use Rattle.ae_base.specs.declared.types.Ty.{Ty}
 use Rattle.enc_types.specs.Typing.{enc_eq}
 use Rattle.resolve.specs.Bind.{type_of}
 use Rattle.scalar.specs.Classes.{Class, IsNotNull, IsOneToOne, Correspond, RowsCorrespond, class_of}
-use Rattle.engine.specs.Correspond.{Related, ArePairsWithin, IsWithinClass, ContentsCorrespond}
+use Rattle.engine.specs.Correspond.{Related, ArePairsWithin, IsWithinClass}
 use Rattle.engine.specs.Typed.{param_classes}
-use Rattle.engine.specs.WellTyped.{IsAtomOf, AreValuesOf, IsWellTyped}
-use Rattle.engine.specs.Worlds.{World}
+use Rattle.engine.specs.WellTyped.{IsAtomOf, AreValuesOf}
+use Rattle.transactions.specs.Correspond.{StoresCorrespond}
+use Rattle.transactions.specs.WellKept.{IsStore}
+use Rattle.server_core.specs.Serve.{State}
 use Rattle.engine.proofs.Suited.{within_is}
 use Rattle.wire_messages.specs.declared.params.SentParam.{SentParam}
 use Rattle.server_core.specs.Params.{declaration_of, is_of, is_shaped, suited_atom, suited}
@@ -128,8 +130,8 @@ are_own (e ∷ es) (p ∷ ps) atoms n h =
     subst (AreOwn (map type_of (map declaration_of (p ∷ ps))) (e ∷ es) (p ∷ ps)) c.all
     (record { count = k; typed = (one.typed, more.typed); paired = (one.paired, more.paired) })
 
--- ---- worlds
+-- ---- states
 
-pub record IsOwnWorld (w : World) : Type 0 where
-  pub typed : IsWellTyped any_cell w
-  pub paired : ContentsCorrespond (Related own_cell) w.catalog.tables w.contents w.contents
+pub record IsOwnState (state : State) : Type 0 where
+  pub typed : IsStore any_cell state
+  pub paired : StoresCorrespond (Related own_cell) state state

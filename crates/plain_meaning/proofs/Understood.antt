@@ -18,9 +18,9 @@ use Rattle.enc_types.specs.UsedAlone.{used_among, place_among, is_used, alone}
 use Rattle.enc_types.proofs.UsedAlone.{found_among}
 use Rattle.resolve.specs.Bind.{bind}
 use Rattle.resolve.specs.Laws.{PreparedAlone}
-use Rattle.engine.specs.Laws.{StepRenamed}
-use Rattle.engine.specs.Step.{step}
-use Rattle.engine.specs.Worlds.{World}
+use Rattle.transactions.specs.Counted.{execution}
+use Rattle.transactions.specs.Stores.{Store, ask_of, transact}
+use Rattle.transactions.proofs.Asking.{asks_renamed}
 use Rattle.server_core.specs.Describing.{Meant, understood}
 pub use Rattle.server_core.proofs.Understanding.{Parts, parts_of}
 
@@ -40,12 +40,12 @@ understood_alone law catalog text declarations meant p =
     understood_as catalog text (used_among (is_used meant.bound) 0 declarations) p.statement (alone meant.bound) (used_among (is_used meant.bound) 0 meant.encs) p.reads a.is_bound a.is_inferred
 
 -- and does the same with their values
-pub step_alone : StepRenamed → (w : World) (b : Bound) (encs : List Enc) (atoms : List Atom)
-    → step w (alone b) (used_among (is_used b) 0 encs) (used_among (is_used b) 0 atoms) ≡ step w b encs atoms
-step_alone law w b encs atoms =
+pub transact_alone : (state : Store) (session : ℕ) (b : Bound) (encs : List Enc) (atoms : List Atom)
+    → transact state session (ask_of (execution (alone b) (used_among (is_used b) 0 encs) (used_among (is_used b) 0 atoms))) ≡ transact state session (ask_of (execution b encs atoms))
+transact_alone state session b encs atoms =
     let used = is_used b in
     let there : (place : ℕ) → uses place b ≡ true → used (0 + place) ≡ true = λ place u. let z : place ≡ 0 + place = omega arith in ap used (sym z) ∙ u in
-    law w b (place_among used 0) (used_among used 0 b.params) encs (used_among used 0 encs) atoms (used_among used 0 atoms)
+    asks_renamed state session b (place_among used 0) (used_among used 0 b.params) encs (used_among used 0 encs) atoms (used_among used 0 atoms)
     (λ place u. ap (λ o. unwrap_or o atom.Null) (found_among used atoms 0 place (there place u)))
     (record {
       types = λ place u. ap (λ o. unwrap_or o ty.Int) (found_among used b.params 0 place (there place u));

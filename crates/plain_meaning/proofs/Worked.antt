@@ -13,14 +13,14 @@ use Rattle.bound_checks.specs.Checks.{checked}
 use Rattle.resolve.specs.Bind.{bind}
 use Rattle.enc_types.specs.Least.{inferred, least, has_typing, clash_behind}
 use Rattle.enc_types.specs.Rules.{rules}
-use Rattle.engine.specs.Worlds.{World}
 use Rattle.server_core.specs.Describing.{understood}
+use Rattle.server_core.specs.Serve.{State}
 use Rattle.conversation.specs.Sessions.{nobody, with_session}
 use Rattle.conversation.specs.declared.outcomes.Outcome.{Outcome}
 use Rattle.conversation.specs.declared.outcomes.Outcome.TheVariants.{Rows, Changed}
 use Rattle.conversation.specs.declared.sessions.Session.TheVariants as session
 use Rattle.script_lang.specs.declared.steps.Step.{Step}
-use Rattle.plain_meaning.specs.MeaningWorked.{number, whole, keyed}
+use Rattle.plain_meaning.specs.MeaningWorked.{number, whole, keyed, keyed_with}
 use Rattle.plain_meaning.specs.Reference.{Came, came, means, reference}
 
 abbrev pub vault : List ℕ → KeyMap
@@ -35,8 +35,8 @@ selection = whole 1 (codes "SELECT b FROM t WHERE a = @p") (number (codes "p") 5
 abbrev listing : Step
 listing = whole 1 (codes "SELECT a FROM t") []
 
-abbrev filled : List ℕ → World
-filled wrapped = record (keyed wrapped) { contents = ((atom.Plain (Num (pos 5)) ∷ atom.Plain (Num (pos 7)) ∷ []) ∷ []) ∷ [] }
+abbrev filled : List ℕ → State
+filled wrapped = keyed_with wrapped ((atom.Plain (Num (pos 5)) ∷ atom.Plain (Num (pos 7)) ∷ []) ∷ []) 1
 
 abbrev one_number : List ℕ → ℕ → Outcome
 one_number title n = Rows (record { titles = title ∷ []; rows = (value.Is (Num (pos n)) ∷ []) ∷ [] })
@@ -56,6 +56,6 @@ module _ (master wrapped key : List ℕ) (unwraps : opened (vault master) (codes
 
   pub an_opened_column : reference (vault master) (insertion ∷ selection ∷ listing ∷ []) nobody (keyed wrapped) ≡ Changed 1 ∷ one_number (codes "b") 7 ∷ one_number (codes "a") 5 ∷ []
   an_opened_column =
-      ap (λ (c : Came). c.comes ∷ reference (vault master) (selection ∷ listing ∷ []) (with_session nobody 1 c.session) c.world) inserted
-      ∙ ap (λ (c : Came). Changed 1 ∷ c.comes ∷ reference (vault master) (listing ∷ []) (with_session nobody 1 c.session) c.world) found
+      ap (λ (c : Came). c.comes ∷ reference (vault master) (selection ∷ listing ∷ []) (with_session nobody 1 c.session) c.state) inserted
+      ∙ ap (λ (c : Came). Changed 1 ∷ c.comes ∷ reference (vault master) (listing ∷ []) (with_session nobody 1 c.session) c.state) found
       ∙ ap (λ (c : Came). Changed 1 ∷ one_number (codes "b") 7 ∷ c.comes ∷ []) listed

@@ -1,9 +1,10 @@
--- The plaintext meaning of scripts, computed: a plain table; a half batch that waits while a definition comes; a protected column whose
--- master key the vault lacks; and what the driver refuses by itself.
-use Rattle.std.specs.Prelude.{◌≡◌, ℕ, pos, List, [], ◌∷◌, false, codes, refl}
+-- The plaintext meaning of scripts, computed: a plain table; a half batch that waits while a definition comes; two sessions that change a
+-- table, one in a transaction; a protected column whose master key the vault lacks; and what the driver refuses by itself.
+use Rattle.std.specs.Prelude.{◌≡◌, ℕ, pos, List, [], ◌∷◌, map, None, false, codes, replicate, refl}
 use lib.Utf8.{encode}
+use Rattle.ae_base.specs.Atoms.{Atom}
 use Rattle.ae_base.specs.declared.batches.Param.{Param}
-use Rattle.ae_base.specs.declared.faults.SqlFault.TheVariants.{Moved}
+use Rattle.ae_base.specs.declared.faults.SqlFault.TheVariants.{Moved, Conflict, NoTransaction}
 use Rattle.ae_base.specs.declared.types.Enc.TheVariants as enc
 use Rattle.ae_base.specs.declared.types.Ty.TheVariants as ty
 use Rattle.ae_base.specs.declared.values.Datum.TheVariants.{Num}
@@ -11,11 +12,12 @@ use Rattle.ae_base.specs.declared.values.Value.TheVariants as value
 use Rattle.sql_grammar.specs.Parse.{operand_in, inner_in}
 use Rattle.sql_grammar.specs.Texts.{tree_of, parsed}
 use Rattle.bound_checks.specs.Checks.{checked}
+use Rattle.catalog.specs.Catalogs.{Catalog}
 use Rattle.resolve.specs.Bind.{bind}
 use Rattle.enc_types.specs.Least.{inferred, least, has_typing, clash_behind}
 use Rattle.enc_types.specs.Rules.{rules}
-use Rattle.engine.specs.Worlds.{World, empty_world}
 use Rattle.server_core.specs.Describing.{understood}
+use Rattle.server_core.specs.Serve.{State, empty_state}
 use Rattle.conversation.specs.Sessions.{nobody}
 use Rattle.conversation.specs.declared.faults.DriverFault.TheVariants.{StillPending, NothingPending, DoesNotFit, NoMasterKey}
 use Rattle.conversation.specs.declared.outcomes.NamedEnc.TheVariants as named
@@ -35,7 +37,7 @@ abbrev pub half : ℕ → List ℕ → List Param → Step
 half session text params = Half session (record { text = text; params = params })
 
 abbrev pub meaning : List Step → List Outcome
-meaning steps = reference [] steps nobody empty_world
+meaning steps = reference [] steps nobody empty_state
 
 pub the_plain_table :
     meaning (
@@ -66,26 +68,65 @@ pub a_batch_that_waits :
 unfolding understood parsed tree_of operand_in inner_in bind checked inferred least has_typing clash_behind rules encode
 a_batch_that_waits = refl
 
+abbrev pub rows_of_a : List ℕ → Outcome
+rows_of_a numbers = Rows (record { titles = codes "a" ∷ []; rows = map (λ n. value.Is (Num (pos n)) ∷ []) numbers })
+
+-- the transaction sees its own row, and can't be committed
+pub a_transaction_in_conflict :
+    meaning (
+    whole 1 (codes "CREATE TABLE t (a INT)") []
+    ∷ whole 1 (codes "BEGIN TRANSACTION") []
+    ∷ whole 1 (codes "INSERT INTO t (a) VALUES (1)") []
+    ∷ whole 2 (codes "INSERT INTO t (a) VALUES (2)") []
+    ∷ whole 1 (codes "SELECT a FROM t") []
+    ∷ whole 1 (codes "COMMIT") []
+    ∷ whole 1 (codes "SELECT a FROM t") []
+    ∷ [])
+    ≡ Defined ∷ Defined ∷ Changed 1 ∷ Changed 1 ∷ rows_of_a (1 ∷ []) ∷ Refused (Conflict (codes "t") (record { seen = 0; now = 1 })) ∷ rows_of_a (2 ∷ []) ∷ []
+unfolding understood parsed tree_of operand_in inner_in bind checked inferred least has_typing clash_behind rules encode
+a_transaction_in_conflict = refl
+
+-- where the other session only reads, it can; and then it is over
+pub a_transaction_that_is_committed :
+    meaning (
+    whole 1 (codes "CREATE TABLE t (a INT)") []
+    ∷ whole 1 (codes "BEGIN TRANSACTION") []
+    ∷ whole 1 (codes "INSERT INTO t (a) VALUES (1)") []
+    ∷ whole 2 (codes "SELECT a FROM t") []
+    ∷ whole 1 (codes "COMMIT TRANSACTION") []
+    ∷ whole 1 (codes "COMMIT") []
+    ∷ whole 2 (codes "SELECT a FROM t") []
+    ∷ [])
+    ≡ Defined ∷ Defined ∷ Changed 1 ∷ rows_of_a [] ∷ Defined ∷ Refused NoTransaction ∷ rows_of_a (1 ∷ []) ∷ []
+unfolding understood parsed tree_of operand_in inner_in bind checked inferred least has_typing clash_behind rules encode
+a_transaction_that_is_committed = refl
+
 pub a_value_that_does_not_fit :
     meaning (whole 1 (codes "SELECT a FROM t WHERE a = @p") (number (codes "p") 2147483648 ∷ []) ∷ []) ≡ Failed (DoesNotFit (codes "p")) ∷ []
 a_value_that_does_not_fit = refl
 
--- a world whose table t has a protected column a and a plain column b
-abbrev pub keyed : List ℕ → World
-keyed wrapped = record {
-  catalog = record {
-    masters = record { name = codes "M"; path = codes "main" } ∷ [];
-    keys = record { id = 1; name = codes "K"; master = codes "M"; wrapped = wrapped } ∷ [];
-    tables = record {
-      name = codes "t";
-      columns = record { name = codes "a"; ty = ty.Int; enc = enc.Det 1; not_null = false } ∷ record { name = codes "b"; ty = ty.Int; enc = enc.Plain; not_null = false } ∷ [];
-      uniques = [];
-    } ∷ [];
-    next_id = 2;
-    version = 3;
-  };
-  contents = [] ∷ [];
+abbrev pub keyed_catalog : List ℕ → Catalog
+keyed_catalog wrapped = record {
+  masters = record { name = codes "M"; path = codes "main" } ∷ [];
+  keys = record { id = 1; name = codes "K"; master = codes "M"; wrapped = wrapped } ∷ [];
+  tables = record {
+    name = codes "t";
+    columns = record { name = codes "a"; ty = ty.Int; enc = enc.Det 1; not_null = false } ∷ record { name = codes "b"; ty = ty.Int; enc = enc.Plain; not_null = false } ∷ [];
+    uniques = [];
+  } ∷ [];
+  next_id = 2;
+  version = 3;
 }
+
+-- a state whose table t has a protected column a and a plain column b, these rows, and so many changes
+abbrev pub keyed_with : List ℕ → List (List Atom) → ℕ → State
+keyed_with wrapped rows changes = record {
+  shared = record { world = record { catalog = keyed_catalog wrapped; contents = rows ∷ [] }; counts = changes ∷ [] };
+  sessions = replicate 64 None;
+}
+
+abbrev pub keyed : List ℕ → State
+keyed wrapped = keyed_with wrapped [] 0
 
 -- where the vault lacks the master key, no value is protected and none is shown
 pub a_protected_column : (wrapped : List ℕ) →

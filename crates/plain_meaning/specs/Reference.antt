@@ -1,5 +1,5 @@
 -- The plaintext meaning of a script: what its steps come to over plain values. No cell, no random byte, no request and no reply is in it.
-use Rattle.std.specs.Prelude.{List, [], ◌∷◌, map, Option, Some, None, Result, Ok, Err, ◌==◌, if◌then◌else◌, unwrap_or}
+use Rattle.std.specs.Prelude.{ℕ, List, [], ◌∷◌, map, Option, Some, None, Result, Ok, Err, ◌==◌, if◌then◌else◌, unwrap_or}
 use Rattle.ae_base.specs.Atoms.{Atom, plain_atom, value_of_atom}
 use Rattle.ae_base.specs.declared.batches.Batch.{Batch}
 use Rattle.ae_base.specs.declared.batches.KeyMeta.{KeyMeta}
@@ -12,12 +12,14 @@ use Rattle.ae_base.specs.declared.values.Value.{Value}
 use Rattle.ae_base.specs.declared.values.Value.TheVariants as value
 use Rattle.ae_edge.specs.Vaults.{KeyMap}
 use Rattle.catalog.specs.Catalogs.{Catalog}
-use Rattle.engine.specs.Step.{Answer, step}
+use Rattle.engine.specs.Step.{Answer}
 use Rattle.engine.specs.Step as engine
-use Rattle.engine.specs.Worlds.{World}
 use Rattle.engine.specs.declared.answers.ResultColumn.{ResultColumn}
+use Rattle.transactions.specs.Counted.{execution}
+use Rattle.transactions.specs.Stores.{ask_of, transact}
 use Rattle.wire_messages.specs.Messages.{Description}
 use Rattle.server_core.specs.Describing.{Meant, understood, describe, keys_of}
+use Rattle.server_core.specs.Serve.{State, catalog_of}
 use Rattle.conversation.specs.Batches.{why_unfit}
 use Rattle.conversation.specs.Keys.{open_key, meta_of}
 use Rattle.conversation.specs.Pending.{Pending, uses_of}
@@ -33,14 +35,14 @@ use Rattle.script_lang.specs.declared.steps.Step.{Step}
 use Rattle.script_lang.specs.declared.steps.Step.TheVariants.{Whole, Half, Execute}
 use Rattle.plain_meaning.specs.Steps.{number_of}
 
--- what a step comes to, and its session and the plain world after it
+-- what a step comes to, and its session and the plain state after it
 pub record Came : Type 0 where
   pub comes : Outcome
   pub session : Session
-  pub world : World
+  pub state : State
 
-abbrev pub came : Outcome → Session → World → Came
-came comes after world = record { comes = comes; session = after; world = world }
+abbrev pub came : Outcome → Session → State → Came
+came comes after state = record { comes = comes; session = after; state = state }
 
 -- ---- keys
 
@@ -86,22 +88,22 @@ abbrev pub declared : Batch → List ParamDecl
 declared batch = map (λ p. p.declaration) batch.params
 
 -- the statement is bound over all declarations, and takes all values as they are
-abbrev pub stepped : KeyMap → World → Batch → Result Meant SqlFault → Came
-stepped keys world batch (Ok meant) =
-    let done = step world meant.bound meant.encs (map (λ p. plain_atom p.value) batch.params) in
-    came (answered keys world.catalog done.answer) session.Idle done.world
-stepped keys world batch (Err f) = came (outcome.Refused f) session.Idle world
+abbrev pub stepped : KeyMap → State → ℕ → Batch → Result Meant SqlFault → Came
+stepped keys state number batch (Ok meant) =
+    let done = transact state number (ask_of (execution meant.bound meant.encs (map (λ p. plain_atom p.value) batch.params))) in
+    came (answered keys (catalog_of state number) done.answer) session.Idle done.after
+stepped keys state number batch (Err f) = came (outcome.Refused f) session.Idle state
 
 -- a key that isn't opened is the driver's fault; Moved where the catalog isn't that of the description
-abbrev pub executed_with : KeyMap → World → Pending → Option DriverFault → Came
-executed_with keys world p (Some f) = came (outcome.Failed f) session.Idle world
-executed_with keys world p None =
-    if p.version == world.catalog.version
-    then stepped keys world p.batch (understood world.catalog p.batch.text (declared p.batch))
-    else came (outcome.Refused (Moved (record { seen = p.version; now = world.catalog.version }))) session.Idle world
+abbrev pub executed_with : KeyMap → State → ℕ → Pending → Option DriverFault → Came
+executed_with keys state number p (Some f) = came (outcome.Failed f) session.Idle state
+executed_with keys state number p None =
+    if p.version == (catalog_of state number).version
+    then stepped keys state number p.batch (understood (catalog_of state number) p.batch.text (declared p.batch))
+    else came (outcome.Refused (Moved (record { seen = p.version; now = (catalog_of state number).version }))) session.Idle state
 
-abbrev pub executed : KeyMap → World → Pending → Came
-executed keys world p = executed_with keys world p (why_unopened keys p.keys (map (λ u. u.enc) (uses_of p)))
+abbrev pub executed : KeyMap → State → ℕ → Pending → Came
+executed keys state number p = executed_with keys state number p (why_unopened keys p.keys (map (λ u. u.enc) (uses_of p)))
 
 -- ---- a batch is described
 
@@ -113,47 +115,47 @@ pending batch description = record {
   encs = unwrap_or (encs_of batch.params description.params) [];
 }
 
-abbrev pub described : World → Batch → (Pending → Came) → Result Description SqlFault → Came
-described world batch ready (Ok description) = ready (pending batch description)
-described world batch ready (Err f) = came (outcome.Refused f) session.Idle world
+abbrev pub described : State → Batch → (Pending → Came) → Result Description SqlFault → Came
+described state batch ready (Ok description) = ready (pending batch description)
+described state batch ready (Err f) = came (outcome.Refused f) session.Idle state
 
 -- a value that doesn't fit and a text that is too long don't leave the driver
-abbrev pub begun : World → Batch → (Pending → Came) → Option DriverFault → Came
-begun world batch ready (Some f) = came (outcome.Failed f) session.Idle world
-begun world batch ready None = described world batch ready (describe world.catalog batch.text (declared batch))
+abbrev pub begun : State → ℕ → Batch → (Pending → Came) → Option DriverFault → Came
+begun state number batch ready (Some f) = came (outcome.Failed f) session.Idle state
+begun state number batch ready None = described state batch ready (describe (catalog_of state number) batch.text (declared batch))
 
 -- ---- a step
 
 -- a session that has a batch begins no other
-abbrev pub begins : World → Batch → (Pending → Came) → Session → Came
-begins world batch ready session.Idle = begun world batch ready (why_unfit batch)
-begins world batch ready (session.Begun other) = came (outcome.Failed StillPending) (session.Begun other) world
-begins world batch ready (session.Pending p) = came (outcome.Failed StillPending) (session.Pending p) world
-begins world batch ready session.Sent = came (outcome.Failed StillPending) session.Sent world
-begins world batch ready (session.Reading columns keys count) = came (outcome.Failed StillPending) (session.Reading columns keys count) world
-begins world batch ready (session.Skipping columns count) = came (outcome.Failed StillPending) (session.Skipping columns count) world
+abbrev pub begins : State → ℕ → Batch → (Pending → Came) → Session → Came
+begins state number batch ready session.Idle = begun state number batch ready (why_unfit batch)
+begins state number batch ready (session.Begun other) = came (outcome.Failed StillPending) (session.Begun other) state
+begins state number batch ready (session.Pending p) = came (outcome.Failed StillPending) (session.Pending p) state
+begins state number batch ready session.Sent = came (outcome.Failed StillPending) session.Sent state
+begins state number batch ready (session.Reading columns keys count) = came (outcome.Failed StillPending) (session.Reading columns keys count) state
+begins state number batch ready (session.Skipping columns count) = came (outcome.Failed StillPending) (session.Skipping columns count) state
 
 -- one without a described batch executes nothing
-abbrev pub executes : KeyMap → World → Session → Came
-executes keys world (session.Pending p) = executed keys world p
-executes keys world session.Idle = came (outcome.Failed NothingPending) session.Idle world
-executes keys world (session.Begun batch) = came (outcome.Failed NothingPending) (session.Begun batch) world
-executes keys world session.Sent = came (outcome.Failed NothingPending) session.Sent world
-executes keys world (session.Reading columns ks count) = came (outcome.Failed NothingPending) (session.Reading columns ks count) world
-executes keys world (session.Skipping columns count) = came (outcome.Failed NothingPending) (session.Skipping columns count) world
+abbrev pub executes : KeyMap → State → ℕ → Session → Came
+executes keys state number (session.Pending p) = executed keys state number p
+executes keys state number session.Idle = came (outcome.Failed NothingPending) session.Idle state
+executes keys state number (session.Begun batch) = came (outcome.Failed NothingPending) (session.Begun batch) state
+executes keys state number session.Sent = came (outcome.Failed NothingPending) session.Sent state
+executes keys state number (session.Reading columns ks count) = came (outcome.Failed NothingPending) (session.Reading columns ks count) state
+executes keys state number (session.Skipping columns count) = came (outcome.Failed NothingPending) (session.Skipping columns count) state
 
 -- half a batch waits as it was described
-abbrev pub waits : World → Pending → Came
-waits world p = came (outcome.Described (described_params p.keys (uses_of p))) (session.Pending p) world
+abbrev pub waits : State → Pending → Came
+waits state p = came (outcome.Described (described_params p.keys (uses_of p))) (session.Pending p) state
 
-abbrev pub means : KeyMap → Step → Session → World → Came
-means keys (Whole number batch) before world = begins world batch (executed keys world) before
-means keys (Half number batch) before world = begins world batch (waits world) before
-means keys (Execute number) before world = executes keys world before
+abbrev pub means : KeyMap → Step → Session → State → Came
+means keys (Whole number batch) before state = begins state number batch (executed keys state number) before
+means keys (Half number batch) before state = begins state number batch (waits state) before
+means keys (Execute number) before state = executes keys state number before
 
 -- what the steps come to, one after another
-abbrev pub reference : KeyMap → List Step → List Session → World → List Outcome
-reference keys [] sessions world = []
-reference keys (step ∷ steps) sessions world =
-    let c = means keys step (session_at sessions (number_of step)) world in
-    c.comes ∷ reference keys steps (with_session sessions (number_of step) c.session) c.world
+abbrev pub reference : KeyMap → List Step → List Session → State → List Outcome
+reference keys [] sessions state = []
+reference keys (step ∷ steps) sessions state =
+    let c = means keys step (session_at sessions (number_of step)) state in
+    c.comes ∷ reference keys steps (with_session sessions (number_of step) c.session) c.state

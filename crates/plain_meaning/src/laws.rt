@@ -2,13 +2,14 @@
 
 ghost use Rattle.plain_meaning.specs.Laws.{RepliesAreAwaited, ServedIsPlain};
 
-use catalog::laws::{definitions_are_followed, ids_are_not_reused, keys_are_told};
+use catalog::laws::{
+    definitions_are_followed, definitions_keep_catalogs, ids_are_not_reused, keys_are_told,
+};
 use cell_codec::{derived_keys_are_keys, sealing_is_read_back, sealing_makes_cells};
 use enc_types::laws::typings_are_of_columns;
-use engine::laws::{
-    rows_are_shown, step_keeps_worlds, step_renamed, step_simulates, typed_statements_are_admitted,
-};
+use engine::laws::{rows_are_shown, step_keeps_worlds, typed_statements_are_admitted};
 use resolve::laws::{bound_statements_are, prepared_alone};
+use transactions::laws::{transactions_keep_stores, transactions_simulate};
 use value_norm::{norm_is_bounded, value_of_is_the_one};
 
 /// Over a fresh server the conversation of each script comes to the script's plaintext meaning, or
@@ -22,10 +23,11 @@ pub fn served_is_plain()
     prepared_alone();
     typings_are_of_columns();
     typed_statements_are_admitted();
-    step_renamed();
     step_keeps_worlds();
+    transactions_keep_stores();
     rows_are_shown();
-    step_simulates();
+    transactions_simulate();
+    definitions_keep_catalogs();
     ids_are_not_reused();
     definitions_are_followed();
     keys_are_told();
@@ -44,6 +46,7 @@ pub fn replies_are_awaited()
     bound_statements_are();
     typings_are_of_columns();
     typed_statements_are_admitted();
-    step_keeps_worlds();
-    step_simulates();
+    transactions_keep_stores();
+    transactions_simulate();
+    definitions_keep_catalogs();
 }

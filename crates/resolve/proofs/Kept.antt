@@ -279,6 +279,7 @@ named_kept catalog (tree.Select q) ds es f b e =
     first_part (sources_for catalog q) _ b (Whole catalog (tree.Select q) ds es f b) e (λ sources es1 e1.
     one_part (bind_query ds sources q) _ b (Whole catalog (tree.Select q) ds es f) e1
     (λ i ei k. one_ok (sources_for catalog q) sources _ _ es1 (one_ok (bind_query es sources q) _ _ _ (query_kept ds es f sources q i ei k) refl)))
+named_kept catalog (tree.Control control) ds es f b e = let i : bound_over ds [] (bound.Control control) ≡ b = cc in subst (Whole catalog (tree.Control control) ds es f) i (λ k. refl)
 
 pub names_keep_the_used : NamesKeepTheUsed
 names_keep_the_used = record { kept = λ catalog statement ds es f b e k. named_kept catalog statement ds es f b e k }

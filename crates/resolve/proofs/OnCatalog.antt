@@ -242,3 +242,5 @@ stands_on catalog (tree.Select q) ds b e =
       master = λ n m w h. absurd cc;
       keys = λ c. sites_there catalog (all_sources sources) c h;
     }))
+stands_on catalog (tree.Control control) ds b e =
+    let i : bound_over ds [] (bound.Control control) ≡ b = cc in subst (StandsOn catalog ds) i (record { params = refl; tables = tt; master = λ n m w h. absurd cc; keys = λ c. no_columns catalog })

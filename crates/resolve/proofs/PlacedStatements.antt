@@ -318,3 +318,4 @@ named_placed_well catalog (tree.Select q) ds b e =
     (λ query eq c l.
     let n = some_items (length query.items) l in
     subst (λ k. IsPlacedQuery (length (sites_of (all_sources sources))) k query) (sym (length-map ds type_of)) (query_placed ds sources q query eq n.0 n.1)))
+named_placed_well catalog (tree.Control control) ds b e = let i : bound_over ds [] (bound.Control control) ≡ b = cc in subst PlacedIfFine i (λ c l. tt)

@@ -52,6 +52,7 @@ named catalog (tree.Delete table filter) declarations =
     table_for catalog table >>= λ def. bind_delete declarations def table filter >>= λ delete. Ok (bound_over declarations (table_sites def) (bound.Delete delete))
 named catalog (tree.Select query) declarations =
     sources_for catalog query >>= λ sources. bind_query declarations sources query >>= λ q. Ok (bound_over declarations (sites_of (all_sources sources)) (bound.Select q))
+named catalog (tree.Control control) declarations = Ok (bound_over declarations [] (bound.Control control))
 
 unfoldable pub bind : Catalog → Statement → List ParamDecl → Result Bound SqlFault
 bind catalog statement declarations = named catalog statement declarations >>= λ bound. checked bound >>= λ fine. Ok bound

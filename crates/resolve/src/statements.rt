@@ -276,6 +276,10 @@ fn place(
             place_delete(alloc, catalog, declarations, table, filter)
         }
         Statement::Select(query) => place_query(alloc, catalog, declarations, query),
+        Statement::Control(control) => Ok(Placed {
+            columns: Seq::new(alloc),
+            statement: BoundStatement::Control(*control),
+        }),
     }
 }
 

@@ -16,6 +16,17 @@ use std::marker::Model;
 use unique_keys::index::KeyIndex;
 use unique_keys::keys::first_twins;
 
+/// Copies of some values, in their order.
+pub fn copies<T: Duplicate>(alloc: Global, values: &[T]) -> Result<Vec<T>, AllocError>
+    ensures { IfOk result (λ copies. copies.items ≡ values.now) }
+{
+    let mut copies = Vec::with_capacity(alloc, values.len())?;
+    for value in values {
+        copies.push(value.copy()?)?;
+    }
+    Ok(copies)
+}
+
 /// The rows of one table, in the order in which they came, and for each of its unique keys an index
 /// of the first of them: of all, unless rows were changed or dropped since the last were put, or
 /// there was no memory.
@@ -48,6 +59,20 @@ fn empty_indexes<K: Same>(alloc: Global, keys: &[UniqueKey]) -> Result<Vec<KeyIn
         indexes.push(KeyIndex::new(alloc, key.copy()?))?;
     }
     Ok(indexes)
+}
+
+/// Indexes of no rows for the same keys.
+fn emptied_each<K: Same>(
+    alloc: Global,
+    indexes: &[KeyIndex<K>],
+) -> Result<Vec<KeyIndex<K>>, AllocError>
+    ensures { IfOk result (λ emptied. All (IndexesRows []) emptied.items) }
+{
+    let mut emptied = Vec::with_capacity(alloc, indexes.len())?;
+    for index in indexes {
+        emptied.push(index.emptied(alloc)?)?;
+    }
+    Ok(emptied)
 }
 
 /// Has each index forget its rows.
@@ -167,5 +192,21 @@ impl<K: Same> Table<K> {
         clear_each(&mut self.indexes);
         self.indexed = 0;
         drop_rows(&mut self.rows, hits);
+    }
+}
+
+impl<K: Same> Duplicate for Table<K> {
+    /// An equal table, whose indexes have all rows where those of this one do and there is memory.
+    fn copy(&self) -> Result<Table<K>, AllocError> {
+        let alloc = *self.rows.allocator();
+        let mut copy = Table {
+            indexes: emptied_each(alloc, &self.indexes)?,
+            rows: copies(alloc, &self.rows)?,
+            indexed: 0,
+        };
+        if self.indexed == self.rows.len() {
+            copy.index_all(alloc);
+        }
+        Ok(copy)
     }
 }

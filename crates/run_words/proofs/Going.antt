@@ -50,7 +50,7 @@ comes_then xs ys None (Some s) t a b c p q = absurd p
 comes_then xs ys (Some r) None t a b c p q = absurd p
 comes_then xs ys (Some r) (Some s) None a b c p q = absurd q
 
-serves_then : (xs ys : List Event) (a b c : State) → Serves xs a b → Serves ys b c → Serves (xs ++ ys) a c
+pub serves_then : (xs ys : List Event) (a b c : State) → Serves xs a b → Serves ys b c → Serves (xs ++ ys) a c
 serves_then [] ys a b c p q = subst (λ w. Serves ys w c) p q
 serves_then (Asked request replies ∷ xs) ys a b c p q = (p.0, p.1, serves_then xs ys p.0 b c p.2 q)
 serves_then (Took reply ∷ xs) ys a b c p q = serves_then xs ys a b c p q
@@ -64,7 +64,7 @@ opened_then xs ys None b e p q = tt
 opened_then xs ys (Some keys) b e p q = let r : IfSome (Some keys) (OpensAll ys) = subst (λ w. IfSome w (OpensAll ys)) e q in opens_then keys xs ys p r
 
 -- what is put of each event in turn is put of all
-puts_then : {A : Type 0} (f : Event → List A) (xs ys : List Event) (a b c : Option (List A)) → Adds (flat_map f xs) a b → Adds (flat_map f ys) b c → Adds (flat_map f (xs ++ ys)) a c
+pub puts_then : {A : Type 0} (f : Event → List A) (xs ys : List Event) (a b c : Option (List A)) → Adds (flat_map f xs) a b → Adds (flat_map f ys) b c → Adds (flat_map f (xs ++ ys)) a c
 puts_then f xs ys a b c p q = subst (λ w. Adds w a c) (sym (flat_map-append f xs ys)) (adds_then (flat_map f xs) (flat_map f ys) a b c p q)
 
 drawn_then : (xs ys : List Event) (a b c : Option (List ℕ)) → WhereTold (λ x y. x ≡ flat_map drawn_in xs ++ y) a b → WhereTold (λ x y. x ≡ flat_map drawn_in ys ++ y) b c

@@ -10,6 +10,7 @@ pub mod Places
 pub mod Plainly
 pub mod Queued
 pub mod RunsAre
+pub mod Serving
 pub mod Tapping
 pub mod Turning
 pub mod Waiting

@@ -50,7 +50,7 @@ frames_front events more = record {
 }
 
 -- the state that is told, behind some events
-served_so : (events : List Event) (a b : Option State) (s : State) → a ≡ Some s → WhereTold (Serves events) a b → (v : State) × (b ≡ Some v) × Serves events s v
+pub served_so : (events : List Event) (a b : Option State) (s : State) → a ≡ Some s → WhereTold (Serves events) a b → (v : State) × (b ≡ Some v) × Serves events s v
 served_so events a (Some v) s e h = (v, refl, subst (λ x. WhereTold (Serves events) x (Some v)) e h)
 served_so events a None s e h = let g : ⊥ = subst (λ x. WhereTold (Serves events) x None) e h in absurd g
 

@@ -7,5 +7,6 @@ pub mod Lines
 pub mod Onward
 pub mod Plain
 pub mod RunOf
+pub mod Serially
 pub mod Statuses
 pub mod Transcript

@@ -7,6 +7,7 @@ use Rattle.script_run.specs.declared.runs.Count.{Count}
 use Rattle.script_run.specs.declared.runs.Ran.{Ran}
 use Rattle.script_run.specs.Ends.{Lent, IsScript, RunsScript}
 use Rattle.script_run.specs.Plain.{PrintsPlain, IsDoneOrFault}
+use Rattle.script_run.specs.Serially.{IsServedSerially}
 use Rattle.script_run.specs.Transcript.{TapsTranscript}
 
 -- over a peer that serves from the empty state P holds of the steps by which the bytes are a script
@@ -18,12 +19,14 @@ abbrev pub WhereOpened : Lent → List ℕ → (KeyMap → List Step → Type 0)
 WhereOpened old bytes P = WhereServed old bytes (λ steps. (keys : KeyMap) → old.keys ≡ Some keys → P keys steps)
 
 -- Over any peer: how far the conversation was followed, what was counted, what each device has of it, and why it was followed no further. Over one that serves
--- from the empty state: a good script is run to its end, unless memory or a device fails; and with keys that are told, the text is plain
--- SQL's over the same values, whatever columns are protected, and the tap has the frames of the conversation over that server, with the cells
--- sealed under the random bytes that were drawn.
+-- from the empty state: a good script is run to its end, unless memory or a device fails; its requests are served there one after another,
+-- and transactions take effect one after another, each whole at its COMMIT; and with keys that are told, the text is plain SQL's over the
+-- same values, whatever columns are protected, and the tap has the frames of the conversation over that server, with the cells sealed under
+-- the random bytes that were drawn.
 pub record IsRunOf (r : Ran) (bytes : List ℕ) (old new : Lent) : Type 0 where
   pub count : Count
   pub content : RunsScript r count bytes old new
   pub complete : WhereServed old bytes (λ steps. IsDoneOrFault r)
+  pub serial : old.state ≡ Some empty_state → IsServedSerially old.log new.log new.state
   pub plain : WhereOpened old bytes (λ keys steps. PrintsPlain r keys steps old.out new.out)
   pub transcript : WhereOpened old bytes (λ keys steps. TapsTranscript r keys steps old.entropy new.entropy old.tap new.tap)

@@ -19,6 +19,7 @@ use ae_edge::vaults::Vault;
 use plain_meaning::laws::{replies_are_awaited, served_is_plain};
 use run_words::tallies::Tally;
 use script_lang::scripts::{ScriptFault, read_script};
+use server_core::laws::requests_are_serial;
 use server_core::peers::Peer;
 use std::alloc::Global;
 
@@ -102,7 +103,8 @@ pub fn run<S: Source, V: Vault, E: Entropy, W: Sink, T: Sink, P: Peer>(
 ) -> Ran
     // There are bytes, the source's where it tells them, of which this is a run. Over any peer: how far its conversation was followed,
     // what stands at the text, at the tap, at the peer and at the other devices of it, and why it was followed no further (`content`).
-    // Over a peer that serves from the empty state: a good script is run to its end, unless memory or a device fails (`complete`); and
+    // Over a peer that serves from the empty state: a good script is run to its end, unless memory or a device fails (`complete`); its
+    // requests are served one after another, and transactions take effect one after another, each whole at its COMMIT (`serial`); and
     // with keys that are told, the text is plain SQL's over the same values, whatever columns are protected (`plain`), and the tap has
     // the frames of the conversation over that server, with the cells sealed under the random bytes that were drawn (`transcript`).
     ensures run { (bytes : List ℕ) × IfSome (S.left script.old) (λ left. bytes ≡ left) × IsRunOf result bytes
@@ -122,5 +124,6 @@ pub fn run<S: Source, V: Vault, E: Entropy, W: Sink, T: Sink, P: Peer>(
 {
     served_is_plain();
     replies_are_awaited();
+    requests_are_serial();
     run_source(alloc, script, vault, entropy, out, tap, peer).ran
 }

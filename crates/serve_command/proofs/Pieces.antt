@@ -9,8 +9,10 @@ use Rattle.ae_edge.proofs.Told.{told_map, removes_none, removes_then}
 use Rattle.wire_frames.specs.Frames.{Whole, Refused, Rest, IsNotYet, is_request_kind}
 use Rattle.wire_frames.specs.declared.decoding.Way.TheVariants.{ToServer}
 use Rattle.frame_feed.specs.Feeding.{Feeding, unfed}
+use Rattle.server_core.specs.Laws.{AreServedSerially, RequestsAreSerial}
 use Rattle.server_core.specs.Serve.{State, empty_state}
-use Rattle.serve_command.specs.Serving.{AnswersAll, AnswersFirst, AnswersOpen, BreaksOff, Serves, most_input_bytes}
+use Rattle.wire_messages.specs.declared.requests.Request.{Request}
+use Rattle.serve_command.specs.Serving.{AnswersAll, AnswersFirst, AnswersOpen, Begins, BreaksOff, Serves, most_input_bytes}
 use Rattle.serve_command.specs.Turns.{Comes, EndsAt, Stands}
 use Rattle.serve_command.specs.declared.commands.Served.{Served}
 use Rattle.serve_command.specs.declared.commands.Served.TheVariants as served
@@ -53,7 +55,14 @@ at_end None (Some y) h = absurd h
 
 -- ---- and how it goes on, or ends
 
-module _ (count : ℕ) (feed : Feeding) (state : State) (source left out now : Option (List ℕ)) (g : Going count feed state source left out now) where
+module _ (law : RequestsAreSerial) (count : ℕ) (feed : Feeding) (state : State) (source left out now : Option (List ℕ)) (g : Going count feed state source left out now) where
+  -- whichever requests those are
+  abbrev Serially : List ℕ → Type 0
+  Serially bytes = (requests : List Request) (others : List ℕ) → Begins bytes requests others → AreServedSerially requests
+
+  serially : (bytes : List ℕ) → Serially bytes
+  serially bytes = λ requests others b. law requests
+
   lost_more : (piece : List ℕ) (after : Option (List ℕ)) → WhereTold (Takes (taken.Bytes piece)) left after → Removes (g.taken ++ piece) source after
   lost_more piece after h = removes_then g.taken piece source left after g.lost (removes_piece piece left after h)
 
@@ -91,17 +100,23 @@ module _ (count : ℕ) (feed : Feeding) (state : State) (source left out now : O
       taken = g.taken ++ piece;
       lost = lost_more piece after took;
       ends = (still_within, inl (holds (λ bytes first. AnswersAll bytes (Refused place) first new) f));
+      serial = serially (g.taken ++ piece);
     }
 
     pub ends_unput : (new : Option (List ℕ)) → After (λ bytes first. BreaksOff bytes first new) → Serves served.WriteFault source after out new
-    ends_unput new f =
-        record { taken = g.taken ++ piece; lost = lost_more piece after took; ends = (still_within, holds (λ bytes first. BreaksOff bytes first new) f) }
+    ends_unput new f = record {
+      taken = g.taken ++ piece;
+      lost = lost_more piece after took;
+      ends = (still_within, holds (λ bytes first. BreaksOff bytes first new) f);
+      serial = serially (g.taken ++ piece);
+    }
 
     pub ends_unheld : (new : Option (List ℕ)) → After (λ bytes first. AnswersFirst bytes first new ⊎ BreaksOff bytes first new) → Serves served.OutOfMemory source after out new
     ends_unheld new f = record {
       taken = g.taken ++ piece;
       lost = lost_more piece after took;
       ends = (still_within, holds (λ bytes first. AnswersFirst bytes first new ⊎ BreaksOff bytes first new) f);
+      serial = serially (g.taken ++ piece);
     }
 
   -- a byte past the limit
@@ -114,15 +129,24 @@ module _ (count : ℕ) (feed : Feeding) (state : State) (source left out now : O
         taken = g.taken ++ piece;
         lost = lost_more piece after took;
         ends = (omega (arith, all, one, length-append g.taken piece), subst (λ (l : List ℕ). AnswersOpen l out now) (sym front) (answers_open g.taken feed state out now g.stands g.waits));
+        serial = serially (g.taken ++ piece);
       }
 
   pub ends_unread : (after : Option (List ℕ)) → WhereTold (Takes taken.Failed) left after → Serves served.ReadFault source after out now
-  ends_unread after h =
-      record { taken = g.taken; lost = lost_same after (removes_failed left after h); ends = (within, answers_open g.taken feed state out now g.stands g.waits) }
+  ends_unread after h = record {
+    taken = g.taken;
+    lost = lost_same after (removes_failed left after h);
+    ends = (within, answers_open g.taken feed state out now g.stands g.waits);
+    serial = serially g.taken;
+  }
 
   pub ends_without : (after : Option (List ℕ)) → WhereTold (Takes taken.OutOfMemory) left after → Serves served.OutOfMemory source after out now
-  ends_without after h =
-      record { taken = g.taken; lost = lost_same after (removes_unheld left after h); ends = (within, inl (answers_first g.taken feed state out now g.stands)) }
+  ends_without after h = record {
+    taken = g.taken;
+    lost = lost_same after (removes_unheld left after h);
+    ends = (within, inl (answers_first g.taken feed state out now g.stands));
+    serial = serially g.taken;
+  }
 
   -- the end of the input
   pub ends_whole : (r : Served) (after : Option (List ℕ)) → WhereTold (Takes taken.End) left after → EndsAt r feed → Serves r source after out now
@@ -130,11 +154,13 @@ module _ (count : ℕ) (feed : Feeding) (state : State) (source left out now : O
     taken = g.taken;
     lost = lost_same after (removes_end left after h);
     ends = (within, at_end left after h, answers_all g.taken feed state out now g.stands Whole e);
+    serial = serially g.taken;
   }
   ends_whole (served.BadFrame place) after h e = record {
     taken = g.taken;
     lost = lost_same after (removes_end left after h);
     ends = (within, inr (at_end left after h, answers_all g.taken feed state out now g.stands (Rest place) (e.0, e.1, g.waits)));
+    serial = serially g.taken;
   }
   ends_whole served.ReadFault after h e = absurd e
   ends_whole served.WriteFault after h e = absurd e

@@ -7,6 +7,7 @@ use Rattle.wire_messages.specs.Conditions.{IsRequest}
 use Rattle.wire_messages.specs.declared.requests.Request.{Request}
 use Rattle.wire_spelling.specs.Spelling.{request_frame, reply_frame}
 use Rattle.wire_frames.specs.Frames.{End, Whole, Refused, Rest}
+use Rattle.server_core.specs.Laws.{AreServedSerially}
 use Rattle.server_core.specs.Serve.{State, serve}
 use Rattle.serve_command.specs.ServeAll.{ServeAll, reply_frames, state_after}
 use Rattle.serve_command.specs.declared.commands.Served.{Served}
@@ -69,11 +70,13 @@ Ends served.ReadFault taken left old new = (length taken ≤ most_input_bytes) �
 Ends served.WriteFault taken left old new = (length taken ≤ most_input_bytes) × BreaksOff taken old new
 Ends served.OutOfMemory taken left old new = (length taken ≤ most_input_bytes) × (AnswersFirst taken old new ⊎ BreaksOff taken old new)
 
--- so much was taken of the input, and it ended so
+-- so much was taken of the input, and it ended so; whichever of its requests were answered, transactions took effect one after
+-- another, each whole at its COMMIT
 pub record Serves (ended : Served) (left left_after out out_after : Option (List ℕ)) : Type 0 where
   pub taken : List ℕ
   pub lost : Removes taken left left_after
   pub ends : Ends ended taken left_after out out_after
+  pub serial : (requests : List Request) (others : List ℕ) → Begins taken requests others → AreServedSerially requests
 
 -- ---- over a whole input
 

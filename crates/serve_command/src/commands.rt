@@ -15,6 +15,7 @@ use ae_base::blobs::Blob;
 use ae_edge::sinks::Sink;
 use ae_edge::sources::{Source, Taken};
 use frame_feed::FrameFeed;
+use server_core::laws::requests_are_serial;
 use server_core::server::Server;
 use std::alloc::Global;
 use wire_frames::{Way, frames_are_read_back, one_reading, streams_are_read_once};
@@ -84,6 +85,7 @@ fn serve_pieces<S: Source, W: Sink>(
     ensures read { result ≡ Served.ReadFault → Rose (S.faults input.old) (S.faults input.new) }
     ensures write { result ≡ Served.WriteFault → Rose (W.faults out.old) (W.faults out.new) }
 {
+    requests_are_serial();
     let mut left = MOST_INPUT_BYTES;
     'pieces: loop {
         match input.take(alloc, left.min(MOST_PIECE_BYTES).max(1)) {
@@ -111,7 +113,7 @@ fn serve_pieces<S: Source, W: Sink>(
 /// is looked at. Of the input at most a frame and a piece are held. Up to the limit all whole frames
 /// are answered, before a byte past it is asked for.
 pub fn serve_stream<S: Source, W: Sink>(alloc: Global, input: &mut S, out: &mut W) -> Served
-    // What was taken of the input, and what was put for it, by how it ended.
+    // What was taken of the input, and what was put for it, by how it ended; and that transactions took effect one after another.
     ensures content { Serves result (S.left input.old) (S.left input.new) (W.held out.old) (W.held out.new) }
     // Where the input tells its bytes: by how those within the limit end, and the frames of their replies. So whole frames within
     // the limit end with `Done` and all frames, unless memory or a device fails.

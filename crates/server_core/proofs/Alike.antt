@@ -1,6 +1,6 @@
 -- Requests that correspond, to states that do, are served with replies and states that do.
-use Rattle.std.proofs.Common.{◌≡◌, ◌⊎◌, inl, inr, ℕ, List, [], ◌∷◌, ◌++◌, length, map, Result, Ok, Err, Bool, true, false, refl, sym, ap, ◌∙◌, subst, arith}
-use Rattle.std.specs.Prelude.{◌≤◌, ◌&&◌, ◌==◌, if◌then◌else◌, slice_index, IfOk}
+use Rattle.std.proofs.Common.{◌≡◌, ◌⊎◌, inl, inr, ℕ, zero, suc, Option, None, List, [], ◌∷◌, ◌++◌, length, map, Result, Ok, Err, Bool, true, false, refl, sym, ap, ◌∙◌, subst, arith}
+use Rattle.std.specs.Prelude.{◌≤◌, ◌&&◌, ◌==◌, if◌then◌else◌, slice_index, IfOk, replicate}
 use Rattle.std.specs.List.{All, AllZip}
 use Rattle.std.proofs.lemmas.List.Elements.{All-nil, All-cons, All-head, All-tail}
 use Rattle.std.proofs.lemmas.Slice.Zip.{AllZip-long}
@@ -22,10 +22,18 @@ use Rattle.enc_types.specs.Laws.{TypingsAreOfColumns}
 use Rattle.enc_types.specs.Typing.{enc_eq}
 use Rattle.operators.proofs.Collected.{came_before}
 use Rattle.operators.proofs.Pairs.{both_then}
-use Rattle.engine.proofs.Simulating.{step_alike}
+use Rattle.engine.specs.BoundOn.{IsBoundOn}
+use Rattle.transactions.specs.Correspond.{SessionsCorrespond, AsksCorrespond}
+use Rattle.transactions.specs.Counted.{execution}
+use Rattle.transactions.specs.Stores.{transact, world_of}
+use Rattle.transactions.specs.WellKept.{MayAsk}
+use Rattle.transactions.proofs.Alike.{transact_alike}
+use Rattle.transactions.proofs.Asking as asking
+use Rattle.transactions.proofs.Keeping.{transact_keeps}
+use Rattle.transactions.proofs.Seen.{seen_alike}
 use Rattle.engine.specs.Correspond.{IsWithinClass, ArePairsWithin, AnswersCorrespond, class_of_result}
 use Rattle.engine.specs.Laws.{StepKeepsWorlds, TypedStatementsAreAdmitted}
-use Rattle.engine.specs.Step.{Answer, step}
+use Rattle.engine.specs.Step.{Answer}
 use Rattle.engine.specs.Step as engine
 use Rattle.engine.specs.Typed.{param_classes}
 use Rattle.engine.specs.Worlds.{World}
@@ -40,7 +48,7 @@ use Rattle.wire_messages.specs.Messages.{Description}
 use Rattle.wire_messages.specs.declared.params.SentParam.{SentParam}
 use Rattle.wire_messages.specs.declared.replies.Done.TheVariants.{Answered}
 use Rattle.wire_messages.specs.declared.replies.Reply.{Reply}
-use Rattle.wire_messages.specs.declared.replies.Reply.TheVariants.{Row, Ended}
+use Rattle.wire_messages.specs.declared.replies.Reply.TheVariants.{Row, Ended, Refused}
 use Rattle.wire_messages.specs.declared.requests.Request.{Request}
 use Rattle.wire_messages.specs.declared.requests.Request.TheVariants.{Describe, Execute}
 use Rattle.server_core.specs.Calls.{Serves}
@@ -48,7 +56,7 @@ use Rattle.server_core.specs.Correspond.{CellsPaired, SentAtomsCorrespond, Param
 use Rattle.server_core.specs.Describing.{Meant, understood, describe}
 use Rattle.server_core.specs.Laws.{RequestsAreServedAlike, ServedAlike}
 use Rattle.server_core.specs.Params.{declaration_of, is_of, is_shaped, suited_atom, suited}
-use Rattle.server_core.specs.Serve.{State, empty_state, refused, sent_column, replies_of, answered, described, understood_at, prepared, stepped, executed, serve, serve_all}
+use Rattle.server_core.specs.Serve.{State, empty_state, refused, sent_column, replies_of, answered, described, understood_at, prepared, ask_of, catalog_of, stepped, executed, serve, serve_all}
 use Rattle.server_core.specs.States.{is_short}
 use Rattle.server_core.specs.Understood.{IsUnderstood, IsReady}
 use Rattle.server_core.proofs.Beginning.{empty_is_state}
@@ -72,7 +80,7 @@ classes_sent (c ∷ columns) = ap (λ cs. class_of c.ty c.enc ∷ cs) (classes_s
 -- the replies to an answer, or its refusal
 abbrev pub said : Catalog → Result Answer SqlFault → List Reply
 said catalog (Ok answer) = replies_of catalog answer
-said catalog (Err f) = (refused (record { catalog = catalog; contents = [] }) f).replies
+said catalog (Err f) = Refused f ∷ []
 
 module _ (R : Pairing) where
   rows_correspond : (classes : List Class) (rows others : List (List Atom)) (count : ℕ) → AllZip (RowsCorrespond R classes) rows others
@@ -258,94 +266,104 @@ module _ (R : Pairing) (r : IsOneToOne R) (cells : PairsCells R) (within : ArePa
     pub replies : (classes : List Class) → RepliesCorrespond R classes served.replies other.replies
     pub states : StatesCorrespond R served.after other.after
 
-  refused_alike : (w v : World) (f : SqlFault) → StatesCorrespond R w v → Alike (refused w f) (refused v f)
+  refused_alike : (w v : State) (f : SqlFault) → StatesCorrespond R w v → Alike (refused w f) (refused v f)
   refused_alike w v f st = record { replies = λ classes. (refl, tt); states = st }
 
-  described_alike : (w v : World) (d : Result Description SqlFault) → StatesCorrespond R w v → Alike (described w d) (described v d)
+  described_alike : (w v : State) (d : Result Description SqlFault) → StatesCorrespond R w v → Alike (described w d) (described v d)
   described_alike w v (Ok description) st = record { replies = λ classes. (refl, tt); states = st }
   described_alike w v (Err f) st = refused_alike w v f st
 
-  pub answered_alike : (w v new now : World) (x y : Result Answer SqlFault) → StatesCorrespond R w v → StatesCorrespond R new now → BothAnswer (AnswersCorrespond R) x y → Alike (answered w new x) (answered v now y)
-  answered_alike w v new now (Ok x) (Ok y) st next h = record {
-    replies = λ classes. subst (λ c. RepliesCorrespond R classes (replies_of w.catalog x) (replies_of c y)) (sym st.worlds.catalog) (answers_correspond R w.catalog classes (Ok x) (Ok y) h);
-    states = next;
-  }
-  answered_alike w v new now (Err f) (Err g) st next h = subst (λ x. Alike (refused w f) (refused v x)) (sym h) (refused_alike w v f st)
-  answered_alike w v new now (Ok x) (Err g) st next h = absurd h
-  answered_alike w v new now (Err f) (Ok y) st next h = absurd h
+  pub answered_alike : (catalog : Catalog) (new now : State) (x y : Result Answer SqlFault) → StatesCorrespond R new now → BothAnswer (AnswersCorrespond R) x y → Alike (answered catalog x new) (answered catalog y now)
+  answered_alike catalog new now (Ok x) (Ok y) next h = record { replies = λ classes. answers_correspond R catalog classes (Ok x) (Ok y) h; states = next }
+  answered_alike catalog new now (Err f) (Err g) next h = subst (λ x. Alike (refused new f) (refused now x)) (sym h) (refused_alike new now f next)
+  answered_alike catalog new now (Ok x) (Err g) next h = absurd h
+  answered_alike catalog new now (Err f) (Ok y) next h = absurd h
 
-  stepped_alike : (w v : World) (meant : Meant) (declarations others : List ParamDecl) (atoms more : List Atom) → StatesCorrespond R w v → IsReady w.catalog declarations meant atoms → IsReady v.catalog others meant more
-      → RowsCorrespond R (param_classes meant.bound.params meant.encs) atoms more → Alike (stepped w (meant, atoms)) (stepped v (meant, more))
+  -- what is ready may be asked
+  may_ask : (catalog : Catalog) (world : World) (declarations : List ParamDecl) (meant : Meant) (atoms : List Atom) → world.catalog ≡ catalog → IsReady catalog declarations meant atoms → MayAsk is_short world (ask_of (meant, atoms))
   unfolding IsReady
-  stepped_alike w v meant declarations others atoms more st left right pairs =
-      let b = meant.bound in
-      let es = meant.encs in
-      let on = bound_on w.catalog declarations meant atoms laws.typings left in
-      let other_on = bound_on v.catalog others meant more laws.typings right in
-      let admitted = laws.admitted b es on.placed left.understood.typed in
-      let sim = step_alike R r within w v b es atoms more st.left.keys st.worlds pairs on admitted in
-      let did = step w b es atoms in
-      let other = step v b es more in
-      answered_alike w v did.world other.world did.answer other.answer st
-      (record {
-        left = (laws.keeps is_short w b es atoms st.left on admitted left.values).0;
-        right = (laws.keeps is_short v b es more st.right other_on admitted right.values).0;
-        worlds = sim.worlds;
+  may_ask catalog world declarations meant atoms e ready =
+      let on = bound_on catalog declarations meant atoms laws.typings ready in
+      asking.may_ask is_short world meant.bound.statement (execution meant.bound meant.encs atoms) (record {
+        bound = subst (λ c. IsBoundOn c meant.bound meant.encs atoms) (sym e) on;
+        typed = laws.admitted meant.bound meant.encs on.placed ready.understood.typed;
+        values = ready.values;
       })
-      sim.answers
 
-  module _ (w v : World) (st : StatesCorrespond R w v) (text : List ℕ) (ps qs : List SentParam) (short : AreSendable ps) (h : AllZip (ParamsCorrespond R) ps qs) where
-    by_atoms : (meant : Meant) → IsUnderstood w.catalog (map declaration_of ps) meant → (x y : Result (List Atom) SqlFault) → suited meant.encs ps ≡ x → suited meant.encs qs ≡ y
-        → BothAnswer (RowsCorrespond R (param_classes meant.bound.params meant.encs)) x y → Alike (executed w (x >>= made_ready meant)) (executed v (y >>= made_ready meant))
+  asks_alike : (meant : Meant) (atoms more : List Atom) → RowsCorrespond R (param_classes meant.bound.params meant.encs) atoms more → AsksCorrespond R (ask_of (meant, atoms)) (ask_of (meant, more))
+  asks_alike meant atoms more pairs =
+      asking.asks_alike R meant.bound.statement (execution meant.bound meant.encs atoms) (execution meant.bound meant.encs more) (record { bound = refl; encs = refl; params = pairs })
+
+  abbrev catalog_at : State → ℕ → Catalog
+  catalog_at state n = catalog_of state n
+
+  stepped_alike : (w v : State) (n : ℕ) (meant : Meant) (declarations others : List ParamDecl) (atoms more : List Atom) → StatesCorrespond R w v → IsReady (catalog_of w n) declarations meant atoms → IsReady (catalog_of v n) others meant more
+      → RowsCorrespond R (param_classes meant.bound.params meant.encs) atoms more → Alike (stepped w n (meant, atoms)) (stepped v n (meant, more))
+  stepped_alike w v n meant declarations others atoms more st left right pairs =
+      let may = may_ask (catalog_of w n) (world_of w n).world declarations meant atoms refl left in
+      let may_other = may_ask (catalog_of v n) (world_of v n).world others meant more refl right in
+      let sim = transact_alike R r within is_short w v n (ask_of (meant, atoms)) (ask_of (meant, more)) st.left st.stores (asks_alike meant atoms more pairs) may in
+      let did = transact w n (ask_of (meant, atoms)) in
+      let other = transact v n (ask_of (meant, more)) in
+      let c : catalog_of v n ≡ catalog_of w n = (seen_alike R w v n st.stores).worlds.catalog in
+      subst (λ k. Alike (stepped w n (meant, atoms)) (answered k other.answer other.after)) (sym c)
+      (answered_alike (catalog_of w n) did.after other.after did.answer other.answer
+      (record { left = (transact_keeps is_short w n (ask_of (meant, atoms)) st.left may).0; right = (transact_keeps is_short v n (ask_of (meant, more)) st.right may_other).0; stores = sim.stores })
+      sim.answers)
+
+  module _ (w v : State) (n : ℕ) (st : StatesCorrespond R w v) (text : List ℕ) (ps qs : List SentParam) (short : AreSendable ps) (h : AllZip (ParamsCorrespond R) ps qs) where
+    by_atoms : (meant : Meant) → IsUnderstood (catalog_of w n) (map declaration_of ps) meant → (x y : Result (List Atom) SqlFault) → suited meant.encs ps ≡ x → suited meant.encs qs ≡ y
+        → BothAnswer (RowsCorrespond R (param_classes meant.bound.params meant.encs)) x y → Alike (executed w n (x >>= made_ready meant)) (executed v n (y >>= made_ready meant))
     by_atoms meant u (Ok atoms) (Ok more) e f m =
         let same = declared_alike R cells ps qs h in
-        let other : IsUnderstood v.catalog (map declaration_of qs) meant = subst (λ c. IsUnderstood c (map declaration_of qs) meant) (sym st.worlds.catalog) (subst (λ ds. IsUnderstood w.catalog ds meant) (sym same) u) in
-        stepped_alike w v meant (map declaration_of ps) (map declaration_of qs) atoms more st
-        (is_ready w.catalog ps meant atoms laws.typings u e (atoms_sendable meant.encs ps atoms e short))
-        (is_ready v.catalog qs meant more laws.typings other f (atoms_sendable meant.encs qs more f (sendable_alike ps qs h short))) m
+        let other : IsUnderstood (catalog_of v n) (map declaration_of qs) meant = subst (λ c. IsUnderstood c (map declaration_of qs) meant) (sym (seen_alike R w v n st.stores).worlds.catalog) (subst (λ ds. IsUnderstood (catalog_of w n) ds meant) (sym same) u) in
+        stepped_alike w v n meant (map declaration_of ps) (map declaration_of qs) atoms more st
+        (is_ready (catalog_of w n) ps meant atoms laws.typings u e (atoms_sendable meant.encs ps atoms e short))
+        (is_ready (catalog_of v n) qs meant more laws.typings other f (atoms_sendable meant.encs qs more f (sendable_alike ps qs h short))) m
     by_atoms meant u (Err f) (Err g) e k m = subst (λ x. Alike (refused w f) (refused v x)) (sym m) (refused_alike w v f st)
     by_atoms meant u (Ok atoms) (Err g) e f m = absurd m
     by_atoms meant u (Err f) (Ok more) e g m = absurd m
 
-    of_meaning : (meant : Meant) → IsUnderstood w.catalog (map declaration_of ps) meant → Alike (executed w (suited meant.encs ps >>= made_ready meant)) (executed v (suited meant.encs qs >>= made_ready meant))
+    of_meaning : (meant : Meant) → IsUnderstood (catalog_of w n) (map declaration_of ps) meant → Alike (executed w n (suited meant.encs ps >>= made_ready meant)) (executed v n (suited meant.encs qs >>= made_ready meant))
     unfolding IsUnderstood
     of_meaning meant u =
         let tys : meant.bound.params ≡ tys_of ps = u.bound.params ∙ tys_declared ps in
         by_atoms meant u (suited meant.encs ps) (suited meant.encs qs) refl refl
         (subst (λ ts. BothAnswer (RowsCorrespond R (param_classes ts meant.encs)) (suited meant.encs ps) (suited meant.encs qs)) (sym tys)
-        (suited_alike R cells meant.encs ps qs (sent_count w.catalog ps meant laws.typings u) h))
+        (suited_alike R cells meant.encs ps qs (sent_count (catalog_of w n) ps meant laws.typings u) h))
 
-    by_meaning : (x : Result Meant SqlFault) → ((meant : Meant) → x ≡ Ok meant → IsUnderstood w.catalog (map declaration_of ps) meant)
-        → Alike (executed w (x >>= λ meant. suited meant.encs ps >>= made_ready meant)) (executed v (x >>= λ meant. suited meant.encs qs >>= made_ready meant))
+    by_meaning : (x : Result Meant SqlFault) → ((meant : Meant) → x ≡ Ok meant → IsUnderstood (catalog_of w n) (map declaration_of ps) meant)
+        → Alike (executed w n (x >>= λ meant. suited meant.encs ps >>= made_ready meant)) (executed v n (x >>= λ meant. suited meant.encs qs >>= made_ready meant))
     by_meaning (Err f) k = refused_alike w v f st
     by_meaning (Ok meant) k = of_meaning meant (k meant refl)
 
-    executed_alike : (version : ℕ) → Alike (executed w (prepared w.catalog version text ps)) (executed v (prepared v.catalog version text qs))
+    executed_alike : (version : ℕ) → Alike (executed w n (prepared (catalog_of w n) version text ps)) (executed v n (prepared (catalog_of v n) version text qs))
     executed_alike version =
-        let c = w.catalog in
-        let other : understood_at v.catalog version text qs ≡ understood_at c version text ps =
-        ap (λ k. understood_at k version text qs) st.worlds.catalog
+        let c = catalog_of w n in
+        let other : understood_at (catalog_of v n) version text qs ≡ understood_at c version text ps =
+        ap (λ k. understood_at k version text qs) (seen_alike R w v n st.stores).worlds.catalog
         ∙ ap (λ ds. if version == c.version then understood c text ds else Err (fault.Moved (record { seen = version; now = c.version }))) (declared_alike R cells ps qs h) in
-        subst (λ x. Alike (executed w (prepared c version text ps)) (executed v (x >>= λ meant. suited meant.encs qs >>= made_ready meant))) (sym other)
+        subst (λ x. Alike (executed w n (prepared c version text ps)) (executed v n (x >>= λ meant. suited meant.encs qs >>= made_ready meant))) (sym other)
         (by_meaning (understood_at c version text ps)
         (λ meant e. is_understood laws.bound c text (map declaration_of ps) meant (at_version (version == c.version) (understood c text (map declaration_of ps)) (fault.Moved (record { seen = version; now = c.version })) meant e)))
 
-  pub serves_alike : (w v : World) → StatesCorrespond R w v → (request second : Request) → IsRequest request → RequestsCorrespond R request second → Alike (serve w request) (serve v second)
+  pub serves_alike : (w v : State) → StatesCorrespond R w v → (request second : Request) → IsRequest request → RequestsCorrespond R request second → Alike (serve w request) (serve v second)
   serves_alike w v st (Describe session text declarations) second m h =
       subst (λ (x : Request). Alike (serve w (Describe session text declarations)) (serve v x)) (sym h)
-      (subst (λ c. Alike (serve w (Describe session text declarations)) (described v (describe c text declarations))) (sym st.worlds.catalog) (described_alike w v (describe w.catalog text declarations) st))
+      (subst (λ c. Alike (serve w (Describe session text declarations)) (described v (describe c text declarations))) (sym (seen_alike R w v session st.stores).worlds.catalog) (described_alike w v (describe (catalog_of w session) text declarations) st))
   serves_alike w v st (Execute session version text ps) (Describe s t ds) m h = absurd h
   serves_alike w v st (Execute session version text ps) (Execute s n t qs) m h =
-      subst (λ x. Alike (serve w (Execute session version text ps)) (serve v (Execute s x t qs))) (sym h.1)
-      (subst (λ x. Alike (serve w (Execute session version text ps)) (serve v (Execute s version x qs))) (sym h.2)
-      (executed_alike w v st text ps qs (all_sent ps m.3.0) h.3 version))
+      subst (λ x. Alike (serve w (Execute session version text ps)) (serve v (Execute x n t qs))) (sym h.0)
+      (subst (λ x. Alike (serve w (Execute session version text ps)) (serve v (Execute session x t qs))) (sym h.1)
+      (subst (λ x. Alike (serve w (Execute session version text ps)) (serve v (Execute session version x qs))) (sym h.2)
+      (executed_alike w v session st text ps qs (all_sent ps m.3.0) h.3 version)))
 
   -- one request after another
   pub record AllAlike (left right : List Reply × State) : Type 0 where
     pub replies : (classes : List Class) → RepliesCorrespond R classes left.0 right.0
     pub states : StatesCorrespond R left.1 right.1
 
-  pub all_served_alike : (w v : World) → StatesCorrespond R w v → (requests others : List Request) → All IsRequest requests → AllZip (RequestsCorrespond R) requests others → AllAlike (serve_all w requests) (serve_all v others)
+  pub all_served_alike : (w v : State) → StatesCorrespond R w v → (requests others : List Request) → All IsRequest requests → AllZip (RequestsCorrespond R) requests others → AllAlike (serve_all w requests) (serve_all v others)
   all_served_alike w v st [] [] m h = record { replies = λ classes. tt; states = st }
   all_served_alike w v st [] (other ∷ others) m h = absurd h
   all_served_alike w v st (request ∷ requests) [] m h = absurd h
@@ -375,11 +393,15 @@ requests_served_alike laws state request entries renaming other second is st h =
     let a = serves_alike R renaming.one_to_one renaming.cells (cells_within R renaming.cells) laws state other st request second is h in
     record { replies = a.replies []; states = a.states }
 
+pub no_sessions : (R : Pairing) (n : ℕ) → AllZip (SessionsCorrespond R) (replicate n None) (replicate n None)
+no_sessions R zero = tt
+no_sessions R (suc n) = (tt, no_sessions R n)
+
 pub lists_served_alike : Laws → DefinitionsKeepCatalogs → ServedAlike
 lists_served_alike laws law entries renaming requests others are h =
     let R = Listing entries in
     let s = empty_is_state law in
-    let a = all_served_alike R renaming.one_to_one renaming.cells (cells_within R renaming.cells) laws empty_state empty_state (record { left = s; right = s; worlds = record { catalog = refl; contents = tt } }) requests others are h in
+    let a = all_served_alike R renaming.one_to_one renaming.cells (cells_within R renaming.cells) laws empty_state empty_state (record { left = s; right = s; stores = record { shared = record { worlds = record { catalog = refl; contents = tt }; counts = refl }; sessions = no_sessions R 64 } }) requests others are h in
     (a.replies [], a.states)
 
 -- so each call is

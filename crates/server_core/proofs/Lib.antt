@@ -1,5 +1,5 @@
 pub mod Alike
-mod Beginning
+pub mod Beginning
 mod Headers
 mod Listing
 mod Moving
@@ -7,6 +7,7 @@ mod Passing
 mod Readiness
 mod ReplyKinds
 mod Sendable
+mod Serial
 mod Steps
 mod Suiting
 mod Told

@@ -1,5 +1,5 @@
 -- What is ready may be executed, and what is answered may be sent.
-use Rattle.std.proofs.Common.{◌≡◌, ◌⊎◌, inl, inr, List, [], ◌∷◌, length, map, Result, Ok, Err, refl, sym, ap, ◌∙◌, subst}
+use Rattle.std.proofs.Common.{◌≡◌, ℕ, ◌⊎◌, inl, inr, List, [], ◌∷◌, length, map, Result, Ok, Err, refl, sym, ap, ◌∙◌, subst}
 use Rattle.std.specs.Prelude.{IsTrue, Contains, IfOk}
 use Rattle.std.specs.List.{All}
 use Rattle.std.proofs.lemmas.List.{length-map}
@@ -20,21 +20,30 @@ use Rattle.catalog.specs.WellFormed.{IsCatalog, IsKeyThere}
 use Rattle.enc_types.specs.Laws.{TypingsAreOfColumns}
 use Rattle.engine.specs.declared.answers.Answer as code
 use Rattle.engine.specs.declared.answers.ResultColumn.{ResultColumn}
-use Rattle.engine.specs.Answers.{Gives, answer_of}
+use Rattle.engine.specs.Answers.{answer_of}
 use Rattle.engine.specs.BoundOn.{IsBoundOn}
-use Rattle.engine.specs.Laws.{AreShown, IsShownBy, StepKeepsWorlds, RowsAreShown, TypedStatementsAreAdmitted}
+use Rattle.engine.specs.Laws.{AreShown, IsShownBy, RowsAreShown, TypedStatementsAreAdmitted}
 use Rattle.enc_types.specs.declared.typed.Typed.{Typed}
-use Rattle.engine.specs.Step.{Outcome, Rows, step}
+use Rattle.engine.specs.Step.{Rows}
 use Rattle.engine.specs.WellTyped.{AreValuesOf, IsAnswerOf}
 use Rattle.resolve.specs.Bind.{type_of}
 use Rattle.wire_parts.specs.AtomBounds.{IsSendable}
 use Rattle.wire_messages.specs.declared.params.SentParam.{SentParam}
 use Rattle.engine.specs.Worlds.{World}
 use Rattle.engine.proofs.Kept.{has_master}
+use Rattle.transactions.specs.Answers.{Transacts}
+use Rattle.transactions.specs.Counted.{execution, step_of}
+use Rattle.transactions.specs.Forgotten.{IsUndone}
+use Rattle.transactions.specs.Laws.{TransactionsKeepStores}
+use Rattle.transactions.specs.Stores as stores
+use Rattle.transactions.specs.Stores.{Transacted, transact, world_of}
+use Rattle.transactions.proofs.Asking.{may_ask, rows_by_step}
+use Rattle.transactions.proofs.Seen.{seen_well}
 use Rattle.server_core.proofs.Suiting.{are_suited}
 use Rattle.server_core.specs.Calls.{meant_of}
 use Rattle.server_core.specs.Describing.{Meant}
 use Rattle.server_core.specs.Params.{declaration_of, suited}
+use Rattle.server_core.specs.Serve.{State, ask_of, catalog_of}
 use Rattle.server_core.specs.States.{IsState, is_short}
 use Rattle.server_core.specs.Understood.{IsUnderstood, IsReady, CanBeSent}
 
@@ -104,65 +113,74 @@ shown_there catalog declarations meant law c u e w = elim w [
   ]
 ]
 
--- ---- what a step leaves and answers
+-- ---- what a session's call leaves and answers
 
-pub keeps : {K : Type 0} (result : Result (code.Answer K) (Refusal SqlFault)) (old new : World) (done : Outcome) → Gives result old new done → IsState old → IsState done.world → IsState new
-keeps (Ok answer) old new done g s t = subst IsState (ap (λ (o : Outcome). o.world) g) t
-keeps (Err (Fault f)) old new done g s t = subst IsState (sym g.1) s
+pub keeps : {K : Type 0} (result : Result (code.Answer K) (Refusal SqlFault)) (old new : State) (done : Transacted) → Transacts result old new done → IsState old → IsState done.after → IsState new
+keeps (Ok answer) old new done g s t = subst IsState (ap (λ (o : Transacted). o.after) g) t
+keeps (Err (Fault f)) old new done g s t = subst IsState (ap (λ (o : Transacted). o.after) g) t
 keeps (Err OutOfMemory) old new done g s t = subst IsState (sym g) s
 
-module _ (catalog : Catalog) (declarations : List ParamDecl) (meant : Meant) (law : TypingsAreOfColumns) (u : IsUnderstood catalog declarations meant) where
-  pub sendable : {K : Type 0} (result : Result (code.Answer K) (Refusal SqlFault)) (old new : World) (done : Outcome) → old.catalog ≡ catalog → IsCatalog catalog → Gives result old new done
-      → IsAnswerOf is_short done.answer → ((columns : List ResultColumn) (rows : List (List Atom)) → done.answer ≡ Ok (Rows columns rows) → AreShown old done.world meant.bound meant.encs columns)
-      → IfOk result (λ answer. CanBeSent old new (answer_of answer))
-  sendable (Ok (code.TheVariants.Rows columns rows)) old new done e c g typed shown =
-      let f : done.answer ≡ Ok (Rows columns rows) = ap (λ (o : Outcome). o.answer) g in
-      let s = shown columns rows f in
+module _ (old : State) (session : ℕ) (declarations : List ParamDecl) (meant : Meant) (law : TypingsAreOfColumns) (u : IsUnderstood (catalog_of old session) declarations meant) where
+  pub sendable : {K : Type 0} (result : Result (code.Answer K) (Refusal SqlFault)) (new : State) (done : Transacted) → IsCatalog (catalog_of old session) → Transacts result old new done
+      → IsAnswerOf is_short done.answer
+      → ((columns : List ResultColumn) (rows : List (List Atom)) → done.answer ≡ Ok (Rows columns rows) → (after : World) × AreShown (world_of old session).world after meant.bound meant.encs columns)
+      → IfOk result (λ answer. IsUndone old session new (answer_of answer)) → IfOk result (λ answer. CanBeSent (catalog_of old session) (catalog_of new session) (answer_of answer))
+  sendable (Ok (code.TheVariants.Rows columns rows)) new done c g typed shown undone =
+      let f : done.answer ≡ Ok (Rows columns rows) = ap (λ (o : Transacted). o.answer) g in
+      let s = (shown columns rows f).1 in
       record {
         few = (s.some, s.few);
-        keys = All-by (λ (column : ResultColumn). IsShownBy meant.bound meant.encs column.enc) (λ (column : ResultColumn). IsKeyThere old.catalog column.enc)
-            (λ column w. subst (λ t. IsKeyThere t column.enc) (sym e) (shown_there catalog declarations meant law c u column.enc w)) columns s.shown;
+        keys = All-by (λ (column : ResultColumn). IsShownBy meant.bound meant.encs column.enc) (λ (column : ResultColumn). IsKeyThere (catalog_of old session) column.enc)
+            (λ column w. shown_there (catalog_of old session) declarations meant law c u column.enc w) columns s.shown;
         typed = subst (IsAnswerOf is_short) f typed;
-        same = sym (ap (λ (o : Outcome). o.world) g) ∙ s.same;
+        same = undone.catalog;
       }
-  sendable (Ok (code.TheVariants.Changed count)) old new done e c g typed shown = tt
-  sendable (Ok code.TheVariants.Defined) old new done e c g typed shown = tt
-  sendable (Err (Fault f)) old new done e c g typed shown = tt
-  sendable (Err OutOfMemory) old new done e c g typed shown = tt
+  sendable (Ok (code.TheVariants.Changed count)) new done c g typed shown undone = tt
+  sendable (Ok code.TheVariants.Defined) new done c g typed shown undone = tt
+  sendable (Err (Fault f)) new done c g typed shown undone = tt
+  sendable (Err OutOfMemory) new done c g typed shown undone = tt
 
--- the laws of the crates below, by which a step keeps the state and answers what can be sent
+-- the laws of the crates below, by which a call keeps the state and answers what can be sent
 pub record Laws : Type 0 where
   pub typings : TypingsAreOfColumns
   pub admitted : TypedStatementsAreAdmitted
-  pub keeps : StepKeepsWorlds
+  pub keeps : TransactionsKeepStores
   pub shown : RowsAreShown
 
-pub record IsDoneWell {K : Type 0} (old new : World) (result : Result (code.Answer K) (Refusal SqlFault)) : Type 0 where
+pub record IsDoneWell {K : Type 0} (old : State) (session : ℕ) (new : State) (result : Result (code.Answer K) (Refusal SqlFault)) : Type 0 where
   pub state : IsState new
-  pub sent : IfOk result (λ answer. CanBeSent old new (answer_of answer))
+  pub sent : IfOk result (λ answer. CanBeSent (catalog_of old session) (catalog_of new session) (answer_of answer))
 
-pub done_well : {K : Type 0} (laws : Laws) (old new : World) (declarations : List ParamDecl) (meant : Meant) (atoms : List Atom) (result : Result (code.Answer K) (Refusal SqlFault))
-    → IsState old → IsReady old.catalog declarations meant atoms → Gives result old new (step old meant.bound meant.encs atoms) → IsDoneWell old new result
+pub done_well : {K : Type 0} (laws : Laws) (old : State) (session : ℕ) (new : State) (declarations : List ParamDecl) (meant : Meant) (atoms : List Atom) (result : Result (code.Answer K) (Refusal SqlFault))
+    → IsState old → IsReady (catalog_of old session) declarations meant atoms → Transacts result old new (transact old session (ask_of (meant, atoms)))
+    → IfOk result (λ answer. IsUndone old session new (answer_of answer)) → IsDoneWell old session new result
 unfolding IsUnderstood IsReady
-done_well laws old new declarations meant atoms result s r g =
-    let b = bound_on old.catalog declarations meant atoms laws.typings r in
-    let k = laws.keeps is_short old meant.bound meant.encs atoms s b (laws.admitted meant.bound meant.encs b.placed r.understood.typed) r.values in
+done_well laws old session new declarations meant atoms result s r g undone =
+    let e = execution meant.bound meant.encs atoms in
+    let world = (world_of old session).world in
+    let b = bound_on (catalog_of old session) declarations meant atoms laws.typings r in
+    let may = may_ask is_short world meant.bound.statement e (record { bound = b; typed = laws.admitted meant.bound meant.encs b.placed r.understood.typed; values = r.values }) in
+    let k = laws.keeps is_short old session (ask_of (meant, atoms)) s may in
     record {
-      state = keeps result old new (step old meant.bound meant.encs atoms) g s k.0;
-      sent = sendable old.catalog declarations meant laws.typings r.understood result old new (step old meant.bound meant.encs atoms) refl s.catalog g k.1
-          (λ columns rows e. laws.shown old meant.bound meant.encs atoms columns rows b e);
+      state = keeps result old new (transact old session (ask_of (meant, atoms))) g s k.0;
+      sent = sendable old session declarations meant laws.typings r.understood result new (transact old session (ask_of (meant, atoms))) (seen_well is_short old session s).world.catalog g k.1
+          (λ columns rows f. ((step_of (world_of old session) e).world, laws.shown world meant.bound meant.encs atoms columns rows b (rows_by_step old session e columns rows meant.bound.statement f))) undone;
     }
+
+-- the catalog that a session sees is one
+pub seen_catalog : (state : State) (session : ℕ) → IsState state → IsCatalog (catalog_of state session)
+seen_catalog state session s = (seen_well is_short state session s).world.catalog
 
 -- ---- over the parts of what is ready
 
-module _ (old : World) (declarations : List ParamDecl) (typed : Typed) (atoms : List Atom) (ready : IsReady old.catalog declarations (meant_of typed) atoms)
+module _ (old : State) (session : ℕ) (declarations : List ParamDecl) (typed : Typed) (atoms : List Atom) (ready : IsReady (catalog_of old session) declarations (meant_of typed) atoms)
     (b : parts.Bound) (encs : List Enc) (values : List Atom) (is_b : b ≡ typed.bound) (is_encs : encs ≡ typed.encs) (are_values : values ≡ atoms) where
-  pub parts_bound : TypingsAreOfColumns → IsBoundOn old.catalog (bound_of b) encs values
-  parts_bound law = rw (is_b, is_encs, are_values) (bound_on old.catalog declarations (meant_of typed) atoms law ready)
+  pub parts_bound : TypingsAreOfColumns → IsBoundOn (catalog_of old session) (bound_of b) encs values
+  parts_bound law = rw (is_b, is_encs, are_values) (bound_on (catalog_of old session) declarations (meant_of typed) atoms law ready)
 
-  pub parts_given : {K : Type 0} (result : Result (code.Answer K) (Refusal SqlFault)) (new : World) → Gives result old new (step old (bound_of b) encs values)
-      → Gives result old new (step old (bound_of typed.bound) typed.encs atoms)
+  pub parts_given : {K : Type 0} (result : Result (code.Answer K) (Refusal SqlFault)) (new : State) → Transacts result old new (transact old session (stores.ask_of (execution (bound_of b) encs values)))
+      → Transacts result old new (transact old session (ask_of (meant_of typed, atoms)))
   parts_given result new g =
-      subst (λ (v : List Atom). Gives result old new (step old (bound_of typed.bound) typed.encs v)) are_values
-      (subst (λ (es : List Enc). Gives result old new (step old (bound_of typed.bound) es values)) is_encs
-      (subst (λ (c : parts.Bound). Gives result old new (step old (bound_of c) encs values)) is_b g))
+      subst (λ (v : List Atom). Transacts result old new (transact old session (stores.ask_of (execution (bound_of typed.bound) typed.encs v)))) are_values
+      (subst (λ (es : List Enc). Transacts result old new (transact old session (stores.ask_of (execution (bound_of typed.bound) es values)))) is_encs
+      (subst (λ (c : parts.Bound). Transacts result old new (transact old session (stores.ask_of (execution (bound_of c) encs values)))) is_b g))

@@ -28,11 +28,10 @@ abbrev pub Serves : {E : Type 0} → Result (List Reply) E → Request → State
 Serves (Ok replies) request old new = serve old request ≡ record { replies = replies; after = new }
 Serves (Err e) request old new = new ≡ old
 
--- the replies and the state that are served, or the fault for which the request is refused; a fault leaves the state, as
--- want of memory does
+-- the replies and the state that are served, or the fault for which the request is refused; want of memory leaves the state
 abbrev pub ServesOrFails : Result (List Reply) (Refusal SqlFault) → Served State → State → State → Type 0
 ServesOrFails (Ok replies) served old new = served ≡ record { replies = replies; after = new }
-ServesOrFails (Err (Fault f)) served old new = (served ≡ refused old f) × (new ≡ old)
+ServesOrFails (Err (Fault f)) served old new = served ≡ refused new f
 ServesOrFails (Err OutOfMemory) served old new = new ≡ old
 
 -- the replies are of those to a request to execute

@@ -6,8 +6,11 @@ use Rattle.ae_base.specs.declared.faults.SqlFault.{SqlFault}
 use Rattle.ae_base.specs.declared.faults.SqlFault.TheVariants as fault
 use Rattle.catalog.specs.Catalogs.{Catalog}
 use Rattle.engine.specs.declared.answers.ResultColumn.{ResultColumn}
-use Rattle.engine.specs.Worlds.{World, empty_world}
-use Rattle.engine.specs.Step.{Answer, Outcome, step}
+use Rattle.engine.specs.Step.{Answer}
+use Rattle.transactions.specs.Serial.{Call}
+use Rattle.transactions.specs.Counted.{execution}
+use Rattle.transactions.specs.Stores as stores
+use Rattle.transactions.specs.Stores.{Store, Ask, empty_store, world_of, transact}
 use Rattle.engine.specs.Step as engine
 use Rattle.wire_messages.specs.declared.columns.SentColumn.{SentColumn}
 use Rattle.wire_messages.specs.declared.params.SentParam.{SentParam}
@@ -21,12 +24,12 @@ use Rattle.wire_messages.specs.Messages.{Description, Header}
 use Rattle.server_core.specs.Describing.{Meant, understood, describe, keys_of}
 use Rattle.server_core.specs.Params.{declaration_of, suited}
 
--- what a server serves by: so far a world
+-- what a server serves by: a shared world, and the transactions of its sessions
 abbrev pub State : Type 0
-State = World
+State = Store
 
 abbrev pub empty_state : State
-empty_state = empty_world
+empty_state = empty_store
 
 abbrev pub refused : State → SqlFault → Served State
 refused state f = record { replies = Refused f ∷ []; after = state }
@@ -45,9 +48,10 @@ replies_of catalog (engine.Rows columns rows) = Columns (header catalog columns)
 replies_of catalog (engine.Changed count) = Ended (Changed count) ∷ []
 replies_of catalog engine.Defined = Ended Defined ∷ []
 
-abbrev pub answered : State → State → Result Answer SqlFault → Served State
-answered old new (Ok answer) = record { replies = replies_of old.catalog answer; after = new }
-answered old new (Err f) = refused old f
+-- a COMMIT that is refused may leave another state
+abbrev pub answered : Catalog → Result Answer SqlFault → State → Served State
+answered catalog (Ok answer) new = record { replies = replies_of catalog answer; after = new }
+answered catalog (Err f) new = refused new f
 
 -- ---- requests
 
@@ -65,17 +69,25 @@ abbrev pub prepared : Catalog → ℕ → List ℕ → List SentParam → Result
 prepared catalog version text params =
     understood_at catalog version text params >>= λ meant. suited meant.encs params >>= λ atoms. Ok (meant, atoms)
 
--- then those of the statement
-abbrev pub stepped : State → Meant × List Atom → Served State
-stepped state ready = let done = step state ready.0.bound ready.0.encs ready.1 in answered state done.world done.answer
+-- what a session asks by a statement that is ready
+abbrev pub ask_of : Meant × List Atom → Ask
+ask_of ready = stores.ask_of (execution ready.0.bound ready.0.encs ready.1)
 
-abbrev pub executed : State → Result (Meant × List Atom) SqlFault → Served State
-executed state (Ok ready) = stepped state ready
-executed state (Err f) = refused state f
+-- the catalog of the world that a session sees: that of its transaction, if it has one
+abbrev pub catalog_of : State → ℕ → Catalog
+catalog_of state session = (world_of state session).world.catalog
+
+-- then those of the statement
+abbrev pub stepped : State → ℕ → Meant × List Atom → Served State
+stepped state session ready = let t = transact state session (ask_of ready) in answered (catalog_of state session) t.answer t.after
+
+abbrev pub executed : State → ℕ → Result (Meant × List Atom) SqlFault → Served State
+executed state session (Ok ready) = stepped state session ready
+executed state session (Err f) = refused state f
 
 abbrev pub serve : State → Request → Served State
-serve state (Describe session text declarations) = described state (describe state.catalog text declarations)
-serve state (Execute session version text params) = executed state (prepared state.catalog version text params)
+serve state (Describe session text declarations) = described state (describe (catalog_of state session) text declarations)
+serve state (Execute session version text params) = executed state session (prepared (catalog_of state session) version text params)
 
 -- the requests one after another
 abbrev pub serve_all : State → List Request → List Reply × State
@@ -84,3 +96,18 @@ serve_all state (request ∷ requests) =
     let first = serve state request in
     let rest = serve_all first.after requests in
     (first.replies ++ rest.0, rest.1)
+
+-- ---- what requests ask of the state
+
+abbrev pub asked : ℕ → Result (Meant × List Atom) SqlFault → List Call
+asked session (Ok ready) = record { session = session; ask = ask_of ready } ∷ []
+asked session (Err f) = []
+
+-- a request that is refused before its statement is executed asks nothing, and so does a description
+abbrev pub called : State → Request → List Call
+called state (Describe session text declarations) = []
+called state (Execute session version text params) = asked session (prepared (catalog_of state session) version text params)
+
+abbrev pub calls_of : State → List Request → List Call
+calls_of state [] = []
+calls_of state (request ∷ requests) = called state request ++ calls_of (serve state request).after requests

@@ -1,4 +1,4 @@
-//! What a request comes to, over a world.
+//! What a request comes to, over a state.
 
 ghost use Rattle.std.specs.Prelude.{IfOk};
 ghost use Rattle.wire_messages.specs.Exchanges.{HasKinds};
@@ -9,75 +9,84 @@ ghost use Rattle.server_core.specs.States.{IsState};
 
 use crate::describing::describe;
 use crate::executing::execute;
-use crate::replies::one_reply;
+use crate::replies::{one_reply, one_reply_in};
 use ae_base::cells::Cell;
 use ae_base::lists::Seq;
 use ae_base::refusals::Refusal;
-use engine::worlds::World;
+use ae_base::sessions::SessionId;
 use std::alloc::{AllocError, Global};
+use transactions::stores::Store;
 use wire_messages::params::DeclarationParts;
 use wire_messages::replies::Reply;
 use wire_messages::requests::Request;
 use wire_parts::texts::StatementPart;
 
-/// Serves a request: the replies to it, and the state after it. A refusal leaves the state as
-/// before, and so does want of memory.
+/// Serves a request: the replies to it, and the state after it. Want of memory leaves the state as
+/// before: a COMMIT that is refused ends its transaction, so room for a refusal is taken first.
 #[tactic(auto, using(crate::proofs::ReplyKinds::refusal_kinds))]
 pub fn serve(
     alloc: Global,
-    world: &mut World<Cell>,
+    store: &mut Store<Cell>,
     request: &Request<'_>,
 ) -> Result<Seq<Reply<'static>>, AllocError>
-    requires { IsState world.old }
-    ensures served { Serves result request.now world.old world.new }
-    ensures state { IsState world.new }
+    requires { IsState store.old }
+    ensures served { Serves result request.now store.old store.new }
+    ensures state { IsState store.new }
     ensures kinds { IfOk result (λ replies. HasKinds request.now replies) }
 {
-    match answered(alloc, world, request) {
-        Ok(replies) => Ok(replies),
-        Err(Refusal::Fault(fault)) => one_reply(alloc, Reply::Refused(fault)),
-        Err(Refusal::OutOfMemory) => Err(AllocError),
+    let room = Vec::with_capacity(alloc, 1)?;
+    match answered(alloc, store, request) {
+        Ok(replies) => {
+            drop(room);
+            Ok(replies)
+        }
+        Err(Refusal::Fault(fault)) => Ok(one_reply_in(room, Reply::Refused(fault))),
+        Err(Refusal::OutOfMemory) => {
+            drop(room);
+            Err(AllocError)
+        }
     }
 }
 
 /// The replies to a request, or the fault for which it is refused.
 fn answered(
     alloc: Global,
-    world: &mut World<Cell>,
+    store: &mut Store<Cell>,
     request: &Request<'_>,
 ) -> Result<Seq<Reply<'static>>, Refusal>
-    requires { IsState world.old }
-    ensures served { ServesOrFails result (spec.serve world.old request.now) world.old world.new }
-    ensures state { IsState world.new }
+    requires { IsState store.old }
+    ensures served { ServesOrFails result (spec.serve store.old request.now) store.old store.new }
+    ensures state { IsState store.new }
     ensures kinds { IfOk result (λ replies. HasKinds request.now replies) }
 {
     match request {
         Request::Describe {
+            session,
             text,
             declarations,
-            ..
-        } => described(alloc, world, text, declarations),
+        } => described(alloc, store, *session, text, declarations),
         Request::Execute {
+            session,
             version,
             text,
             params,
-            ..
-        } => execute(alloc, world, *version, text, params.as_slice()),
+        } => execute(alloc, store, *session, *version, text, params.as_slice()),
     }
 }
 
 /// Answers a request to describe.
-#[tactic(auto, using(crate::proofs::ReplyKinds::described_kinds))]
+#[tactic(auto, using(crate::proofs::ReplyKinds::described_kinds, crate::proofs::Readiness::seen_catalog))]
 fn described(
     alloc: Global,
-    world: &World<Cell>,
+    store: &Store<Cell>,
+    session: SessionId,
     text: &StatementPart<'_>,
     declarations: &DeclarationParts<'_>,
 ) -> Result<Seq<Reply<'static>>, Refusal>
-    requires { IsState world.now }
-    ensures served { ServesOrFails result (spec.described world.now (describe world.now.catalog text.now declarations.now)) world.now world.now }
+    requires { IsState store.now }
+    ensures served { ServesOrFails result (spec.described store.now (describe (spec.catalog_of store.now session) text.now declarations.now)) store.now store.now }
     ensures kinds { IfOk result AreDescribeKinds }
 {
-    let description = describe(alloc, world.catalog(), text, declarations)?;
+    let description = describe(alloc, store.catalog(session), text, declarations)?;
     Ok(one_reply(alloc, Reply::Described(description))?)
 }

@@ -15,17 +15,18 @@ use ae_base::batches::Declarations;
 use ae_base::cells::Cell;
 use ae_base::lists::Seq;
 use catalog::laws::definitions_keep_catalogs;
-use engine::worlds::World;
 use std::alloc::{AllocError, Global};
 use std::marker::Model;
+use transactions::stores::Store;
 use wire_messages::replies::Reply;
 use wire_messages::requests::Request;
 use wire_parts::texts::StatementPart;
 
-/// The server's end, which contracts see as its state: the catalog, and the rows of each table.
+/// The server's end, which contracts see as its state: the shared world, and the transactions of its
+/// sessions.
 #[derive(Drop)]
 pub struct Server {
-    world: World<Cell>,
+    store: Store<Cell>,
 }
 
 impl Model for Server {
@@ -34,9 +35,9 @@ impl Model for Server {
 
     ghost Value = { State };
 
-    ghost view = { λ s. s.world };
+    ghost view = { λ s. s.store };
 
-    ghost invariant = { λ s. IsState s.world };
+    ghost invariant = { λ s. IsState s.store };
 }
 
 impl Server {
@@ -46,14 +47,14 @@ impl Server {
     {
         definitions_keep_catalogs();
         Server {
-            world: World::new(alloc),
+            store: Store::new(alloc),
         }
     }
 
-    /// Serves a request whole: the replies to it, which are of its kinds, and the state after it. A
-    /// refusal leaves the state as before, and so does want of memory. To each request that is this
-    /// one but for a renaming of cells, in each state that is this one but for it, come these replies
-    /// and this state but for it.
+    /// Serves a request whole: the replies to it, which are of its kinds, and the state after it. Want
+    /// of memory leaves the state as before. To each request that is this one but for a renaming of
+    /// cells, in each state that is this one but for it, come these replies and this state but for
+    /// it.
     pub fn serve(
         &mut self,
         alloc: Global,
@@ -64,19 +65,24 @@ impl Server {
         ensures alike { IfOk result (λ replies. IsServedAlike self.old request.now replies self.new) }
     {
         requests_are_served_alike();
-        serve(alloc, &mut self.world, request)
+        serve(alloc, &mut self.store, request)
     }
 
     /// The places of a chain of rules that clash, where the statement of a text has no encryption
-    /// typing; none for any other text.
+    /// typing over the shared world; none for any other text.
     pub fn explain(
         &self,
         alloc: Global,
         text: &StatementPart<'_>,
         declarations: &Declarations,
     ) -> Result<Seq<u32>, AllocError>
-        ensures { IfOk result (Explains (named self.now.catalog text.now declarations.now)) }
+        ensures { IfOk result (Explains (named self.now.shared.world.catalog text.now declarations.now)) }
     {
-        explain(alloc, self.world.catalog(), text, declarations.as_slice())
+        explain(
+            alloc,
+            self.store.shared_catalog(),
+            text,
+            declarations.as_slice(),
+        )
     }
 }

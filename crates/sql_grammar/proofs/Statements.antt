@@ -2,11 +2,12 @@
 use Rattle.std.proofs.Common.{true, false, [], ◌∷◌, codes, refl}
 use Rattle.sql_tree.specs.declared.lexemes.Keyword.TheVariants as keyword
 use Rattle.sql_tree.specs.declared.lexemes.Symbol.TheVariants as symbol
+use Rattle.sql_tree.specs.declared.statements.TransactionControl.TheVariants as transaction
 use Rattle.sql_grammar.specs.Readers.{Reading, Terminal}
 use Rattle.sql_grammar.specs.Readers as terminal
 use Rattle.sql_grammar.specs.Making as make
-use Rattle.sql_grammar.specs.Grammar.{SpellsRow, SpellsInsert, SpellsFilter, SpellsAssignment, SpellsUpdate, SpellsDelete, SpellsAlias, SpellsCount, SpellsItemValue, SpellsDirection, SpellsItem, SpellsItems, SpellsTop, SpellsSource, SpellsJoin, SpellsGroup, SpellsOrderKey, SpellsOrder, SpellsTail, SpellsSelect, SpellsBody, Spells}
-use Rattle.sql_grammar.specs.Parse.{row, insert, filter, assignment, update, delete, alias, count, item_value, direction, item, items, top, source, join, group, order_key, order, tail, select, body, statement, counts}
+use Rattle.sql_grammar.specs.Grammar.{SpellsRow, SpellsInsert, SpellsFilter, SpellsAssignment, SpellsUpdate, SpellsDelete, SpellsAlias, SpellsCount, SpellsItemValue, SpellsDirection, SpellsItem, SpellsItems, SpellsTop, SpellsSource, SpellsJoin, SpellsGroup, SpellsOrderKey, SpellsOrder, SpellsTail, SpellsSelect, SpellsBegin, SpellsCommit, SpellsRollback, SpellsControl, SpellsBody, Spells}
+use Rattle.sql_grammar.specs.Parse.{row, insert, filter, assignment, update, delete, alias, count, item_value, direction, item, items, top, source, join, group, order_key, order, tail, select, begin, commit, rollback, control, body, statement, counts}
 use Rattle.sql_grammar.proofs.Agreement.{Agrees, both_agrees, made_agrees, choice_agrees, choice_by_agrees, optional_agrees, many_agrees, wider}
 use Rattle.sql_grammar.proofs.Pieces.{word_agrees, sign_agrees, reads_agrees, name_agrees, number_agrees, in_parens_agrees, listed_agrees}
 use Rattle.sql_grammar.proofs.Operands.{operand_agrees, column_ref_agrees}
@@ -74,8 +75,20 @@ tail_agrees = wider (terminal.Word keyword.From ∷ []) (terminal.Word keyword.A
 pub select_agrees : Agrees (terminal.Word keyword.Select ∷ []) false (terminal.Word keyword.As ∷ terminal.Ident ∷ terminal.Word keyword.Or ∷ terminal.Word keyword.And ∷ terminal.Sign symbol.Dot ∷ terminal.Sign symbol.Plus ∷ terminal.Sign symbol.Minus ∷ terminal.Word keyword.Is ∷ terminal.Word keyword.Not ∷ terminal.Word keyword.In ∷ terminal.Sign symbol.Equal ∷ terminal.Sign symbol.NotEqual ∷ terminal.Sign symbol.Less ∷ terminal.Sign symbol.LessEqual ∷ terminal.Sign symbol.Greater ∷ terminal.Sign symbol.GreaterEqual ∷ terminal.Word keyword.Inner ∷ terminal.Word keyword.Join ∷ terminal.Word keyword.Where ∷ terminal.Sign symbol.Comma ∷ terminal.Word keyword.Group ∷ terminal.Word keyword.Asc ∷ terminal.Word keyword.Desc ∷ terminal.Word keyword.Order ∷ []) select SpellsSelect
 select_agrees = wider (terminal.Word keyword.Select ∷ []) (terminal.Word keyword.As ∷ terminal.Ident ∷ terminal.Word keyword.Or ∷ terminal.Word keyword.And ∷ terminal.Sign symbol.Dot ∷ terminal.Sign symbol.Plus ∷ terminal.Sign symbol.Minus ∷ terminal.Word keyword.Is ∷ terminal.Word keyword.Not ∷ terminal.Word keyword.In ∷ terminal.Sign symbol.Equal ∷ terminal.Sign symbol.NotEqual ∷ terminal.Sign symbol.Less ∷ terminal.Sign symbol.LessEqual ∷ terminal.Sign symbol.Greater ∷ terminal.Sign symbol.GreaterEqual ∷ terminal.Word keyword.Inner ∷ terminal.Word keyword.Join ∷ terminal.Word keyword.Where ∷ terminal.Sign symbol.Comma ∷ terminal.Word keyword.Group ∷ terminal.Word keyword.Asc ∷ terminal.Word keyword.Desc ∷ terminal.Word keyword.Order ∷ []) (made_agrees make.select (made_agrees make.behind (both_agrees (word_agrees keyword.Select) (both_agrees (optional_agrees (terminal.Word keyword.Distinct ∷ []) (word_agrees keyword.Distinct) refl) (both_agrees (optional_agrees (terminal.Word keyword.Top ∷ []) top_agrees refl) (both_agrees items_agrees tail_agrees refl) refl) refl) refl))) refl refl
 
-pub body_agrees : Agrees (terminal.Word keyword.Create ∷ terminal.Word keyword.Drop ∷ terminal.Word keyword.Insert ∷ terminal.Word keyword.Update ∷ terminal.Word keyword.Delete ∷ terminal.Word keyword.Select ∷ []) false (terminal.Sign symbol.Comma ∷ terminal.Sign symbol.Dot ∷ terminal.Sign symbol.Plus ∷ terminal.Sign symbol.Minus ∷ terminal.Word keyword.Or ∷ terminal.Word keyword.And ∷ terminal.Word keyword.Is ∷ terminal.Word keyword.Not ∷ terminal.Word keyword.In ∷ terminal.Sign symbol.Equal ∷ terminal.Sign symbol.NotEqual ∷ terminal.Sign symbol.Less ∷ terminal.Sign symbol.LessEqual ∷ terminal.Sign symbol.Greater ∷ terminal.Sign symbol.GreaterEqual ∷ terminal.Word keyword.Where ∷ terminal.Word keyword.As ∷ terminal.Ident ∷ terminal.Word keyword.Inner ∷ terminal.Word keyword.Join ∷ terminal.Word keyword.Group ∷ terminal.Word keyword.Asc ∷ terminal.Word keyword.Desc ∷ terminal.Word keyword.Order ∷ []) body SpellsBody
-body_agrees = wider (terminal.Word keyword.Create ∷ terminal.Word keyword.Drop ∷ terminal.Word keyword.Insert ∷ terminal.Word keyword.Update ∷ terminal.Word keyword.Delete ∷ terminal.Word keyword.Select ∷ []) (terminal.Sign symbol.Comma ∷ terminal.Sign symbol.Dot ∷ terminal.Sign symbol.Plus ∷ terminal.Sign symbol.Minus ∷ terminal.Word keyword.Or ∷ terminal.Word keyword.And ∷ terminal.Word keyword.Is ∷ terminal.Word keyword.Not ∷ terminal.Word keyword.In ∷ terminal.Sign symbol.Equal ∷ terminal.Sign symbol.NotEqual ∷ terminal.Sign symbol.Less ∷ terminal.Sign symbol.LessEqual ∷ terminal.Sign symbol.Greater ∷ terminal.Sign symbol.GreaterEqual ∷ terminal.Word keyword.Where ∷ terminal.Word keyword.As ∷ terminal.Ident ∷ terminal.Word keyword.Inner ∷ terminal.Word keyword.Join ∷ terminal.Word keyword.Group ∷ terminal.Word keyword.Asc ∷ terminal.Word keyword.Desc ∷ terminal.Word keyword.Order ∷ []) (choice_agrees (terminal.Word keyword.Create ∷ []) create_agrees (choice_agrees (terminal.Word keyword.Drop ∷ []) drop_agrees (choice_agrees (terminal.Word keyword.Insert ∷ []) insert_agrees (choice_agrees (terminal.Word keyword.Update ∷ []) update_agrees (choice_agrees (terminal.Word keyword.Delete ∷ []) delete_agrees select_agrees refl refl) refl refl) refl refl) refl refl) refl refl) refl refl
+begin_agrees : Agrees (terminal.Word keyword.Begin ∷ []) false [] begin SpellsBegin
+begin_agrees = wider (terminal.Word keyword.Begin ∷ []) [] (made_agrees (make.control transaction.Begin) (both_agrees (word_agrees keyword.Begin) (word_agrees keyword.Transaction) refl)) refl refl
 
-pub statement_agrees : Agrees (terminal.Word keyword.Create ∷ terminal.Word keyword.Drop ∷ terminal.Word keyword.Insert ∷ terminal.Word keyword.Update ∷ terminal.Word keyword.Delete ∷ terminal.Word keyword.Select ∷ []) false (terminal.Sign symbol.Comma ∷ terminal.Sign symbol.Dot ∷ terminal.Sign symbol.Plus ∷ terminal.Sign symbol.Minus ∷ terminal.Word keyword.Or ∷ terminal.Word keyword.And ∷ terminal.Word keyword.Is ∷ terminal.Word keyword.Not ∷ terminal.Word keyword.In ∷ terminal.Sign symbol.Equal ∷ terminal.Sign symbol.NotEqual ∷ terminal.Sign symbol.Less ∷ terminal.Sign symbol.LessEqual ∷ terminal.Sign symbol.Greater ∷ terminal.Sign symbol.GreaterEqual ∷ terminal.Word keyword.Where ∷ terminal.Word keyword.As ∷ terminal.Ident ∷ terminal.Word keyword.Inner ∷ terminal.Word keyword.Join ∷ terminal.Word keyword.Group ∷ terminal.Word keyword.Asc ∷ terminal.Word keyword.Desc ∷ terminal.Word keyword.Order ∷ terminal.Sign symbol.Semicolon ∷ []) statement Spells
-statement_agrees = wider (terminal.Word keyword.Create ∷ terminal.Word keyword.Drop ∷ terminal.Word keyword.Insert ∷ terminal.Word keyword.Update ∷ terminal.Word keyword.Delete ∷ terminal.Word keyword.Select ∷ []) (terminal.Sign symbol.Comma ∷ terminal.Sign symbol.Dot ∷ terminal.Sign symbol.Plus ∷ terminal.Sign symbol.Minus ∷ terminal.Word keyword.Or ∷ terminal.Word keyword.And ∷ terminal.Word keyword.Is ∷ terminal.Word keyword.Not ∷ terminal.Word keyword.In ∷ terminal.Sign symbol.Equal ∷ terminal.Sign symbol.NotEqual ∷ terminal.Sign symbol.Less ∷ terminal.Sign symbol.LessEqual ∷ terminal.Sign symbol.Greater ∷ terminal.Sign symbol.GreaterEqual ∷ terminal.Word keyword.Where ∷ terminal.Word keyword.As ∷ terminal.Ident ∷ terminal.Word keyword.Inner ∷ terminal.Word keyword.Join ∷ terminal.Word keyword.Group ∷ terminal.Word keyword.Asc ∷ terminal.Word keyword.Desc ∷ terminal.Word keyword.Order ∷ terminal.Sign symbol.Semicolon ∷ []) (made_agrees make.statement (both_agrees body_agrees (optional_agrees (terminal.Sign symbol.Semicolon ∷ []) (sign_agrees symbol.Semicolon) refl) refl)) refl refl
+commit_agrees : Agrees (terminal.Word keyword.Commit ∷ []) false (terminal.Word keyword.Transaction ∷ []) commit SpellsCommit
+commit_agrees = wider (terminal.Word keyword.Commit ∷ []) (terminal.Word keyword.Transaction ∷ []) (made_agrees (make.control transaction.Commit) (both_agrees (word_agrees keyword.Commit) (optional_agrees (terminal.Word keyword.Transaction ∷ []) (word_agrees keyword.Transaction) refl) refl)) refl refl
+
+rollback_agrees : Agrees (terminal.Word keyword.Rollback ∷ []) false (terminal.Word keyword.Transaction ∷ []) rollback SpellsRollback
+rollback_agrees = wider (terminal.Word keyword.Rollback ∷ []) (terminal.Word keyword.Transaction ∷ []) (made_agrees (make.control transaction.Rollback) (both_agrees (word_agrees keyword.Rollback) (optional_agrees (terminal.Word keyword.Transaction ∷ []) (word_agrees keyword.Transaction) refl) refl)) refl refl
+
+control_agrees : Agrees (terminal.Word keyword.Begin ∷ terminal.Word keyword.Commit ∷ terminal.Word keyword.Rollback ∷ []) false (terminal.Word keyword.Transaction ∷ []) control SpellsControl
+control_agrees = wider (terminal.Word keyword.Begin ∷ terminal.Word keyword.Commit ∷ terminal.Word keyword.Rollback ∷ []) (terminal.Word keyword.Transaction ∷ []) (choice_agrees (terminal.Word keyword.Begin ∷ []) begin_agrees (choice_agrees (terminal.Word keyword.Commit ∷ []) commit_agrees rollback_agrees refl refl) refl refl) refl refl
+
+pub body_agrees : Agrees (terminal.Word keyword.Create ∷ terminal.Word keyword.Drop ∷ terminal.Word keyword.Insert ∷ terminal.Word keyword.Update ∷ terminal.Word keyword.Delete ∷ terminal.Word keyword.Select ∷ terminal.Word keyword.Begin ∷ terminal.Word keyword.Commit ∷ terminal.Word keyword.Rollback ∷ []) false (terminal.Sign symbol.Comma ∷ terminal.Sign symbol.Dot ∷ terminal.Sign symbol.Plus ∷ terminal.Sign symbol.Minus ∷ terminal.Word keyword.Or ∷ terminal.Word keyword.And ∷ terminal.Word keyword.Is ∷ terminal.Word keyword.Not ∷ terminal.Word keyword.In ∷ terminal.Sign symbol.Equal ∷ terminal.Sign symbol.NotEqual ∷ terminal.Sign symbol.Less ∷ terminal.Sign symbol.LessEqual ∷ terminal.Sign symbol.Greater ∷ terminal.Sign symbol.GreaterEqual ∷ terminal.Word keyword.Where ∷ terminal.Word keyword.As ∷ terminal.Ident ∷ terminal.Word keyword.Inner ∷ terminal.Word keyword.Join ∷ terminal.Word keyword.Group ∷ terminal.Word keyword.Asc ∷ terminal.Word keyword.Desc ∷ terminal.Word keyword.Order ∷ terminal.Word keyword.Transaction ∷ []) body SpellsBody
+body_agrees = wider (terminal.Word keyword.Create ∷ terminal.Word keyword.Drop ∷ terminal.Word keyword.Insert ∷ terminal.Word keyword.Update ∷ terminal.Word keyword.Delete ∷ terminal.Word keyword.Select ∷ terminal.Word keyword.Begin ∷ terminal.Word keyword.Commit ∷ terminal.Word keyword.Rollback ∷ []) (terminal.Sign symbol.Comma ∷ terminal.Sign symbol.Dot ∷ terminal.Sign symbol.Plus ∷ terminal.Sign symbol.Minus ∷ terminal.Word keyword.Or ∷ terminal.Word keyword.And ∷ terminal.Word keyword.Is ∷ terminal.Word keyword.Not ∷ terminal.Word keyword.In ∷ terminal.Sign symbol.Equal ∷ terminal.Sign symbol.NotEqual ∷ terminal.Sign symbol.Less ∷ terminal.Sign symbol.LessEqual ∷ terminal.Sign symbol.Greater ∷ terminal.Sign symbol.GreaterEqual ∷ terminal.Word keyword.Where ∷ terminal.Word keyword.As ∷ terminal.Ident ∷ terminal.Word keyword.Inner ∷ terminal.Word keyword.Join ∷ terminal.Word keyword.Group ∷ terminal.Word keyword.Asc ∷ terminal.Word keyword.Desc ∷ terminal.Word keyword.Order ∷ terminal.Word keyword.Transaction ∷ []) (choice_agrees (terminal.Word keyword.Create ∷ []) create_agrees (choice_agrees (terminal.Word keyword.Drop ∷ []) drop_agrees (choice_agrees (terminal.Word keyword.Insert ∷ []) insert_agrees (choice_agrees (terminal.Word keyword.Update ∷ []) update_agrees (choice_agrees (terminal.Word keyword.Delete ∷ []) delete_agrees (choice_agrees (terminal.Word keyword.Select ∷ []) select_agrees control_agrees refl refl) refl refl) refl refl) refl refl) refl refl) refl refl) refl refl
+
+pub statement_agrees : Agrees (terminal.Word keyword.Create ∷ terminal.Word keyword.Drop ∷ terminal.Word keyword.Insert ∷ terminal.Word keyword.Update ∷ terminal.Word keyword.Delete ∷ terminal.Word keyword.Select ∷ terminal.Word keyword.Begin ∷ terminal.Word keyword.Commit ∷ terminal.Word keyword.Rollback ∷ []) false (terminal.Sign symbol.Comma ∷ terminal.Sign symbol.Dot ∷ terminal.Sign symbol.Plus ∷ terminal.Sign symbol.Minus ∷ terminal.Word keyword.Or ∷ terminal.Word keyword.And ∷ terminal.Word keyword.Is ∷ terminal.Word keyword.Not ∷ terminal.Word keyword.In ∷ terminal.Sign symbol.Equal ∷ terminal.Sign symbol.NotEqual ∷ terminal.Sign symbol.Less ∷ terminal.Sign symbol.LessEqual ∷ terminal.Sign symbol.Greater ∷ terminal.Sign symbol.GreaterEqual ∷ terminal.Word keyword.Where ∷ terminal.Word keyword.As ∷ terminal.Ident ∷ terminal.Word keyword.Inner ∷ terminal.Word keyword.Join ∷ terminal.Word keyword.Group ∷ terminal.Word keyword.Asc ∷ terminal.Word keyword.Desc ∷ terminal.Word keyword.Order ∷ terminal.Word keyword.Transaction ∷ terminal.Sign symbol.Semicolon ∷ []) statement Spells
+statement_agrees = wider (terminal.Word keyword.Create ∷ terminal.Word keyword.Drop ∷ terminal.Word keyword.Insert ∷ terminal.Word keyword.Update ∷ terminal.Word keyword.Delete ∷ terminal.Word keyword.Select ∷ terminal.Word keyword.Begin ∷ terminal.Word keyword.Commit ∷ terminal.Word keyword.Rollback ∷ []) (terminal.Sign symbol.Comma ∷ terminal.Sign symbol.Dot ∷ terminal.Sign symbol.Plus ∷ terminal.Sign symbol.Minus ∷ terminal.Word keyword.Or ∷ terminal.Word keyword.And ∷ terminal.Word keyword.Is ∷ terminal.Word keyword.Not ∷ terminal.Word keyword.In ∷ terminal.Sign symbol.Equal ∷ terminal.Sign symbol.NotEqual ∷ terminal.Sign symbol.Less ∷ terminal.Sign symbol.LessEqual ∷ terminal.Sign symbol.Greater ∷ terminal.Sign symbol.GreaterEqual ∷ terminal.Word keyword.Where ∷ terminal.Word keyword.As ∷ terminal.Ident ∷ terminal.Word keyword.Inner ∷ terminal.Word keyword.Join ∷ terminal.Word keyword.Group ∷ terminal.Word keyword.Asc ∷ terminal.Word keyword.Desc ∷ terminal.Word keyword.Order ∷ terminal.Word keyword.Transaction ∷ terminal.Sign symbol.Semicolon ∷ []) (made_agrees make.statement (both_agrees body_agrees (optional_agrees (terminal.Sign symbol.Semicolon ∷ []) (sign_agrees symbol.Semicolon) refl) refl)) refl refl

@@ -15,6 +15,7 @@ use Rattle.sql_tree.specs.declared.statements.NameAt.{NameAt}
 use Rattle.sql_tree.specs.declared.statements.ColumnAt.{ColumnAt}
 use Rattle.sql_tree.specs.declared.statements.OrderKey.{OrderKey}
 use Rattle.sql_tree.specs.declared.statements.SourceTable.{SourceTable}
+use Rattle.sql_tree.specs.declared.statements.TransactionControl.TheVariants as transaction
 use Rattle.sql_tree.specs.Statements.{Operand, Condition, ValueRow, Assignment, Item, Items, ItemValue, Join, Statement}
 use Rattle.sql_grammar.specs.declared.settings.MasterSetting.{MasterSetting}
 use Rattle.sql_grammar.specs.declared.settings.KeySetting.{KeySetting}
@@ -297,8 +298,23 @@ SpellsTail = Made make.behind (Both (Word keyword.From) (Both SpellsSource (Both
 abbrev pub SpellsSelect : Spelling Statement
 SpellsSelect = Made make.select (Made make.behind (Both (Word keyword.Select) (Both (Optional (Word keyword.Distinct)) (Both (Optional SpellsTop) (Both SpellsItems SpellsTail)))))
 
+-- BEGIN TRANSACTION
+abbrev pub SpellsBegin : Spelling Statement
+SpellsBegin = Made (make.control transaction.Begin) (Both (Word keyword.Begin) (Word keyword.Transaction))
+
+-- COMMIT [TRANSACTION]
+abbrev pub SpellsCommit : Spelling Statement
+SpellsCommit = Made (make.control transaction.Commit) (Both (Word keyword.Commit) (Optional (Word keyword.Transaction)))
+
+-- ROLLBACK [TRANSACTION]
+abbrev pub SpellsRollback : Spelling Statement
+SpellsRollback = Made (make.control transaction.Rollback) (Both (Word keyword.Rollback) (Optional (Word keyword.Transaction)))
+
+abbrev pub SpellsControl : Spelling Statement
+SpellsControl = Either SpellsBegin (Either SpellsCommit SpellsRollback)
+
 abbrev pub SpellsBody : Spelling Statement
-SpellsBody = Either SpellsCreate (Either SpellsDrop (Either SpellsInsert (Either SpellsUpdate (Either SpellsDelete SpellsSelect))))
+SpellsBody = Either SpellsCreate (Either SpellsDrop (Either SpellsInsert (Either SpellsUpdate (Either SpellsDelete (Either SpellsSelect SpellsControl)))))
 
 -- statement := body [;]
 abbrev pub Spells : Spelling Statement

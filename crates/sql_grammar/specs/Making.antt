@@ -24,6 +24,7 @@ use Rattle.sql_tree.specs.declared.statements.NameAt.{NameAt}
 use Rattle.sql_tree.specs.declared.statements.ColumnAt.{ColumnAt}
 use Rattle.sql_tree.specs.declared.statements.OrderKey.{OrderKey}
 use Rattle.sql_tree.specs.declared.statements.SourceTable.{SourceTable}
+use Rattle.sql_tree.specs.declared.statements.TransactionControl.{TransactionControl}
 use Rattle.sql_tree.specs.Tokens.{in_capitals}
 use Rattle.sql_tree.specs.Operands as operands
 use Rattle.sql_tree.specs.Conditions as conditions
@@ -444,6 +445,9 @@ select_of query = if is_plain_group query then Some (tree.Select query) else Non
 
 abbrev pub select : Option ℕ × (Option ℕ × (Items × Tail)) → Option Statement
 select x = select_of (query_with x.0 x.1.0 x.1.1.0 x.1.1.1)
+
+abbrev pub control : {A : Type 0} → TransactionControl → A → Option Statement
+control transaction words = Some (tree.Control transaction)
 
 abbrev pub statement : Statement × Option ℕ → Option Statement
 statement x = Some x.0

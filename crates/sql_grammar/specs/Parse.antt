@@ -15,6 +15,7 @@ use Rattle.sql_tree.specs.declared.statements.NameAt.{NameAt}
 use Rattle.sql_tree.specs.declared.statements.ColumnAt.{ColumnAt}
 use Rattle.sql_tree.specs.declared.statements.OrderKey.{OrderKey}
 use Rattle.sql_tree.specs.declared.statements.SourceTable.{SourceTable}
+use Rattle.sql_tree.specs.declared.statements.TransactionControl.TheVariants as transaction
 use Rattle.sql_tree.specs.Statements.{Operand, Condition, ValueRow, Assignment, Item, Items, ItemValue, Join, Statement}
 use Rattle.sql_grammar.specs.declared.settings.MasterSetting.{MasterSetting}
 use Rattle.sql_grammar.specs.declared.settings.KeySetting.{KeySetting}
@@ -361,8 +362,23 @@ tail = made make.behind (both (word keyword.From) (both source (both (many (term
 abbrev pub select : Reading Statement
 select = made make.select (made make.behind (both (word keyword.Select) (both (optional (terminal.Word keyword.Distinct ∷ []) (word keyword.Distinct)) (both (optional (terminal.Word keyword.Top ∷ []) top) (both items tail)))))
 
+-- BEGIN TRANSACTION
+abbrev pub begin : Reading Statement
+begin = made (make.control transaction.Begin) (both (word keyword.Begin) (word keyword.Transaction))
+
+-- COMMIT [TRANSACTION]
+abbrev pub commit : Reading Statement
+commit = made (make.control transaction.Commit) (both (word keyword.Commit) (optional (terminal.Word keyword.Transaction ∷ []) (word keyword.Transaction)))
+
+-- ROLLBACK [TRANSACTION]
+abbrev pub rollback : Reading Statement
+rollback = made (make.control transaction.Rollback) (both (word keyword.Rollback) (optional (terminal.Word keyword.Transaction ∷ []) (word keyword.Transaction)))
+
+abbrev pub control : Reading Statement
+control = choice (terminal.Word keyword.Begin ∷ []) begin (choice (terminal.Word keyword.Commit ∷ []) commit rollback)
+
 abbrev pub body : Reading Statement
-body = choice (terminal.Word keyword.Create ∷ []) create (choice (terminal.Word keyword.Drop ∷ []) drop (choice (terminal.Word keyword.Insert ∷ []) insert (choice (terminal.Word keyword.Update ∷ []) update (choice (terminal.Word keyword.Delete ∷ []) delete select))))
+body = choice (terminal.Word keyword.Create ∷ []) create (choice (terminal.Word keyword.Drop ∷ []) drop (choice (terminal.Word keyword.Insert ∷ []) insert (choice (terminal.Word keyword.Update ∷ []) update (choice (terminal.Word keyword.Delete ∷ []) delete (choice (terminal.Word keyword.Select ∷ []) select control)))))
 
 -- statement := body [;]
 abbrev pub statement : Reading Statement

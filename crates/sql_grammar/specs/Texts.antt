@@ -68,6 +68,7 @@ passes_a_limit (tree.DropMaster word) = false
 passes_a_limit (tree.DropKey word) = false
 passes_a_limit (tree.Update table assignments asked) = false
 passes_a_limit (tree.Delete table asked) = false
+passes_a_limit (tree.Control control) = false
 
 abbrev pub parsed_tree : List Token → Option Statement → Result Statement SqlFault
 parsed_tree tokens None = Err fault.Syntax

@@ -6,14 +6,17 @@ use Rattle.sql_tree.specs.declared.lexemes.Token.{Token}
 use Rattle.sql_tree.specs.Statements.{Statement}
 use Rattle.sql_grammar.specs.Readers.{Reading, next_among, choice_by}
 use Rattle.sql_grammar.specs.Readers as terminal
-use Rattle.sql_grammar.specs.Parse.{create, drop, insert, update, delete, select, body}
+use Rattle.sql_grammar.specs.Parse.{create, drop, insert, update, delete, select, begin, commit, rollback, control, body}
 use Rattle.sql_conditions.proofs.Alike.{here, away}
 
 abbrev is_next : Keyword → List Token → Bool
 is_next k = next_among (terminal.Word k ∷ [])
 
+abbrev or_select : Reading Statement
+or_select = choice_by (is_next keyword.Select) select control
+
 abbrev or_delete : Reading Statement
-or_delete = choice_by (is_next keyword.Delete) delete select
+or_delete = choice_by (is_next keyword.Delete) delete or_select
 
 abbrev or_update : Reading Statement
 or_update = choice_by (is_next keyword.Update) update or_delete
@@ -42,8 +45,31 @@ is_update tokens c d i u = changes tokens c d ∙ away (is_next keyword.Insert) 
 
 pub is_delete : (tokens : List Token) → is_next keyword.Create tokens ≡ false → is_next keyword.Drop tokens ≡ false → is_next keyword.Insert tokens ≡ false → is_next keyword.Update tokens ≡ false
     → is_next keyword.Delete tokens ≡ true → body tokens ≡ delete tokens
-is_delete tokens c d i u l = changes tokens c d ∙ away (is_next keyword.Insert) insert or_update tokens i ∙ away (is_next keyword.Update) update or_delete tokens u ∙ here (is_next keyword.Delete) delete select tokens l
+is_delete tokens c d i u l = changes tokens c d ∙ away (is_next keyword.Insert) insert or_update tokens i ∙ away (is_next keyword.Update) update or_delete tokens u ∙ here (is_next keyword.Delete) delete or_select tokens l
+
+-- no statement that defines or changes
+asks : (tokens : List Token) → is_next keyword.Create tokens ≡ false → is_next keyword.Drop tokens ≡ false → is_next keyword.Insert tokens ≡ false → is_next keyword.Update tokens ≡ false
+    → is_next keyword.Delete tokens ≡ false → body tokens ≡ or_select tokens
+asks tokens c d i u l = changes tokens c d ∙ away (is_next keyword.Insert) insert or_update tokens i ∙ away (is_next keyword.Update) update or_delete tokens u ∙ away (is_next keyword.Delete) delete or_select tokens l
 
 pub is_select : (tokens : List Token) → is_next keyword.Create tokens ≡ false → is_next keyword.Drop tokens ≡ false → is_next keyword.Insert tokens ≡ false → is_next keyword.Update tokens ≡ false
-    → is_next keyword.Delete tokens ≡ false → body tokens ≡ select tokens
-is_select tokens c d i u l = changes tokens c d ∙ away (is_next keyword.Insert) insert or_update tokens i ∙ away (is_next keyword.Update) update or_delete tokens u ∙ away (is_next keyword.Delete) delete select tokens l
+    → is_next keyword.Delete tokens ≡ false → is_next keyword.Select tokens ≡ true → body tokens ≡ select tokens
+is_select tokens c d i u l s = asks tokens c d i u l ∙ here (is_next keyword.Select) select control tokens s
+
+pub is_control : (tokens : List Token) → is_next keyword.Create tokens ≡ false → is_next keyword.Drop tokens ≡ false → is_next keyword.Insert tokens ≡ false → is_next keyword.Update tokens ≡ false
+    → is_next keyword.Delete tokens ≡ false → is_next keyword.Select tokens ≡ false → body tokens ≡ control tokens
+is_control tokens c d i u l s = asks tokens c d i u l ∙ away (is_next keyword.Select) select control tokens s
+
+-- ---- of a transaction
+
+abbrev or_commit : Reading Statement
+or_commit = choice_by (is_next keyword.Commit) commit rollback
+
+pub is_begin : (tokens : List Token) → is_next keyword.Begin tokens ≡ true → control tokens ≡ begin tokens
+is_begin tokens b = here (is_next keyword.Begin) begin or_commit tokens b
+
+pub is_commit : (tokens : List Token) → is_next keyword.Begin tokens ≡ false → is_next keyword.Commit tokens ≡ true → control tokens ≡ commit tokens
+is_commit tokens b c = away (is_next keyword.Begin) begin or_commit tokens b ∙ here (is_next keyword.Commit) commit rollback tokens c
+
+pub is_rollback : (tokens : List Token) → is_next keyword.Begin tokens ≡ false → is_next keyword.Commit tokens ≡ false → control tokens ≡ rollback tokens
+is_rollback tokens b c = away (is_next keyword.Begin) begin or_commit tokens b ∙ away (is_next keyword.Commit) commit rollback tokens c

@@ -104,7 +104,8 @@ pub(crate) fn passes_a_limit(statement: &Statement) -> bool
         | Statement::DropMaster(_)
         | Statement::DropKey(_)
         | Statement::Update { .. }
-        | Statement::Delete { .. } => false,
+        | Statement::Delete { .. }
+        | Statement::Control(_) => false,
     }
 }
 

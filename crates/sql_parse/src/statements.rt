@@ -21,7 +21,7 @@ use sql_conditions::operands::{OperandReader, operand};
 use sql_conditions::reading::{NameReader, Reader, in_parens, listed};
 use sql_definitions::definitions::{create, drop_named};
 use sql_tree::lexemes::{Keyword, Symbol};
-use sql_tree::statements::{Assignment, Statement, ValueRow};
+use sql_tree::statements::{Assignment, Statement, TransactionControl, ValueRow};
 use std::alloc::Global;
 
 /// Reads a row of VALUES.
@@ -141,6 +141,43 @@ fn delete(alloc: Global, tokens: &mut Cursor) -> Result<Statement, Refusal>
     Ok(Statement::Delete { table, filter })
 }
 
+fn begin(tokens: &mut Cursor) -> Result<Statement, Refusal>
+    ensures { Gives statement_of result tokens.new (parse.begin tokens.old) }
+{
+    tokens.word(Keyword::Begin)?;
+    tokens.word(Keyword::Transaction)?;
+    Ok(Statement::Control(TransactionControl::Begin))
+}
+
+fn commit(tokens: &mut Cursor) -> Result<Statement, Refusal>
+    ensures { Gives statement_of result tokens.new (parse.commit tokens.old) }
+{
+    tokens.word(Keyword::Commit)?;
+    tokens.optional_word(Keyword::Transaction);
+    Ok(Statement::Control(TransactionControl::Commit))
+}
+
+fn rollback(tokens: &mut Cursor) -> Result<Statement, Refusal>
+    ensures { Gives statement_of result tokens.new (parse.rollback tokens.old) }
+{
+    tokens.word(Keyword::Rollback)?;
+    tokens.optional_word(Keyword::Transaction);
+    Ok(Statement::Control(TransactionControl::Rollback))
+}
+
+/// A statement that begins a transaction or ends one.
+fn control(tokens: &mut Cursor) -> Result<Statement, Refusal>
+    ensures { Gives statement_of result tokens.new (parse.control tokens.old) }
+{
+    if tokens.next_is(Keyword::Begin) {
+        return begin(tokens);
+    }
+    if tokens.next_is(Keyword::Commit) {
+        return commit(tokens);
+    }
+    rollback(tokens)
+}
+
 /// A statement without the semicolon at its end. Its first word tells which one it is.
 fn body(alloc: Global, tokens: &mut Cursor) -> Result<Statement, Refusal>
     ensures { Gives statement_of result tokens.new (parse.body tokens.old) }
@@ -160,7 +197,10 @@ fn body(alloc: Global, tokens: &mut Cursor) -> Result<Statement, Refusal>
     if tokens.next_is(Keyword::Delete) {
         return delete(alloc, tokens);
     }
-    select(alloc, tokens)
+    if tokens.next_is(Keyword::Select) {
+        return select(alloc, tokens);
+    }
+    control(tokens)
 }
 
 fn ended(alloc: Global, tokens: &mut Cursor) -> Result<Statement, Refusal>

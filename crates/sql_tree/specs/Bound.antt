@@ -9,6 +9,7 @@ use Rattle.sql_tree.specs.declared.bound.PlaceAt.{PlaceAt}
 use Rattle.sql_tree.specs.declared.bound.BoundTable.{BoundTable}
 use Rattle.sql_tree.specs.declared.bound.BoundSource.{BoundSource}
 use Rattle.sql_tree.specs.declared.bound.BoundOrderKey.{BoundOrderKey}
+use Rattle.sql_tree.specs.declared.statements.TransactionControl.{TransactionControl}
 use Rattle.sql_tree.specs.declared.bound.BoundRow as code_row
 use Rattle.sql_tree.specs.declared.bound.BoundInsert as code_insert
 use Rattle.sql_tree.specs.declared.bound.BoundAssignment as code_assignment
@@ -89,6 +90,7 @@ pub data BoundStatement : Type 0 where
   Update : (update : BoundUpdate) → BoundStatement
   Delete : (delete : BoundDelete) → BoundStatement
   Select : (query : BoundQuery) → BoundStatement
+  Control : (control : TransactionControl) → BoundStatement
 
 -- the declared types of the parameters, the columns of the statement's tables one after another, and what it does
 pub record Bound : Type 0 where
@@ -145,6 +147,7 @@ statement_of (code_statement.TheVariants.Insert insert) = Insert (insert_of inse
 statement_of (code_statement.TheVariants.Update update) = Update (update_of update)
 statement_of (code_statement.TheVariants.Delete delete) = Delete (delete_of delete)
 statement_of (code_statement.TheVariants.Select query) = Select (query_of query)
+statement_of (code_statement.TheVariants.Control control) = Control control
 
 abbrev pub bound_of : code.Bound → Bound
 bound_of b = record { params = b.params; columns = b.columns; statement = statement_of b.statement }

@@ -47,6 +47,7 @@ IsStatementOn tables columns (bound.Update update) = AreColumnsOn tables update.
 IsStatementOn tables columns (bound.Delete delete) = AreColumnsOn tables delete.table columns
 IsStatementOn tables columns (bound.Select query) =
     All (IsSourceOn tables) (sources_of query) × (columns ≡ flat_map (λ source. sites_among tables source.table) (sources_of query))
+IsStatementOn tables columns (bound.Control control) = Unit {0}
 
 -- the tables that the statement reads or writes are there, with the columns that it names
 abbrev pub IsOnTables : List TableDef → Bound → Type 0

@@ -101,6 +101,7 @@ IsPlacedStatement columns params (bound.Update update) =
     All (λ a. (a.place < length columns) × IsPlaced (length columns) params a.value) update.assignments × IsPlacedFilter (length columns) params update.filter
 IsPlacedStatement columns params (bound.Delete delete) = IsPlacedFilter (length columns) params delete.filter
 IsPlacedStatement columns params (bound.Select query) = IsPlacedQuery (length columns) params query
+IsPlacedStatement columns params (bound.Control control) = Unit {0}
 
 abbrev pub IsWellPlaced : Bound → Type 0
 IsWellPlaced bound = IsPlacedStatement bound.columns (length bound.params) bound.statement

@@ -9,6 +9,7 @@ use Rattle.sql_tree.specs.declared.statements.UniqueSpec.{UniqueSpec}
 use Rattle.sql_tree.specs.declared.statements.ColumnAt.{ColumnAt}
 use Rattle.sql_tree.specs.declared.statements.OrderKey.{OrderKey}
 use Rattle.sql_tree.specs.declared.statements.SourceTable.{SourceTable}
+use Rattle.sql_tree.specs.declared.statements.TransactionControl.{TransactionControl}
 use Rattle.sql_tree.specs.declared.statements.ValueRow as code_row
 use Rattle.sql_tree.specs.declared.statements.Assignment as code_assignment
 use Rattle.sql_tree.specs.declared.statements.ItemValue as code_value
@@ -74,6 +75,7 @@ pub data Statement : Type 0 where
   Update : (table : List ℕ) (assignments : List Assignment) (filter : Option (conditions.Condition ColumnRef (List ℕ))) → Statement
   Delete : (table : List ℕ) (filter : Option (conditions.Condition ColumnRef (List ℕ))) → Statement
   Select : (query : Query) → Statement
+  Control : (control : TransactionControl) → Statement
 
 -- the trees of the code, without where they lie in memory
 abbrev pub row_of : code_row.ValueRow → ValueRow
@@ -119,3 +121,4 @@ statement_of (code.TheVariants.Insert table columns rows) = Insert table columns
 statement_of (code.TheVariants.Update table assignments filter) = Update table (map assignment_of assignments) (option_map conditions.condition_of filter)
 statement_of (code.TheVariants.Delete table filter) = Delete table (option_map conditions.condition_of filter)
 statement_of (code.TheVariants.Select query) = Select (query_of query)
+statement_of (code.TheVariants.Control control) = Control control

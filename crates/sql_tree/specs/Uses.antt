@@ -70,6 +70,7 @@ uses_in_statement place (bound.Update update) = list_any (uses_in_assignment pla
 uses_in_statement place (bound.Delete delete) = uses_in_filter place delete.filter
 uses_in_statement place (bound.Select query) =
     list_any (uses_in_item place) query.items || (list_any (uses_in_join place) query.joins || uses_in_filter place query.filter)
+uses_in_statement place (bound.Control control) = false
 
 abbrev pub uses : ℕ → Bound → Bool
 uses place bound = uses_in_statement place bound.statement
@@ -146,6 +147,7 @@ renamed_statement f (bound.Update update) =
     bound.Update (record { table = update.table; assignments = map (renamed_assignment f) update.assignments; filter = renamed_filter f update.filter })
 renamed_statement f (bound.Delete delete) = bound.Delete (record { table = delete.table; filter = renamed_filter f delete.filter })
 renamed_statement f (bound.Select query) = bound.Select (renamed_query f query)
+renamed_statement f (bound.Control control) = bound.Control control
 
 -- the statement over other declarations, of which these are the types, with each parameter where f puts it
 abbrev pub renamed : (ℕ → ℕ) → List Ty → Bound → Bound

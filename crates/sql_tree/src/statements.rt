@@ -122,6 +122,14 @@ pub struct Query {
     pub order_by: Seq<OrderKey>,
 }
 
+/// A statement that begins a transaction or ends one: BEGIN TRANSACTION, COMMIT or ROLLBACK.
+#[derive(Clone, Copy, PartialEq, Eq, Debug)]
+pub enum TransactionControl {
+    Begin,
+    Commit,
+    Rollback,
+}
+
 /// A statement, as its text has it.
 #[derive(Drop)]
 pub enum Statement {
@@ -157,4 +165,5 @@ pub enum Statement {
         filter: Option<Condition<ColumnRef, ParamName>>,
     },
     Select(Query),
+    Control(TransactionControl),
 }

@@ -3,6 +3,7 @@ use Rattle.std.proofs.Common.{◌≡◌, ◌≤◌, ◌⊎◌, ℕ, List, Option
 use Rattle.ae_edge.specs.Devices.{Rose, WhereTold}
 use Rattle.ae_edge.specs.Vaults.{KeyMap}
 use Rattle.plain_meaning.specs.Laws.{RepliesAreAwaited, ServedIsPlain}
+use Rattle.server_core.specs.Laws.{RequestsAreSerial}
 use Rattle.server_core.specs.Serve.{empty_state}
 use Rattle.script_lang.specs.declared.steps.Step.{Step}
 use Rattle.run_words.specs.Counting.{summary}
@@ -14,6 +15,7 @@ use Rattle.script_run.specs.Ends.{Lent, CameTo, IsOfPeer, IsScript, RunsSteps, R
 use Rattle.summary_command.specs.SummaryOf.{CountsIn, CountsPlain, IsSummaryOf, PutsText, Sums, silent}
 use Rattle.script_run.proofs.NoStray.{runs_whole}
 use Rattle.script_run.proofs.Plainly.{counts, one_script, runs_plain}
+use Rattle.script_run.proofs.Serving.{runs_serially}
 use Rattle.script_run.proofs.Tapping.{asks, runs_tap}
 
 -- ---- what was counted
@@ -35,14 +37,15 @@ module _ (law : ServedIsPlain) (count : Count) (keys : KeyMap) (bytes : List ℕ
   runs_count (ran.Stopped why) h = tt
   runs_count (ran.Unread why) h = tt
 
-pub summary_of : (plain : ServedIsPlain) (awaited : RepliesAreAwaited) (ended r : Ran) (count : Count) (bytes : List ℕ) (old new : Lent) → RunsScript ended count bytes (silent old) (silent new)
+pub summary_of : (plain : ServedIsPlain) (awaited : RepliesAreAwaited) (law : RequestsAreSerial) (ended r : Ran) (count : Count) (bytes : List ℕ) (old new : Lent) → RunsScript ended count bytes (silent old) (silent new)
     → Sums ended r (summary count.steps count.tally) old.out new.out old.out_faults new.out_faults → IsSummaryOf r bytes old new
-summary_of plain awaited ended r count bytes old new h s = record {
+summary_of plain awaited law ended r count bytes old new h s = record {
   ran = ended;
   run = record {
     count = count;
     content = h;
     complete = λ w steps script. runs_whole awaited ended count bytes steps (silent old) (silent new) w script h;
+    serial = λ w. runs_serially law ended count bytes (silent old) (silent new) h w;
     plain = λ w steps script keys k. runs_plain plain ended count keys bytes steps (silent old) (silent new) w k script h;
     transcript = λ w steps script keys k. runs_tap ended count keys bytes steps (silent old) (silent new) w k script h;
   };

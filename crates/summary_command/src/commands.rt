@@ -21,6 +21,7 @@ use run_words::stops::Stop;
 use run_words::tallies::summary_text;
 use script_run::programs::run_source;
 use script_run::runs::{Ran, Run};
+use server_core::laws::requests_are_serial;
 use server_core::peers::Peer;
 use std::alloc::Global;
 
@@ -73,6 +74,7 @@ pub fn summarize<S: Source, V: Vault, E: Entropy, W: Sink, T: Sink, P: Peer>(
 {
     served_is_plain();
     replies_are_awaited();
+    requests_are_serial();
     let run = run_source(alloc, script, vault, entropy, &mut Nowhere, tap, peer);
     put_summary(alloc, out, run)
 }

@@ -33,13 +33,13 @@ use Rattle.conversation.specs.declared.sessions.Session.TheVariants as session
 use Rattle.engine.specs.Correspond.{AnswersCorrespond, class_of_result}
 use Rattle.engine.specs.Step.{Answer, Rows, Changed, Defined}
 use Rattle.engine.specs.WellTyped.{IsAnswerOf, AreResults}
-use Rattle.engine.specs.Worlds.{World}
 use Rattle.engine.specs.declared.answers.ResultColumn.{ResultColumn}
 use Rattle.hmac_kdf.specs.Keys.{Keys}
 use Rattle.scalar.specs.Classes.{Pairing, Entry, Listing, Correspond, RowsCorrespond, BothAnswer, class_of}
 use Rattle.server_core.specs.Correspond.{ExchangeCorresponds, ExchangesCorrespond}
 use Rattle.server_core.specs.Describing.{keys_of}
-use Rattle.server_core.specs.Serve.{State, header, answered, refused, serve}
+use Rattle.catalog.specs.Catalogs.{Catalog}
+use Rattle.server_core.specs.Serve.{State, header, answered, serve}
 use Rattle.server_core.specs.States.{is_short}
 use Rattle.wire_messages.specs.Exchanges.{Exchange}
 use Rattle.wire_messages.specs.Messages.{Header}
@@ -234,7 +234,7 @@ module _ (keys : KeyMap) (literals : List Entry) (twins : AreTwinLiterals litera
 
   -- ---- an answer
 
-  module _ (history later : List KeyMeta) (w now v next : World) (same : v.catalog ≡ w.catalog) (k j : Session → Talk)
+  module _ (history later : List KeyMeta) (here : Catalog) (now next : State) (k j : Session → Talk)
       (go : (n m : ℕ) (left right : List ℕ) → AreBytes left → AreBytes right → Goes keys literals later (over serve keys (k session.Idle) n left now []) (over serve keys (j session.Idle) m right next [])) where
     caught : (comes other : Outcome) → TwinOutcomes (Listing literals) comes other → (left right : List ℕ) (l r : Listened) (n m : ℕ) → AreBytes left → AreBytes right → l ≡ Caught (Said (Some comes) session.Idle) n [] → r ≡ Caught (Said (Some other) session.Idle) m []
         → Goes keys literals later (passed_on (λ heard n more. over serve keys (rows_on k heard) n left now more) left now l) (passed_on (λ heard n more. over serve keys (rows_on j heard) n right next more) right next r)
@@ -248,12 +248,12 @@ module _ (keys : KeyMap) (literals : List Entry) (twins : AreTwinLiterals litera
     rows_of rows = map Row rows ++ Ended (Answered (length rows)) ∷ []
 
     rows_goes : (columns : List ResultColumn) (rows others : List (List Atom)) (n m : ℕ) (left right : List ℕ) → AreBytes left → AreBytes right
-        → Each (λ (c : ResultColumn). IsMetaOf (keys_of w.catalog (plain.encs_shown columns)) history c.enc) columns → AreResults is_short columns rows → AreResults is_short columns others
+        → Each (λ (c : ResultColumn). IsMetaOf (keys_of here (plain.encs_shown columns)) history c.enc) columns → AreResults is_short columns rows → AreResults is_short columns others
         → AllZip (RowsCorrespond (Twinning keys literals history) (map class_of_result columns)) rows others
-        → Goes keys literals later (over serve keys (reading (header w.catalog columns) k) n left now (rows_of rows)) (over serve keys (reading (header w.catalog columns) j) m right next (rows_of others))
+        → Goes keys literals later (over serve keys (reading (header here columns) k) n left now (rows_of rows)) (over serve keys (reading (header here columns) j) m right next (rows_of others))
     rows_goes columns rows others n m left right a b told typed types pairs =
-        let h : Header = header w.catalog columns in
-        let metas = keys_of w.catalog (plain.encs_shown columns) in
+        let h : Header = header here columns in
+        let metas = keys_of here (plain.encs_shown columns) in
         let sent = types_sent columns in
         let stand = rows_stand keys literals twins history (map class_of_result columns) rows others pairs in
         let onrows : (Session → Talk) → List ColumnType → List (Option Keys) → Talk = λ k t ks. Hears (session.Reading t ks 0) (record { titles = titles_of h; rows = [] }) (rows_on k) in
@@ -276,30 +276,25 @@ module _ (keys : KeyMap) (literals : List Entry) (twins : AreTwinLiterals litera
     awaiting k = Hears session.Sent nothing_shown (answered_on k)
 
     pub answer_goes : (n m : ℕ) (left right : List ℕ) (x y : Result Answer SqlFault) → AreBytes left → AreBytes right → BothAnswer (AnswersCorrespond (Twinning keys literals history)) x y
-        → ((f : SqlFault) → x ≡ Err f → now ≡ w) → ((f : SqlFault) → y ≡ Err f → next ≡ v) → IsAnswerOf is_short x → IsAnswerOf is_short y
-        → ((columns : List ResultColumn) (rows : List (List Atom)) → x ≡ Ok (Rows columns rows) → Each (λ (c : ResultColumn). IsMetaOf (keys_of w.catalog (plain.encs_shown columns)) history c.enc) columns)
-        → let s = answered w now x in
-        let t = answered v next y in
+        → IsAnswerOf is_short x → IsAnswerOf is_short y
+        → ((columns : List ResultColumn) (rows : List (List Atom)) → x ≡ Ok (Rows columns rows) → Each (λ (c : ResultColumn). IsMetaOf (keys_of here (plain.encs_shown columns)) history c.enc) columns)
+        → let s = answered here x now in
+        let t = answered here y next in
         Goes keys literals later (over serve keys (awaiting k) n left s.after s.replies) (over serve keys (awaiting j) m right t.after t.replies)
-    answer_goes n m left right (Ok (Rows columns rows)) (Ok (Rows others more)) a b c err fault typed types told =
+    answer_goes n m left right (Ok (Rows columns rows)) (Ok (Rows others more)) a b c typed types told =
         let e = c.0 in
         let types2 : AreResults is_short columns more = subst (λ cs. AreResults is_short cs more) e types in
-        rw (e, same) (rows_goes columns rows more (suc n) (suc m) left right a b (told columns rows refl) typed types2 c.1)
-    answer_goes n m left right (Ok (Changed count)) (Ok (Changed other)) a b c err fault typed types told = prints_goes later (outcome.Changed count) (outcome.Changed other) _ _ (ap outcome.Changed c) (go (suc n) (suc m) left right a b)
-    answer_goes n m left right (Ok Defined) (Ok Defined) a b c err fault typed types told = prints_goes later outcome.Defined outcome.Defined _ _ refl (go (suc n) (suc m) left right a b)
-    answer_goes n m left right (Err f) (Err g) a b c err fault typed types told =
-        let e = err f refl in
-        let d = fault g refl in
-        subst (λ (x : World). Goes keys literals later (over serve keys (awaiting k) n left x (refused x f).replies) (over serve keys (awaiting j) m right v (refused v g).replies)) e
-        (subst (λ (x : World). Goes keys literals later (over serve keys (awaiting k) n left now (refused now f).replies) (over serve keys (awaiting j) m right x (refused x g).replies)) d
-        (prints_goes later (outcome.Refused f) (outcome.Refused g) _ _ (ap outcome.Refused c) (go (suc n) (suc m) left right a b)))
-    answer_goes n m left right (Ok (Rows columns rows)) (Ok (Changed other)) a b c err fault typed types told = absurd c
-    answer_goes n m left right (Ok (Rows columns rows)) (Ok Defined) a b c err fault typed types told = absurd c
-    answer_goes n m left right (Ok (Rows columns rows)) (Err g) a b c err fault typed types told = absurd c
-    answer_goes n m left right (Ok (Changed count)) (Ok (Rows others more)) a b c err fault typed types told = absurd c
-    answer_goes n m left right (Ok (Changed count)) (Ok Defined) a b c err fault typed types told = absurd c
-    answer_goes n m left right (Ok (Changed count)) (Err g) a b c err fault typed types told = absurd c
-    answer_goes n m left right (Ok Defined) (Ok (Rows others more)) a b c err fault typed types told = absurd c
-    answer_goes n m left right (Ok Defined) (Ok (Changed other)) a b c err fault typed types told = absurd c
-    answer_goes n m left right (Ok Defined) (Err g) a b c err fault typed types told = absurd c
-    answer_goes n m left right (Err f) (Ok y) a b c err fault typed types told = absurd c
+        rw e (rows_goes columns rows more (suc n) (suc m) left right a b (told columns rows refl) typed types2 c.1)
+    answer_goes n m left right (Ok (Changed count)) (Ok (Changed other)) a b c typed types told = prints_goes later (outcome.Changed count) (outcome.Changed other) _ _ (ap outcome.Changed c) (go (suc n) (suc m) left right a b)
+    answer_goes n m left right (Ok Defined) (Ok Defined) a b c typed types told = prints_goes later outcome.Defined outcome.Defined _ _ refl (go (suc n) (suc m) left right a b)
+    answer_goes n m left right (Err f) (Err g) a b c typed types told = prints_goes later (outcome.Refused f) (outcome.Refused g) _ _ (ap outcome.Refused c) (go (suc n) (suc m) left right a b)
+    answer_goes n m left right (Ok (Rows columns rows)) (Ok (Changed other)) a b c typed types told = absurd c
+    answer_goes n m left right (Ok (Rows columns rows)) (Ok Defined) a b c typed types told = absurd c
+    answer_goes n m left right (Ok (Rows columns rows)) (Err g) a b c typed types told = absurd c
+    answer_goes n m left right (Ok (Changed count)) (Ok (Rows others more)) a b c typed types told = absurd c
+    answer_goes n m left right (Ok (Changed count)) (Ok Defined) a b c typed types told = absurd c
+    answer_goes n m left right (Ok (Changed count)) (Err g) a b c typed types told = absurd c
+    answer_goes n m left right (Ok Defined) (Ok (Rows others more)) a b c typed types told = absurd c
+    answer_goes n m left right (Ok Defined) (Ok (Changed other)) a b c typed types told = absurd c
+    answer_goes n m left right (Ok Defined) (Err g) a b c typed types told = absurd c
+    answer_goes n m left right (Err f) (Ok y) a b c typed types told = absurd c

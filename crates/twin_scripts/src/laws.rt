@@ -2,13 +2,14 @@
 
 ghost use Rattle.twin_scripts.specs.Laws.{TwinsAlike};
 
-use catalog::laws::{definitions_are_followed, ids_are_not_reused, keys_are_told};
+use catalog::laws::{
+    definitions_are_followed, definitions_keep_catalogs, ids_are_not_reused, keys_are_told,
+};
 use cell_codec::{derived_keys_are_keys, sealing_is_read_back, sealing_makes_cells};
 use enc_types::laws::typings_are_of_columns;
-use engine::laws::{
-    rows_are_shown, step_keeps_worlds, step_renamed, step_simulates, typed_statements_are_admitted,
-};
+use engine::laws::{rows_are_shown, step_keeps_worlds, typed_statements_are_admitted};
 use resolve::laws::{bound_statements_are, prepared_alone};
+use transactions::laws::{transactions_keep_stores, transactions_simulate};
 use value_norm::{norm_is_bounded, value_of_is_the_one};
 
 /// Of two scripts that differ in protected values alone, each run over a fresh server with random
@@ -24,10 +25,11 @@ pub fn twins_alike()
     prepared_alone();
     typings_are_of_columns();
     typed_statements_are_admitted();
-    step_renamed();
     step_keeps_worlds();
+    transactions_keep_stores();
     rows_are_shown();
-    step_simulates();
+    transactions_simulate();
+    definitions_keep_catalogs();
     ids_are_not_reused();
     definitions_are_followed();
     keys_are_told();

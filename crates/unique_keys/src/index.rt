@@ -93,6 +93,13 @@ impl<K: Same> KeyIndex<K> {
         }
     }
 
+    /// The index of no rows for the same key.
+    pub fn emptied(&self, alloc: Global) -> Result<KeyIndex<K>, AllocError>
+        ensures { IfOk result (λ index. index ≡ record { places = self.now.places; keys = [] }) }
+    {
+        Ok(KeyIndex::new(alloc, self.places.copy()?))
+    }
+
     /// Whether it is of the key of these places.
     pub fn is_on(&self, places: &[usize]) -> bool
         ensures { (result ≡ true) ↔ (self.now.places ≡ places.now) }

@@ -10,7 +10,7 @@ use ae_base::faults::{SqlFault, UniqueNumber, Versions};
 use ae_base::names::{Name, ParamName};
 use std::alloc::Global;
 use wire_reading::checks;
-use wire_reading::reading::{name_of, param_name_of, u32_of, versions_of};
+use wire_reading::reading::{counts_of, name_of, param_name_of, u32_of, versions_of};
 
 /// A fault without fields.
 macro_rules! bare {
@@ -100,6 +100,21 @@ fn unique_number(bytes: &[u8]) -> Body<UniqueNumber>
     }
 }
 
+fn conflict(alloc: Global, bytes: &[u8]) -> Body<SqlFault>
+    ensures { GivesBody result (read.ends read.conflict_of read.conflict_at bytes.now) }
+{
+    match name_of(bytes) {
+        Some((table, rest)) => match counts_of(rest) {
+            Some((counts, [])) => match table.to_name(alloc) {
+                Ok(table) => Body::One(SqlFault::Conflict { table, counts }),
+                Err(_) => Body::OutOfMemory,
+            },
+            _ => Body::Bad,
+        },
+        None => Body::Bad,
+    }
+}
+
 /// The fields of a fault with a code.
 fn fields_of(alloc: Global, code: u8, rest: &[u8]) -> Body<SqlFault>
     ensures { GivesBody result (read.pick read.faults code rest.now) }
@@ -130,6 +145,9 @@ fn fields_of(alloc: Global, code: u8, rest: &[u8]) -> Body<SqlFault>
         61 => with!(SqlFault::NoSuch, name(alloc, rest)),
         62 => with!(SqlFault::KeyInUse, name(alloc, rest)),
         63 => bare!(Full, rest),
+        64 => conflict(alloc, rest),
+        65 => bare!(InTransaction, rest),
+        66 => bare!(NoTransaction, rest),
         _ => Body::Bad,
     }
 }

@@ -7,7 +7,7 @@ use Rattle.ae_base.specs.Keys.{IsKeyPath, IsWrappedKey}
 use Rattle.ae_base.specs.Names.{IsName, IsParamName, IsTitle, all_differ}
 use Rattle.ae_base.specs.Sessions.{IsSession}
 use Rattle.ae_base.specs.Types.{IsType}
-use Rattle.ae_base.specs.Versions.{IsUniqueNumber}
+use Rattle.ae_base.specs.Versions.{ChangeCounts, IsUniqueNumber}
 use Rattle.ae_base.specs.declared.types.Enc.{Enc}
 use Rattle.ae_base.specs.declared.types.Enc.TheVariants as enc
 use Rattle.ae_base.specs.declared.values.Datum.TheVariants.{Num, Text, Bin}
@@ -85,6 +85,10 @@ pub record IsKey (key : KeyMeta) : Type 0 where
 
 -- ---- faults
 
+-- a table's name, and a change count that rose
+abbrev pub IsConflict : List ℕ → ChangeCounts → Type 0
+IsConflict table counts = IsWord table × ((counts.seen < 2 ^ 64) × (counts.now < 2 ^ 64) × (counts.seen < counts.now))
+
 abbrev pub IsFault : SqlFault → Type 0
 IsFault fault.Syntax = Unit {0}
 IsFault (fault.NumberTooWide at) = at < 2 ^ 32
@@ -111,6 +115,9 @@ IsFault (fault.Exists name) = IsWord name
 IsFault (fault.NoSuch name) = IsWord name
 IsFault (fault.KeyInUse name) = IsWord name
 IsFault fault.Full = Unit {0}
+IsFault (fault.Conflict table counts) = IsConflict table counts
+IsFault fault.InTransaction = Unit {0}
+IsFault fault.NoTransaction = Unit {0}
 
 -- ---- lists
 

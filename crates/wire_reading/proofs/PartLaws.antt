@@ -1,16 +1,16 @@
 -- The two laws of each part of a message, and of lists of parts.
-use Rattle.std.proofs.Common.{◌≡◌, ◌≢◌, ℕ, ◌^◌, ◌<◌, ◌≤◌, true, eqb, leb, not, List, [], ◌∷◌, ◌++◌, length, map, IsTrue, Some, refl, sym, ap, subst, ◌∙◌, arith, inl, inr, encode_utf8_all}
+use Rattle.std.proofs.Common.{◌≡◌, ◌≢◌, ℕ, ◌^◌, ◌<◌, ◌≤◌, true, eqb, leb, nat_lt, not, List, [], ◌∷◌, ◌++◌, length, map, IsTrue, Some, refl, sym, ap, subst, ◌∙◌, arith, inl, inr, encode_utf8_all}
 use Rattle.std.specs.Int.{w16, w32, w64, cast_unsigned}
 use Rattle.std.specs.List.{All}
 use Rattle.std.proofs.lemmas.List.{nil_from_length}
-use Rattle.std.proofs.lemmas.Bool.{eqb-true, leb-true, le-leb, and_parts, and_from}
+use Rattle.std.proofs.lemmas.Bool.{eqb-true, leb-true, le-leb, ltb-true, lt-ltb, and_parts, and_from}
 use Rattle.std.proofs.lemmas.Bool.Decides.{eqb_tells}
 use Rattle.std.proofs.lemmas.Int.{of_z-to_z, to_z-of_z}
 use mir.ValLaws.{to_z-Fits, of_z_fits}
 use Rattle.ae_base.specs.Names.{all_differ}
 use Rattle.ae_base.specs.Sizes.{IsTextSize, IsBinarySize}
 use Rattle.ae_base.specs.Types.{IsType}
-use Rattle.ae_base.specs.Versions.{Versions, IsUniqueNumber}
+use Rattle.ae_base.specs.Versions.{Versions, ChangeCounts, IsUniqueNumber}
 use Rattle.ae_base.specs.Faults.{code_of}
 use Rattle.ae_base.specs.declared.types.Ty.{Ty}
 use Rattle.ae_base.specs.declared.types.Ty.TheVariants as ty
@@ -21,9 +21,9 @@ use Rattle.ae_base.specs.declared.atoms.AtomOf.{AtomOf}
 use Rattle.ae_base.specs.declared.atoms.AtomOf.TheVariants.{Null, Plain, Sealed}
 use Rattle.ae_base.specs.declared.faults.SqlFault.{SqlFault}
 use Rattle.ae_base.specs.declared.faults.SqlFault.TheVariants as fault
-use Rattle.wire_messages.specs.Conditions.{IsBytes, IsScalars, IsWord, IsParamWord, IsTitleText, IsPath, IsWrapped, IsKeyId, IsEnc, IsAtom, IsKey, IsFault, IsDeclaration, IsSent, IsUsed, IsColumn, AreParams}
+use Rattle.wire_messages.specs.Conditions.{IsBytes, IsScalars, IsWord, IsParamWord, IsTitleText, IsPath, IsWrapped, IsKeyId, IsEnc, IsAtom, IsKey, IsConflict, IsFault, IsDeclaration, IsSent, IsUsed, IsColumn, AreParams}
 use Rattle.wire_spelling.specs.Spelling as spell
-use Rattle.wire_reading.specs.Reading.{Reader, ◌and◌, mapped, kept, pick, ends, bare, choice, number_at, byte_at, types, type_at, encryptions, encryption_at, atoms, atom_at, null, integer, text, binary, sealed, name_at, param_name_at, title_at, path_at, wrapped_at, key_id_at, text_size_at, binary_size_at, unique_number_at, short_text_at, short_blob_at, key_of, key_at, declaration_of, declaration_at, sent_of, sent_at, used_of, used_at, column_of, column_at, few_at, many_at, are_params, declarations_at, sent_params_at, used_params_at, versions_of, versions_at, differ, faults}
+use Rattle.wire_reading.specs.Reading.{Reader, ◌and◌, mapped, kept, pick, ends, bare, choice, number_at, byte_at, types, type_at, encryptions, encryption_at, atoms, atom_at, null, integer, text, binary, sealed, name_at, param_name_at, title_at, path_at, wrapped_at, key_id_at, text_size_at, binary_size_at, unique_number_at, short_text_at, short_blob_at, key_of, key_at, declaration_of, declaration_at, sent_of, sent_at, used_of, used_at, column_of, column_at, few_at, many_at, are_params, declarations_at, sent_params_at, used_params_at, versions_of, versions_at, differ, counts_of, counts_at, conflict_at, conflict_of, rose, faults}
 use Rattle.wire_reading.proofs.Takes.{AreBytes, Reads, AllTake, TakesBody, AllTakeBodies, ended_body, pick_body, ends_again, cond_some, Reads-and, Reads-kept, Reads-mapped, Reads-choice, Reads-listed, mapped_again, behind, alone, ◌also◌}
 use Rattle.wire_reading.proofs.FieldLaws.{u16_reads, u32_reads, u64_reads, byte_reads, name_reads, param_name_reads, title_reads, path_reads, wrapped_reads, key_id_reads, text_size_reads, binary_size_reads, unique_number_reads, short_text_reads, short_blob_reads}
 
@@ -205,6 +205,30 @@ versions_read =
     versions_of (λ v. (v.seen, v.now)) versions_spelling (λ v. (v.seen < 2 ^ 64) × (v.now < 2 ^ 64)) (λ v. refl) (λ v. refl) (λ v h. h) (λ v h. h)
     (Reads-and spell.u64 (λ n. n < 2 ^ 64) (number_at w64) spell.u64 (λ n. n < 2 ^ 64) (number_at w64) u64_reads u64_reads))
 
+abbrev IsCounts : ChangeCounts → Type 0
+IsCounts c = (c.seen < 2 ^ 64) × (c.now < 2 ^ 64) × (c.seen < c.now)
+
+abbrev counts_spelling : ChangeCounts → List ℕ
+counts_spelling c = spell.u64 c.seen ++ spell.u64 c.now
+
+pub rose_from : (a b : ℕ) → nat_lt a b ≡ true → a < b
+rose_from a b t = ltb-true a b t
+
+pub rose_to : (a b : ℕ) → a < b → nat_lt a b ≡ true
+rose_to a b h = lt-ltb a b h
+
+counts_read : Reads counts_spelling IsCounts counts_at
+unfolding counts_at
+counts_read =
+    Reads-kept counts_spelling (λ c. (c.seen < 2 ^ 64) × (c.now < 2 ^ 64)) IsCounts (mapped counts_of (number_at w64 and number_at w64)) rose
+    (λ c h t. (h.0, h.1, rose_from c.seen c.now t)) (λ c h. ((h.0, h.1), rose_to c.seen c.now h.2))
+    (Reads-mapped (λ (c : ℕ × ℕ). spell.u64 c.0 ++ spell.u64 c.1) (λ c. (c.0 < 2 ^ 64) × (c.1 < 2 ^ 64)) (number_at w64 and number_at w64)
+    counts_of (λ c. (c.seen, c.now)) counts_spelling (λ c. (c.seen < 2 ^ 64) × (c.now < 2 ^ 64)) (λ c. refl) (λ c. refl) (λ c h. h) (λ c h. h)
+    (Reads-and spell.u64 (λ n. n < 2 ^ 64) (number_at w64) spell.u64 (λ n. n < 2 ^ 64) (number_at w64) u64_reads u64_reads))
+
+conflict_reads : Reads (λ (c : List ℕ × ChangeCounts). spell.conflict c.0 c.1) (λ c. IsConflict c.0 c.1) conflict_at
+conflict_reads = Reads-and spell.str IsWord name_at counts_spelling IsCounts counts_at name_reads counts_read
+
 bare_body : (code : ℕ) (f : SqlFault) → code ≡ code_of f → spell.fields f ≡ [] → IsFault f → TakesBody code_of spell.fields IsFault code (bare f)
 bare_body code f tagged none good = record {
   takes = λ bytes z fits e.
@@ -251,6 +275,9 @@ faults_take =
     also of_name 61 fault.NoSuch (λ x. refl) (λ x. refl) (λ x h. h)
     also of_name 62 fault.KeyInUse (λ x. refl) (λ x. refl) (λ x h. h)
     also bare_body 63 fault.Full refl refl tt
+    also ended_body (λ (c : List ℕ × ChangeCounts). spell.conflict c.0 c.1) (λ c. IsConflict c.0 c.1) conflict_at conflict_reads conflict_of code_of spell.fields IsFault 64 (λ x. refl) (λ x. refl) (λ x h. h)
+    also bare_body 65 fault.InTransaction refl refl tt
+    also bare_body 66 fault.NoTransaction refl refl tt
     also tt
 
 pub fault_takes : (code : ℕ) (bytes : List ℕ) (f : SqlFault) → AreBytes bytes → pick faults code bytes ≡ Some f → (code ≡ code_of f) × (bytes ≡ spell.fields f) × IsFault f
@@ -291,3 +318,6 @@ fault_again (fault.Exists name) h = name_ends fault.Exists name h
 fault_again (fault.NoSuch name) h = name_ends fault.NoSuch name h
 fault_again (fault.KeyInUse name) h = name_ends fault.KeyInUse name h
 fault_again fault.Full h = refl
+fault_again (fault.Conflict table counts) h = ends_again (λ (c : List ℕ × ChangeCounts). spell.conflict c.0 c.1) (λ c. IsConflict c.0 c.1) conflict_at conflict_reads conflict_of (table, counts) h
+fault_again fault.InTransaction h = refl
+fault_again fault.NoTransaction h = refl

@@ -5,7 +5,7 @@ use Rattle.std.specs.List.{list_all}
 use Rattle.std.specs.Str.{chars, is_utf8, bytes_eq}
 use Rattle.ae_base.specs.Names.{is_param_char, all_differ}
 use Rattle.ae_base.specs.Options.{◌>>=◌}
-use Rattle.ae_base.specs.Versions.{Versions}
+use Rattle.ae_base.specs.Versions.{Versions, ChangeCounts}
 use Rattle.ae_base.specs.declared.types.Ty.{Ty}
 use Rattle.ae_base.specs.declared.types.Ty.TheVariants as ty
 use Rattle.ae_base.specs.declared.types.Enc.{Enc}
@@ -142,6 +142,9 @@ is_nonzero n = nat_le 1 n
 
 abbrev pub differ : Versions → Bool
 differ v = not (v.seen == v.now)
+
+abbrev pub rose : ChangeCounts → Bool
+rose counts = nat_lt counts.seen counts.now
 
 abbrev pub are_params : {P : Type 0} → (P → List ℕ) → List P → Bool
 are_params called ps = nat_le (length ps) 128 && all_differ (map called ps)
@@ -283,6 +286,19 @@ versions_of v = record { seen = v.0; now = v.1 }
 unfoldable pub versions_at : Reader Versions
 versions_at = kept differ (mapped versions_of (number_at w64 and number_at w64))
 
+abbrev pub counts_of : ℕ × ℕ → ChangeCounts
+counts_of c = record { seen = c.0; now = c.1 }
+
+unfoldable pub counts_at : Reader ChangeCounts
+counts_at = kept rose (mapped counts_of (number_at w64 and number_at w64))
+
+-- a table's name, and how its change count rose
+abbrev pub conflict_at : Reader (List ℕ × ChangeCounts)
+conflict_at = name_at and counts_at
+
+abbrev pub conflict_of : List ℕ × ChangeCounts → SqlFault
+conflict_of c = fault.Conflict c.0 c.1
+
 unfoldable pub unique_number_at : Reader ℕ
 unique_number_at = kept (is_within 1 8) byte_at
 
@@ -317,6 +333,9 @@ faults = (10, bare fault.Syntax)
     ∷ (61, ends fault.NoSuch name_at)
     ∷ (62, ends fault.KeyInUse name_at)
     ∷ (63, bare fault.Full)
+    ∷ (64, ends conflict_of conflict_at)
+    ∷ (65, bare fault.InTransaction)
+    ∷ (66, bare fault.NoTransaction)
     ∷ []
 
 -- ---- messages

@@ -4,7 +4,7 @@ ghost use Rattle.std.specs.Prelude.{◌≡◌};
 ghost use Rattle.std.specs.Str.{chars};
 ghost use Rattle.wire_reading.specs.Reading as read;
 
-use ae_base::faults::{UniqueNumber, Versions};
+use ae_base::faults::{ChangeCounts, UniqueNumber, Versions};
 use ae_base::lists::Seq;
 use ae_base::params::{Named, ParamList};
 use ae_base::sessions::SessionId;
@@ -51,6 +51,12 @@ pub fn versions(seen: u64, now: u64) -> Option<Versions>
     ensures { result ≡ read.when read.differ (record { seen = seen; now = now }) }
 {
     Versions::that_differ(seen, now)
+}
+
+pub fn counts(seen: u64, now: u64) -> Option<ChangeCounts>
+    ensures { result ≡ read.when read.rose (record { seen = seen; now = now }) }
+{
+    ChangeCounts::that_rose(seen, now)
 }
 
 pub fn name(text: &str) -> Option<NamePart<'_>>

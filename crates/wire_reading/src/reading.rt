@@ -8,7 +8,7 @@ ghost use Rattle.wire_reading.specs.Reading as read;
 ghost use Rattle.wire_reading.specs.Reading.{Gives};
 
 use crate::checks;
-use ae_base::faults::Versions;
+use ae_base::faults::{ChangeCounts, Versions};
 use ae_base::sessions::SessionId;
 use ae_base::types::{Enc, KeyId, Ty};
 use wire_messages::replies::Done;
@@ -285,6 +285,16 @@ pub fn versions_of(bytes: &[u8]) -> Option<(Versions, &[u8])>
     let (seen, rest) = u64_of(bytes)?;
     let (now, rest) = u64_of(rest)?;
     Some((checks::versions(seen, now)?, rest))
+}
+
+/// A change count that rose.
+#[tactic(auto, unfolding(crate::specs::Reading::counts_at))]
+pub fn counts_of(bytes: &[u8]) -> Option<(ChangeCounts, &[u8])>
+    ensures { Gives (λ x. (x.0, x.1.now)) result (read.counts_at bytes.now) }
+{
+    let (seen, rest) = u64_of(bytes)?;
+    let (now, rest) = u64_of(rest)?;
+    Some((checks::counts(seen, now)?, rest))
 }
 
 fn defined_of(bytes: &[u8]) -> Option<(Done, &[u8])>

@@ -127,32 +127,45 @@ many_within P part most count xs each all few =
 
 -- ---- faults
 
-fields_within : (f : SqlFault) → IsFault f → length (spell.fields f) ≤ 514
+word_within : (name : List ℕ) → IsName name → length (spell.str name) ≤ 530
+word_within name h = let n = name_within name h in omega (arith, n)
+
+conflict_within : (a b n : ℕ) → a ≤ 514 → b ≡ 16 → n ≡ a + b → n ≤ 530
+conflict_within a b n h e f = omega (arith, h, e, f)
+
+fields_within : (f : SqlFault) → IsFault f → length (spell.fields f) ≤ 530
 fields_within fault.Syntax h = omega arith
 fields_within (fault.NumberTooWide at) h = omega arith
 fields_within fault.TooDeep h = omega arith
 fields_within fault.TooLong h = omega arith
-fields_within (fault.NoTable name) h = name_within name h.1
-fields_within (fault.NoColumn name) h = name_within name h.1
-fields_within (fault.Ambiguous name) h = name_within name h.1
-fields_within (fault.NoParam name) h = name_within name h.1.0
-fields_within (fault.NoKey name) h = name_within name h.1
+fields_within (fault.NoTable name) h = word_within name h.1
+fields_within (fault.NoColumn name) h = word_within name h.1
+fields_within (fault.Ambiguous name) h = word_within name h.1
+fields_within (fault.NoParam name) h = word_within name h.1.0
+fields_within (fault.NoKey name) h = word_within name h.1
 fields_within (fault.NotGrouped at) h = omega arith
 fields_within (fault.TypeClash at) h = omega arith
 fields_within (fault.EncryptionClash at) h = omega arith
 fields_within (fault.Moved versions) h = omega (arith, length-append (spell.u64 versions.seen) (spell.u64 versions.now))
-fields_within (fault.ParamClash name) h = name_within name h.1.0
-fields_within (fault.BadCell name) h = name_within name h.1.0
+fields_within (fault.ParamClash name) h = word_within name h.1.0
+fields_within (fault.BadCell name) h = word_within name h.1.0
 fields_within fault.Overflow h = omega arith
-fields_within (fault.NullNotAllowed name) h = name_within name h.1
-fields_within (fault.Truncated name) h = name_within name h.1
+fields_within (fault.NullNotAllowed name) h = word_within name h.1
+fields_within (fault.Truncated name) h = word_within name h.1
 fields_within fault.TooManyRows h = omega arith
 fields_within fault.TableFull h = omega arith
 fields_within (fault.DuplicateKey number) h = omega arith
-fields_within (fault.Exists name) h = name_within name h.1
-fields_within (fault.NoSuch name) h = name_within name h.1
-fields_within (fault.KeyInUse name) h = name_within name h.1
+fields_within (fault.Exists name) h = word_within name h.1
+fields_within (fault.NoSuch name) h = word_within name h.1
+fields_within (fault.KeyInUse name) h = word_within name h.1
 fields_within fault.Full h = omega arith
+fields_within (fault.Conflict table counts) h =
+    let n = name_within table h.0.1 in
+    let l = length-append (spell.str table) (spell.u64 counts.seen ++ spell.u64 counts.now) in
+    let m : length (spell.u64 counts.seen ++ spell.u64 counts.now) ≡ 16 = omega (arith, length-append (spell.u64 counts.seen) (spell.u64 counts.now)) in
+    conflict_within (length (spell.str table)) (length (spell.u64 counts.seen ++ spell.u64 counts.now)) _ n m l
+fields_within fault.InTransaction h = omega arith
+fields_within fault.NoTransaction h = omega arith
 
 done_within : (d : Done) → length (spell.done d) ≤ 9
 done_within Defined = omega arith

@@ -3,6 +3,7 @@
 use Rattle.std.specs.Prelude.{◌≡◌, ℕ, List, [], ◌∷◌, ◌++◌, length, flat_map, encode_utf8_all}
 use Rattle.std.specs.Int.{w16, w32, w64, to_be_bytes, cast_unsigned}
 use Rattle.ae_base.specs.Faults.{code_of}
+use Rattle.ae_base.specs.Versions.{ChangeCounts}
 use Rattle.ae_base.specs.declared.types.Ty.{Ty}
 use Rattle.ae_base.specs.declared.types.Ty.TheVariants as ty
 use Rattle.ae_base.specs.declared.types.Enc.{Enc}
@@ -88,6 +89,10 @@ few part xs = length xs ∷ flat_map part xs
 abbrev pub many : {A : Type 0} → (A → List ℕ) → List A → List ℕ
 many part xs = u16 (length xs) ++ flat_map part xs
 
+-- a table's name, and how its change count rose
+abbrev pub conflict : List ℕ → ChangeCounts → List ℕ
+conflict table counts = str table ++ (u64 counts.seen ++ u64 counts.now)
+
 -- a fault's fields follow its code
 abbrev pub fields : SqlFault → List ℕ
 fields fault.Syntax = []
@@ -115,6 +120,9 @@ fields (fault.Exists name) = str name
 fields (fault.NoSuch name) = str name
 fields (fault.KeyInUse name) = str name
 fields fault.Full = []
+fields (fault.Conflict table counts) = conflict table counts
+fields fault.InTransaction = []
+fields fault.NoTransaction = []
 
 abbrev pub done : Done → List ℕ
 done Defined = 0 ∷ u64 0

@@ -6,7 +6,7 @@ ghost use Rattle.wire_messages.specs.Conditions as conditions;
 ghost use Rattle.wire_spelling.specs.Spelling as spell;
 
 use crate::fields::{Part, push_blob, push_enc, push_short, push_str, push_ty};
-use ae_base::faults::{SqlFault, Versions};
+use ae_base::faults::{ChangeCounts, SqlFault, Versions};
 use ae_base::names::{Name, ParamName};
 use std::alloc::AllocError;
 use wire_messages::columns::SentColumn;
@@ -145,6 +145,24 @@ fn push_versions(out: &mut Vec<u8>, versions: Versions) -> Result<(), AllocError
     Ok(())
 }
 
+fn push_counts(out: &mut Vec<u8>, counts: ChangeCounts) -> Result<(), AllocError>
+    ensures bytes { OnOk result (out.new.items ≡ out.old.items ++ (spell.u64 counts.seen ++ spell.u64 counts.now)) }
+    ensures meets { OnOk result ((counts.seen < 2 ^ 64) × (counts.now < 2 ^ 64) × (counts.seen < counts.now)) }
+{
+    out.extend_from_slice(&counts.seen().to_be_bytes())?;
+    out.extend_from_slice(&counts.now().to_be_bytes())?;
+    Ok(())
+}
+
+fn push_conflict(out: &mut Vec<u8>, table: &Name, counts: ChangeCounts) -> Result<(), AllocError>
+    ensures bytes { OnOk result (out.new.items ≡ out.old.items ++ spell.conflict table.now counts) }
+    ensures meets { OnOk result (conditions.IsConflict table.now counts) }
+{
+    push_name(out, table)?;
+    push_counts(out, counts)?;
+    Ok(())
+}
+
 /// A fault: its code, and its fields.
 pub fn push_fault(out: &mut Vec<u8>, fault: &SqlFault) -> Result<(), AllocError>
     ensures bytes { OnOk result (out.new.items ≡ out.old.items ++ code_of fault.now ∷ spell.fields fault.now) }
@@ -158,7 +176,9 @@ pub fn push_fault(out: &mut Vec<u8>, fault: &SqlFault) -> Result<(), AllocError>
         | SqlFault::Overflow
         | SqlFault::TooManyRows
         | SqlFault::TableFull
-        | SqlFault::Full => {}
+        | SqlFault::Full
+        | SqlFault::InTransaction
+        | SqlFault::NoTransaction => {}
         SqlFault::NumberTooWide { at }
         | SqlFault::NotGrouped { at }
         | SqlFault::TypeClash { at }
@@ -177,6 +197,7 @@ pub fn push_fault(out: &mut Vec<u8>, fault: &SqlFault) -> Result<(), AllocError>
         }
         SqlFault::Moved(versions) => push_versions(out, *versions)?,
         SqlFault::DuplicateKey(number) => out.push(number.number())?,
+        SqlFault::Conflict { table, counts } => push_conflict(out, table, *counts)?,
     }
     Ok(())
 }

@@ -5,7 +5,7 @@ use Rattle.script_run.proofs.RunsAre.{run_of}
 use Rattle.script_run.proofs.programs.run.Goals as goal
 
 pub returns-clause-run : goal.returns-clause-run
-returns-clause-run g c = let h = c.run_source.ensures.content in (h.0, h.1, run_of c.served_is_plain.ensures c.replies_are_awaited.ensures _ _ _ _ _ h.2)
+returns-clause-run g c = let h = c.run_source.ensures.content in (h.0, h.1, run_of c.served_is_plain.ensures c.replies_are_awaited.ensures c.requests_are_serial.ensures _ _ _ _ _ h.2)
 
 pub returns-clause-awaited : goal.returns-clause-awaited
 returns-clause-awaited g c = λ w place e. let h = c.run_source.ensures.content in never_bad c.replies_are_awaited.ensures _ place _ h.0 _ _ w h.2 e

@@ -1,39 +1,25 @@
 -- What is ready may be executed, and what is answered may be sent.
 use Rattle.std.proofs.Common.{◌∙◌}
 use Rattle.server_core.specs.Calls.{meant_of}
-use Rattle.server_core.proofs.Readiness.{Laws, parts_bound, parts_given, done_well}
+use Rattle.server_core.proofs.Readiness.{Laws, IsDoneWell, parts_bound, parts_given, done_well}
 use Rattle.server_core.proofs.executing.done.Goals as goal
 
 pub execute-requires : goal.execute-requires
 execute-requires c =
     let r = c.requires.ready in
-    record {
-      bound = parts_bound c.args.world.now r.0 c.args.ready.typed c.args.ready.atoms r.1 c.into_parts-bound.result.0 c.as_slice.result.now c.as_slice-2.result.now c.into_parts-bound.ensures.bound
-          (c.as_slice.ensures ∙ c.into_parts-bound.ensures.encs) c.as_slice-2.ensures c.typings_are_of_columns.ensures;
-    }
+    parts_bound c.args.store.now c.args.session r.0 c.args.ready.typed c.args.ready.atoms r.1 c.into_parts-bound.result.0 c.as_slice.result.now c.as_slice-2.result.now c.into_parts-bound.ensures.bound
+    (c.as_slice.ensures ∙ c.into_parts-bound.ensures.encs) c.as_slice-2.ensures c.typings_are_of_columns.ensures
 
-pub returns-clause-state : goal.returns-clause-state
-returns-clause-state c =
+pub returns : goal.returns
+returns c =
     let r = c.requires.ready in
     let laws : Laws = record {
       typings = c.typings_are_of_columns.ensures;
       admitted = c.typed_statements_are_admitted.ensures;
-      keeps = c.step_keeps_worlds.ensures;
+      keeps = c.transactions_keep_stores.ensures;
       shown = c.rows_are_shown.ensures;
     } in
-    let given = parts_given c.args.world.now r.0 c.args.ready.typed c.args.ready.atoms r.1 c.into_parts-bound.result.0 c.as_slice.result.now c.as_slice-2.result.now c.into_parts-bound.ensures.bound
+    let given = parts_given c.args.store.now c.args.session r.0 c.args.ready.typed c.args.ready.atoms r.1 c.into_parts-bound.result.0 c.as_slice.result.now c.as_slice-2.result.now c.into_parts-bound.ensures.bound
     (c.as_slice.ensures ∙ c.into_parts-bound.ensures.encs) c.as_slice-2.ensures c.execute.result c.execute.new.self c.execute.ensures.exact in
-    (done_well laws c.args.world.now c.execute.new.self r.0 (meant_of c.args.ready.typed) c.args.ready.atoms c.execute.result c.requires.state r.1 given).state
-
-pub returns-clause-rows : goal.returns-clause-rows
-returns-clause-rows c =
-    let r = c.requires.ready in
-    let laws : Laws = record {
-      typings = c.typings_are_of_columns.ensures;
-      admitted = c.typed_statements_are_admitted.ensures;
-      keeps = c.step_keeps_worlds.ensures;
-      shown = c.rows_are_shown.ensures;
-    } in
-    let given = parts_given c.args.world.now r.0 c.args.ready.typed c.args.ready.atoms r.1 c.into_parts-bound.result.0 c.as_slice.result.now c.as_slice-2.result.now c.into_parts-bound.ensures.bound
-    (c.as_slice.ensures ∙ c.into_parts-bound.ensures.encs) c.as_slice-2.ensures c.execute.result c.execute.new.self c.execute.ensures.exact in
-    (done_well laws c.args.world.now c.execute.new.self r.0 (meant_of c.args.ready.typed) c.args.ready.atoms c.execute.result c.requires.state r.1 given).sent
+    let well = done_well laws c.args.store.now c.args.session c.execute.new.self r.0 (meant_of c.args.ready.typed) c.args.ready.atoms c.execute.result c.requires.state r.1 given c.execute.ensures.undone in
+    record { exact = given; state = well.state; rows = well.sent; undone = c.execute.ensures.undone }

@@ -2,7 +2,7 @@ use Rattle.std.proofs.Common.{sym}
 use Rattle.sql_tree.specs.Statements.{statement_of}
 use Rattle.sql_grammar.specs.Parse as parse
 use Rattle.sql_conditions.proofs.Alike.{same_gives}
-use Rattle.sql_parse.proofs.Chosen.{is_create, is_drop, is_insert, is_update, is_delete, is_select}
+use Rattle.sql_parse.proofs.Chosen.{is_create, is_drop, is_insert, is_update, is_delete, is_select, is_control}
 use Rattle.sql_parse.proofs.statements.body.Goals as goal
 
 pub returns-then-next_is : goal.returns-then-next_is
@@ -29,7 +29,12 @@ returns-then-next_is-5 c =
     same_gives statement_of c.delete.result c.delete.new.tokens (parse.body c.args.tokens.now) (parse.delete c.args.tokens.now)
     (is_delete c.args.tokens.now (sym c.if-next_is.ensures) (sym c.if-next_is-2.ensures) (sym c.if-next_is-3.ensures) (sym c.if-next_is-4.ensures) (sym c.if-next_is-5.ensures)) c.delete.ensures
 
+pub returns-then-next_is-6 : goal.returns-then-next_is-6
+returns-then-next_is-6 c =
+    same_gives statement_of c.select.result c.select.new.tokens (parse.body c.args.tokens.now) (parse.select c.args.tokens.now)
+    (is_select c.args.tokens.now (sym c.if-next_is.ensures) (sym c.if-next_is-2.ensures) (sym c.if-next_is-3.ensures) (sym c.if-next_is-4.ensures) (sym c.if-next_is-5.ensures) (sym c.if-next_is-6.ensures)) c.select.ensures
+
 pub returns : goal.returns
 returns c =
-    same_gives statement_of c.select.result c.select.new.tokens (parse.body c.args.tokens.now) (parse.select c.args.tokens.now)
-    (is_select c.args.tokens.now (sym c.if-next_is.ensures) (sym c.if-next_is-2.ensures) (sym c.if-next_is-3.ensures) (sym c.if-next_is-4.ensures) (sym c.if-next_is-5.ensures)) c.select.ensures
+    same_gives statement_of c.control.result c.control.new.tokens (parse.body c.args.tokens.now) (parse.control c.args.tokens.now)
+    (is_control c.args.tokens.now (sym c.if-next_is.ensures) (sym c.if-next_is-2.ensures) (sym c.if-next_is-3.ensures) (sym c.if-next_is-4.ensures) (sym c.if-next_is-5.ensures) (sym c.if-next_is-6.ensures)) c.control.ensures

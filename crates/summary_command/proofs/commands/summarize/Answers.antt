@@ -7,7 +7,7 @@ use Rattle.summary_command.proofs.commands.summarize.Goals as goal
 pub returns-clause-summary : goal.returns-clause-summary
 returns-clause-summary g c =
     let h = c.run_source-run.ensures.content in
-    (h.0, h.1, summary_of c.served_is_plain.ensures c.replies_are_awaited.ensures _ _ _ _ _ _ h.2 c.put_summary.ensures)
+    (h.0, h.1, summary_of c.served_is_plain.ensures c.replies_are_awaited.ensures c.requests_are_serial.ensures _ _ _ _ _ _ h.2 c.put_summary.ensures)
 
 pub returns-clause-awaited : goal.returns-clause-awaited
 returns-clause-awaited g c = λ w place.

@@ -1,0 +1,27 @@
+-- A definition of another session comes between BEGIN and COMMIT.
+CREATE TABLE t (a INT)
+GO
+BEGIN TRANSACTION
+GO
+INSERT INTO t (a) VALUES (1)
+GO
+:session 2
+CREATE TABLE u (b INT)
+GO
+INSERT INTO t (a) VALUES (2)
+GO
+:session 1
+SELECT b FROM u
+GO
+SELECT a FROM t
+GO
+CREATE TABLE v (c INT)
+GO
+BEGIN TRANSACTION
+GO
+COMMIT
+GO
+SELECT b FROM u
+GO
+SELECT a FROM t
+GO

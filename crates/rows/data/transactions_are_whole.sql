@@ -1,0 +1,32 @@
+-- What a transaction does is seen by others at its COMMIT, and never where it is rolled back.
+CREATE TABLE t (a INT)
+GO
+BEGIN TRANSACTION
+GO
+INSERT INTO t (a) VALUES (1)
+GO
+:session 2
+SELECT a FROM t
+GO
+:session 1
+SELECT a FROM t
+GO
+COMMIT TRANSACTION
+GO
+COMMIT
+GO
+:session 2
+SELECT a FROM t
+GO
+BEGIN TRANSACTION
+GO
+DELETE FROM t
+GO
+INSERT INTO t (a) VALUES (2)
+GO
+ROLLBACK TRANSACTION
+GO
+ROLLBACK
+GO
+SELECT a FROM t
+GO

@@ -1,0 +1,169 @@
+-- What is answered with counts, and which counts stand then.
+use Rattle.std.proofs.Common.{◌≡◌, ◌≤◌, ℕ, zero, suc, ◌+◌, List, [], ◌∷◌, length, refl, ap, sym, ◌∙◌, arith, Option, Some, None, unwrap_or, Result, Ok, Err, Bool, true, false}
+use Rattle.std.specs.Prelude.{slice_set, ◌==◌, if◌then◌else◌}
+use Rattle.std.specs.List.{All, slice_get, remove}
+use Rattle.std.specs.Option.{option_map}
+use Rattle.ae_base.specs.declared.faults.SqlFault.{SqlFault}
+use Rattle.ae_base.specs.declared.faults.SqlFault.TheVariants as fault
+use Rattle.sql_tree.specs.Bound.{BoundStatement}
+use Rattle.sql_tree.specs.Bound as bound
+use Rattle.catalog.specs.Catalogs.{Catalog}
+use Rattle.engine.specs.Step.{Answer, Outcome}
+use Rattle.engine.specs.Worlds.{World, place_of}
+use Rattle.transactions.specs.Counted.{Counted, CountedOutcome, Execution, count_of, tables_of, target, is_definition, changed_by, counts_behind, is_at_last_count, counted, step_of, counted_step, raised_at, alone}
+use Rattle.transactions.specs.Effects.{effect_of, followed, raised_place}
+use Rattle.transactions.proofs.Frame.{lies, counted_reads}
+use Rattle.transactions.proofs.Places.{set_length}
+use Rattle.transactions.proofs.Replay.{put_length}
+use Rattle.transactions.proofs.Since.{IsCounted, alone_kept}
+
+-- ---- lists past their ends
+
+pub set_past : {A : Type 0} (xs : List A) (k : ℕ) (y : A) → length xs ≤ k → slice_set xs k y ≡ xs
+set_past [] k y le = refl
+set_past (x ∷ xs) zero y le = absurd (omega arith)
+set_past (x ∷ xs) (suc k) y le = ap (λ ys. x ∷ ys) (set_past xs k y (omega arith))
+
+pub remove_past : {A : Type 0} (xs : List A) (k : ℕ) → length xs ≤ k → remove xs k ≡ xs
+remove_past [] zero le = refl
+remove_past [] (suc k) le = refl
+remove_past (x ∷ xs) zero le = absurd (omega arith)
+remove_past (x ∷ xs) (suc k) le = ap (λ ys. x ∷ ys) (remove_past xs k (omega arith))
+
+-- ---- a step
+
+pub accepted : (c : Counted) (s : BoundStatement) (a : Answer) (w : World) → is_at_last_count c (target s) ≡ false
+    → counted c s (Ok a) w ≡ record { answer = Ok a; after = record { world = w; counts = counts_behind c s } }
+accepted c s a w e =
+    ap (λ b. let o : CountedOutcome = if b then record { answer = Err fault.Full; after = c } else record { answer = Ok a; after = record { world = w; counts = counts_behind c s } } in o) e
+
+pub full : (c : Counted) (s : BoundStatement) (a : Answer) (w : World) → is_at_last_count c (target s) ≡ true → counted c s (Ok a) w ≡ record { answer = Err fault.Full; after = c }
+full c s a w e = ap (λ b. let o : CountedOutcome = if b then record { answer = Err fault.Full; after = c } else record { answer = Ok a; after = record { world = w; counts = counts_behind c s } } in o) e
+
+pub followed_counts : (c : Counted) (s : BoundStatement) → followed (effect_of c s) c.counts ≡ counts_behind c s
+followed_counts c (bound.CreateMaster name path) = refl
+followed_counts c (bound.CreateKey name master wrapped) = refl
+followed_counts c (bound.CreateTable table) = refl
+followed_counts c (bound.DropTable name) = refl
+followed_counts c (bound.DropMaster name) = refl
+followed_counts c (bound.DropKey name) = refl
+followed_counts c (bound.Insert i) = refl
+followed_counts c (bound.Update u) = refl
+followed_counts c (bound.Delete d) = refl
+followed_counts c (bound.Select q) = refl
+followed_counts c (bound.Control control) = refl
+
+-- what is accepted was not at its last count
+not_last : (c : Counted) (s : BoundStatement) (a : Result Answer SqlFault) (w : World) (x : Answer) → (counted c s a w).answer ≡ Ok x → is_at_last_count c (target s) ≡ false
+not_last c s (Err f) w x h = absurd cc
+not_last c s (Ok answer) w x h = by (is_at_last_count c (target s)) refl h
+  where
+    by : (b : Bool) → is_at_last_count c (target s) ≡ b
+        → (let o : CountedOutcome = if b then record { answer = Err fault.Full; after = c } else record { answer = Ok answer; after = record { world = w; counts = counts_behind c s } } in o.answer) ≡ Ok x → is_at_last_count c (target s) ≡ false
+    by true e h = absurd cc
+    by false e h = e
+
+pub work_of : (s : BoundStatement) (name : List ℕ) → target s ≡ Some name → is_definition s ≡ false
+work_of (bound.CreateMaster n path) name e = absurd cc
+work_of (bound.CreateKey n master wrapped) name e = absurd cc
+work_of (bound.CreateTable table) name e = absurd cc
+work_of (bound.DropTable n) name e = absurd cc
+work_of (bound.DropMaster n) name e = absurd cc
+work_of (bound.DropKey n) name e = absurd cc
+work_of (bound.Insert i) name e = refl
+work_of (bound.Update u) name e = refl
+work_of (bound.Delete d) name e = refl
+work_of (bound.Select q) name e = absurd cc
+work_of (bound.Control control) name e = absurd cc
+
+pub record IsSame (c after : Counted) : Type 0 where
+  pub catalog : after.world.catalog ≡ c.world.catalog
+  pub counts : after.counts ≡ c.counts
+  pub long : length after.world.contents ≡ length c.world.contents
+
+-- a statement that is no definition leaves the catalog and the counts
+pub work_same : (c : Counted) (e : Execution) → is_definition e.bound.statement ≡ false → IsSame c (counted_step c e).after
+work_same c e d =
+    let w = c.world in
+    let f = counted_reads w.catalog w.contents w.contents c.counts c.counts e (λ name. Unit {0}) d (anything (tables_of e.bound.statement)) (λ name u. refl) (λ name u. refl) in
+    record {
+      catalog = ap (λ (x : Counted). x.world.catalog) f.left_after;
+      counts = ap (λ (x : Counted). x.counts) f.left_after;
+      long = ap (λ (x : Counted). length x.world.contents) f.left_after ∙ put_length (lies w.catalog) (changed_by e.bound.statement (counted_step c e).answer) f.rows w.contents;
+    }
+  where
+    anything : (names : List (List ℕ)) → All (λ name. Unit {0}) names
+    anything names = λ i d lt. tt
+
+pub accepted_not_last : (c : Counted) (e : Execution) (x : Answer) → (counted_step c e).answer ≡ Ok x → is_at_last_count c (target e.bound.statement) ≡ false
+accepted_not_last c e x h = not_last c e.bound.statement (step_of c e).answer (step_of c e).world x h
+
+-- ---- outside transactions
+
+pub record IsRaised (c : Counted) (e : Execution) (x : Answer) (after : Counted) (place : ℕ) : Type 0 where
+  pub further : (unwrap_or (slice_get after.counts place) 0 == 18446744073709551615) ≡ false
+  pub is : alone c e ≡ record { answer = Ok x; after = raised_place after place }
+
+same_outcome : (o : CountedOutcome) (x : Answer) (after : Counted) → o ≡ record { answer = Ok x; after = after } → (o.answer ≡ Ok x) × (o.after ≡ after)
+same_outcome o x after h = (ap (λ (p : CountedOutcome). p.answer) h, ap (λ (p : CountedOutcome). p.after) h)
+
+alone_by : (c : Counted) (e : Execution) (x : Answer) (after : Counted) → counted_step c e ≡ record { answer = Ok x; after = after } → alone c e ≡ record { answer = Ok x; after = raised_at after (target e.bound.statement) }
+alone_by c e x after h = ap (λ (o : CountedOutcome). let r : CountedOutcome = record { answer = o.answer; after = raised_at o.after (changed_by e.bound.statement o.answer) } in r) h
+
+pub alone_raises : (c : Counted) (e : Execution) (x : Answer) (after : Counted) (place : ℕ) → counted_step c e ≡ record { answer = Ok x; after = after } → option_map (place_of c.world) (target e.bound.statement) ≡ Some place
+    → IsRaised c e x after place
+alone_raises c e x after place h p = by (target e.bound.statement) refl p
+  where
+    by : (o : Option (List ℕ)) → target e.bound.statement ≡ o → option_map (place_of c.world) o ≡ Some place → IsRaised c e x after place
+    by None t p = absurd cc
+    by (Some name) t p =
+        let here : place_of c.world name ≡ place = cc in
+        let both = same_outcome (counted_step c e) x after h in
+        let s = work_same c e (work_of e.bound.statement name t) in
+        let counts : after.counts ≡ c.counts = ap (λ (z : Counted). z.counts) (sym both.1) ∙ s.counts in
+        let catalog : after.world.catalog ≡ c.world.catalog = ap (λ (z : Counted). z.world.catalog) (sym both.1) ∙ s.catalog in
+        let there : place_of after.world name ≡ place = ap (λ (k : Catalog). place_of (record { catalog = k; contents = [] }) name) catalog ∙ here in
+        let last = accepted_not_last c e x both.0 in
+        record {
+          further = ap (λ ns. unwrap_or (slice_get ns place) 0 == 18446744073709551615) counts
+              ∙ ap (λ k. unwrap_or (slice_get c.counts k) 0 == 18446744073709551615) (sym here) ∙ ap (is_at_last_count c) (sym t) ∙ last;
+          is = alone_by c e x after h
+              ∙ ap (λ o. let r : CountedOutcome = record { answer = Ok x; after = raised_at after o } in r) t
+              ∙ ap (λ k. let r : CountedOutcome = record { answer = Ok x; after = raised_place after k } in r) there;
+        }
+
+pub alone_stays : (c : Counted) (e : Execution) (x : Answer) (after : Counted) → counted_step c e ≡ record { answer = Ok x; after = after } → option_map (place_of c.world) (target e.bound.statement) ≡ None
+    → alone c e ≡ record { answer = Ok x; after = after }
+alone_stays c e x after h p = by (target e.bound.statement) refl p
+  where
+    by : (o : Option (List ℕ)) → target e.bound.statement ≡ o → option_map (place_of c.world) o ≡ None → alone c e ≡ record { answer = Ok x; after = after }
+    by None t p = alone_by c e x after h ∙ ap (λ o. let r : CountedOutcome = record { answer = Ok x; after = raised_at after o } in r) t
+    by (Some name) t p = absurd cc
+
+-- a fault raises nothing
+pub alone_refused : (c : Counted) (e : Execution) (f : SqlFault) (after : Counted) → counted_step c e ≡ record { answer = Err f; after = after } → alone c e ≡ record { answer = Err f; after = after }
+alone_refused c e f after h = ap (λ (o : CountedOutcome). let r : CountedOutcome = record { answer = o.answer; after = raised_at o.after (changed_by e.bound.statement o.answer) } in r) h
+
+-- ---- what the code does for a step
+
+pub executed : (c : Counted) (e : Execution) (a : Answer) (w : World) (counts : List ℕ) → is_at_last_count c (target e.bound.statement) ≡ false → step_of c e ≡ record { answer = Ok a; world = w }
+    → counts ≡ followed (effect_of c e.bound.statement) c.counts → counted_step c e ≡ record { answer = Ok a; after = record { world = w; counts = counts } }
+executed c e a w counts last h n =
+    ap (λ (o : Outcome). counted c e.bound.statement o.answer o.world) h ∙ accepted c e.bound.statement a w last
+    ∙ ap (λ ns. let o : CountedOutcome = record { answer = Ok a; after = record { world = w; counts = ns } } in o) (sym (n ∙ followed_counts c e.bound.statement))
+
+step_counted : (c : Counted) (e : Execution) → IsCounted c → IsCounted (counted_step c e).after
+step_counted c e h = by (changed_by e.bound.statement (counted_step c e).answer) (alone_kept c e h).counted
+  where
+    by : (o : Option (List ℕ)) → IsCounted (raised_at (counted_step c e).after o) → IsCounted (counted_step c e).after
+    by None k = k
+    by (Some name) k =
+        let a = (counted_step c e).after in
+        record { long = sym (set_length a.counts (place_of a.world name) (count_of a name + 1)) ∙ k.long }
+
+pub executed_long : (c : Counted) (e : Execution) (a : Answer) (w : World) (counts : List ℕ) → length c.counts ≡ length c.world.contents → is_at_last_count c (target e.bound.statement) ≡ false
+    → step_of c e ≡ record { answer = Ok a; world = w } → counts ≡ followed (effect_of c e.bound.statement) c.counts → length counts ≡ length w.contents
+executed_long c e a w counts long last h n =
+    let k = step_counted c e (record { long = long }) in
+    let after : (counted_step c e).after ≡ record { world = w; counts = counts } = ap (λ (o : CountedOutcome). o.after) (executed c e a w counts last h n) in
+    sym (ap (λ (x : Counted). length x.counts) after) ∙ k.long ∙ ap (λ (x : Counted). length x.world.contents) after

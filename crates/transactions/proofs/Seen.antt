@@ -1,0 +1,171 @@
+-- The world that a session sees.
+use Rattle.std.proofs.Common.{◌≡◌, ℕ, zero, suc, ◌-◌, List, [], ◌∷◌, refl, ap, sym, ◌∙◌, Option, Some, None, Result, Ok, Err, Bool, true, false}
+use Rattle.std.specs.Prelude.{slice_set, slice_index_or, if◌then◌else◌}
+use Rattle.std.specs.List.{All}
+use Rattle.ae_base.specs.declared.faults.SqlFault.{SqlFault}
+use Rattle.ae_base.specs.declared.faults.SqlFault.TheVariants as fault
+use Rattle.sql_tree.specs.Bound.{BoundStatement}
+use Rattle.catalog.specs.Catalogs.{Catalog}
+use Rattle.scalar.specs.Classes.{Pairing}
+use Rattle.engine.specs.Step.{Answer}
+use Rattle.engine.specs.Worlds.{World}
+use Rattle.transactions.specs.Counted.{Counted, CountedOutcome, Execution, tables_of, target, is_definition, changed_by, counts_behind, is_at_last_count, counted, step_of, counted_step, raised_at}
+use Rattle.transactions.specs.Correspond.{CountedCorrespond, SessionsCorrespond, StoresCorrespond}
+use Rattle.transactions.specs.Stores.{Transaction, Store, Ask, Begins, Commits, RollsBack, Executes, Transacted, refused, transaction_at, with_transaction, seen_by, world_of, stepped_in, why_not, replaced, placed, committed, executed_in, transacted, transact}
+use Rattle.transactions.specs.WellKept.{IsCountedWell, IsOpen, IsStore}
+use Rattle.transactions.proofs.Alike.{zip_at}
+use Rattle.transactions.proofs.Frame.{counted_reads}
+use Rattle.transactions.proofs.Keeping.{all_at}
+
+well_by : (cell : List ℕ → Bool) (shared : Counted) (o : Option Transaction) → IsCountedWell cell shared → IsOpen cell shared o → IsCountedWell cell (seen_by shared o)
+well_by cell shared None h k = h
+well_by cell shared (Some t) h k = k.own
+
+pub seen_open : (cell : List ℕ → Bool) (store : Store) (session : ℕ) → IsStore cell store → IsOpen cell store.shared (transaction_at store session)
+seen_open cell store session h = all_at (IsOpen cell store.shared) store.sessions (session - 1) None h.sessions tt
+
+pub seen_well : (cell : List ℕ → Bool) (store : Store) (session : ℕ) → IsStore cell store → IsCountedWell cell (world_of store session)
+seen_well cell store session h = well_by cell store.shared (transaction_at store session) h.shared (seen_open cell store session h)
+
+alike_by : (R : Pairing) (c d : Counted) (x y : Option Transaction) → CountedCorrespond R c d → SessionsCorrespond R x y → CountedCorrespond R (seen_by c x) (seen_by d y)
+alike_by R c d None None h k = h
+alike_by R c d None (Some u) h k = absurd k
+alike_by R c d (Some t) None h k = absurd k
+alike_by R c d (Some t) (Some u) h k = k.own
+
+pub seen_alike : (R : Pairing) (s o : Store) (session : ℕ) → StoresCorrespond R s o → CountedCorrespond R (world_of s session) (world_of o session)
+seen_alike R s o session h =
+    alike_by R s.shared o.shared (transaction_at s session) (transaction_at o session) h.shared (zip_at (SessionsCorrespond R) s.sessions o.sessions (session - 1) None None h.sessions tt)
+
+-- ---- what a session's call leaves
+
+-- the worlds after a step, with counts: the statement's, or the old one
+counted_by : (P : World → Type 0) (c : Counted) (s : BoundStatement) (a : Result Answer SqlFault) (w : World) → P c.world → P w → P (counted c s a w).after.world
+counted_by P c s (Err f) w h k = h
+counted_by P c s (Ok answer) w h k = by (is_at_last_count c (target s))
+  where
+    by : (b : Bool) → let o : CountedOutcome = if b then record { answer = Err fault.Full; after = c } else record { answer = Ok answer; after = record { world = w; counts = counts_behind c s } } in P o.after.world
+    by true = h
+    by false = k
+
+raised_by : (P : World → Type 0) (c : Counted) (name : Option (List ℕ)) → P c.world → P (raised_at c name).world
+raised_by P c None h = h
+raised_by P c (Some name) h = h
+
+placed_by : (P : Catalog → Type 0) (own : Counted) (names : List (List ℕ)) (c : Counted) → P c.world.catalog → P (placed c own names).world.catalog
+placed_by P own [] c h = h
+placed_by P own (name ∷ names) c h = placed_by P own names (replaced c name own) h
+
+committed_by : (P : Catalog → Type 0) (store : Store) (session : ℕ) (t : Transaction) (f : Option SqlFault) → P store.shared.world.catalog → P (committed store session t f).after.shared.world.catalog
+committed_by P store session t None h = placed_by P t.own t.changed store.shared h
+committed_by P store session t (Some f) h = h
+
+executed_by : (P : Catalog → Type 0) (store : Store) (session : ℕ) (t : Transaction) (e : Execution) → P store.shared.world.catalog → P (executed_in store session t e).after.shared.world.catalog
+executed_by P store session t e h = by (is_definition e.bound.statement)
+  where
+    by : (b : Bool) → let x : Transacted = if b then refused store fault.InTransaction else record { answer = (counted_step t.own e).answer; after = with_transaction store session (Some (stepped_in t e (counted_step t.own e))) } in P x.after.shared.world.catalog
+    by true = h
+    by false = h
+
+-- the shared catalog stays, or is that of the step of a statement outside transactions
+pub shared_by : (P : Catalog → Type 0) (store : Store) (session : ℕ) (ask : Ask) → P store.shared.world.catalog
+    → ((e : Execution) → ask ≡ Executes e → transaction_at store session ≡ None → P (step_of store.shared e).world.catalog)
+    → P (transact store session ask).after.shared.world.catalog
+shared_by P store session ask h k = by ask (transaction_at store session) k refl
+  where
+    by : (ask : Ask) (o : Option Transaction) → ((e : Execution) → ask ≡ Executes e → transaction_at store session ≡ None → P (step_of store.shared e).world.catalog) → transaction_at store session ≡ o → P (transacted store session o ask).after.shared.world.catalog
+    by Begins None k is = h
+    by Commits None k is = h
+    by RollsBack None k is = h
+    by (Executes e) None k is =
+        let o = counted_step store.shared e in
+        raised_by (λ w. P w.catalog) o.after (changed_by e.bound.statement o.answer)
+        (counted_by (λ w. P w.catalog) store.shared e.bound.statement (step_of store.shared e).answer (step_of store.shared e).world h (k e refl is))
+    by Begins (Some t) k is = h
+    by Commits (Some t) k is = committed_by P store session t (why_not store.shared t) h
+    by RollsBack (Some t) k is = h
+    by (Executes e) (Some t) k is = executed_by P store session t e h
+
+-- ---- rows are a step's
+
+counted_rows : (c : Counted) (s : BoundStatement) (a : Result Answer SqlFault) (w : World) (x : Answer) → (counted c s a w).answer ≡ Ok x → a ≡ Ok x
+counted_rows c s (Err f) w x h = h
+counted_rows c s (Ok answer) w x h = by (is_at_last_count c (target s)) h
+  where
+    by : (b : Bool) → (let o : CountedOutcome = if b then record { answer = Err fault.Full; after = c } else record { answer = Ok answer; after = record { world = w; counts = counts_behind c s } } in o.answer) ≡ Ok x → let y : Result Answer SqlFault = Ok answer in y ≡ Ok x
+    by true h = absurd cc
+    by false h = h
+
+pub answered_by_step : (store : Store) (session : ℕ) (e : Execution) (x : Answer) → (transact store session (Executes e)).answer ≡ Ok x → (step_of (world_of store session) e).answer ≡ Ok x
+answered_by_step store session e x h = by (transaction_at store session) h
+  where
+    in_own : (t : Transaction) (b : Bool) → (let y : Transacted = if b then refused store fault.InTransaction else record { answer = (counted_step t.own e).answer; after = with_transaction store session (Some (stepped_in t e (counted_step t.own e))) } in y.answer) ≡ Ok x → (step_of t.own e).answer ≡ Ok x
+    in_own t true h = absurd cc
+    in_own t false h = counted_rows t.own e.bound.statement (step_of t.own e).answer (step_of t.own e).world x h
+
+    by : (o : Option Transaction) → (transacted store session o (Executes e)).answer ≡ Ok x → (step_of (seen_by store.shared o) e).answer ≡ Ok x
+    by None h = counted_rows store.shared e.bound.statement (step_of store.shared e).answer (step_of store.shared e).world x h
+    by (Some t) h = in_own t (is_definition e.bound.statement) h
+
+-- ---- one session alone is touched
+
+abbrev pub IsOwnCatalog : Catalog → Option Transaction → Type 0
+IsOwnCatalog catalog None = Unit {0}
+IsOwnCatalog catalog (Some t) = t.own.world.catalog ≡ catalog
+
+pub record IsSlotOf (store : Store) (session : ℕ) (after : Store) : Type 0 where
+  pub slot : Option Transaction
+  pub sessions : after.sessions ≡ slice_set store.sessions (session - 1) slot
+  pub own : IsOwnCatalog (world_of store session).world.catalog slot
+
+pub set_back : {A : Type 0} (xs : List A) (k : ℕ) (d : A) → xs ≡ slice_set xs k (slice_index_or xs k d)
+set_back [] k d = refl
+set_back (x ∷ xs) zero d = refl
+set_back (x ∷ xs) (suc k) d = ap (λ ys. x ∷ ys) (set_back xs k d)
+
+own_catalog : (shared : Counted) (o : Option Transaction) → IsOwnCatalog (seen_by shared o).world.catalog o
+own_catalog shared None = tt
+own_catalog shared (Some t) = refl
+
+pub same_slot : (store after : Store) (session : ℕ) → after.sessions ≡ store.sessions → IsSlotOf store session after
+same_slot store after session e = record { slot = transaction_at store session; sessions = e ∙ set_back store.sessions (session - 1) None; own = own_catalog store.shared (transaction_at store session) }
+
+sessions_committed : (store : Store) (session : ℕ) (t : Transaction) (f : Option SqlFault) → (committed store session t f).after.sessions ≡ slice_set store.sessions (session - 1) None
+sessions_committed store session t None = refl
+sessions_committed store session t (Some f) = refl
+
+pub slot_of : (store : Store) (session : ℕ) (ask : Ask) → IsSlotOf store session (transact store session ask).after
+slot_of store session ask = by ask (transaction_at store session) refl
+  where
+    anything : (names : List (List ℕ)) → All (λ name. Unit {0}) names
+    anything names = λ i d lt. tt
+
+    in_own : (e : Execution) (t : Transaction) (b : Bool) → is_definition e.bound.statement ≡ b → transaction_at store session ≡ Some t
+        → let y : Transacted = if b then refused store fault.InTransaction else record { answer = (counted_step t.own e).answer; after = with_transaction store session (Some (stepped_in t e (counted_step t.own e))) } in
+        IsSlotOf store session y.after
+    in_own e t true d is = same_slot store store session refl
+    in_own e t false d is =
+        let w = t.own.world in
+        let f = counted_reads w.catalog w.contents w.contents t.own.counts t.own.counts e (λ name. Unit {0}) d (anything (tables_of e.bound.statement)) (λ name u. refl) (λ name u. refl) in
+        record {
+          slot = Some (stepped_in t e (counted_step t.own e));
+          sessions = refl;
+          own = ap (λ (c : Counted). c.world.catalog) f.left_after ∙ ap (λ o. (seen_by store.shared o).world.catalog) (sym is);
+        }
+
+    ends : (after : Store) → after.sessions ≡ slice_set store.sessions (session - 1) None → IsSlotOf store session after
+    ends after e = record { slot = None; sessions = e; own = tt }
+
+    by : (ask : Ask) (o : Option Transaction) → transaction_at store session ≡ o → IsSlotOf store session (transacted store session o ask).after
+    by Begins None is = record {
+      slot = Some (record { own = store.shared; version = store.shared.world.catalog.version; used = []; changed = [] });
+      sessions = refl;
+      own = ap (λ o. (seen_by store.shared o).world.catalog) (sym is);
+    }
+    by Commits None is = same_slot store store session refl
+    by RollsBack None is = same_slot store store session refl
+    by (Executes e) None is = same_slot store (transacted store session None (Executes e)).after session refl
+    by Begins (Some t) is = same_slot store store session refl
+    by Commits (Some t) is = ends (committed store session t (why_not store.shared t)).after (sessions_committed store session t (why_not store.shared t))
+    by RollsBack (Some t) is = ends (with_transaction store session None) refl
+    by (Executes e) (Some t) is = in_own e t (is_definition e.bound.statement) refl is

@@ -1,0 +1,202 @@
+-- Counts tell changes: while the version stays, the rows of a table are the same where its count is.
+use Rattle.std.proofs.Common.{◌≡◌, ◌≤◌, ℕ, zero, suc, ◌+◌, List, [], ◌∷◌, ◌++◌, length, length-append, refl, ap, sym, subst, ◌∙◌, arith, Option, Some, None, unwrap_or, Result, Ok, Err, false}
+use Rattle.std.specs.Prelude.{slice_set}
+use Rattle.std.specs.List.{All, slice_get, remove}
+use Rattle.ae_base.specs.Atoms.{Atom}
+use Rattle.ae_base.specs.Results.{◌>>=◌}
+use Rattle.ae_base.specs.declared.types.Enc.{Enc}
+use Rattle.sql_tree.specs.declared.bound.BoundTable.{BoundTable}
+use Rattle.ae_base.specs.declared.faults.SqlFault.{SqlFault}
+use Rattle.sql_tree.specs.Bound.{BoundStatement, Bound}
+use Rattle.sql_tree.specs.Bound as bound
+use Rattle.catalog.specs.Catalogs.{Catalog, with_master, with_key, with_table, without_master, without_key, without_table}
+use Rattle.catalog.proofs.History.{with_master-followed, with_key-followed, with_table-followed, without_master-followed, without_key-followed, without_table-followed}
+use Rattle.engine.specs.Step as step
+use Rattle.engine.specs.Step.{Answer, Outcome, Done, outcome, done_by}
+use Rattle.engine.specs.Worlds.{place_of, rows_of, with_rows}
+use Rattle.transactions.specs.Counted.{Counted, Execution, tables_of, is_definition, changed_by, counted, counted_step, raised, raised_at, alone}
+use Rattle.transactions.specs.Stores.{replaced, placed}
+use Rattle.transactions.specs.Frames.{put}
+use Rattle.transactions.proofs.Frame.{made, lies, counted_reads}
+use Rattle.transactions.proofs.Places.{set_length, remove_length}
+
+abbrev pub at : List ℕ → ℕ → ℕ
+at counts p = unwrap_or (slice_get counts p) 0
+
+-- one count a table
+pub record IsCounted (c : Counted) : Type 0 where
+  pub long : length c.counts ≡ length c.world.contents
+
+-- no definition came between: of each table the rows are the same where the count is
+pub record Unmoved (base now : Counted) : Type 0 where
+  pub catalog : now.world.catalog ≡ base.world.catalog
+  pub long : length now.world.contents ≡ length base.world.contents
+  pub more : (p : ℕ) → at base.counts p ≤ at now.counts p
+  pub rows : (p : ℕ) → at now.counts p ≡ at base.counts p → slice_get now.world.contents p ≡ slice_get base.world.contents p
+
+pub record Since (base now : Counted) : Type 0 where
+  pub later : base.world.catalog.version ≤ now.world.catalog.version
+  pub unmoved : now.world.catalog.version ≡ base.world.catalog.version → Unmoved base now
+
+-- what each change of a shared world keeps
+pub record Kept (base now : Counted) : Type 0 where
+  pub counted : IsCounted now
+  pub since : Since base now
+
+pub since_refl : (c : Counted) → Since c c
+since_refl c = record { later = omega arith; unmoved = λ e. record { catalog = refl; long = refl; more = λ p. omega arith; rows = λ p h. refl } }
+
+pub since_trans : (a b c : Counted) → Since a b → Since b c → Since a c
+since_trans a b c f g =
+    let x = f.later in
+    let y = g.later in
+    record {
+      later = omega arith;
+      unmoved = λ e.
+          let u = f.unmoved (omega arith) in
+          let v = g.unmoved (omega arith) in
+          record {
+            catalog = v.catalog ∙ u.catalog;
+            long = v.long ∙ u.long;
+            more = λ p. (let m = u.more p in let n = v.more p in omega arith);
+            rows = λ p h. (let m = u.more p in let n = v.more p in v.rows p (omega arith) ∙ u.rows p (omega arith));
+          };
+    }
+
+newer : (base now : Counted) → now.world.catalog.version ≡ base.world.catalog.version + 1 → Since base now
+newer base now e = record { later = omega arith; unmoved = λ same. absurd (omega arith) }
+
+-- ---- a table is given rows, and its count is raised
+
+risen : (ns : List ℕ) (k p : ℕ) → at ns p ≤ at (slice_set ns k (at ns k + 1)) p
+risen [] k p = omega arith
+risen (n ∷ ns) zero zero = omega arith
+risen (n ∷ ns) zero (suc p) = omega arith
+risen (n ∷ ns) (suc k) zero = omega arith
+risen (n ∷ ns) (suc k) (suc p) = risen ns k p
+
+still : {A : Type 0} (ns : List ℕ) (xs : List A) (k p : ℕ) (x : A) → length ns ≡ length xs → at (slice_set ns k (at ns k + 1)) p ≡ at ns p → slice_get (slice_set xs k x) p ≡ slice_get xs p
+still [] [] k p x n e = refl
+still [] (y ∷ xs) k p x n e = absurd (omega arith)
+still (m ∷ ns) [] k p x n e = absurd (omega arith)
+still (m ∷ ns) (y ∷ xs) zero zero x n e = absurd (omega arith)
+still (m ∷ ns) (y ∷ xs) zero (suc p) x n e = refl
+still (m ∷ ns) (y ∷ xs) (suc k) zero x n e = refl
+still (m ∷ ns) (y ∷ xs) (suc k) (suc p) x n e = still ns xs k p x (omega arith) e
+
+abbrev given : Counted → List ℕ → List (List Atom) → Counted
+given c name rows = raised (record c { world = with_rows c.world name rows }) name
+
+given_kept : (c : Counted) (name : List ℕ) (rows : List (List Atom)) → IsCounted c → Kept c (given c name rows)
+given_kept c name rows h =
+    let k = place_of c.world name in
+    record {
+      counted = record { long = set_length c.counts k (at c.counts k + 1) ∙ h.long ∙ sym (set_length c.world.contents k rows) };
+      since = record {
+        later = omega arith;
+        unmoved = λ e. record {
+          catalog = refl;
+          long = set_length c.world.contents k rows;
+          more = λ p. risen c.counts k p;
+          rows = λ p same. still c.counts c.world.contents k p rows h.long same;
+        };
+      };
+    }
+
+kept_refl : (c : Counted) → IsCounted c → Kept c c
+kept_refl c h = record { counted = h; since = since_refl c }
+
+pub placed_kept : (own : Counted) (names : List (List ℕ)) (shared : Counted) → IsCounted shared → Kept shared (placed shared own names)
+placed_kept own [] shared h = kept_refl shared h
+placed_kept own (name ∷ names) shared h =
+    let one = given_kept shared name (rows_of own.world name) h in
+    let rest = placed_kept own names (replaced shared name own) one.counted in
+    record { counted = rest.counted; since = since_trans shared (replaced shared name own) (placed shared own (name ∷ names)) one.since rest.since }
+
+-- ---- a statement outside transactions
+
+changed_kept : (c after : Counted) (name : Option (List ℕ)) (rows : List (List Atom)) → IsCounted c → after ≡ made c.world.catalog (put (lies c.world.catalog) name rows c.world.contents) c.counts → Kept c (raised_at after name)
+changed_kept c after None rows h e = subst (Kept c) (sym e) (kept_refl c h)
+changed_kept c after (Some name) rows h e = subst (λ x. Kept c (raised x name)) (sym e) (given_kept c name rows h)
+
+work_kept : (c : Counted) (e : Execution) → IsCounted c → is_definition e.bound.statement ≡ false → Kept c (alone c e).after
+work_kept c e h d =
+    let w = c.world in
+    let f = counted_reads w.catalog w.contents w.contents c.counts c.counts e (λ name. Unit {0}) d (anything (tables_of e.bound.statement)) (λ name u. refl) (λ name u. refl) in
+    changed_kept c (counted_step c e).after (changed_by e.bound.statement (counted_step c e).answer) f.rows h f.left_after
+  where
+    anything : (names : List (List ℕ)) → All (λ name. Unit {0}) names
+    anything names = λ i d lt. tt
+
+module _ (c : Counted) (h : IsCounted c) where
+  abbrev v : ℕ
+  v = c.world.catalog.version
+
+  -- what an accepted or refused definition leaves
+  abbrev left_by : BoundStatement → Outcome → Counted
+  left_by s o = let p = counted c s o.answer o.world in raised_at p.after (changed_by s p.answer)
+
+  abbrev defined_so : Result Catalog SqlFault → Outcome
+  defined_so r = outcome c.world (step.defined c.world r)
+
+  plain : (new : Catalog) → new.version ≡ v + 1 → Kept c (record { world = record { catalog = new; contents = c.world.contents }; counts = c.counts })
+  plain new e = record { counted = record { long = h.long }; since = newer c (record { world = record { catalog = new; contents = c.world.contents }; counts = c.counts }) e }
+
+  master_made : (name path : List ℕ) (r : Result Catalog SqlFault) → ((new : Catalog) → r ≡ Ok new → new.version ≡ v + 1) → Kept c (left_by (bound.CreateMaster name path) (defined_so r))
+  master_made name path (Ok new) g = plain new (g new refl)
+  master_made name path (Err f) g = kept_refl c h
+
+  key_made : (name master wrapped : List ℕ) (r : Result Catalog SqlFault) → ((new : Catalog) → r ≡ Ok new → new.version ≡ v + 1) → Kept c (left_by (bound.CreateKey name master wrapped) (defined_so r))
+  key_made name master wrapped (Ok new) g = plain new (g new refl)
+  key_made name master wrapped (Err f) g = kept_refl c h
+
+  master_dropped : (name : List ℕ) (r : Result Catalog SqlFault) → ((new : Catalog) → r ≡ Ok new → new.version ≡ v + 1) → Kept c (left_by (bound.DropMaster name) (defined_so r))
+  master_dropped name (Ok new) g = plain new (g new refl)
+  master_dropped name (Err f) g = kept_refl c h
+
+  key_dropped : (name : List ℕ) (r : Result Catalog SqlFault) → ((new : Catalog) → r ≡ Ok new → new.version ≡ v + 1) → Kept c (left_by (bound.DropKey name) (defined_so r))
+  key_dropped name (Ok new) g = plain new (g new refl)
+  key_dropped name (Err f) g = kept_refl c h
+
+  abbrev with_one : Catalog → Counted
+  with_one new = record { world = record { catalog = new; contents = c.world.contents ++ [] ∷ [] }; counts = c.counts ++ 0 ∷ [] }
+
+  abbrev without_one : List ℕ → Catalog → Counted
+  without_one name new = record { world = record { catalog = new; contents = remove c.world.contents (place_of c.world name) }; counts = remove c.counts (place_of c.world name) }
+
+  abbrev created_done : Catalog → Done
+  created_done new = record { answer = step.Defined; world = (with_one new).world }
+
+  abbrev dropped_done : List ℕ → Catalog → Done
+  dropped_done name new = record { answer = step.Defined; world = (without_one name new).world }
+
+  table_made : (table : BoundTable) (r : Result Catalog SqlFault) → ((new : Catalog) → r ≡ Ok new → new.version ≡ v + 1) → Kept c (left_by (bound.CreateTable table) (outcome c.world (r >>= λ new. Ok (created_done new))))
+  table_made table (Ok new) g = record {
+    counted = record { long = length-append c.counts (0 ∷ []) ∙ ap (λ n. n + 1) h.long ∙ sym (length-append c.world.contents ([] ∷ [])) };
+    since = newer c (with_one new) (g new refl);
+  }
+  table_made table (Err f) g = kept_refl c h
+
+  table_dropped : (name : List ℕ) (r : Result Catalog SqlFault) → ((new : Catalog) → r ≡ Ok new → new.version ≡ v + 1) → Kept c (left_by (bound.DropTable name) (outcome c.world (r >>= λ new. Ok (dropped_done name new))))
+  table_dropped name (Ok new) g = record {
+    counted = record { long = remove_length c.counts c.world.contents (place_of c.world name) h.long };
+    since = newer c (without_one name new) (g new refl);
+  }
+  table_dropped name (Err f) g = kept_refl c h
+
+  statement_kept : (b : Bound) (encs : List Enc) (params : List Atom) (s : BoundStatement) → b.statement ≡ s → (is_definition s ≡ false → Kept c (alone c (record { bound = b; encs = encs; params = params })).after)
+      → Kept c (left_by s (outcome c.world (done_by c.world b encs s params)))
+  statement_kept b encs params (bound.CreateMaster name path) e g = master_made name path (with_master c.world.catalog name path) (λ new d. (with_master-followed c.world.catalog new name path d).1)
+  statement_kept b encs params (bound.CreateKey name master wrapped) e g = key_made name master wrapped (with_key c.world.catalog name master wrapped) (λ new d. (with_key-followed c.world.catalog new name master wrapped d).1)
+  statement_kept b encs params (bound.CreateTable table) e g = table_made table (with_table c.world.catalog table.def) (λ new d. (with_table-followed c.world.catalog new table.def d).1)
+  statement_kept b encs params (bound.DropTable name) e g = table_dropped name (without_table c.world.catalog name) (λ new d. (without_table-followed c.world.catalog new name d).1)
+  statement_kept b encs params (bound.DropMaster name) e g = master_dropped name (without_master c.world.catalog name) (λ new d. (without_master-followed c.world.catalog new name d).1)
+  statement_kept b encs params (bound.DropKey name) e g = key_dropped name (without_key c.world.catalog name) (λ new d. (without_key-followed c.world.catalog new name d).1)
+  statement_kept b encs params (bound.Insert i) e g = subst (λ s. Kept c (left_by s (outcome c.world (done_by c.world b encs s params)))) e (g refl)
+  statement_kept b encs params (bound.Update u) e g = subst (λ s. Kept c (left_by s (outcome c.world (done_by c.world b encs s params)))) e (g refl)
+  statement_kept b encs params (bound.Delete x) e g = subst (λ s. Kept c (left_by s (outcome c.world (done_by c.world b encs s params)))) e (g refl)
+  statement_kept b encs params (bound.Select q) e g = subst (λ s. Kept c (left_by s (outcome c.world (done_by c.world b encs s params)))) e (g refl)
+  statement_kept b encs params (bound.Control control) e g = subst (λ s. Kept c (left_by s (outcome c.world (done_by c.world b encs s params)))) e (g refl)
+
+pub alone_kept : (c : Counted) (e : Execution) → IsCounted c → Kept c (alone c e).after
+alone_kept c e h = statement_kept c h e.bound e.encs e.params e.bound.statement refl (work_kept c e h)

@@ -1,0 +1,18 @@
+-- What the other sessions' calls come to by themselves.
+use Rattle.std.specs.Prelude.{◌≡◌, ℕ, ◌-◌, ◌==◌, List, [], ◌∷◌, Bool, true, if◌then◌else◌}
+use Rattle.transactions.specs.Serial.{Call}
+use Rattle.transactions.specs.Stores.{Store, transact}
+
+abbrev pub is_of : ℕ → Call → Bool
+is_of session call = (call.session - 1) == (session - 1)
+
+-- the calls of all but one session
+abbrev pub others_of : ℕ → List Call → List Call
+others_of session [] = []
+others_of session (call ∷ calls) = if is_of session call then others_of session calls else call ∷ others_of session calls
+
+-- each call of the session leaves the shared world: none is a statement outside a transaction, or a COMMIT that is accepted
+abbrev pub LeavesShared : ℕ → Store → List Call → Type 0
+LeavesShared session store [] = Unit {0}
+LeavesShared session store (call ∷ calls) =
+    (is_of session call ≡ true → (transact store call.session call.ask).after.shared ≡ store.shared) × LeavesShared session (transact store call.session call.ask).after calls

@@ -1,0 +1,15 @@
+pub mod Alone
+pub mod Answers
+pub mod Correspond
+pub mod Counted
+pub mod Effects
+pub mod Forgotten
+pub mod Frames
+pub mod Journal
+pub mod Laws
+pub mod Noted
+pub mod Serial
+pub mod Slots
+pub mod Stores
+pub mod TransactionsWorked
+pub mod WellKept

@@ -1,0 +1,10 @@
+-- The transactions of 64 sessions, of which memory is taken for the first ones only.
+use Rattle.std.specs.Prelude.{ℕ, ◌-◌, List, ◌++◌, length, replicate, Option, None}
+use Rattle.transactions.specs.Stores.{Transaction}
+
+abbrev pub padded : {A : Type 0} → List (Option A) → List (Option A)
+padded held = held ++ replicate (64 - length held) None
+
+pub record Slots : Type 0 where
+  pub transactions : List (Option Transaction)
+  pub reached : ℕ

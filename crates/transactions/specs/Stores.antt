@@ -1,0 +1,166 @@
+-- What the server keeps: the shared world, and the transactions of its sessions; and what BEGIN, COMMIT, ROLLBACK and statements do to it.
+use Rattle.std.specs.Prelude.{ℕ, ◌-◌, List, [], ◌∷◌, ◌++◌, Option, Some, None, Result, Ok, Err, Bool, ◌==◌, if◌then◌else◌, replicate, slice_index_or, slice_set}
+use Rattle.std.specs.List.{list_any}
+use Rattle.std.specs.Str.{bytes_eq}
+use Rattle.ae_base.specs.declared.faults.SqlFault.{SqlFault}
+use Rattle.ae_base.specs.declared.faults.SqlFault.TheVariants as fault
+use Rattle.sql_tree.specs.Bound.{BoundStatement}
+use Rattle.sql_tree.specs.Bound as bound
+use Rattle.sql_tree.specs.declared.statements.TransactionControl.{TransactionControl}
+use Rattle.sql_tree.specs.declared.statements.TransactionControl.TheVariants as control
+use Rattle.engine.specs.Step.{Answer, Defined}
+use Rattle.engine.specs.Worlds.{rows_of, with_rows}
+use Rattle.transactions.specs.declared.uses.Used.{Used}
+use Rattle.transactions.specs.Counted.{Execution, Counted, CountedOutcome, nothing_counted, count_of, tables_of, is_definition, changed_by, counted_step, raised, alone}
+
+-- ---- the state
+
+-- its own world; the version at BEGIN; the tables that it has used, in the order of their first use, and those that it has changed
+pub record Transaction : Type 0 where
+  pub own : Counted
+  pub version : ℕ
+  pub used : List Used
+  pub changed : List (List ℕ)
+
+pub record Store : Type 0 where
+  pub shared : Counted
+  pub sessions : List (Option Transaction)
+
+-- sessions are numbered from 1 to 64
+abbrev pub empty_store : Store
+empty_store = record { shared = nothing_counted; sessions = replicate 64 None }
+
+abbrev pub transaction_at : Store → ℕ → Option Transaction
+transaction_at store session = slice_index_or store.sessions (session - 1) None
+
+abbrev pub with_transaction : Store → ℕ → Option Transaction → Store
+with_transaction store session t = record store { sessions = slice_set store.sessions (session - 1) t }
+
+-- the world that a session sees
+abbrev pub seen_by : Counted → Option Transaction → Counted
+seen_by shared None = shared
+seen_by shared (Some t) = t.own
+
+abbrev pub world_of : Store → ℕ → Counted
+world_of store session = seen_by store.shared (transaction_at store session)
+
+-- ---- what a session asks
+
+pub data Ask : Type 0 where
+  Begins : Ask
+  Commits : Ask
+  RollsBack : Ask
+  Executes : (e : Execution) → Ask
+
+-- what a statement asks: BEGIN, COMMIT and ROLLBACK of the transactions, each other of a world
+abbrev pub control_in : BoundStatement → Option TransactionControl
+control_in (bound.CreateMaster name path) = None
+control_in (bound.CreateKey name master wrapped) = None
+control_in (bound.CreateTable table) = None
+control_in (bound.DropTable name) = None
+control_in (bound.DropMaster name) = None
+control_in (bound.DropKey name) = None
+control_in (bound.Insert i) = None
+control_in (bound.Update u) = None
+control_in (bound.Delete d) = None
+control_in (bound.Select q) = None
+control_in (bound.Control control) = Some control
+
+abbrev pub asked : Option TransactionControl → Execution → Ask
+asked None e = Executes e
+asked (Some control.Begin) e = Begins
+asked (Some control.Commit) e = Commits
+asked (Some control.Rollback) e = RollsBack
+
+abbrev pub ask_by : BoundStatement → Execution → Ask
+ask_by statement e = asked (control_in statement) e
+
+abbrev pub ask_of : Execution → Ask
+ask_of e = ask_by e.bound.statement e
+
+pub record Transacted : Type 0 where
+  pub answer : Result Answer SqlFault
+  pub after : Store
+
+abbrev pub refused : Store → SqlFault → Transacted
+refused store f = record { answer = Err f; after = store }
+
+-- ---- BEGIN
+
+abbrev pub begun_over : Counted → Transaction
+begun_over shared = record { own = shared; version = shared.world.catalog.version; used = []; changed = [] }
+
+abbrev pub begun : Store → ℕ → Transacted
+begun store session = record { answer = Ok Defined; after = with_transaction store session (Some (begun_over store.shared)) }
+
+-- ---- a statement in a transaction
+
+abbrev pub is_used : List Used → List ℕ → Bool
+is_used used name = list_any (λ u. bytes_eq u.table name) used
+
+-- each name is listed once, at its first use
+abbrev pub noted : Counted → List Used → List (List ℕ) → List Used
+noted c used [] = used
+noted c used (name ∷ names) = noted c (if is_used used name then used else used ++ record { table = name; seen = count_of c name } ∷ []) names
+
+abbrev pub joined : List (List ℕ) → Option (List ℕ) → List (List ℕ)
+joined changed None = changed
+joined changed (Some name) = if list_any (λ n. bytes_eq n name) changed then changed else changed ++ name ∷ []
+
+abbrev pub stepped_in : Transaction → Execution → CountedOutcome → Transaction
+stepped_in t e o = record t {
+  own = o.after;
+  used = noted t.own t.used (tables_of e.bound.statement);
+  changed = joined t.changed (changed_by e.bound.statement o.answer);
+}
+
+-- a definition has no place in a transaction
+abbrev pub executed_in : Store → ℕ → Transaction → Execution → Transacted
+executed_in store session t e =
+    if is_definition e.bound.statement then refused store fault.InTransaction else
+    (let o = counted_step t.own e in record { answer = o.answer; after = with_transaction store session (Some (stepped_in t e o)) })
+
+-- ---- COMMIT
+
+-- the first used table whose count is another one now
+abbrev pub conflict : Counted → List Used → Option SqlFault
+conflict shared [] = None
+conflict shared (u ∷ used) = if count_of shared u.table == u.seen then conflict shared used else Some (fault.Conflict u.table (record { seen = u.seen; now = count_of shared u.table }))
+
+abbrev pub why_not : Counted → Transaction → Option SqlFault
+why_not shared t =
+    if shared.world.catalog.version == t.version then conflict shared t.used else Some (fault.Moved (record { seen = t.version; now = shared.world.catalog.version }))
+
+-- a table has these rows, and was changed once more
+abbrev pub replaced : Counted → List ℕ → Counted → Counted
+replaced c name own = raised (record c { world = with_rows c.world name (rows_of own.world name) }) name
+
+-- the changed tables take the place of the shared ones
+abbrev pub placed : Counted → Counted → List (List ℕ) → Counted
+placed shared own [] = shared
+placed shared own (name ∷ names) = placed (replaced shared name own) own names
+
+-- whether it is accepted or not, the transaction has ended
+abbrev pub committed : Store → ℕ → Transaction → Option SqlFault → Transacted
+committed store session t None =
+    record { answer = Ok Defined; after = with_transaction (record store { shared = placed store.shared t.own t.changed }) session None }
+committed store session t (Some f) = record { answer = Err f; after = with_transaction store session None }
+
+-- ---- all together
+
+abbrev pub executed_alone : Store → Execution → Transacted
+executed_alone store e = let o = alone store.shared e in record { answer = o.answer; after = record store { shared = o.after } }
+
+abbrev pub transacted : Store → ℕ → Option Transaction → Ask → Transacted
+transacted store session None Begins = begun store session
+transacted store session None Commits = refused store fault.NoTransaction
+transacted store session None RollsBack = refused store fault.NoTransaction
+transacted store session None (Executes e) = executed_alone store e
+transacted store session (Some t) Begins = refused store fault.InTransaction
+transacted store session (Some t) Commits = committed store session t (why_not store.shared t)
+transacted store session (Some t) RollsBack = record { answer = Ok Defined; after = with_transaction store session None }
+transacted store session (Some t) (Executes e) = executed_in store session t e
+
+-- what a session is answered, and the state after it
+abbrev pub transact : Store → ℕ → Ask → Transacted
+transact store session ask = transacted store session (transaction_at store session) ask

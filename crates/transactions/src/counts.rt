@@ -1,0 +1,285 @@
+//! Worlds that count the changes of their tables.
+
+ghost use Rattle.std.specs.Prelude.{◌≡◌, ◌==◌, ◌<◌, ◌+◌, ◌++◌, ◌∷◌, [], IfOk, IsSome, IsTrue, OnOk, Some, false, length, slice_set, unwrap_or, vec_capacity, vec_len};
+ghost use Rattle.std.specs.List.{All, remove, slice_get};
+ghost use Rattle.std.specs.Option.{option_map};
+ghost use Rattle.sql_tree.specs.Bound.{bound_of, statement_of};
+ghost use Rattle.sql_tree.specs.OnTables.{table_among};
+ghost use Rattle.engine.specs.BoundOn.{IsBoundOn};
+ghost use Rattle.engine.specs.Worlds as worlds;
+ghost use Rattle.transactions.specs.Answers.{GivesCounted};
+ghost use Rattle.transactions.specs.Noted.{AreApart};
+ghost use Rattle.transactions.specs.Counted as spec;
+ghost use Rattle.transactions.specs.Effects as effects;
+ghost use Rattle.transactions.specs.Stores.{placed, replaced};
+
+use crate::tables::target;
+use ae_base::atoms::Atom;
+use ae_base::faults::SqlFault;
+use ae_base::lists::Duplicate;
+use ae_base::names::Name;
+use ae_base::refusals::Refusal;
+use ae_base::sameness::Same;
+use ae_base::types::Enc;
+use catalog::catalogs::Catalog;
+use engine::answers::Answer;
+use engine::worlds::World;
+use sql_tree::bound::{Bound, BoundStatement};
+use std::alloc::{AllocError, Global};
+use std::marker::Model;
+
+/// A world, and how often each of its tables was changed.
+#[derive(Drop)]
+pub(crate) struct Counted<K: Same> {
+    world: World<K>,
+    counts: Vec<u64>,
+}
+
+impl<K: Same> Model for Counted<K> {
+    ghost use Rattle.std.specs.Prelude.{◌≡◌, length};
+    ghost use Rattle.transactions.specs.Counted as spec;
+
+    ghost Value = { spec.Counted };
+
+    ghost view = { λ c. record { world = c.world; counts = c.counts.items } };
+
+    ghost invariant = { λ c. length c.counts.items ≡ length c.world.contents };
+}
+
+/// What an accepted statement does to the list of counts.
+#[derive(Clone, Copy)]
+pub(crate) enum Effect {
+    Stays,
+    /// A table more, at the end.
+    Adds,
+    /// A table less, at this place.
+    Removes(usize),
+}
+
+impl Effect {
+    /// Has the counts follow the tables. A new table is counted from 0.
+    fn follow(self, counts: &mut Vec<u64>)
+        requires { vec_len counts.old < vec_capacity counts.old }
+        ensures { counts.new.items ≡ effects.followed self counts.old.items }
+    {
+        match self {
+            Effect::Stays => {}
+            Effect::Adds => counts.push_reserved(0),
+            Effect::Removes(place) => {
+                if place < counts.len() {
+                    let _ = counts.remove(place);
+                }
+            }
+        }
+    }
+}
+
+impl<K: Same> Counted<K> {
+    /// The world in which nothing is defined. It takes no memory.
+    pub(crate) fn new(alloc: Global) -> Counted<K>
+        ensures { result ≡ spec.nothing_counted }
+    {
+        Counted {
+            world: World::new(alloc),
+            counts: Vec::new(alloc),
+        }
+    }
+
+    /// The catalog.
+    pub(crate) fn catalog(&self) -> &Catalog
+        ensures { result.now ≡ self.now.world.catalog }
+    {
+        self.world.catalog()
+    }
+
+    /// The place of a table; 0 for one that isn't there.
+    fn place_of(&self, name: &Name) -> usize
+        ensures { result ≡ worlds.place_of self.now.world name.now }
+    {
+        self.catalog().table_place(name).unwrap_or(0)
+    }
+
+    /// How often a table was changed.
+    pub(crate) fn count_of(&self, name: &Name) -> u64
+        ensures { result ≡ spec.count_of self.now name.now }
+    {
+        match self.counts.get(self.place_of(name)) {
+            Some(count) => *count,
+            None => 0,
+        }
+    }
+
+    /// Whether a statement would change a table that has the last count.
+    fn is_at_last(&self, statement: &BoundStatement) -> bool
+        ensures { result ≡ spec.is_at_last_count self.now (spec.target (statement_of statement.now)) }
+    {
+        match target(statement) {
+            Some(name) => self.count_of(name) == u64::MAX,
+            None => false,
+        }
+    }
+
+    /// What a statement does to the list of counts, where it is accepted.
+    fn effect(&self, statement: &BoundStatement) -> Effect
+        ensures { result ≡ effects.effect_of self.now (statement_of statement.now) }
+    {
+        match statement {
+            BoundStatement::CreateTable(_) => Effect::Adds,
+            BoundStatement::DropTable(name) => Effect::Removes(self.place_of(name)),
+            BoundStatement::CreateMaster { .. }
+            | BoundStatement::CreateKey { .. }
+            | BoundStatement::DropMaster(_)
+            | BoundStatement::DropKey(_)
+            | BoundStatement::Insert(_)
+            | BoundStatement::Update(_)
+            | BoundStatement::Delete(_)
+            | BoundStatement::Select(_)
+            | BoundStatement::Control(_) => Effect::Stays,
+        }
+    }
+
+    /// Executes a statement that is bound on this world's catalog. No count is raised yet; a change
+    /// of a table that has the last count is Full, after every other fault. After a fault or for
+    /// want of memory the world is as before.
+    pub(crate) fn execute(
+        &mut self,
+        alloc: Global,
+        bound: Bound,
+        encs: &[Enc],
+        params: &[Atom<K>],
+    ) -> Result<Answer<K>, Refusal>
+        requires { IsBoundOn self.old.world.catalog (bound_of bound) encs.now params.now }
+        ensures { GivesCounted result self.old self.new (spec.counted_step self.old (spec.execution (bound_of bound) encs.now params.now)) }
+    {
+        if self.is_at_last(&bound.statement) {
+            return self.unchanged(alloc, bound, encs, params);
+        }
+        let effect = self.effect(&bound.statement);
+        match self.counts.reserve(1) {
+            Ok(()) => {
+                let answer = self.world.execute(alloc, bound, encs, params)?;
+                effect.follow(&mut self.counts);
+                Ok(answer)
+            }
+            Err(AllocError) => {
+                drop(bound);
+                Err(Refusal::OutOfMemory)
+            }
+        }
+    }
+
+    /// What is answered to a change of a table that has the last count: its fault, or else Full.
+    fn unchanged(
+        &self,
+        alloc: Global,
+        bound: Bound,
+        encs: &[Enc],
+        params: &[Atom<K>],
+    ) -> Result<Answer<K>, Refusal>
+        requires bound { IsBoundOn self.now.world.catalog (bound_of bound) encs.now params.now }
+        requires last { IsTrue (spec.is_at_last_count self.now (spec.target (statement_of bound.statement))) }
+        ensures { GivesCounted result self.now self.now (spec.counted_step self.now (spec.execution (bound_of bound) encs.now params.now)) }
+    {
+        match self.world.copy() {
+            Ok(world) => {
+                let mut world = world;
+                let answer = world.execute(alloc, bound, encs, params);
+                drop(world);
+                full_where_accepted(answer)
+            }
+            Err(AllocError) => {
+                drop(bound);
+                Err(Refusal::OutOfMemory)
+            }
+        }
+    }
+
+    /// Executes a statement outside transactions: an accepted change raises the count of its table.
+    pub(crate) fn execute_alone(
+        &mut self,
+        alloc: Global,
+        bound: Bound,
+        encs: &[Enc],
+        params: &[Atom<K>],
+    ) -> Result<Answer<K>, Refusal>
+        requires { IsBoundOn self.old.world.catalog (bound_of bound) encs.now params.now }
+        ensures { GivesCounted result self.old self.new (spec.alone self.old (spec.execution (bound_of bound) encs.now params.now)) }
+    {
+        let changed = self.target_place(&bound.statement);
+        let answer = self.execute(alloc, bound, encs, params)?;
+        if let Some(place) = changed {
+            self.raise(place);
+        }
+        Ok(answer)
+    }
+
+    /// The place of the table whose rows a statement changes.
+    fn target_place(&self, statement: &BoundStatement) -> Option<usize>
+        ensures { result ≡ option_map (worlds.place_of self.now.world) (spec.target (statement_of statement.now)) }
+    {
+        match target(statement) {
+            Some(name) => Some(self.place_of(name)),
+            None => None,
+        }
+    }
+
+    /// Raises the count of the table at a place.
+    fn raise(&mut self, place: usize)
+        requires { (unwrap_or (slice_get self.old.counts place) 0 == 18446744073709551615) ≡ false }
+        ensures { self.new ≡ effects.raised_place self.old place }
+    {
+        if place < self.counts.len() {
+            self.counts[place] += 1;
+        }
+    }
+
+    /// Has a table take the rows that it has in another world of the same catalog, which takes this
+    /// one's, and raises its count. It takes no memory.
+    fn take_table(&mut self, own: &mut Counted<K>, name: &Name)
+        requires same { own.old.world.catalog ≡ self.old.world.catalog }
+        requires there { IsSome (table_among self.old.world.catalog.tables name.now) }
+        requires further { spec.is_at_last_count self.old (Some name.now) ≡ false }
+        ensures here { self.new ≡ replaced self.old name.now own.old }
+        ensures own { own.new ≡ effects.exchanged own.old name.now (worlds.rows_of self.old.world name.now) }
+    {
+        self.world.swap_table(&mut own.world, name);
+        let place = self.place_of(name);
+        self.raise(place);
+    }
+
+    /// Has these tables take the rows that they have in another world of the same catalog, and
+    /// raises their counts. It takes no memory.
+    pub(crate) fn take_tables(&mut self, own: &mut Counted<K>, names: &[Name])
+        requires same { own.old.world.catalog ≡ self.old.world.catalog }
+        requires there { All (λ name. IsSome (table_among self.old.world.catalog.tables name)) names.now }
+        requires further { All (λ name. spec.is_at_last_count self.old (Some name) ≡ false) names.now }
+        requires apart { AreApart names.now }
+        ensures { self.new ≡ placed self.old own.old names.now }
+    {
+        for name in names {
+            self.take_table(own, name);
+        }
+    }
+}
+
+/// The fault of an answer, or Full.
+fn full_where_accepted<K: Same>(answer: Result<Answer<K>, Refusal>) -> Result<Answer<K>, Refusal>
+    ensures { effects.IsFullWhereAccepted answer result }
+{
+    match answer {
+        Ok(answer) => {
+            drop(answer);
+            Err(Refusal::Fault(SqlFault::Full))
+        }
+        Err(refusal) => Err(refusal),
+    }
+}
+
+impl<K: Same> Duplicate for Counted<K> {
+    fn copy(&self) -> Result<Counted<K>, AllocError> {
+        Ok(Counted {
+            counts: self.counts.clone()?,
+            world: self.world.copy()?,
+        })
+    }
+}

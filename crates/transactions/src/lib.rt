@@ -1,0 +1,10 @@
+//! Worlds that count the changes of their tables, and the transactions of interleaved sessions.
+#![tactic(auto)]
+
+mod counts;
+pub mod laws;
+mod slots;
+pub mod stores;
+mod tables;
+mod transactions;
+pub mod uses;

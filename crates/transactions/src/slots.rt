@@ -1,0 +1,102 @@
+//! The transactions of the sessions.
+
+ghost use Rattle.std.specs.Prelude.{◌≡◌, ◌≤◌, ◌<◌, ◌-◌, IsSome, None, OnOk, Some, length, replicate, slice_index_or, slice_set};
+ghost use Rattle.std.specs.Option.{option_copied};
+ghost use Rattle.transactions.specs.Slots.{padded};
+
+use crate::transactions::Transaction;
+use ae_base::sameness::Same;
+use ae_base::sessions::SessionId;
+use std::alloc::{AllocError, Global};
+use std::marker::Model;
+
+/// What each session has: a transaction, or nothing.
+#[derive(Drop)]
+pub(crate) struct Slots<K: Same> {
+    held: Vec<Option<Transaction<K>>>,
+}
+
+impl<K: Same> Model for Slots<K> {
+    ghost use Rattle.std.specs.Prelude.{◌≤◌, length};
+    ghost use Rattle.transactions.specs.Slots as spec;
+    ghost use Rattle.transactions.specs.Slots.{padded};
+
+    ghost Value = { spec.Slots };
+
+    ghost view = { λ s. record { transactions = padded s.held.items; reached = length s.held.items } };
+
+    ghost invariant = { λ s. length s.held.items ≤ 64 };
+}
+
+impl<K: Same> Slots<K> {
+    /// No session has a transaction. It takes no memory.
+    pub(crate) fn new(alloc: Global) -> Slots<K>
+        ensures { result ≡ record { transactions = replicate 64 None; reached = 0 } }
+    {
+        Slots {
+            held: Vec::new(alloc),
+        }
+    }
+
+    /// The transaction of a session.
+    pub(crate) fn get(&self, session: SessionId) -> Option<&Transaction<K>>
+        ensures { option_copied result ≡ slice_index_or self.now.transactions (session - 1) None }
+    {
+        let place = place_of(session);
+        if place >= self.held.len() {
+            return None;
+        }
+        self.held[place].as_ref()
+    }
+
+    /// Takes out the transaction of a session.
+    pub(crate) fn take(&mut self, session: SessionId) -> Option<Transaction<K>>
+        ensures value { result ≡ slice_index_or self.old.transactions (session - 1) None }
+        ensures after { self.new.transactions ≡ slice_set self.old.transactions (session - 1) None }
+        ensures there { IsSome result → session - 1 < self.new.reached }
+    {
+        let place = place_of(session);
+        if place >= self.held.len() {
+            return None;
+        }
+        self.held[place].take()
+    }
+
+    /// Has memory for the transaction of a session.
+    pub(crate) fn reach(&mut self, session: SessionId) -> Result<(), AllocError>
+        ensures same { self.new.transactions ≡ self.old.transactions }
+        ensures there { OnOk result (session - 1 < self.new.reached) }
+    {
+        extend(&mut self.held, place_of(session))
+    }
+
+    /// Puts a transaction of a session, for which there is memory.
+    pub(crate) fn put(&mut self, session: SessionId, transaction: Transaction<K>)
+        requires { session - 1 < self.old.reached }
+        ensures { self.new.transactions ≡ slice_set self.old.transactions (session - 1) (Some transaction) }
+    {
+        self.held[place_of(session)] = Some(transaction);
+    }
+}
+
+fn place_of(session: SessionId) -> usize
+    ensures value { result ≡ session - 1 }
+    ensures within { result < 64 }
+{
+    session.number() as usize - 1
+}
+
+/// Has all slots up to a place. What they hold stays.
+#[tactic(auto, using(crate::proofs::Padding::padded_more))]
+fn extend<K: Same>(held: &mut Vec<Option<Transaction<K>>>, place: usize) -> Result<(), AllocError>
+    requires place { place < 64 }
+    requires few { length held.old.items ≤ 64 }
+    ensures same { padded held.new.items ≡ padded held.old.items }
+    ensures there { OnOk result (place < length held.new.items) }
+    ensures few { length held.new.items ≤ 64 }
+{
+    for _ in held.len()..place + 1 {
+        held.push(None)?;
+    }
+    Ok(())
+}
