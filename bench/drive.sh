@@ -1,14 +1,11 @@
 #!/bin/sh
-# Runs each shipped example, drives it again over the replies that were recorded, and serves the requests that were recorded:
-# the text, the status and the replies are the same. So is the text where a server puts the replies into a pipe. With a byte
-# too few or too many, driving ends with status 11.
-# Usage: bench/drive.sh, where the program is built (./ae) and python3 is installed.
-set -eu
-top=$(CDPATH= cd -- "$(dirname -- "$0")/.." && pwd)
-folder=$(mktemp -d)
-trap 'rm -rf "$folder"' EXIT
+# Runs each example and compares the text with the one beside it. Then drives it again over the recorded replies, and serves the
+# recorded requests: text, status and replies are the same, also where the server writes the replies into a pipe. With a byte too
+# few or too many, driving ends with status 11.
+# Usage: bench/drive.sh, with python3 installed
+. "$(dirname "$0")/lib.sh"
 
-# Drives the script, whose text goes to `again`, and wants that status.
+# drives STATUS: drives the script, which must end so; its text goes to `again`.
 drives() {
     ended=0
     "$top/ae" drive <"$script" >again 2>said || ended=$?
@@ -21,6 +18,7 @@ for script in "$top"/examples/*/script.sql; do
     if [ -d "$example/keys" ]; then cp -r "$example/keys" .; fi
     ran=0
     "$top/ae" run <"$script" >text || ran=$?
+    cmp text "$example/text"
     python3 "$top/bench/apart.py"
     drives "$ran"
     cmp text again

@@ -1,18 +1,13 @@
 #!/bin/sh
-# Times `ae run` on N steps over protected columns and on four times as many, and fails where the second takes more than
-# five times as long. Then the same work in sqlite3 with cells sealed by Python's `cryptography`, where they are installed.
-# Usage: bench/protected.sh [N], where the program is built (./ae).
-set -eu
-top=$(CDPATH= cd -- "$(dirname -- "$0")/.." && pwd)
+# N steps over protected columns, and four times as many: INSERTs of a deterministic and a randomized value, and a grouped read after
+# each quarter of them. Then the same work in sqlite3, with cells sealed by Python's `cryptography`, if both are installed.
+# Usage: bench/protected.sh [N]
+. "$(dirname "$0")/lib.sh"
 n=${1:-5000}
-folder=$(mktemp -d)
-trap 'rm -rf "$folder"' EXIT
-cd "$folder"
 cp -r "$top/examples/payroll/keys" keys
 
-# A table with a deterministic and a randomized column; rows of both; a grouped read behind each quarter of them.
+# The master key and the first column key are those of the example payroll.
 steps() {
-    # (its master key and its first column key are those of the payroll)
     awk '/^CREATE COLUMN/ { on = 1 } on { print } /^GO/ { if (on) count++; on = 0 } count == 2 { exit }' "$top/examples/payroll/script.sql"
     awk -v n="$1" 'BEGIN {
         kind = "ENCRYPTED WITH (COLUMN_ENCRYPTION_KEY = accounts_key, ENCRYPTION_TYPE = %s, ALGORITHM = \047AEAD_AES_256_CBC_HMAC_SHA256\047)"
@@ -25,22 +20,15 @@ steps() {
     }'
 }
 
-seconds() {
-    steps "$1" >script
-    begin=$(date +%s.%N)
-    "$top/ae" run <script >text
-    end=$(date +%s.%N)
-    awk -v a="$begin" -v b="$end" 'BEGIN { printf "%.3f", b - a }'
-}
-
-first=$(seconds "$n")
+steps "$n" >script
+small=$(seconds 0 run)
 tail -98 text >groups
-second=$(seconds $((4 * n)))
-echo "ae: $n steps $first s; $((4 * n)) steps $second s"
-awk -v a="$first" -v b="$second" 'BEGIN { printf "times %.2f\n", b / a; exit b > 5 * a }'
+steps $((4 * n)) >script
+growth "$n protected steps" "$small" "$(seconds 0 run)"
 
 if python3 -c 'import sqlite3, cryptography' 2>/dev/null; then
-    python3 "$top/bench/protected.py" keys/main.key "$n" $((4 * n)) groups
+    took=$(python3 "$top/bench/protected.py" keys/main.key "$n" $((4 * n)) groups)
+    growth "the same in sqlite3 and cryptography" "${took% *}" "${took#* }"
 else
-    echo 'skipped: sqlite3 and cryptography of Python are not installed'
+    echo 'sqlite3 and cryptography of Python are not installed'
 fi

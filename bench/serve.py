@@ -1,4 +1,4 @@
-"""Serves the requests of tap.bin again, as bench/serve.sh says. Usage: serve.py PROGRAM MEGABYTES."""
+"""Serves the requests of tap.bin again, as bench/serve.sh says, and prints its figures. Usage: serve.py PROGRAM MEGABYTES."""
 import os
 import resource
 import subprocess
@@ -16,7 +16,7 @@ def frames(data):
         at = behind
 
 
-# The requests of the definition and of the first row, and then those of the changes and queries, whose versions stay.
+# The requests of the definition and of the first row; then those of the changes and queries, which leave the version as it is.
 with open("tap.bin", "rb") as file:
     requests = [it for it in frames(file.read()) if it[1] < 0x80]
 head, tail = b"".join(requests[:4]), b"".join(requests[4:])
@@ -49,8 +49,5 @@ def serve_bytes(data):
 
 small = serve(megabytes * 1000000)
 large = serve(4 * megabytes * 1000000)
-print(f"{megabytes} MB: {small[0]:.2f} s, {small[1]} KB; {4 * megabytes} MB: {large[0]:.2f} s, {large[1]} KB")
-print(f"times {large[0] / small[0]:.2f}, memory times {large[1] / small[1]:.2f}")
 some = head + b"".join(requests[4:104])
-print(f"{len(some)} bytes, one by one: {serve_bytes(some):.2f} s")
-sys.exit(large[0] > 5 * small[0] or 10 * large[1] > 11 * small[1])
+print(f"{small[0]:.3f} {small[1]} {large[0]:.3f} {large[1]} {len(some)} {serve_bytes(some):.3f}")

@@ -1,15 +1,11 @@
 #!/bin/sh
-# Serves the recorded requests of a run again, over and over: 50 MB and four times as many, and fails where the second takes more
-# than five times as long, or more than a tenth more memory. Then 200 KB that come byte by byte.
-# Usage: bench/serve.sh [MEGABYTES], where the program is built (./ae) and python3 is installed.
-set -eu
-top=$(CDPATH= cd -- "$(dirname -- "$0")/.." && pwd)
+# Recorded requests served again, over and over: 50 MB and four times as many, in processor seconds and with the most memory. Then
+# 200 kB that arrive byte by byte. Fails if memory grows by more than a tenth.
+# Usage: bench/serve.sh [MEGABYTES], with python3 installed
+. "$(dirname "$0")/lib.sh"
 megabytes=${1:-50}
-folder=$(mktemp -d)
-trap 'rm -rf "$folder"' EXIT
-cd "$folder"
 
-# A row of 8,000 bytes that is changed, and read, again and again: what the server keeps doesn't grow.
+# A row of 8,000 bytes that is changed and read, again and again: what the server keeps doesn't grow.
 awk 'BEGIN {
     print "CREATE TABLE t (a INT, b VARBINARY(8000))\nGO\nINSERT INTO t (a, b) VALUES (1, NULL)\nGO"
     for (i = 0; i < 200; i++) {
@@ -19,4 +15,9 @@ awk 'BEGIN {
     }
 }' >script
 "$top/ae" run <script >text
-python3 "$top/bench/serve.py" "$top/ae" "$megabytes"
+# the figures: seconds and KB of each size; bytes and seconds of the pipe
+python3 "$top/bench/serve.py" "$top/ae" "$megabytes" >figures
+read -r small small_kb large large_kb bytes piped <figures
+growth "$megabytes MB of requests (processor seconds)" "$small" "$large"
+single "$bytes bytes of requests, one by one" "$piped"
+awk -v a="$small_kb" -v b="$large_kb" 'BEGIN { printf "memory: %.1f MB, and %.1f MB for four times as much\n", a / 1000, b / 1000; exit 10 * b > 11 * a }'

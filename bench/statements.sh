@@ -1,14 +1,8 @@
 #!/bin/sh
-# Times `ae run` on 4,000 statements of N conditions each and on 4,000 of four times as many, and fails where the second
-# takes more than five times as long: a statement is read in time linear in its text. Then the same of one text that is as
-# long as a text may be.
-# Usage: bench/statements.sh [N], where the program is built (./ae).
-set -eu
-top=$(CDPATH= cd -- "$(dirname -- "$0")/.." && pwd)
+# 4,000 statements of N conditions each, and of four times as many; then 100 statements of 15 kB, and of 60 kB, near the limit of a
+# statement. A statement is read in time linear in its text. Usage: bench/statements.sh [N]
+. "$(dirname "$0")/lib.sh"
 n=${1:-20}
-folder=$(mktemp -d)
-trap 'rm -rf "$folder"' EXIT
-cd "$folder"
 
 # So many SELECTs over an empty table, each with so many conditions.
 statements() {
@@ -23,24 +17,13 @@ statements() {
     }'
 }
 
-seconds() {
+# timed COUNT CONDITIONS
+timed() {
     statements "$1" "$2" >script
-    begin=$(date +%s.%N)
-    "$top/ae" run <script >text || [ $? = 1 ]
-    end=$(date +%s.%N)
-    awk -v a="$begin" -v b="$end" 'BEGIN { printf "%.3f", b - a }'
+    seconds 1 run
 }
 
-compare() {
-    awk -v a="$1" -v b="$2" 'BEGIN { printf "times %.2f\n", b / a; exit b > 5 * a }'
-}
-
-first=$(seconds 4000 "$n")
-second=$(seconds 4000 $((4 * n)))
-echo "4,000 statements of $n conditions: $first s; of $((4 * n)): $second s"
-compare "$first" "$second"
-
-first=$(seconds 100 1000)
-second=$(seconds 100 4000)
-echo "100 texts of 15 kB: $first s; of 60 kB: $second s"
-compare "$first" "$second"
+small=$(timed 4000 "$n")
+growth "4,000 statements of $n conditions" "$small" "$(timed 4000 $((4 * n)))"
+small=$(timed 100 1000)
+growth "100 statements of 15 kB" "$small" "$(timed 100 4000)"

@@ -1,15 +1,10 @@
 #!/bin/sh
-# Times the encryption typing of statements that have as many rules as a statement may have, 8,192: parameters in one chain,
-# the last of which stands beside a protected column; and the same with a clash behind all others. Each is to take well
-# under a second.
-# Usage: bench/typings.sh, where the program is built (./ae).
-set -eu
-top=$(CDPATH= cd -- "$(dirname -- "$0")/.." && pwd)
-folder=$(mktemp -d)
-trap 'rm -rf "$folder"' EXIT
-cd "$folder"
+# The encryption typing of statements with as many rules as a statement may have, 8,192: parameters in one chain, the last of
+# which is compared with a protected column; and the same with a clash after all others. Each takes less than a second.
+# Usage: bench/typings.sh
+. "$(dirname "$0")/lib.sh"
 
-# 128 parameters @aa, @ab, .. in one chain, from the last to the first, again and again; $1 stands behind them.
+# 128 parameters @aa, @ab, .. in one chain, from the last to the first, again and again; then the condition $1.
 typing() {
     cat <<'SETUP'
 CREATE COLUMN MASTER KEY M WITH (KEY_STORE_PROVIDER_NAME = N'KEYFILE', KEY_PATH = N'main')
@@ -29,14 +24,15 @@ SETUP
         }'
 }
 
-# How long it takes, and the first line that it prints of the last statement.
+# timed WHAT LAST EXPECTED: the row of one typing, whose statement must print this first line.
 timed() {
-    typing "$1" >script
-    begin=$(date +%s.%N)
-    "$top/ae" run <script >text || [ $? = 1 ]
-    end=$(date +%s.%N)
-    awk -v a="$begin" -v b="$end" -v said="$(sed -n 4p text)" -v what="$2" 'BEGIN { printf "%s: %.3f s, %s\n", what, b - a, said; exit b - a > 1 }'
+    typing "$2" >script
+    took=$(seconds 1 run)
+    case $(sed -n 4p text) in
+        "$3"*) single "$1" "$took" 1 ;;
+        *) echo "$1: not as expected: $(sed -n 4p text)" && exit 1 ;;
+    esac
 }
 
-timed '@aa = @ab' '8,192 rules that have a typing'
-timed '@aa < 1' '8,192 rules, of which the last clashes'
+timed '8,192 rules that have a typing' '@aa = @ab' described
+timed '8,192 rules, of which the last clashes' '@aa < 1' 'error 30 EncryptionClash'
