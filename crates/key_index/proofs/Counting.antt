@@ -1,6 +1,6 @@
 -- The places of keys in a list, in order.
 use Rattle.std.proofs.Common.{◌≡◌, ℕ, zero, suc, ◌+◌, ◌<◌, ◌≤◌, List, [], ◌∷◌, ◌++◌, length, length-append, get_or, take, drop, map, refl, ap, sym, ◌∙◌, subst, arith, append_assoc, Bool, true, false, cond, not, Some, None}
-use Rattle.std.specs.Prelude.{◌||◌, ◌==◌, filter, nat_lt, slice_set}
+use Rattle.std.specs.Prelude.{◌||◌, ◌==◌, nat_lt, slice_set}
 use Rattle.std.specs.List.{All, list_any}
 use Rattle.std.proofs.lemmas.List.{append-nil, drop_all, take_all, take-append-drop, length-map}
 use Rattle.std.proofs.lemmas.List.Elements.{All-cons, All-nil, All-head, All-tail, filter-append}
@@ -8,7 +8,7 @@ use Rattle.std.proofs.lemmas.Bool.Decides.{nat_tests}
 use Rattle.ae_base.specs.Atoms.{Atom}
 use Rattle.operators.specs.Alike.{are_alike}
 use Rattle.operators.proofs.Places.{drop_there}
-use Rattle.key_index.specs.Places.{Keyed, nothing, looked, places_at, HasPlaces, places_from, IndexesKeys, HasMore}
+use Rattle.key_index.specs.Places.{Keyed, nothing, looked, places_at, HasPlaces, places_from, IndexesKeys, IndexesFront, HasMore, before}
 use Rattle.key_index.specs.Lookups.{is_known, first_known, first_alike}
 use Rattle.key_index.proofs.Looking.{alike_same}
 
@@ -51,9 +51,6 @@ from_below n m key (k ∷ ks) le = by_test (are_alike key k) (from_below (n + 1)
     by_test false rest = rest
 
 -- ---- those before a place
-
-abbrev pub before : ℕ → List ℕ → List ℕ
-before place ps = filter (λ p. nat_lt p place) ps
 
 is_before : (p n : ℕ) → p < n → nat_lt p n ≡ true
 is_before p n lt = grind (arith, nat_tests)
@@ -197,3 +194,38 @@ cut_all f old now i e le =
     let whole = length-append (take i old) (drop i old) in
     let long : length old ≤ i = omega (arith, ap length e, parts, length-map (take i old) f, whole, ap length (take-append-drop i old), le) in
     e ∙ ap (λ l. map f l ++ drop i old) (take_all i old long) ∙ ap (λ l. map f old ++ l) (drop_all i old long) ∙ append-nil (map f old)
+
+-- ---- keys that are put in one after another
+
+pub record ArePut (old : Keyed) (from : ℕ) (keys left : List (List Atom)) (place : ℕ) (now : Keyed) : Type 0 where
+  pub put : List (List Atom)
+  pub there : HasMore old from put now
+  pub rest : put ++ left ≡ keys
+  pub next : place ≡ from + length put
+
+pub put_start : (old : Keyed) (from : ℕ) (keys left : List (List Atom)) → left ≡ keys → ArePut old from keys left from old
+put_start old from keys left e = record { put = []; there = more_none old from; rest = e; next = omega arith }
+
+pub put_more : (old : Keyed) (from : ℕ) (keys left rest : List (List Atom)) (k : List Atom) (place : ℕ) (now new : Keyed) → ArePut old from keys left place now → left ≡ k ∷ rest → HasPlaces now new k (places_at now k ++ place ∷ []) → ArePut old from keys rest (place + 1) new
+put_more old from keys left rest k place now new p e h = record {
+  put = p.put ++ k ∷ [];
+  there = more_one old now new from p.put k place p.next p.there h;
+  rest = append_assoc p.put (k ∷ []) rest ∙ ap (λ l. p.put ++ l) (sym e) ∙ p.rest;
+  next = omega (arith, p.next, length-append p.put (k ∷ []));
+}
+
+pub put_over : (old : Keyed) (from : ℕ) (keys left : List (List Atom)) (place : ℕ) (now : Keyed) → ArePut old from keys left place now → length left ≡ 0 → HasMore old from keys now
+put_over old from keys [] place now p n = subst (λ ks. HasMore old from ks now) (sym (append-nil p.put) ∙ p.rest) p.there
+put_over old from keys (k ∷ left) place now p n = absurd (omega (arith, n))
+
+-- what was there stands before them
+pub put_front : (old : Keyed) (from : ℕ) (keys left : List (List Atom)) (place : ℕ) (now : Keyed) → ArePut old from keys left place now → (known : List (List Atom)) → IndexesKeys known old → length known ≡ from → IndexesFront known now
+put_front old from keys left place now p known i n = λ key.
+    ap (λ m. before m (places_at now key)) n ∙ more_before old now from p.put p.there key (indexed_below known old from (sym n) i key) ∙ i key
+
+pub front_same : (known : List (List Atom)) (index : Keyed) → IndexesKeys known index → IndexesFront known index
+front_same known index i = λ key. ap (before (length known)) (i key) ∙ before_all (length known) (places_from 0 key known) (from_below 0 (length known) key known (omega arith))
+
+-- of a longer list it is the index of the front
+pub front_longer : (known more : List (List Atom)) (index : Keyed) → IndexesKeys (known ++ more) index → IndexesFront known index
+front_longer known more index i = λ key. ap (before (length known)) (i key) ∙ front_of (length known) key known more refl

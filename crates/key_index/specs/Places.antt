@@ -1,5 +1,5 @@
 -- The places of rows by their keys.
-use Rattle.std.specs.Prelude.{◌≡◌, ℕ, ◌+◌, List, [], ◌∷◌, ◌++◌, if◌then◌else◌}
+use Rattle.std.specs.Prelude.{◌≡◌, ℕ, ◌+◌, List, [], ◌∷◌, ◌++◌, length, filter, nat_lt, if◌then◌else◌}
 use Rattle.ae_base.specs.Atoms.{Atom}
 use Rattle.operators.specs.Alike.{are_alike}
 
@@ -35,6 +35,14 @@ places_from n key (k ∷ keys) = if are_alike key k then n ∷ places_from (n + 
 -- each key has its places in the list, in order
 abbrev pub IndexesKeys : List (List Atom) → Keyed → Type 0
 IndexesKeys keys index = (key : List Atom) → places_at index key ≡ places_from 0 key keys
+
+-- those places that lie before another
+abbrev pub before : ℕ → List ℕ → List ℕ
+before place ps = filter (λ p. nat_lt p place) ps
+
+-- each key has its places in the list, in order, before any others
+abbrev pub IndexesFront : List (List Atom) → Keyed → Type 0
+IndexesFront keys index = (key : List Atom) → before (length keys) (places_at index key) ≡ places_from 0 key keys
 
 -- further keys have their places, counted on from a number, behind those that were there
 abbrev pub HasMore : Keyed → ℕ → List (List Atom) → Keyed → Type 0

@@ -2,9 +2,10 @@ ghost use Rattle.std.specs.Prelude.{◌≡◌, ◌++◌, ◌∷◌, [], List, le
 ghost use Rattle.std.specs.List.{list_any};
 ghost use Rattle.ae_base.specs.Atoms.{Atom};
 ghost use Rattle.operators.specs.Alike.{are_alike};
-ghost use Rattle.key_index.specs.Places.{nothing, places_at, HasPlaces};
+ghost use Rattle.key_index.specs.Places.{nothing, places_at, HasPlaces, HasMore, IndexesKeys, IndexesFront};
 
 use crate::keys::{Kept, Key};
+use ae_base::lists::Seq;
 use ae_base::sameness::Same;
 use indexmap::IndexSet;
 use std::alloc::{AllocError, Global};
@@ -81,6 +82,32 @@ impl<K: Same> KeyIndex<K> {
             }
             None => self.insert_new(alloc, key, place),
         }
+    }
+
+    /// Puts in these keys, at one place after another from this one on. Without memory some of them
+    /// may be there, behind the places that were there.
+    pub fn put_all(
+        &mut self,
+        alloc: Global,
+        from: usize,
+        keys: Seq<Key<K>>,
+    ) -> Result<(), AllocError>
+        ensures ok { OnOk result (HasMore self.old from keys self.new) }
+        ensures front { (known : List (List Atom)) → IndexesKeys known self.old → length known ≡ from
+            → IndexesFront known self.new }
+    {
+        if keys.len() > usize::MAX - from {
+            return Err(AllocError);
+        }
+        let mut place = from;
+        for key in keys.into_vec() {
+            match self.insert(alloc, key, place) {
+                Ok(()) => {}
+                Err(error) => return Err(error),
+            }
+            place += 1;
+        }
+        Ok(())
     }
 
     fn insert_new(&mut self, alloc: Global, key: Key<K>, place: usize) -> Result<(), AllocError>

@@ -1,8 +1,8 @@
-ghost use Rattle.std.specs.Prelude.{◌≡◌, ◌<◌, length, IfOk};
-ghost use Rattle.std.specs.List.{All};
+ghost use Rattle.std.specs.Prelude.{◌≡◌, IfOk};
+ghost use Rattle.scalar.specs.Eval.{atom_at};
 ghost use Rattle.operators.specs.Alike.{key_of};
 
-use ae_base::atoms::{Atom, Row};
+use ae_base::atoms::{Atom, AtomOf, Row};
 use ae_base::lists::Duplicate;
 use ae_base::sameness::Same;
 use operators::alike::Alike;
@@ -88,16 +88,25 @@ impl<K: Same> Key<K> {
         Ok(Key { atoms })
     }
 
-    /// What a row has in the columns of these places.
+    /// What a row has in the columns of these places, with NULL for one that it hasn't.
     pub fn of_row(alloc: Global, places: &[usize], row: &Row<K>) -> Result<Key<K>, AllocError>
-        requires { All (λ place. place < length row.now) places.now }
         ensures { IfOk result (λ key. key ≡ key_of places.now row.now) }
     {
         let mut atoms = Vec::with_capacity(alloc, places.len())?;
         for place in places {
-            let atom = row.get(*place).copy()?;
+            let atom = copied_at(row, *place)?;
             atoms.push(Kept { atom })?;
         }
         Ok(Key { atoms })
+    }
+}
+
+/// A copy of the atom at a place of a row, or NULL where it has none.
+fn copied_at<K: Same>(row: &Row<K>, place: usize) -> Result<Atom<K>, AllocError>
+    ensures { IfOk result (λ atom. atom ≡ atom_at row.now place) }
+{
+    match row.as_slice().get(place) {
+        Some(atom) => atom.copy(),
+        None => Ok(Atom::new(AtomOf::Null)),
     }
 }

@@ -1,4 +1,5 @@
 pub mod Changing
-pub mod Indexing
-pub mod Standing
+pub mod Keeping
+pub mod Lent
+pub mod Spreading
 pub mod Values

@@ -1,10 +1,10 @@
-ghost use Rattle.std.specs.Prelude.{◌≡◌, length, count_by, IfOk};
+ghost use Rattle.std.specs.Prelude.{◌≡◌, length, map, count_by, IfOk};
 ghost use Rattle.std.specs.List.{All};
 ghost use Rattle.std.specs.Option.{option_map};
 ghost use Rattle.ae_base.specs.Results.{AnswersAs, each};
 ghost use Rattle.sql_tree.specs.Conditions.{condition_of};
 ghost use Rattle.sql_tree.specs.Placed.{IsPlacedFilter};
-ghost use Rattle.row_changes.specs.Changes.{all_tested, staying};
+ghost use Rattle.row_changes.specs.Changes.{all_tested};
 ghost use Rattle.row_changes.specs.Changes.{row_to_delete};
 
 use crate::filters::selects;
@@ -19,34 +19,22 @@ use std::alloc::Global;
 /// For each row of a table whether the filter is true of it, or the first fault.
 pub fn hits<K: Same>(
     alloc: Global,
-    rows: &[Row<K>],
+    rows: &[&Row<K>],
     filter: &Option<BoundCondition>,
     params: &[Atom<K>],
 ) -> Result<Seq<bool>, Refusal>
-    requires { All (λ row. IsPlacedFilter (length row) (length params.now) (option_map condition_of filter.now)) rows.now }
-    ensures hits { AnswersAs (all_tested rows.now) result (each (row_to_delete (option_map condition_of filter.now) params.now) rows.now) }
+    requires { All (λ row. IsPlacedFilter (length row.now) (length params.now) (option_map condition_of filter.now)) rows.now }
+    ensures hits { AnswersAs (all_tested (map (λ row. row.now) rows.now)) result (each (row_to_delete (option_map condition_of filter.now) params.now) (map (λ row. row.now) rows.now)) }
     ensures each { IfOk result (λ hits. length hits ≡ length rows.now) }
 {
     let mut hits = Seq::new(alloc);
     for row in rows {
-        hits.push(selects(filter, &LentRow::whole(row), params)?)?;
-    }
-    Ok(hits)
-}
-
-/// Drops the rows that were hit; the others move up. It takes no memory.
-pub(crate) fn drop_rows<K: Same>(rows: &mut Vec<Row<K>>, hits: &[bool])
-    requires { length hits.now ≡ length rows.old.items }
-    ensures { rows.new.items ≡ staying rows.old.items hits.now }
-{
-    let mut kept = 0;
-    for (place, hit) in hits.iter().enumerate() {
-        if !*hit {
-            rows.swap(kept, place);
-            kept += 1;
+        match selects(filter, &LentRow::whole(row), params) {
+            Ok(hit) => hits.push(hit)?,
+            Err(refusal) => return Err(refusal),
         }
     }
-    rows.truncate(kept);
+    Ok(hits)
 }
 
 /// How many rows are hit.

@@ -1,11 +1,11 @@
-ghost use Rattle.std.specs.Prelude.{◌≡◌, ◌<◌, length, map, count_by, is_some, IfOk};
+ghost use Rattle.std.specs.Prelude.{◌≡◌, ◌<◌, length, map, IfOk, OnOk};
 ghost use Rattle.std.specs.List.{All};
 ghost use Rattle.std.specs.Option.{option_map};
 ghost use Rattle.ae_base.specs.Results.{Answers, AnswersAs, each};
 ghost use Rattle.sql_tree.specs.Bound.{assignment_of, update_of};
 ghost use Rattle.sql_tree.specs.Conditions.{condition_of};
 ghost use Rattle.sql_tree.specs.Placed.{IsPlaced, IsPlacedFilter};
-ghost use Rattle.row_changes.specs.Changes.{ArePlacedSets, changed, all_changed, standing};
+ghost use Rattle.row_changes.specs.Changes.{ArePlacedSets, changed, all_changed, spread, noted, AreRising};
 ghost use Rattle.row_changes.specs.Rows as rows;
 ghost use Rattle.row_changes.specs.Changes.{assigned, row_to_update};
 
@@ -16,30 +16,48 @@ use ae_base::lists::{Duplicate, Seq};
 use ae_base::refusals::Refusal;
 use ae_base::sameness::Same;
 use ae_base::tables::ColumnDef;
+use row_store::changes::Change;
 use scalar::rows::LentRow;
 use sql_tree::bound::{BoundAssignment, BoundUpdate};
 use std::alloc::{AllocError, Global};
 
-/// For each row of a table the new one that is to stand in its place, or nothing where it stays as
-/// it is; or the first fault.
+/// The rows of a table that an UPDATE changes, with their places, which rise; or the first fault.
 pub fn changes<K: Same>(
     alloc: Global,
     columns: &[ColumnDef],
-    rows: &[Row<K>],
+    rows: &[&Row<K>],
     update: &BoundUpdate,
     params: &[Atom<K>],
-) -> Result<Seq<Option<Row<K>>>, Refusal>
+) -> Result<Seq<Change<Row<K>>>, Refusal>
     requires sets { ArePlacedSets (length columns.now) (length params.now) (map assignment_of update.now.assignments) }
     requires filter { IsPlacedFilter (length columns.now) (length params.now) (option_map condition_of update.now.filter) }
-    requires wide { All (λ row. length row ≡ length columns.now) rows.now }
-    ensures changes { AnswersAs (all_changed rows.now) result (each (row_to_update columns.now (update_of update.now) params.now) rows.now) }
-    ensures each { IfOk result (λ changes. length changes ≡ length rows.now) }
+    requires wide { All (λ row. length row.now ≡ length columns.now) rows.now }
+    ensures changes { AnswersAs (λ changes. all_changed (map (λ row. row.now) rows.now) (spread 0 (length rows.now) changes)) result
+        (each (row_to_update columns.now (update_of update.now) params.now) (map (λ row. row.now) rows.now)) }
+    ensures rising { IfOk result (AreRising 0 (length rows.now)) }
 {
     let mut changes = Seq::new(alloc);
-    for row in rows {
-        changes.push(change(alloc, columns, row, update, params)?)?;
+    for (place, row) in rows.iter().enumerate() {
+        match change(alloc, columns, row, update, params) {
+            Ok(new) => note(&mut changes, place, new)?,
+            Err(refusal) => return Err(refusal),
+        }
     }
     Ok(changes)
+}
+
+/// Notes the new row that is to stand at a place, if one is.
+fn note<K: Same>(
+    changes: &mut Seq<Change<Row<K>>>,
+    place: usize,
+    new: Option<Row<K>>,
+) -> Result<(), AllocError>
+    ensures { OnOk result (changes.new ≡ noted changes.old place new) }
+{
+    match new {
+        None => Ok(()),
+        Some(row) => changes.push(Change { place, row }),
+    }
 }
 
 /// The new row that is to stand in the place of one, or nothing where the filter isn't true of it.
@@ -94,23 +112,4 @@ fn replaced<K: Same>(
         new.push(value_at(given, place).unwrap_or(atom).copy()?)?;
     }
     Ok(new)
-}
-
-/// Puts the new rows in the places of the old ones. It takes no memory.
-pub(crate) fn replace_rows<K: Same>(rows: &mut [Row<K>], changes: Seq<Option<Row<K>>>)
-    requires { length changes ≡ length rows.old }
-    ensures { rows.new ≡ standing rows.old changes }
-{
-    for (place, change) in changes.into_vec().into_iter().enumerate() {
-        if let Some(row) = change {
-            rows[place] = row;
-        }
-    }
-}
-
-/// How many rows are changed.
-pub fn count_changes<K: Same>(changes: &[Option<Row<K>>]) -> u64
-    ensures { result ≡ count_by (λ change. is_some change) changes.now }
-{
-    changes.iter().filter(|change| change.is_some()).count() as u64
 }

@@ -30,7 +30,7 @@ dense_grow (x ∷ y ∷ ns) zero m n e le d = (omega (arith, e, le, d.0), d.1)
 dense_grow (x ∷ y ∷ ns) (suc zero) m n e le d = (omega (arith, e, le, d.0), dense_grow (y ∷ ns) zero m n e le d.1)
 dense_grow (x ∷ y ∷ ns) (suc (suc i)) m n e le d = (d.0, dense_grow (y ∷ ns) (suc i) m n e le d.1)
 
-small_set : (ns : List ℕ) (i n : ℕ) → n ≤ 256 → All IsSmall ns → All IsSmall (slice_set ns i n)
+pub small_set : (ns : List ℕ) (i n : ℕ) → n ≤ 256 → All IsSmall ns → All IsSmall (slice_set ns i n)
 small_set [] i n le h = h
 small_set (x ∷ ns) zero n le h = All-cons IsSmall n ns le (All-tail IsSmall x ns h)
 small_set (x ∷ ns) (suc i) n le h = All-cons IsSmall x (slice_set ns i n) (All-head IsSmall x ns h) (small_set ns i n le (All-tail IsSmall x ns h))
@@ -166,7 +166,7 @@ can_merge_fits (suc page) (r ∷ pages) rows next e f g =
     let one : suc page + 1 ≡ suc (page + 1) = omega arith in
     can_merge_fits page pages rows next e (f ∙ ap (λ n. get_or (remove (r ∷ pages) n) (suc page) rows) one) (g ∙ ap (λ n. get_or (r ∷ pages) n next) one)
 
-next_flat : {T : Type 0} (rows : List T) (pages : List (List T)) → flat (merged_next rows pages) ≡ rows ++ flat pages
+pub next_flat : {T : Type 0} (rows : List T) (pages : List (List T)) → flat (merged_next rows pages) ≡ rows ++ flat pages
 next_flat rows [] = refl
 next_flat rows (next ∷ pages) = by_test (nat_le (length rows + length next) 256)
   where
@@ -218,7 +218,7 @@ dense_bigger : (n m : ℕ) (ns : List ℕ) → n ≤ m → IsDense (n ∷ ns) �
 dense_bigger n m [] le d = tt
 dense_bigger n m (k ∷ ns) le d = (omega (arith, le, d.0), d.1)
 
-next_dense : {T : Type 0} (rows : List T) (pages : List (List T)) → IsDense (lengths pages) → IsDense (lengths (merged_next rows pages))
+pub next_dense : {T : Type 0} (rows : List T) (pages : List (List T)) → IsDense (lengths pages) → IsDense (lengths (merged_next rows pages))
 next_dense rows [] d = tt
 next_dense rows (next ∷ pages) d = by_test (nat_le (length rows + length next) 256) refl
   where
@@ -254,7 +254,7 @@ settled_dense (x ∷ y ∷ pages) (suc (suc page)) rows d = cons_dense x y page 
 
 -- ---- and small
 
-next_small : {T : Type 0} (rows : List T) (pages : List (List T)) → length rows ≤ 256 → All IsSmall (lengths pages) → All IsSmall (lengths (merged_next rows pages))
+pub next_small : {T : Type 0} (rows : List T) (pages : List (List T)) → length rows ≤ 256 → All IsSmall (lengths pages) → All IsSmall (lengths (merged_next rows pages))
 next_small rows [] le h = All-cons IsSmall (length rows) [] le h
 next_small rows (next ∷ pages) le h = by_test (nat_le (length rows + length next) 256) refl
   where

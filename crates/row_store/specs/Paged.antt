@@ -1,5 +1,5 @@
 -- Rows that lie in pages, one page after another.
-use Rattle.std.specs.Prelude.{◌≡◌, ℕ, zero, suc, ◌+◌, ◌-◌, ◌<◌, ◌≤◌, List, [], ◌∷◌, ◌++◌, length, map, nat_le, Bool, false, if◌then◌else◌}
+use Rattle.std.specs.Prelude.{◌≡◌, ℕ, zero, suc, ◌+◌, ◌-◌, ◌<◌, ◌≤◌, List, [], ◌∷◌, ◌++◌, length, map, take, nat_le, Bool, false, if◌then◌else◌}
 use Rattle.std.specs.List.{All, flat_map}
 
 -- what a table holds, and how many more rows it has room for
@@ -37,6 +37,10 @@ IsPlace [] i page at = ⊥
 IsPlace (rows ∷ pages) i zero at = (i ≡ at) × (at < length rows)
 IsPlace (rows ∷ pages) i (suc page) at = (j : ℕ) × (i ≡ length rows + j) × IsPlace pages j page at
 
+-- how many rows lie before a page
+abbrev pub rows_before : {T : Type 0} → ℕ → List (List T) → ℕ
+rows_before page pages = length (flat (take page pages))
+
 -- ---- a page that takes the next one's rows, where it has room for them
 
 abbrev pub merged_next : {T : Type 0} → List T → List (List T) → List (List T)
@@ -59,6 +63,11 @@ can_merge (suc page) (rows ∷ pages) = can_merge page pages
 abbrev pub settled : {T : Type 0} → ℕ → List (List T) → List (List T)
 settled zero pages = merged_at zero pages
 settled (suc page) pages = merged_at page (merged_at (suc page) pages)
+
+-- from the last page to the first
+abbrev pub packed : {T : Type 0} → List (List T) → List (List T)
+packed [] = []
+packed (rows ∷ pages) = merged_next rows (packed pages)
 
 -- what a table keeps: its pages, and empty ones for which its list of pages has room
 pub record IsKept {T : Type 0} (pages empty : List (List T)) (capacity : ℕ) : Type 0 where

@@ -1,6 +1,7 @@
 //! The rows of a table, in pages of at most 256.
 #![tactic(auto)]
 
+pub mod changes;
 pub mod pages;
 mod places;
 pub mod tables;

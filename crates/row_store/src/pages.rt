@@ -1,4 +1,6 @@
 ghost use Rattle.std.specs.Prelude.{◌≡◌, ◌<◌, ◌≤◌, ◌+◌, ◌++◌, ◌∷◌, [], length, remove, slice_set, slice_index_or, IfOk};
+ghost use Rattle.std.specs.Vec.{vec_capacity};
+ghost use Rattle.row_store.specs.Changes.{unhit};
 
 use std::alloc::{AllocError, Global};
 use std::marker::Model;
@@ -77,6 +79,14 @@ impl<T: Drop> Page<T> {
         let _ = self.rows.remove(i);
     }
 
+    /// Drops the rows that are hit; the others move up. It takes no memory.
+    pub(crate) fn drop_hit(&mut self, hits: &[bool])
+        requires { length hits.now ≡ length self.old }
+        ensures { self.new ≡ unhit self.old hits.now }
+    {
+        drop_rows(&mut self.rows, hits);
+    }
+
     /// Puts the rows of another page at the end. It takes no memory.
     pub(crate) fn take_all(&mut self, other: Page<T>)
         requires { length self.old + length other ≤ 256 }
@@ -85,4 +95,20 @@ impl<T: Drop> Page<T> {
         let mut rows = other.rows;
         let _ = self.rows.append(&mut rows);
     }
+}
+
+/// Drops the rows that are hit; the others move up.
+fn drop_rows<T: Drop>(rows: &mut Vec<T>, hits: &[bool])
+    requires { length hits.now ≡ length rows.old.items }
+    ensures rows { rows.new.items ≡ unhit rows.old.items hits.now }
+    ensures capacity { vec_capacity rows.new ≡ vec_capacity rows.old }
+{
+    let mut kept = 0;
+    for (place, hit) in hits.iter().enumerate() {
+        if !*hit {
+            rows.swap(kept, place);
+            kept += 1;
+        }
+    }
+    rows.truncate(kept);
 }

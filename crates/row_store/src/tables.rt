@@ -1,12 +1,14 @@
-ghost use Rattle.std.specs.Prelude.{◌≡◌, ◌<◌, ◌≤◌, ◌+◌, ◌*◌, ◌/◌, ◌++◌, ◌∷◌, [], length, slice_index_or, slice_set, remove, IfOk, OnOk};
+ghost use Rattle.std.specs.Prelude.{◌≡◌, ◌<◌, ◌≤◌, ◌+◌, ◌*◌, ◌/◌, ◌++◌, ◌∷◌, [], length, slice_index_or, slice_set, remove, count_by, not, IfOk, OnOk};
 ghost use Rattle.std.specs.List.{All};
+ghost use Rattle.row_store.specs.Changes.{written, unhit};
 ghost use Rattle.std.specs.Vec.{vec_capacity};
-ghost use Rattle.row_store.specs.Paged.{IsPaged, IsKept, IsPlace, flat, lengths, last_room, settled, merged_at, can_merge};
+ghost use Rattle.row_store.specs.Paged.{IsPaged, IsKept, IsPlace, flat, lengths, last_room, settled, packed, merged_at, can_merge};
 
+use crate::changes::Change;
 use crate::pages::Page;
-use crate::places::{Place, find};
+use crate::places::{Place, Start, find, seek};
 use ae_base::atoms::Row;
-use ae_base::lists::Duplicate;
+use ae_base::lists::{Duplicate, Seq};
 use std::alloc::{AllocError, Global};
 use std::marker::Model;
 
@@ -93,6 +95,16 @@ impl<T: Drop> Paged<T> {
         self.pages[place.page].set(place.at, row);
     }
 
+    /// Puts rows in the places of others, one after another. It takes no memory, and where their
+    /// places rise it goes over the pages once.
+    pub fn replace_all(&mut self, changes: Seq<Change<T>>)
+        requires { All (λ change. change.place < length self.old.rows) changes }
+        ensures rows { self.new.rows ≡ written self.old.rows changes }
+        ensures spare { self.new.spare ≡ self.old.spare }
+    {
+        replace_each(&mut self.pages, changes);
+    }
+
     /// Makes room for so many more rows, if there is memory for it; the rows stay.
     pub fn reserve(&mut self, alloc: Global, n: usize) -> Result<(), AllocError>
         ensures rows { self.new.rows ≡ self.old.rows }
@@ -111,7 +123,15 @@ impl<T: Drop> Paged<T> {
         if n > usize::MAX - self.count {
             return Err(AllocError);
         }
-        fill(alloc, &mut self.pages, &mut self.ready, n / 256 + 1)?;
+        let room = last_room(self.pages.as_slice());
+        if n > room {
+            fill(
+                alloc,
+                &mut self.pages,
+                &mut self.ready,
+                (n - room) / 256 + 1,
+            )?;
+        }
         self.spare = n;
         Ok(())
     }
@@ -135,6 +155,18 @@ impl<T: Drop> Paged<T> {
         let place = find(self.pages.as_slice(), i);
         take_out(&mut self.pages, i, place);
         self.count -= 1;
+        self.spare = 0;
+    }
+
+    /// Drops the rows that are hit; those behind them move up. It takes no memory, and goes over the
+    /// pages twice.
+    pub fn drop_hit(&mut self, hits: &[bool])
+        requires { length hits.now ≡ length self.old.rows }
+        ensures { self.new.rows ≡ unhit self.old.rows hits.now }
+    {
+        thin(&mut self.pages, hits);
+        pack(&mut self.pages);
+        self.count = count_unhit(hits);
         self.spare = 0;
     }
 }
@@ -263,6 +295,55 @@ fn settle<T: Drop>(pages: &mut Vec<Page<T>>, page: usize)
         return;
     }
     merge(pages, page - 1);
+}
+
+/// Puts rows in the places of others, one after another.
+fn replace_each<T: Drop>(pages: &mut Vec<Page<T>>, changes: Seq<Change<T>>)
+    requires { All (λ change. change.place < length (flat pages.old.items)) changes }
+    ensures rows { flat pages.new.items ≡ written (flat pages.old.items) changes }
+    ensures lengths { lengths pages.new.items ≡ lengths pages.old.items }
+    ensures capacity { vec_capacity pages.new ≡ vec_capacity pages.old }
+{
+    let mut near = Start::first();
+    for change in changes.into_vec() {
+        let Change { place, row } = change;
+        near = seek(pages.as_slice(), near, place);
+        pages[near.page].set(place - near.before, row);
+    }
+}
+
+/// Drops the rows that are hit from each page.
+fn thin<T: Drop>(pages: &mut Vec<Page<T>>, hits: &[bool])
+    requires paged { length hits.now ≡ length (flat pages.old.items) }
+    requires small { All (λ n. n ≤ 256) (lengths pages.old.items) }
+    ensures rows { flat pages.new.items ≡ unhit (flat pages.old.items) hits.now }
+    ensures small { All (λ n. n ≤ 256) (lengths pages.new.items) }
+    ensures length { length pages.new.items ≡ length pages.old.items }
+    ensures capacity { vec_capacity pages.new ≡ vec_capacity pages.old }
+{
+    let mut before = 0;
+    for page in 0..pages.len() {
+        let rows = pages[page].len();
+        pages[page].drop_hit(&hits[before..before + rows]);
+        before += rows;
+    }
+}
+
+/// How many rows aren't hit.
+fn count_unhit(hits: &[bool]) -> usize
+    ensures { result ≡ count_by (λ hit. not hit) hits.now }
+{
+    hits.iter().filter(|hit| !**hit).count()
+}
+
+/// Has pages share one where they fit, from the last to the first.
+fn pack<T: Drop>(pages: &mut Vec<Page<T>>)
+    ensures pages { pages.new.items ≡ packed pages.old.items }
+    ensures capacity { vec_capacity pages.new ≡ vec_capacity pages.old }
+{
+    for page in (0..pages.len()).rev() {
+        merge(pages, page);
+    }
 }
 
 /// Puts the rows of the next page into a page, where they fit.

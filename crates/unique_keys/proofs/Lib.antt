@@ -1,4 +1,3 @@
-pub mod Known
-pub mod Noted
 pub mod Twins
 pub mod TwinsAlike
+pub mod Admission

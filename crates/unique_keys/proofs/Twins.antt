@@ -1,43 +1,30 @@
 -- Rows that are alike on a unique key.
-use Rattle.std.proofs.Common.{◌≡◌, ℕ, zero, suc, ◌+◌, ◌<◌, ◌≤◌, List, [], ◌∷◌, ◌++◌, length, get_or, drop, refl, ap, sym, ◌∙◌, arith, Bool, true, false, cond, Option, Some, None}
-use Rattle.std.specs.Prelude.{◌&&◌, ◌||◌, if◌then◌else◌, IfSome, IsSome}
-use Rattle.std.specs.List.{All, list_all, list_any}
+use Rattle.std.proofs.Common.{◌≡◌, ℕ, zero, suc, ◌+◌, ◌<◌, ◌≤◌, List, [], ◌∷◌, ◌++◌, length, get_or, drop, map, append_assoc, refl, ap, sym, ◌∙◌, arith, Bool, true, false, cond, not, Option, Some, None}
+use Rattle.std.specs.Prelude.{◌||◌, ◌&&◌, if◌then◌else◌, IfSome, IsSome, is_some}
+use Rattle.std.specs.List.{All, list_any}
 use Rattle.std.proofs.lemmas.List.{drop_all}
 use Rattle.std.proofs.lemmas.List.Elements.{All-cons, All-nil}
 use Rattle.std.proofs.lemmas.List.Folds.{list_any-append}
 use Rattle.ae_base.specs.Atoms.{Atom}
-use Rattle.operators.specs.Alike.{key_of, alike_on}
-use Rattle.operators.proofs.Grouping.{alike_back, alike_on-keys}
+use Rattle.operators.specs.Alike.{key_of, alike_on, are_alike}
+use Rattle.operators.proofs.Grouping.{any-map, any_same, alike_back, alike_on-keys}
 use Rattle.operators.proofs.Places.{drop_there}
+use Rattle.key_index.specs.Places.{Keyed, IndexesKeys}
+use Rattle.key_index.specs.Lookups.{is_known, first_known, first_alike}
+use Rattle.key_index.proofs.Counting.{known_is}
 use Rattle.unique_keys.specs.Keys.{has_twins, first_twins}
 
 -- ---- either way round
 
-pub key_turned : (key : List ℕ) (row other : List Atom) → alike_on key row other ≡ alike_on key other row
+key_turned : (key : List ℕ) (row other : List Atom) → alike_on key row other ≡ alike_on key other row
 key_turned key row other = alike_on-keys key row other ∙ alike_back (key_of key row) (key_of key other) ∙ sym (alike_on-keys key other row)
 
--- ---- tests of a list from a place on
+any_keys : (key : List ℕ) (row : List Atom) (rows : List (List Atom)) → list_any (are_alike (key_of key row)) (map (key_of key) rows) ≡ list_any (alike_on key row) rows
+any_keys key row rows = any-map (are_alike (key_of key row)) (key_of key) rows ∙ any_same (λ other. are_alike (key_of key row) (key_of key other)) (alike_on key row) rows (λ other. sym (alike_on-keys key row other))
 
-module _ {A : Type 0} (p : A → Bool) (xs : List A) (i : ℕ) (x : A) (lt : i < length xs) (e : x ≡ get_or xs i x) (whole : Bool) where
-  pub all_next : whole ≡ list_all p (drop i xs) → p x ≡ true → whole ≡ list_all p (drop (i + 1) xs)
-  all_next w t = w ∙ ap (list_all p) (drop_there xs i x lt e) ∙ ap (λ b. b && list_all p (drop (i + 1) xs)) t
-
-  pub all_fails : whole ≡ list_all p (drop i xs) → p x ≡ false → whole ≡ false
-  all_fails w t = w ∙ ap (list_all p) (drop_there xs i x lt e) ∙ ap (λ b. b && list_all p (drop (i + 1) xs)) t
-
-  pub any_next : whole ≡ list_any p (drop i xs) → p x ≡ false → whole ≡ list_any p (drop (i + 1) xs)
-  any_next w t = w ∙ ap (list_any p) (drop_there xs i x lt e) ∙ ap (λ b. b || list_any p (drop (i + 1) xs)) t
-
-  pub any_found : whole ≡ list_any p (drop i xs) → p x ≡ true → whole ≡ true
-  any_found w t = w ∙ ap (list_any p) (drop_there xs i x lt e) ∙ ap (λ b. b || list_any p (drop (i + 1) xs)) t
-
-pub all_over : {A : Type 0} (p : A → Bool) (xs : List A) (i : ℕ) (whole : Bool) → length xs ≤ i → whole ≡ list_all p (drop i xs) → whole ≡ true
-all_over p xs i whole le w = w ∙ ap (list_all p) (drop_all i xs le)
-
-pub any_over : {A : Type 0} (p : A → Bool) (xs : List A) (i : ℕ) (whole : Bool) → length xs ≤ i → whole ≡ list_any p (drop i xs) → whole ≡ false
-any_over p xs i whole le w = w ∙ ap (list_any p) (drop_all i xs le)
-
--- ---- twins
+or_none : (a : Bool) → (a || false) ≡ a
+or_none true = refl
+or_none false = refl
 
 shuffle : (a b h c d : Bool) → ((a || b) || (h || (c || d))) ≡ ((a || h) || ((b || c) || d))
 shuffle true b h c d = refl
@@ -46,17 +33,75 @@ shuffle false true false c d = refl
 shuffle false false true c d = refl
 shuffle false false false c d = refl
 
-pub has_twins-append : (key : List ℕ) (old new : List (List Atom)) → has_twins key (old ++ new) ≡ (has_twins key old || (list_any (λ row. list_any (alike_on key row) new) old || has_twins key new))
+has_twins-append : (key : List ℕ) (old new : List (List Atom)) → has_twins key (old ++ new) ≡ (has_twins key old || (list_any (λ row. list_any (alike_on key row) new) old || has_twins key new))
 has_twins-append key [] new = refl
 has_twins-append key (row ∷ old) new =
     ap (λ b. b || has_twins key (old ++ new)) (list_any-append (alike_on key row) old new)
     ∙ ap (λ b. (list_any (alike_on key row) old || list_any (alike_on key row) new) || b) (has_twins-append key old new)
     ∙ shuffle (list_any (alike_on key row) old) (list_any (alike_on key row) new) (has_twins key old) (list_any (λ row. list_any (alike_on key row) new) old) (has_twins key new)
 
--- rows behind others that differ
-pub twins_behind : (key : List ℕ) (old new : List (List Atom)) → has_twins key old ≡ false
-    → has_twins key (old ++ new) ≡ (list_any (λ row. list_any (alike_on key row) new) old || has_twins key new)
-twins_behind key old new h = has_twins-append key old new ∙ ap (λ b. b || (list_any (λ row. list_any (alike_on key row) new) old || has_twins key new)) h
+-- one row behind others that differ
+twins_push : (key : List ℕ) (rows : List (List Atom)) (row : List Atom) → has_twins key rows ≡ false → has_twins key (rows ++ row ∷ []) ≡ list_any (alike_on key row) rows
+twins_push key rows row h =
+    has_twins-append key rows (row ∷ []) ∙ ap (λ b. b || (list_any (λ other. list_any (alike_on key other) (row ∷ [])) rows || false)) h
+    ∙ or_none (list_any (λ other. list_any (alike_on key other) (row ∷ [])) rows)
+    ∙ any_same (λ other. list_any (alike_on key other) (row ∷ [])) (alike_on key row) rows (λ other. or_none (alike_on key other row) ∙ key_turned key other row)
+
+twins_before : (key : List ℕ) (old new : List (List Atom)) → has_twins key old ≡ true → has_twins key (old ++ new) ≡ true
+twins_before key old new t = has_twins-append key old new ∙ ap (λ b. b || (list_any (λ row. list_any (alike_on key row) new) old || has_twins key new)) t
+
+-- rows with the same keys
+pub twins_same : (key : List ℕ) (rows others : List (List Atom)) → map (key_of key) rows ≡ map (key_of key) others → has_twins key rows ≡ has_twins key others
+twins_same key [] [] e = refl
+twins_same key [] (o ∷ others) e = absurd cc
+twins_same key (row ∷ rows) [] e = absurd cc
+twins_same key (row ∷ rows) (o ∷ others) e =
+    let first : key_of key row ≡ key_of key o = ap (λ ks. get_or ks 0 []) e in
+    let rest : map (key_of key) rows ≡ map (key_of key) others = ap (drop 1) e in
+    ap (λ b. b || has_twins key rows) (sym (any_keys key row rows) ∙ ap (λ k. list_any (are_alike k) (map (key_of key) rows)) first ∙ ap (list_any (are_alike (key_of key o))) rest ∙ any_keys key o others)
+    ∙ ap (λ b. list_any (alike_on key o) others || b) (twins_same key rows others rest)
+
+-- ---- new keys that are looked up
+
+-- what is known or seen are the keys of these rows
+abbrev AreSeen : List ℕ → Keyed → (seen : List (List Atom)) → List (List Atom) → Type 0
+AreSeen key index seen rows = (k : List Atom) → (is_known index k || list_any (are_alike k) seen) ≡ list_any (are_alike k) (map (key_of key) rows)
+
+seen_more : (key : List ℕ) (index : Keyed) (seen rows : List (List Atom)) (row : List Atom) → AreSeen key index seen rows → AreSeen key index (seen ++ key_of key row ∷ []) (rows ++ row ∷ [])
+seen_more key index seen rows row s = λ k.
+    ap (λ b. is_known index k || b) (list_any-append (are_alike k) seen (key_of key row ∷ []))
+    ∙ or_assoc (is_known index k) (list_any (are_alike k) seen) (list_any (are_alike k) (key_of key row ∷ []))
+    ∙ ap (λ b. b || list_any (are_alike k) (key_of key row ∷ [])) (s k)
+    ∙ sym (list_any-append (are_alike k) (map (key_of key) rows) (key_of key row ∷ []))
+    ∙ ap (list_any (are_alike k)) (map_push rows)
+  where
+    or_assoc : (a b c : Bool) → (a || (b || c)) ≡ ((a || b) || c)
+    or_assoc true b c = refl
+    or_assoc false b c = refl
+
+    map_push : (rows : List (List Atom)) → map (key_of key) rows ++ key_of key row ∷ [] ≡ map (key_of key) (rows ++ row ∷ [])
+    map_push [] = refl
+    map_push (r ∷ rows) = ap (λ l. key_of key r ∷ l) (map_push rows)
+
+found_twins : (key : List ℕ) (n : ℕ) (index : Keyed) (seen old new : List (List Atom)) → AreSeen key index seen old → has_twins key old ≡ false → is_some (first_known n index seen (map (key_of key) new)) ≡ has_twins key (old ++ new)
+found_twins key n index seen old [] s d = sym (ap (has_twins key) (append_nil old) ∙ d)
+  where
+    append_nil : (xs : List (List Atom)) → xs ++ [] ≡ xs
+    append_nil [] = refl
+    append_nil (x ∷ xs) = ap (λ l. x ∷ l) (append_nil xs)
+found_twins key n index seen old (row ∷ new) s d =
+    by_test (is_known index (key_of key row) || list_any (are_alike (key_of key row)) seen) (s (key_of key row) ∙ any_keys key row old ∙ sym (twins_push key old row d))
+    (λ t. found_twins key (n + 1) index (seen ++ key_of key row ∷ []) (old ++ row ∷ []) new (seen_more key index seen old row s) t)
+    ∙ ap (has_twins key) (append_assoc old (row ∷ []) new)
+  where
+    by_test : (b : Bool) → b ≡ has_twins key (old ++ row ∷ []) → (has_twins key (old ++ row ∷ []) ≡ false → is_some (first_known (n + 1) index (seen ++ key_of key row ∷ []) (map (key_of key) new)) ≡ has_twins key ((old ++ row ∷ []) ++ new))
+        → is_some (cond b (Some n) (first_known (n + 1) index (seen ++ key_of key row ∷ []) (map (key_of key) new))) ≡ has_twins key ((old ++ row ∷ []) ++ new)
+    by_test true t rest = sym (twins_before key (old ++ row ∷ []) new (sym t))
+    by_test false t rest = rest (sym t)
+
+-- one is found exactly where two rows are alike, as long as no two of the old ones are
+pub twins_found : (key : List ℕ) (index : Keyed) (old new : List (List Atom)) → IndexesKeys (map (key_of key) old) index → has_twins key old ≡ false → is_some (first_alike index (map (key_of key) new)) ≡ has_twins key (old ++ new)
+twins_found key index old new i d = found_twins key 0 index [] old new (λ k. or_none (is_known index k) ∙ known_is (map (key_of key) old) index i k) d
 
 -- ---- keys from a place on
 
@@ -87,12 +132,3 @@ all_differ n (key ∷ keys) rows e = by_test (has_twins key rows) refl e (λ f. 
 pub numbered : (o : Option ℕ) (n : ℕ) → IfSome o (λ k. k ≡ n) → IsSome o → o ≡ Some n
 numbered (Some k) n h there = ap (λ x. Some x) h
 numbered None n h there = absurd cc
-
--- a place that was read is the one of the list, whatever stands behind its end
-get_or_any : (xs : List ℕ) (i d e : ℕ) → i < length xs → get_or xs i d ≡ get_or xs i e
-get_or_any [] i d e lt = absurd (omega arith)
-get_or_any (x ∷ xs) zero d e lt = refl
-get_or_any (x ∷ xs) (suc i) d e lt = get_or_any xs i d e (omega arith)
-
-pub place_read : (xs : List ℕ) (i : ℕ) → i < length xs → get_or xs i 0 ≡ get_or xs i (get_or xs i 0)
-place_read xs i lt = get_or_any xs i 0 (get_or xs i 0) lt

@@ -2,7 +2,8 @@
 use Rattle.std.proofs.Common.{◌<◌, ◌≤◌, List, length, map, sym, ap, ◌∙◌, arith}
 use Rattle.std.proofs.lemmas.List.{length-map}
 use Rattle.ae_base.specs.Atoms.{Atom}
-use Rattle.key_index.proofs.Counting.{before, cut_more, cut_all}
+use Rattle.key_index.specs.Places.{before}
+use Rattle.key_index.proofs.Counting.{cut_more, cut_all}
 use Rattle.key_index.proofs.Looking.{map-set, map-read}
 use Rattle.key_index.proofs.index.cut_each.Goals as goal
 

@@ -1,6 +1,6 @@
 -- The lists so far are cut.
 use Rattle.std.proofs.Common.{◌≡◌, ◌++◌, map, take, drop}
-use Rattle.key_index.proofs.Counting.{before}
+use Rattle.key_index.specs.Places.{before}
 use Rattle.key_index.proofs.index.cut_each.Given as goal
 
 abbrev pub invariant-loop-list : goal.invariant-loop-list

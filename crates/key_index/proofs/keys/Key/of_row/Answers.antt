@@ -4,5 +4,5 @@ use Rattle.key_index.proofs.keys.Key.of_row.Goals as goal
 
 pub loop-place-preserved : goal.loop-place-preserved
 loop-place-preserved g c =
-    rw (c.in_ok-push.ensures.items, c.in_ok-atom.ensures)
-    (key_more c.args.places.now c.args.row.now c.loop-place.place-index c.get.result.now c.loop-place.atoms.items c.loop-place.invariant c.loop-place-test.true (c.requires c.loop-place.place-index 0 c.loop-place-test.true) (c.get.ensures c.get.result.now))
+    rw (c.in_ok-push.ensures.items)
+    (key_more c.args.places.now c.args.row.now c.loop-place.place-index c.in_ok-atom.atom c.loop-place.atoms.items c.loop-place.invariant c.loop-place-test.true c.in_ok-atom.ensures)

@@ -1,0 +1,98 @@
+ghost use Rattle.std.specs.Prelude.{◌≡◌, ◌<◌, ◌++◌, ◌∷◌, [], length, map, OnOk, IfOk};
+ghost use Rattle.std.specs.List.{All};
+ghost use Rattle.row_store.specs.Changes.{written, unhit};
+ghost use Rattle.row_store.specs.Paged.{flat};
+
+use ae_base::atoms::Row;
+use ae_base::lists::Seq;
+use ae_base::sameness::Same;
+use row_store::changes::Change;
+use row_store::pages::Page;
+use std::alloc::{AllocError, Global};
+
+/// The rows of some pages, lent.
+pub fn lent<'a, K: Same>(
+    alloc: Global,
+    pages: &'a [Page<Row<K>>],
+) -> Result<Seq<&'a Row<K>>, AllocError>
+    ensures { IfOk result (λ rows. map (λ row. row.now) rows ≡ flat pages.now) }
+{
+    let mut rows = Seq::new(alloc);
+    for page in pages {
+        lend_each(page.rows(), &mut rows)?;
+    }
+    Ok(rows)
+}
+
+/// Puts rows at the end, lent.
+pub(crate) fn lend_each<'a, K: Same>(
+    rows: &'a [Row<K>],
+    lent: &mut Seq<&'a Row<K>>,
+) -> Result<(), AllocError>
+    ensures { OnOk result (map (λ row. row.now) lent.new ≡ map (λ row. row.now) lent.old ++ rows.now) }
+{
+    for row in rows {
+        lent.push(row)?;
+    }
+    Ok(())
+}
+
+/// The rows of some pages as they will stand after changes, lent.
+pub(crate) fn lent_changed<'a, K: Same>(
+    alloc: Global,
+    pages: &'a [Page<Row<K>>],
+    changes: &'a [Change<Row<K>>],
+) -> Result<Seq<&'a Row<K>>, AllocError>
+    requires { All (λ change. change.place < length (flat pages.now)) changes.now }
+    ensures { IfOk result (λ rows. map (λ row. row.now) rows ≡ written (flat pages.now) changes.now) }
+{
+    let mut rows = lent(alloc, pages)?.into_vec();
+    lend_changes(&mut rows, changes);
+    Ok(Seq::from_vec(rows))
+}
+
+/// Puts the new rows in the places of the old ones, lent.
+fn lend_changes<'a, K: Same>(rows: &mut Vec<&'a Row<K>>, changes: &'a [Change<Row<K>>])
+    requires { All (λ change. change.place < length rows.old.items) changes.now }
+    ensures { map (λ row. row.now) rows.new.items ≡ written (map (λ row. row.now) rows.old.items) changes.now }
+{
+    for change in changes {
+        rows[change.place] = &change.row;
+    }
+}
+
+/// The rows of some pages that stay when the others are dropped, lent.
+pub(crate) fn lent_unhit<'a, K: Same>(
+    alloc: Global,
+    pages: &'a [Page<Row<K>>],
+    hits: &[bool],
+) -> Result<Seq<&'a Row<K>>, AllocError>
+    requires { length hits.now ≡ length (flat pages.now) }
+    ensures { IfOk result (λ rows. map (λ row. row.now) rows ≡ unhit (flat pages.now) hits.now) }
+{
+    let rows = lent(alloc, pages)?.into_vec();
+    let mut kept = Seq::new(alloc);
+    for (place, hit) in hits.iter().enumerate() {
+        match keep(&mut kept, rows[place], *hit) {
+            Ok(()) => {}
+            Err(error) => return Err(error),
+        }
+    }
+    Ok(kept)
+}
+
+/// Puts a row at the end, unless it is hit.
+fn keep<'a, K: Same>(
+    kept: &mut Seq<&'a Row<K>>,
+    row: &'a Row<K>,
+    hit: bool,
+) -> Result<(), AllocError>
+    ensures { OnOk result (map (λ row. row.now) kept.new
+        ≡ map (λ row. row.now) kept.old ++ unhit (row.now ∷ []) (hit ∷ [])) }
+{
+    if hit {
+        return Ok(());
+    }
+    kept.push(row)?;
+    Ok(())
+}

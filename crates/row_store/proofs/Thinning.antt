@@ -1,0 +1,193 @@
+-- Pages that lose the rows that are hit, and then share one where they fit.
+use Rattle.std.proofs.Common.{◌≡◌, ℕ, zero, suc, ◌+◌, ◌<◌, ◌≤◌, List, [], ◌∷◌, ◌++◌, length, length-append, get_or, take, drop, slice_set, refl, ap, sym, ◌∙◌, subst, append_assoc, arith, Bool, true, false, not, cond, inl, inr}
+use Rattle.std.specs.Prelude.{count_by}
+use Rattle.std.specs.List.{All, SwappedAt}
+use Rattle.std.proofs.lemmas.Bool.{cases_lt}
+use Rattle.std.proofs.lemmas.List.{append-nil, take_all, drop_all, take_more, drop_more, take_more_set, take-set, take-set-le, drop-set-lt, length-set, length-take, length-drop}
+use Rattle.std.proofs.lemmas.List.Elements.{All-head, All-tail}
+use Rattle.std.proofs.lemmas.List.Sums.{sum_by-cons}
+use Rattle.row_store.specs.Paged.{flat, lengths, IsDense, IsPaged, merged_next, merged_at, packed}
+use Rattle.row_store.specs.Changes.{unhit}
+use Rattle.row_store.proofs.Packing.{next_flat, next_dense, next_small, lengths_of_set, small_set}
+
+-- ---- the rows of one page: those that stay so far stand in front, and the rest is as it was
+
+item_of : {T : Type 0} (rows : List T) (place : ℕ) → place < length rows → T
+item_of [] place lt = absurd (omega arith)
+item_of (row ∷ rows) place lt = row
+
+pub dropped_hit : {T : Type 0} (rows whole : List T) (hits : List Bool) (kept place : ℕ) → place < length rows → place < length hits → get_or hits place false ≡ true → whole ≡ take kept rows ++ unhit (drop place rows) (drop place hits)
+    → whole ≡ take kept rows ++ unhit (drop (place + 1) rows) (drop (place + 1) hits)
+dropped_hit rows whole hits kept place lt lh t w =
+    let d = item_of rows place lt in
+    w ∙ ap (λ rs. take kept rows ++ unhit rs (drop place hits)) (drop_more rows place d lt)
+    ∙ ap (λ hs. take kept rows ++ unhit (get_or rows place d ∷ drop (place + 1) rows) hs) (drop_more hits place false lh ∙ ap (λ h. h ∷ drop (place + 1) hits) t)
+
+swapped_front : {T : Type 0} (rows moved : List T) (kept place : ℕ) (d : T) → place < length rows → kept ≤ place → SwappedAt rows moved kept place → take (kept + 1) moved ≡ take kept rows ++ get_or rows place d ∷ []
+swapped_front rows moved kept place d lt le s =
+    let u = get_or rows place d in
+    let v = get_or rows kept d in
+    ap (take (kept + 1)) (s.3 d)
+    ∙ elim (cases_lt kept place) [
+      | inl less ↦ take-set-le (kept + 1) (slice_set rows kept u) place v (omega arith) ∙ take_more_set rows kept u (omega arith)
+      | inr more ↦
+          let same : place ≡ kept = omega arith in
+          ap (λ p. take (kept + 1) (slice_set (slice_set rows kept u) p v)) same
+          ∙ take_more_set (slice_set rows kept u) kept v (omega (arith, length-set rows kept u)) ∙ ap (λ front. front ++ v ∷ []) (take-set rows kept u)
+          ∙ ap (λ p. take kept rows ++ get_or rows p d ∷ []) (sym same)
+    ]
+
+pub dropped_kept : {T : Type 0} (rows moved whole : List T) (hits : List Bool) (kept place : ℕ) → place < length rows → place < length hits → kept ≤ place → get_or hits place false ≡ false → SwappedAt rows moved kept place
+    → whole ≡ take kept rows ++ unhit (drop place rows) (drop place hits) → whole ≡ take (kept + 1) moved ++ unhit (drop (place + 1) moved) (drop (place + 1) hits)
+dropped_kept rows moved whole hits kept place lt lh le t s w =
+    let d = item_of rows place lt in
+    let u = get_or rows place d in
+    w ∙ ap (λ rs. take kept rows ++ unhit rs (drop place hits)) (drop_more rows place d lt)
+    ∙ ap (λ hs. take kept rows ++ unhit (u ∷ drop (place + 1) rows) hs) (drop_more hits place false lh ∙ ap (λ h. h ∷ drop (place + 1) hits) t)
+    ∙ sym (append_assoc (take kept rows) (u ∷ []) (unhit (drop (place + 1) rows) (drop (place + 1) hits)))
+    ∙ ap (λ front. front ++ unhit (drop (place + 1) rows) (drop (place + 1) hits)) (sym (swapped_front rows moved kept place d lt le s))
+    ∙ ap (λ rs. take (kept + 1) moved ++ unhit rs (drop (place + 1) hits))
+    (sym (ap (drop (place + 1)) (s.3 d) ∙ drop-set-lt (place + 1) (slice_set rows kept u) place (get_or rows kept d) (omega arith) ∙ drop-set-lt (place + 1) rows kept u (omega arith)))
+
+pub dropped_all : {T : Type 0} (rows whole : List T) (hits : List Bool) (kept place : ℕ) → length rows ≤ place → whole ≡ take kept rows ++ unhit (drop place rows) (drop place hits) → whole ≡ take kept rows
+dropped_all rows whole hits kept place le w = w ∙ ap (λ rs. take kept rows ++ unhit rs (drop place hits)) (drop_all place rows le) ∙ append-nil (take kept rows)
+
+-- ---- how many stay
+
+pub unhit_less : {T : Type 0} (rows : List T) (hits : List Bool) → length (unhit rows hits) ≤ length rows
+unhit_less [] hits = omega arith
+unhit_less (row ∷ rows) [] = omega arith
+unhit_less (row ∷ rows) (true ∷ hits) = let le = unhit_less rows hits in omega (arith, le)
+unhit_less (row ∷ rows) (false ∷ hits) = let le = unhit_less rows hits in omega (arith, le)
+
+pub unhit_count : {T : Type 0} (rows : List T) (hits : List Bool) → length hits ≡ length rows → length (unhit rows hits) ≡ count_by (λ (hit : Bool). not hit) hits
+unhit_count [] [] n = refl
+unhit_count [] (h ∷ hits) n = absurd (omega arith)
+unhit_count (row ∷ rows) [] n = absurd (omega arith)
+unhit_count (row ∷ rows) (true ∷ hits) n =
+    let rest = unhit_count rows hits (omega arith) in
+    let one : count_by (λ (hit : Bool). not hit) (true ∷ hits) ≡ 0 + count_by (λ (hit : Bool). not hit) hits = sum_by-cons (λ (hit : Bool). cond (not hit) 1 0) true hits in
+    omega (arith, rest, one)
+unhit_count (row ∷ rows) (false ∷ hits) n =
+    let rest = unhit_count rows hits (omega arith) in
+    let one : count_by (λ (hit : Bool). not hit) (false ∷ hits) ≡ 1 + count_by (λ (hit : Bool). not hit) hits = sum_by-cons (λ (hit : Bool). cond (not hit) 1 0) false hits in
+    omega (arith, rest, one)
+
+-- ---- page by page
+
+unhit_append : {T : Type 0} (rows rest : List T) (hits : List Bool) → length rows ≤ length hits → unhit (rows ++ rest) hits ≡ unhit rows (take (length rows) hits) ++ unhit rest (drop (length rows) hits)
+unhit_append [] rest hits le = refl
+unhit_append (row ∷ rows) rest [] le = absurd (omega arith)
+unhit_append (row ∷ rows) rest (true ∷ hits) le = unhit_append rows rest hits (omega (arith, le))
+unhit_append (row ∷ rows) rest (false ∷ hits) le = ap (λ l. row ∷ l) (unhit_append rows rest hits (omega (arith, le)))
+
+pub record AreThinning {T : Type 0} (old now : List (List T)) (hits : List Bool) (i before : ℕ) : Type 0 where
+  pub so_far : unhit (flat old) hits ≡ flat (take i now) ++ unhit (flat (drop i now)) (drop before hits)
+  pub left : length hits ≡ before + length (flat (drop i now))
+  pub small : All (λ n. n ≤ 256) (lengths now)
+  pub count : length now ≡ length old
+
+pub thinning_start : {T : Type 0} (old : List (List T)) (hits : List Bool) → length hits ≡ length (flat old) → All (λ n. n ≤ 256) (lengths old) → AreThinning old old hits 0 0
+thinning_start old hits n small = record { so_far = refl; left = omega (arith, n); small = small; count = refl }
+
+drop_next : {A : Type 0} (xs : List A) (i : ℕ) (x : A) → i < length xs → x ≡ get_or xs i x → drop i xs ≡ x ∷ drop (i + 1) xs
+drop_next xs i x lt e = drop_more xs i x lt ∙ ap (λ z. z ∷ drop (i + 1) xs) (sym e)
+
+drop_drop : {A : Type 0} (n m : ℕ) (xs : List A) → drop n (drop m xs) ≡ drop (m + n) xs
+drop_drop n zero xs = let e : n ≡ zero + n = omega arith in ap (λ k. drop k xs) e
+drop_drop n (suc m) [] = drop_all n [] (omega arith) ∙ sym (drop_all (suc m + n) [] (omega arith))
+drop_drop n (suc m) (x ∷ xs) = let e : suc (m + n) ≡ suc m + n = omega arith in drop_drop n m xs ∙ ap (λ k. drop k (x ∷ xs)) e
+
+module _ {T : Type 0} (old now : List (List T)) (hits : List Bool) (i before : ℕ) (rows new : List T) (lt : i < length now) (is : rows ≡ get_or now i rows) (s : AreThinning old now hits i before) where
+  left_here : length (flat (drop i now)) ≡ length rows + length (flat (drop (i + 1) now))
+  left_here = ap (λ ps. length (flat ps)) (drop_next now i rows lt is) ∙ length-append rows (flat (drop (i + 1) now))
+
+  pub thin_within : before + length rows ≤ length hits
+  thin_within = omega (arith, s.left, left_here)
+
+  pub thinning_more : length rows ≤ 256 → new ≡ unhit rows (take (length rows) (drop before hits)) → AreThinning old (slice_set now i new) hits (i + 1) (before + length rows)
+  thinning_more few w =
+      let rest : drop (i + 1) (slice_set now i new) ≡ drop (i + 1) now = drop-set-lt (i + 1) now i new (omega arith) in
+      let long : length rows ≤ length (drop before hits) = omega (arith, length-drop before hits, thin_within) in
+      record {
+        so_far =
+            s.so_far ∙ ap (λ ps. flat (take i now) ++ unhit (flat ps) (drop before hits)) (drop_next now i rows lt is)
+            ∙ ap (λ l. flat (take i now) ++ l) (unhit_append rows (flat (drop (i + 1) now)) (drop before hits) long)
+            ∙ ap (λ r. flat (take i now) ++ (r ++ unhit (flat (drop (i + 1) now)) (drop (length rows) (drop before hits)))) (sym w)
+            ∙ sym (append_assoc (flat (take i now)) new (unhit (flat (drop (i + 1) now)) (drop (length rows) (drop before hits))))
+            ∙ ap (λ l. l ++ unhit (flat (drop (i + 1) now)) (drop (length rows) (drop before hits))) (sym (ap flat (take_more_set now i new lt) ∙ flat_behind (take i now) new))
+            ∙ ap (λ hs. flat (take (i + 1) (slice_set now i new)) ++ unhit (flat (drop (i + 1) now)) hs) (drop_drop (length rows) before hits)
+            ∙ ap (λ ps. flat (take (i + 1) (slice_set now i new)) ++ unhit (flat ps) (drop (before + length rows) hits)) (sym rest);
+        left = omega (arith, s.left, left_here, ap (λ ps. length (flat ps)) rest);
+        small = subst (All (λ n. n ≤ 256)) (sym (lengths_of_set now i new)) (small_set (lengths now) i (length new) (omega (arith, few, unhit_less rows (take (length rows) (drop before hits)), ap length w)) s.small);
+        count = length-set now i new ∙ s.count;
+      }
+    where
+      flat_behind : (pages : List (List T)) (page : List T) → flat (pages ++ page ∷ []) ≡ flat pages ++ page
+      flat_behind [] page = append-nil page
+      flat_behind (p ∷ pages) page = ap (λ l. p ++ l) (flat_behind pages page) ∙ sym (append_assoc p (flat pages) page)
+
+pub thinned : {T : Type 0} (old now : List (List T)) (hits : List Bool) (i before : ℕ) → length now ≤ i → AreThinning old now hits i before → flat now ≡ unhit (flat old) hits
+thinned old now hits i before le s =
+    sym (s.so_far ∙ ap (λ ps. flat (take i now) ++ unhit (flat ps) (drop before hits)) (drop_all i now le) ∙ append-nil (flat (take i now)) ∙ ap flat (take_all i now le))
+
+-- ---- pages that share one
+
+pub packed_flat : {T : Type 0} (pages : List (List T)) → flat (packed pages) ≡ flat pages
+packed_flat [] = refl
+packed_flat (rows ∷ pages) = next_flat rows (packed pages) ∙ ap (λ l. rows ++ l) (packed_flat pages)
+
+packed_dense : {T : Type 0} (pages : List (List T)) → IsDense (lengths (packed pages))
+packed_dense [] = tt
+packed_dense (rows ∷ pages) = next_dense rows (packed pages) (packed_dense pages)
+
+packed_small : {T : Type 0} (pages : List (List T)) → All (λ n. n ≤ 256) (lengths pages) → All (λ n. n ≤ 256) (lengths (packed pages))
+packed_small [] h = h
+packed_small (rows ∷ pages) h =
+    next_small rows (packed pages) (All-head (λ n. n ≤ 256) (length rows) (lengths pages) h) (packed_small pages (All-tail (λ n. n ≤ 256) (length rows) (lengths pages) h))
+
+pub packed_paged : {T : Type 0} (pages : List (List T)) → All (λ n. n ≤ 256) (lengths pages) → IsPaged (lengths (packed pages))
+packed_paged pages h = record { small = packed_small pages h; dense = packed_dense pages }
+
+next_length : {T : Type 0} (rows : List T) (pages : List (List T)) → length (merged_next rows pages) ≤ suc (length pages)
+next_length rows [] = omega arith
+next_length rows (next ∷ pages) = by_test (Rattle.std.specs.Prelude.nat_le (length rows + length next) 256)
+  where
+    by_test : (b : Bool) → length (cond b ((rows ++ next) ∷ pages) (rows ∷ next ∷ pages)) ≤ suc (suc (length pages))
+    by_test true = omega arith
+    by_test false = omega arith
+
+pub packed_length : {T : Type 0} (pages : List (List T)) → length (packed pages) ≤ length pages
+packed_length [] = omega arith
+packed_length (rows ∷ pages) = let a = next_length rows (packed pages) in let b = packed_length pages in omega (arith, a, b)
+
+pub pack_start : {T : Type 0} (old : List (List T)) (page : ℕ) → length old ≤ page → old ≡ take page old ++ packed (drop page old)
+pack_start old page le = sym (ap (λ ps. take page old ++ packed ps) (drop_all page old le) ∙ append-nil (take page old) ∙ take_all page old le)
+
+merged_behind : {T : Type 0} (front : List (List T)) (rows : List T) (pages : List (List T)) → merged_at (length front) (front ++ rows ∷ pages) ≡ front ++ merged_next rows pages
+merged_behind [] rows pages = refl
+merged_behind (f ∷ front) rows pages = ap (λ l. f ∷ l) (merged_behind front rows pages)
+
+-- the page before those that share one already
+pub pack_more : {T : Type 0} (old now new : List (List T)) (bound page : ℕ) → page + 1 ≡ bound → bound ≤ length old → now ≡ take bound old ++ packed (drop bound old) → new ≡ merged_at page now → new ≡ take page old ++ packed (drop page old)
+pack_more old now new bound page e le w m = by_front (get_or old page []) (take_more old page [] (omega (arith, e, le))) (drop_more old page [] (omega (arith, e, le)))
+  where
+    by_front : (rows : List _) → take (page + 1) old ≡ take page old ++ rows ∷ [] → drop page old ≡ rows ∷ drop (page + 1) old → new ≡ take page old ++ packed (drop page old)
+    by_front rows t d =
+        let n : page ≡ length (take page old) = omega (arith, length-take page old, e, le) in
+        m ∙ ap (merged_at page) (w ∙ ap (λ k. take k old ++ packed (drop k old)) (sym e) ∙ ap (λ f. f ++ packed (drop (page + 1) old)) t ∙ append_assoc (take page old) (rows ∷ []) (packed (drop (page + 1) old)))
+        ∙ ap (λ k. merged_at k (take page old ++ rows ∷ packed (drop (page + 1) old))) n
+        ∙ merged_behind (take page old) rows (packed (drop (page + 1) old))
+        ∙ sym (ap (λ ps. take page old ++ packed ps) d)
+
+pub pack_within : {T : Type 0} (old now : List (List T)) (bound page : ℕ) → page + 1 ≡ bound → bound ≤ length old → now ≡ take bound old ++ packed (drop bound old) → page < length now
+pack_within old now bound page e le w = omega (arith, e, le, ap length w, length-append (take bound old) (packed (drop bound old)), length-take bound old)
+
+-- what is read of a place is there, whatever stands for what isn't
+pub same_there : {A : Type 0} (xs : List A) (i : ℕ) (x y : A) → i < length xs → get_or xs i x ≡ get_or xs i y
+same_there [] i x y lt = absurd (omega arith)
+same_there (a ∷ xs) zero x y lt = refl
+same_there (a ∷ xs) (suc i) x y lt = same_there xs i x y (omega (arith, lt))
+
+pub pack_done : {T : Type 0} (old now : List (List T)) (bound : ℕ) → bound ≡ 0 → now ≡ take bound old ++ packed (drop bound old) → now ≡ packed old
+pack_done old now bound e w = w ∙ ap (λ k. take k old ++ packed (drop k old)) e

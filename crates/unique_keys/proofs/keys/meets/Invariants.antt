@@ -1,8 +1,0 @@
--- The rows that are left decide.
-use Rattle.std.proofs.Common.{◌≡◌, drop}
-use Rattle.std.specs.List.{list_any}
-use Rattle.operators.specs.Alike.{key_of, are_alike}
-use Rattle.unique_keys.proofs.keys.meets.Given as goal
-
-abbrev pub invariant-loop-row : goal.invariant-loop-row
-invariant-loop-row g l = list_any (λ row. list_any (are_alike (key_of l.key row)) l.seen) l.rows ≡ list_any (λ row. list_any (are_alike (key_of l.key row)) l.seen) (drop l.row-index l.rows)
