@@ -1,13 +1,15 @@
 -- Rows that find their groups by their keys.
-use Rattle.std.proofs.Common.{◌≡◌, ℕ, zero, suc, ◌+◌, ◌<◌, ◌≤◌, ◌^◌, List, [], ◌∷◌, ◌++◌, length, get_or, drop, map, slice_set, refl, ap, sym, subst, ◌∙◌, arith, take, unwrap_or, Bool, true, false, not, cond}
+use Rattle.std.proofs.Common.{◌≡◌, ℕ, zero, suc, ◌+◌, ◌<◌, ◌≤◌, ◌^◌, List, [], ◌∷◌, ◌++◌, length, length-append, get_or, drop, map, slice_set, refl, ap, sym, subst, ◌∙◌, arith, take, unwrap_or, Bool, true, false, not, cond}
 use Rattle.std.specs.Prelude.{◌&&◌, ◌||◌, if◌then◌else◌}
 use Rattle.std.specs.Cmp.{partial_equiv_from_equiv, decided}
 use Rattle.std.specs.Cmp.Lexicographic.{lists_per}
 use Rattle.std.specs.List.{All, list_any, position_or_len}
-use Rattle.std.proofs.lemmas.List.{drop_more}
+use Rattle.std.proofs.lemmas.List.{drop_more, take-append-drop}
 use Rattle.std.proofs.lemmas.List.Elements.{All-head, All-tail, All-cons, All-nil}
 use Rattle.std.proofs.lemmas.Option.{slice_get_read}
 use Rattle.std.proofs.Math.Seq.{take-suc}
+use Rattle.row_store.specs.Paged.{flat}
+use Rattle.row_store.proofs.Flat.{flat-append, flat_taken, flat_left}
 use Rattle.ae_base.specs.Atoms.{Atom, alike}
 use Rattle.ae_base.specs.declared.atoms.AtomOf.TheVariants.{Null}
 use Rattle.sql_tree.specs.declared.bound.PlaceAt.{PlaceAt}
@@ -136,22 +138,64 @@ counted_few places (group ∷ groups) row n h =
     by_test true more = All-cons (λ (group : Group). group.count ≤ n + 1) (record { first = group.first; count = group.count + 1 }) groups (omega (arith, head)) (less groups (All-tail (λ (group : Group). group.count ≤ n) group groups h))
     by_test false more = All-cons (λ (group : Group). group.count ≤ n + 1) group (grouped_row places groups row) (omega (arith, head)) more
 
--- the groups so far, with the rows that are left, are the whole; each has its key, and counts some of the rows so far
-pub record AreSoFar (places : List ℕ) (rows : List (List Atom)) (i : ℕ) (keys : List (List Atom)) (groups : List Group) : Type 0 where
+-- the groups so far, with the rows that are left, are the whole, from some groups on; each has its key, and none has grown by more
+-- than the rows so far
+pub record AreSoFar (places : List ℕ) (first : List Group) (rows : List (List Atom)) (i : ℕ) (keys : List (List Atom)) (groups : List Group) : Type 0 where
   pub keyed : keys ≡ keys_on places groups
-  pub whole : grouped places [] rows ≡ grouped places groups (drop i rows)
-  pub few : All (λ (group : Group). group.count ≤ i) groups
+  pub whole : grouped places first rows ≡ grouped places groups (drop i rows)
+  pub few : (most : ℕ) → All (λ (group : Group). group.count ≤ most) first → All (λ (group : Group). group.count ≤ most + i) groups
 
-pub so_far_more : (places : List ℕ) (rows : List (List Atom)) (i : ℕ) (row : List Atom) (keys more : List (List Atom)) (groups others : List Group) → AreSoFar places rows i keys groups → i < length rows → row ≡ get_or rows i row
-    → more ≡ keys_on places others → others ≡ grouped_row places groups row → AreSoFar places rows (i + 1) more others
-so_far_more places rows i row keys more groups others s lt e k g = record {
+pub so_far_start : (places : List ℕ) (first : List Group) (rows : List (List Atom)) (keys : List (List Atom)) → keys ≡ keys_on places first → AreSoFar places first rows 0 keys first
+so_far_start places first rows keys k = record { keyed = k; whole = refl; few = λ most h. let e : most ≡ most + 0 = omega arith in subst (λ n. All (λ (group : Group). group.count ≤ n) first) e h }
+
+pub so_far_more : (places : List ℕ) (first : List Group) (rows : List (List Atom)) (i : ℕ) (row : List Atom) (keys more : List (List Atom)) (groups others : List Group) → AreSoFar places first rows i keys groups → i < length rows
+    → row ≡ get_or rows i row → more ≡ keys_on places others → others ≡ grouped_row places groups row → AreSoFar places first rows (i + 1) more others
+so_far_more places first rows i row keys more groups others s lt e k g = record {
   keyed = k;
   whole = s.whole ∙ ap (grouped places groups) (drop_more rows i row lt ∙ ap (λ r. r ∷ drop (i + 1) rows) (sym e)) ∙ ap (λ gs. grouped places gs (drop (i + 1) rows)) (sym g);
-  few = subst (All (λ (group : Group). group.count ≤ i + 1)) (sym g) (counted_few places groups row i s.few);
+  few = λ most h.
+      let one : most + i + 1 ≡ most + (i + 1) = omega arith in
+      subst (All (λ (group : Group). group.count ≤ most + (i + 1))) (sym g) (subst (λ n. All (λ (group : Group). group.count ≤ n) (grouped_row places groups row)) one (counted_few places groups row (most + i) (s.few most h)));
 }
 
 pub still_few : (groups : List Group) (i n : ℕ) → i < n → n < 2 ^ 32 → All (λ (group : Group). group.count ≤ i) groups → All (λ (group : Group). group.count + 1 < 2 ^ 32) groups
 still_few groups i n lt few h = λ k group there. let le : (get_or groups k group).count ≤ i = h k group there in omega (arith, le, lt, few)
+
+-- ---- page by page
+
+grouped-append : (places : List ℕ) (groups : List Group) (rows more : List (List Atom)) → grouped places groups (rows ++ more) ≡ grouped places (grouped places groups rows) more
+grouped-append places groups [] more = refl
+grouped-append places groups (row ∷ rows) more = grouped-append places (grouped_row places groups row) rows more
+
+grouped_few : (places : List ℕ) (groups : List Group) (rows : List (List Atom)) (most : ℕ) → All (λ (group : Group). group.count ≤ most) groups → All (λ (group : Group). group.count ≤ most + length rows) (grouped places groups rows)
+grouped_few places groups [] most h = let e : most ≡ most + 0 = omega arith in subst (λ n. All (λ (group : Group). group.count ≤ n) groups) e h
+grouped_few places groups (row ∷ rows) most h =
+    let e : most + 1 + length rows ≡ most + length (row ∷ rows) = omega arith in
+    subst (λ n. All (λ (group : Group). group.count ≤ n) (grouped places (grouped_row places groups row) rows)) e (grouped_few places (grouped_row places groups row) rows (most + 1) (counted_few places groups row most h))
+
+-- the same over pages: the groups so far count some of the rows of the pages so far
+pub record AreByPages (places : List ℕ) (pages : List (List (List Atom))) (i : ℕ) (keys : List (List Atom)) (groups : List Group) : Type 0 where
+  pub keyed : keys ≡ keys_on places groups
+  pub whole : grouped places [] (flat pages) ≡ grouped places groups (flat (drop i pages))
+  pub few : All (λ (group : Group). group.count ≤ length (flat (take i pages))) groups
+
+pub pages_more : (places : List ℕ) (pages : List (List (List Atom))) (i : ℕ) (page : List (List Atom)) (keys more : List (List Atom)) (groups others : List Group) → AreByPages places pages i keys groups → i < length pages
+    → page ≡ get_or pages i page → more ≡ keys_on places others → others ≡ grouped places groups page → AreByPages places pages (i + 1) more others
+pages_more places pages i page keys more groups others s lt e k g = record {
+  keyed = k;
+  whole = s.whole ∙ ap (grouped places groups) (flat_left pages i page lt e) ∙ grouped-append places groups page (flat (drop (i + 1) pages)) ∙ ap (λ gs. grouped places gs (flat (drop (i + 1) pages))) (sym g);
+  few =
+      let n : length (flat (take i pages)) + length page ≡ length (flat (take (i + 1) pages)) = sym (ap length (flat_taken pages i page lt e) ∙ length-append (flat (take i pages)) page) in
+      subst (All (λ (group : Group). group.count ≤ length (flat (take (i + 1) pages)))) (sym g)
+      (subst (λ n. All (λ (group : Group). group.count ≤ n) (grouped places groups page)) n (grouped_few places groups page (length (flat (take i pages))) s.few));
+}
+
+-- a page has room left in the counts
+pub page_few : (pages : List (List (List Atom))) (i : ℕ) (page : List (List Atom)) → i < length pages → page ≡ get_or pages i page → length (flat pages) < 2 ^ 32 → length (flat (take i pages)) + length page < 2 ^ 32
+page_few pages i page lt e few =
+    let whole : length (flat pages) ≡ length (flat (take i pages)) + length (flat (drop i pages)) = ap length (sym (ap flat (take-append-drop i pages)) ∙ flat-append (take i pages) (drop i pages)) ∙ length-append (flat (take i pages)) (flat (drop i pages)) in
+    let left : length (flat (drop i pages)) ≡ length page + length (flat (drop (i + 1) pages)) = ap length (flat_left pages i page lt e) ∙ length-append page (flat (drop (i + 1) pages)) in
+    omega (arith, whole, left, few)
 
 -- ---- keys of the code
 

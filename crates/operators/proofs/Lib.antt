@@ -3,6 +3,7 @@ pub mod Firsts
 pub mod Grouping
 pub mod GroupsAlike
 pub mod Keeping
+pub mod Limits
 pub mod Orders
 pub mod Pairs
 pub mod Places

@@ -5,5 +5,6 @@ pub mod Found
 pub mod Gathers
 pub mod Groups
 pub mod Hashed
+pub mod Limits
 pub mod Met
 pub mod Wide

@@ -1,11 +1,13 @@
-ghost use Rattle.std.specs.Prelude.{◌≡◌, ◌+◌, ◌<◌, ◌≤◌, ◌^◌, [], length, map, IfOk, OnOk};
+ghost use Rattle.std.specs.Prelude.{◌≡◌, ℕ, ◌+◌, ◌<◌, ◌≤◌, ◌^◌, [], length, map, IfOk, OnOk};
 ghost use Rattle.std.specs.List.{All};
+ghost use Rattle.row_store.specs.Paged.{flat};
 ghost use Rattle.operators.specs.Groups.{keys_on, grouped, grouped_row, group_of};
 
 use crate::alike::{Alike, atoms_at};
 use ae_base::atoms::Row;
 use ae_base::sameness::Same;
 use indexmap::IndexSet;
+use row_store::pages::Page;
 use sql_tree::bound::PlaceAt;
 use std::alloc::{AllocError, Global};
 
@@ -20,18 +22,38 @@ pub struct Group<'a, K: Same> {
 pub fn groups<'a, K: Same>(
     alloc: Global,
     columns: &[PlaceAt],
-    rows: &'a [Row<K>],
+    pages: &'a [Page<Row<K>>],
 ) -> Result<Vec<Group<'a, K>>, AllocError>
-    requires columns { All (λ row. All (λ column. column.place < length row) columns.now) rows.now }
-    requires few { length rows.now < 2 ^ 32 }
-    ensures { IfOk result (λ groups. map group_of groups.items ≡ grouped (map (λ column. column.place) columns.now) [] rows.now) }
+    requires columns { All (λ row. All (λ column. column.place < length row) columns.now) (flat pages.now) }
+    requires few { length (flat pages.now) < 2 ^ 32 }
+    ensures { IfOk result (λ groups. map group_of groups.items ≡ grouped (map (λ column. column.place) columns.now) [] (flat pages.now)) }
 {
     let mut keys = IndexSet::new(alloc);
     let mut groups = Vec::new(alloc);
-    for row in rows {
-        add(alloc, columns, row, &mut keys, &mut groups)?;
+    for page in pages {
+        add_all(alloc, columns, page.rows(), &mut keys, &mut groups)?;
     }
     Ok(groups)
+}
+
+/// Counts each of some rows in its group.
+fn add_all<'a, K: Same>(
+    alloc: Global,
+    columns: &[PlaceAt],
+    rows: &'a [Row<K>],
+    keys: &mut IndexSet<Vec<Alike<'a, K>>>,
+    groups: &mut Vec<Group<'a, K>>,
+) -> Result<(), AllocError>
+    requires columns { All (λ row. All (λ column. column.place < length row) columns.now) rows.now }
+    requires keyed { map (λ key. key.items) keys.old.keys ≡ keys_on (map (λ column. column.place) columns.now) (map group_of groups.old.items) }
+    requires few { (most : ℕ) × (most + length rows.now < 2 ^ 32) × All (λ group. group.count ≤ most) (map group_of groups.old.items) }
+    ensures keyed { OnOk result (map (λ key. key.items) keys.new.keys ≡ keys_on (map (λ column. column.place) columns.now) (map group_of groups.new.items)) }
+    ensures groups { OnOk result (map group_of groups.new.items ≡ grouped (map (λ column. column.place) columns.now) (map group_of groups.old.items) rows.now) }
+{
+    for row in rows {
+        add(alloc, columns, row, keys, groups)?;
+    }
+    Ok(())
 }
 
 /// Counts a row in its group, which is a new one where no row before was alike. Each group has its

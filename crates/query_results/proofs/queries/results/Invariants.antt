@@ -1,13 +1,9 @@
--- What was found so far, with what is found in the rows that are left, is the whole.
-use Rattle.std.proofs.Common.{◌≡◌, drop, map, length}
+-- What was found so far, with what is found in the pages that are left, is the whole.
 use Rattle.sql_tree.specs.Bound.{query_of}
-use Rattle.operators.specs.Events.{scanned}
 use Rattle.operators.specs.Found.{found_by}
-use Rattle.query_results.specs.Results.{found_of, results}
-use Rattle.operators.proofs.Collected.{collected}
+use Rattle.query_results.specs.Results.{found_of}
+use Rattle.query_results.proofs.Resulting.{AreOfPages}
 use Rattle.query_results.proofs.queries.results.Given as goal
 
-abbrev pub invariant-loop-row : goal.invariant-loop-row
-invariant-loop-row g l =
-    results (found_of (query_of l.query) l.params 0) 0 (scanned l.rows)
-    ≡ collected (map (found_by l.query.order_by) l.found) (results (found_of (query_of l.query) l.params 0) (length l.found) (scanned (drop l.row-index l.rows)))
+abbrev pub invariant-loop-page : goal.invariant-loop-page
+invariant-loop-page g l = AreOfPages (found_by l.query.order_by) (found_of (query_of l.query) l.params 0) l.pages l.page-index l.found
