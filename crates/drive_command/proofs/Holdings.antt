@@ -3,14 +3,14 @@ use Rattle.std.specs.Prelude.{IfOk, ◌<◌, ◌-◌}
 use Rattle.std.proofs.Common.{◌≡◌, ℕ, ◌+◌, ◌≤◌, List, ◌++◌, Result, Ok, Err, length, take, drop, refl, sym, ◌∙◌, ap, subst, arith, inl, inr, length-append}
 use Rattle.std.specs.declared.alloc.AllocError.{AllocError}
 use Rattle.std.proofs.lemmas.List.{length-take-le, take-append-drop}
-use Rattle.std.proofs.Math.Seq.{drop-append_seam}
+use Rattle.std.proofs.Math.Seq.{drop-append_seam, take-append_seam}
 use Rattle.wire_messages.specs.declared.replies.Reply.{Reply}
 use Rattle.wire_spelling.specs.Spelling.{SpellsReply, reply_frame}
 use Rattle.wire_frames.specs.Frames.{IsNotYet, IsRefused, is_reply_kind}
 use Rattle.wire_frames.specs.declared.decoding.Way.{Way}
 use Rattle.wire_frames.specs.declared.decoding.Way.TheVariants.{ToDriver}
 use Rattle.wire_frames.specs.Decoding.{has_kind}
-use Rattle.frame_feed.specs.Feeding.{Feeding, SpellsMessage, behind}
+use Rattle.frame_feed.specs.Feeding.{Feeding, SpellsMessage, StandsWhole, behind}
 use Rattle.frame_feed.specs.Steps.{Steps}
 use Rattle.frame_feed.specs.declared.feeds.Next.{Next}
 use Rattle.frame_feed.specs.declared.feeds.Next.TheVariants as next
@@ -62,6 +62,17 @@ behind_rest reply held b used e = ap (λ n. drop n held) e ∙ ap (drop (length 
 
 pub frame_within : (reply : Reply) (held : List ℕ) → Begins reply held → length (reply_frame reply) ≤ length held
 frame_within reply held b = let e = ap length b.is in let l = length-append (reply_frame reply) b.rest in omega (arith, e, l)
+
+-- the frame of the first stands whole
+pub stands_whole : (f : Feeding) (reply : Reply) (used : ℕ) → f.way ≡ ToDriver → Begins reply f.held → used ≡ length (reply_frame reply) → StandsWhole used f
+stands_whole f reply used way b e =
+    let fits = frame_within reply f.held b in
+    let first : take used f.held ≡ reply_frame reply = ap (λ n. take n f.held) e ∙ ap (take (length (reply_frame reply))) b.is ∙ take-append_seam (reply_frame reply) b.rest in
+    record {
+      message = Tells reply;
+      held = omega (arith, fits, e);
+      spelled = subst (λ (w : Way). SpellsMessage w (Tells reply) (take used f.held)) (sym way) (b.meets, first);
+    }
 
 -- ---- the calls
 

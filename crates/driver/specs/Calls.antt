@@ -5,6 +5,7 @@ use Rattle.hmac_kdf.specs.Keys.{Keys}
 use Rattle.wire_messages.specs.Messages.{Header}
 use Rattle.wire_messages.specs.declared.replies.Done.{Done}
 use Rattle.wire_messages.specs.declared.replies.Done.TheVariants as done
+use Rattle.wire_messages.specs.declared.replies.Reply.{Reply}
 use Rattle.wire_messages.specs.declared.requests.Request.{Request}
 use Rattle.conversation.specs.declared.answers.DescribeAnswer.{DescribeAnswer}
 use Rattle.conversation.specs.declared.answers.ReplyAnswer.{ReplyAnswer}
@@ -16,7 +17,7 @@ use Rattle.conversation.specs.declared.sessions.Session.{Session}
 use Rattle.conversation.specs.declared.sessions.Session.TheVariants.{Idle, Begun, Pending, Sent, Reading, Skipping}
 use Rattle.conversation.specs.declared.sessions.Turn.{Turn}
 use Rattle.conversation.specs.Devices.{Devices, Goes, Fails, IsOfKeys}
-use Rattle.conversation.specs.Sessions.{Told, Tells, Shows, Stray, session_at, with_session, titles_of, types_of}
+use Rattle.conversation.specs.Sessions.{Told, Tells, Shows, Stray, replied, session_at, with_session, titles_of, types_of}
 use Rattle.conversation.specs.Talk.{Talk}
 use Rattle.conversation.specs.Turns.{opening, execute}
 
@@ -27,6 +28,24 @@ is_idle (Pending pending) = false
 is_idle Sent = false
 is_idle (Reading columns keys count) = false
 is_idle (Skipping columns count) = false
+
+-- a batch is described, and may be executed
+abbrev pub is_pending : Session → Bool
+is_pending (Pending pending) = true
+is_pending Idle = false
+is_pending (Begun batch) = false
+is_pending Sent = false
+is_pending (Reading columns keys count) = false
+is_pending (Skipping columns count) = false
+
+-- a reply shows columns, whose keys are opened
+abbrev pub shows_columns : Told → Bool
+shows_columns (Shows header) = true
+shows_columns (Tells says after) = false
+shows_columns Stray = false
+
+abbrev pub opens_keys : Session → Reply → Bool
+opens_keys session r = shows_columns (replied session r)
 
 -- the end of so many rows
 abbrev pub is_end : Done → ℕ → Bool

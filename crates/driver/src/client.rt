@@ -1,13 +1,13 @@
 //! The driver: its sessions, each by its number.
 
-ghost use Rattle.std.specs.Prelude.{◌≡◌, ℕ, IfOk, Option, length};
+ghost use Rattle.std.specs.Prelude.{◌≡◌, ℕ, IfOk, Option, false, length};
 ghost use Rattle.std.specs.List.{All};
 ghost use Rattle.conversation.specs.declared.sessions.Session.{Session};
 ghost use Rattle.ae_edge.specs.Vaults.{KeyMap};
 ghost use Rattle.key_store.specs.Stores.{IsOf};
 ghost use Rattle.conversation.specs.Devices.{Devices, devices, with_vault};
 ghost use Rattle.conversation.specs.Sessions as held;
-ghost use Rattle.driver.specs.Calls.{Comes, Describes, Executes, IsSent, Replies, IsOnlyAt};
+ghost use Rattle.driver.specs.Calls.{Comes, Describes, Executes, IsSent, Replies, IsOnlyAt, is_pending, opens_keys};
 
 use crate::executing::execute;
 use crate::replies::replied;
@@ -96,9 +96,10 @@ impl Driver {
     }
 
     /// Executes the described batch of a session: the request to do so. Refused where none is
-    /// described, and where a key of a parameter isn't opened, which ends the batch. A vault or a
-    /// source of random bytes that fails, and want of memory, leave the session as it was; bytes
-    /// that were drawn stay drawn.
+    /// described, which leaves the driver as it was, and where a key of a parameter isn't opened,
+    /// which ends the batch. A vault or a source of random bytes that fails, and want of memory,
+    /// leave the session as it was; keys that were opened stay kept, and bytes that were drawn stay
+    /// drawn.
     pub fn execute<'r, V: Vault, E: Entropy>(
         &mut self,
         alloc: Global,
@@ -110,6 +111,8 @@ impl Driver {
         ensures executed { Executes result number (held.session_at self.old.sessions number) (held.session_at self.new.sessions number) (devices (E.to_come entropy.old) (E.faults entropy.old) (E.names entropy.old) (V.keys vault.old) (V.faults vault.old) (V.names vault.old)) (devices (E.to_come entropy.new) (E.faults entropy.new) (E.names entropy.new) (V.keys vault.new) (V.faults vault.new) (V.names vault.new)) }
         ensures sent { IsSent result (held.session_at self.new.sessions number) }
         ensures others { IsOnlyAt number self.old.sessions self.new.sessions }
+        ensures kept { is_pending (held.session_at self.old.sessions number) ≡ false
+            → self.new.kept ≡ self.old.kept }
         ensures of_vault { IsOf (V.keys vault.new) self.new.kept }
     {
         let slot = &mut self.sessions[number.number() as usize - 1];
@@ -120,7 +123,8 @@ impl Driver {
     }
 
     /// Takes a reply to a session's request to execute a batch. A reply that isn't awaited leaves
-    /// the session as it was, as a vault that fails and want of memory do.
+    /// the driver as it was. A vault that fails and want of memory leave the session as it was. What
+    /// is kept of keys changes only where columns are shown, whose keys are opened.
     pub fn replied<V: Vault>(
         &mut self,
         alloc: Global,
@@ -131,6 +135,8 @@ impl Driver {
         requires { IsOf (V.keys vault.old) self.old.kept }
         ensures replied { (beside : Devices) → Replies result (held.replied (held.session_at self.old.sessions number) reply.now) (held.session_at self.old.sessions number) (held.session_at self.new.sessions number) (with_vault beside (V.keys vault.old) (V.faults vault.old) (V.names vault.old)) (with_vault beside (V.keys vault.new) (V.faults vault.new) (V.names vault.new)) }
         ensures others { IsOnlyAt number self.old.sessions self.new.sessions }
+        ensures kept { opens_keys (held.session_at self.old.sessions number) reply.now ≡ false
+            → self.new.kept ≡ self.old.kept }
         ensures of_vault { IsOf (V.keys vault.new) self.new.kept }
     {
         let slot = &mut self.sessions[number.number() as usize - 1];

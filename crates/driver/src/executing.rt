@@ -1,6 +1,6 @@
 //! A session executes its described batch: its parameters are sealed, and it is sent.
 
-ghost use Rattle.std.specs.Prelude.{◌≡◌, ◌≤◌, List, IfOk, IsTrue, Ok, Err, None, map, true, length};
+ghost use Rattle.std.specs.Prelude.{◌≡◌, ◌≤◌, List, IfOk, IsTrue, Ok, Err, None, map, true, false, length};
 ghost use Rattle.ae_base.specs.Batches.{first_unfit};
 ghost use Rattle.ae_base.specs.Values.{value_is_within};
 ghost use Rattle.key_store.specs.Stores.{IsOf};
@@ -12,7 +12,7 @@ ghost use Rattle.conversation.specs.Talk.{Talk};
 ghost use Rattle.conversation.specs.Turns.{on, sealing, sealing_one};
 ghost use Rattle.ae_base.specs.Names.{all_differ};
 ghost use Rattle.conversation.specs.declared.sessions.Session.{Session};
-ghost use Rattle.driver.specs.Calls.{Executes, IsSent};
+ghost use Rattle.driver.specs.Calls.{Executes, IsSent, is_pending};
 ghost use Rattle.driver.specs.Listed.{IsListed, AreListed};
 ghost use Rattle.driver.specs.Sealed.{with_atom, sent, sent_names, use_names};
 
@@ -233,7 +233,8 @@ fn nothing_pending<'r>(session: Session) -> Turn<Result<Result<Request<'r>, Driv
     }
 }
 
-/// Executes the described batch of a session: the request to do so.
+/// Executes the described batch of a session: the request to do so. Where none is described no key is
+/// opened, and the store stays as it is.
 pub fn execute<'r, V: Vault, E: Entropy>(
     alloc: Global,
     store: &mut KeyStore,
@@ -245,6 +246,7 @@ pub fn execute<'r, V: Vault, E: Entropy>(
     requires { IsOf (V.keys vault.old) store.old }
     ensures executes { Executes result.answer number session result.after (devices (E.to_come entropy.old) (E.faults entropy.old) (E.names entropy.old) (V.keys vault.old) (V.faults vault.old) (V.names vault.old)) (devices (E.to_come entropy.new) (E.faults entropy.new) (E.names entropy.new) (V.keys vault.new) (V.faults vault.new) (V.names vault.new)) }
     ensures sent { IsSent result.answer result.after }
+    ensures kept { is_pending session ≡ false → store.new ≡ store.old }
     ensures of_vault { IsOf (V.keys vault.new) store.new }
 {
     match session {

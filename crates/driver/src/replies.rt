@@ -1,11 +1,11 @@
 //! A session takes a reply to the execution of its batch.
 
-ghost use Rattle.std.specs.Prelude.{◌≡◌, IfOk, Err, map};
+ghost use Rattle.std.specs.Prelude.{◌≡◌, IfOk, Err, false, map};
 ghost use Rattle.key_store.specs.Stores.{IsOf};
 ghost use Rattle.conversation.specs.Devices.{Devices, with_vault};
 ghost use Rattle.conversation.specs.Sessions as held;
 ghost use Rattle.conversation.specs.declared.sessions.Session.{Session};
-ghost use Rattle.driver.specs.Calls.{Replies, ShowsTurn, TellsAs, is_end};
+ghost use Rattle.driver.specs.Calls.{Replies, ShowsTurn, TellsAs, is_end, opens_keys};
 ghost use Rattle.driver.specs.Listed.{AreListed};
 ghost use Rattle.wire_messages.specs.declared.replies.Reply.TheVariants as reply;
 
@@ -329,6 +329,7 @@ fn sent_replied<V: Vault>(
     requires { IsOf (V.keys vault.old) store.old }
     ensures replies { (beside : Devices) → Replies result.answer (held.replied Session.Sent reply.now) Session.Sent result.after (with_vault beside (V.keys vault.old) (V.faults vault.old) (V.names vault.old)) (with_vault beside (V.keys vault.new) (V.faults vault.new) (V.names vault.new)) }
     ensures of_vault { IsOf (V.keys vault.new) store.new }
+    ensures kept { opens_keys Session.Sent reply.now ≡ false → store.new ≡ store.old }
 {
     match reply {
         Reply::Columns(header) => shown(alloc, store, vault, header),
@@ -339,7 +340,8 @@ fn sent_replied<V: Vault>(
     }
 }
 
-/// Takes a reply to a session's request to execute a batch.
+/// Takes a reply to a session's request to execute a batch. No key is opened but at its columns; with
+/// any other reply, awaited or not, the store stays as it is.
 pub fn replied<V: Vault>(
     alloc: Global,
     store: &mut KeyStore,
@@ -350,6 +352,7 @@ pub fn replied<V: Vault>(
     requires { IsOf (V.keys vault.old) store.old }
     ensures replies { (beside : Devices) → Replies result.answer (held.replied session reply.now) session result.after (with_vault beside (V.keys vault.old) (V.faults vault.old) (V.names vault.old)) (with_vault beside (V.keys vault.new) (V.faults vault.new) (V.names vault.new)) }
     ensures of_vault { IsOf (V.keys vault.new) store.new }
+    ensures kept { opens_keys session reply.now ≡ false → store.new ≡ store.old }
 {
     match session {
         Session::Sent => sent_replied(alloc, store, vault, reply),

@@ -5,7 +5,7 @@ use Rattle.std.proofs.lemmas.List.{append-nil, take-append-drop, length-take-le}
 use Rattle.wire_frames.specs.Decoding.{has_kind}
 use Rattle.wire_frames.specs.Frames.{Placed, End, EndsSo, ReadsAs, IsRefused}
 use Rattle.wire_frames.specs.declared.decoding.Way.{Way}
-use Rattle.frame_feed.specs.Calls.{Call, Fed, Given, Lead, bytes_of, given_by, messages_of, TellsEnd, ToldAfter, Frames}
+use Rattle.frame_feed.specs.Calls.{Call, Fed, Given, Shown, Lead, bytes_of, given_by, messages_of, TellsEnd, ToldAfter, Frames}
 use Rattle.frame_feed.specs.Feeding.{Feeding, SpellsMessage, unfed, fed, behind, refused, rest_of}
 use Rattle.frame_feed.specs.Steps.{Steps}
 use Rattle.frame_feed.specs.declared.feeds.Next.{Next}
@@ -98,6 +98,7 @@ has_called (Fed piece ∷ calls) bytes ms old new h lead short =
 has_called (Given answer ∷ calls) bytes ms old new h lead short =
     subst (λ (l : List (Placed Message)). Has (bytes ++ bytes_of calls) l new) (append_assoc ms (given_by answer) (messages_of calls))
     (has_called calls bytes (ms ++ given_by answer) lead.0 new (has_given answer old lead.0 bytes ms h (omega (arith, short, length-append bytes (bytes_of calls))) lead.1) lead.2 short)
+has_called (Shown answer ∷ calls) bytes ms old new h lead short = has_called calls bytes ms old new h lead.1 short
 
 steps_way : (answer : Next) (old new : Feeding) → Steps answer old new → new.way ≡ old.way
 steps_way (next.One place used message) old new s = ap (λ (f : Feeding). f.way) s.5
@@ -109,6 +110,7 @@ lead_way : (calls : List Call) (old new : Feeding) → Lead calls old new → ne
 lead_way [] old new lead = ap (λ (f : Feeding). f.way) lead
 lead_way (Fed piece ∷ calls) old new lead = lead_way calls (fed old piece) new lead
 lead_way (Given answer ∷ calls) old new lead = lead_way calls lead.0 new lead.2 ∙ steps_way answer old lead.0 lead.1
+lead_way (Shown answer ∷ calls) old new lead = lead_way calls old new lead.1
 
 -- ---- the end
 
@@ -145,6 +147,7 @@ lead_refused [] old now lead = lead
 lead_refused (Fed piece ∷ calls) old now lead = lead_refused calls old now lead
 lead_refused (Given answer ∷ calls) old now lead =
     lead_refused calls old now (subst (λ (f : Feeding). Lead calls f now) (refused_again answer old lead.0 lead.1) lead.2)
+lead_refused (Shown answer ∷ calls) old now lead = lead_refused calls old now lead.1
 
 only_fault : (answer : Next) (old after : Feeding) (place : ℕ) → place ≡ old.at → Steps answer (refused old) after → answer ≡ next.Bad place
 only_fault (next.One p used message) old after place e s = absurd (both_ways true refl s.0)
@@ -152,7 +155,7 @@ only_fault next.NotYet old after place e s = absurd (both_ways true refl s.0)
 only_fault (next.Bad p) old after place e s = ap next.Bad (s.0 ∙ sym e)
 only_fault next.OutOfMemory old after place e s = absurd (both_ways true refl s.0)
 
-rest_there : (old : Feeding) (place : ℕ) → place ≡ old.at → 6 ≤ length old.held → rest_of (refused old) ≡ Some place
+pub rest_there : (old : Feeding) (place : ℕ) → place ≡ old.at → 6 ≤ length old.held → rest_of old ≡ Some place
 rest_there old place e long =
     let some : eqb (length old.held) 0 ≡ false = ne_eqb (length old.held) 0 (λ none. omega (arith, none, long)) in
     ap (λ (b : Bool). if b then None else Some old.at) some ∙ ap Some (sym e)

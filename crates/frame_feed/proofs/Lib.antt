@@ -1,4 +1,5 @@
-mod Refusals
+pub mod Refusals
 pub mod Streams
 mod Histories
 mod Ways
+mod Faults

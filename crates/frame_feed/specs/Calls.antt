@@ -5,6 +5,7 @@ use Rattle.wire_frames.specs.Frames.{Placed, End, Whole, Refused, Rest, ReadsAs}
 use Rattle.wire_frames.specs.declared.decoding.Way.{Way}
 use Rattle.frame_feed.specs.Feeding.{Feeding, SpellsMessage, unfed, fed, rest_of}
 use Rattle.frame_feed.specs.Steps.{Steps}
+use Rattle.frame_feed.specs.Steps as giving
 use Rattle.frame_feed.specs.declared.feeds.Next.{Next}
 use Rattle.frame_feed.specs.declared.feeds.Next.TheVariants as next
 use Rattle.frame_feed.specs.declared.messages.Message.{Message}
@@ -13,22 +14,25 @@ use Rattle.frame_feed.specs.declared.messages.Message.{Message}
 abbrev pub Frames : Way → List ℕ → List (Placed Message) → End → Type 0
 Frames way bytes messages end = ReadsAs (has_kind way) (SpellsMessage way) 0 bytes messages end
 
--- a piece was fed, or this was given next
+-- a piece was fed; or this was given next, by `next`, or by `front` with `advance` behind its message; or `front` showed it
 pub data Call : Type 0 where
   Fed : (piece : List ℕ) → Call
   Given : (answer : Next) → Call
+  Shown : (answer : Next) → Call
 
 -- the calls lead from one state of a feed to another
 abbrev pub Lead : List Call → Feeding → Feeding → Type 0
 Lead [] old new = new ≡ old
 Lead (Fed piece ∷ calls) old new = Lead calls (fed old piece) new
 Lead (Given answer ∷ calls) old new = (between : Feeding) × Steps answer old between × Lead calls between new
+Lead (Shown answer ∷ calls) old new = Steps answer old (giving.after answer old) × Lead calls old new
 
 -- all that was fed
 abbrev pub bytes_of : List Call → List ℕ
 bytes_of [] = []
 bytes_of (Fed piece ∷ calls) = piece ++ bytes_of calls
 bytes_of (Given answer ∷ calls) = bytes_of calls
+bytes_of (Shown answer ∷ calls) = bytes_of calls
 
 -- the messages that were given, with their places
 abbrev pub given_by : Next → List (Placed Message)
@@ -41,6 +45,7 @@ abbrev pub messages_of : List Call → List (Placed Message)
 messages_of [] = []
 messages_of (Fed piece ∷ calls) = messages_of calls
 messages_of (Given answer ∷ calls) = given_by answer ++ messages_of calls
+messages_of (Shown answer ∷ calls) = messages_of calls
 
 -- the end that is told by what is given next, and by what `finish` answers
 abbrev pub TellsEnd : Next → Option ℕ → End → Type 0

@@ -1,5 +1,5 @@
 -- What a feed holds, and the messages of either direction.
-use Rattle.std.specs.Prelude.{ℕ, ◌+◌, ◌-◌, ◌^◌, List, [], ◌++◌, length, drop, min, Bool, true, false, Option, Some, None, ◌==◌, if◌then◌else◌}
+use Rattle.std.specs.Prelude.{ℕ, ◌+◌, ◌-◌, ◌≤◌, ◌^◌, List, [], ◌++◌, length, take, drop, min, Bool, true, false, Option, Some, None, ◌==◌, if◌then◌else◌}
 use Rattle.wire_spelling.specs.Spelling.{SpellsRequest, SpellsReply}
 use Rattle.wire_frames.specs.declared.decoding.Way.{Way}
 use Rattle.wire_frames.specs.declared.decoding.Way.TheVariants.{ToServer, ToDriver}
@@ -19,6 +19,12 @@ pub record Feeding : Type 0 where
   pub at : ℕ
   pub held : List ℕ
   pub failed : Bool
+
+-- the frame of a message stands first, whole, and has so many bytes
+pub record StandsWhole (used : ℕ) (f : Feeding) : Type 0 where
+  pub message : Message
+  pub held : used ≤ length f.held
+  pub spelled : SpellsMessage f.way message (take used f.held)
 
 -- before anything is fed
 abbrev pub unfed : Way → Feeding

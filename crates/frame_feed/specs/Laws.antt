@@ -1,5 +1,5 @@
 -- Laws of a feed.
-use Rattle.std.specs.Prelude.{◌≡◌, ◌<◌, ◌^◌, ◌↔◌, ℕ, List, length, map, Some, flat_map}
+use Rattle.std.specs.Prelude.{◌≡◌, ◌<◌, ◌^◌, ◌↔◌, ◌⊎◌, ℕ, List, [], length, map, Some, flat_map}
 use Rattle.std.specs.List.{All}
 use Rattle.wire_messages.specs.Conditions.{IsRequest, IsReply}
 use Rattle.wire_messages.specs.declared.replies.Reply.{Reply}
@@ -33,6 +33,14 @@ abbrev pub KeepsFault : Type 0
 KeepsFault =
     (old failed now after : Feeding) (place : ℕ) (calls : List Call) (answer : Next)
     → Steps (next.Bad place) old failed → Lead calls failed now → Steps answer now after → (answer ≡ next.Bad place) × (rest_of now ≡ Some place)
+
+-- once `front` showed what is refused, whatever is fed, nothing is given, and the same fault is shown, unless memory ran out, and told at
+-- the end
+abbrev pub KeepsRefusal : Type 0
+KeepsRefusal =
+    (old failed now after : Feeding) (place : ℕ) (calls : List Call) (answer : Next)
+    → Steps (next.Bad place) old failed → Lead calls old now → Steps answer now after
+    → (messages_of calls ≡ []) × ((answer ≡ next.Bad place) ⊎ (answer ≡ next.OutOfMemory)) × (rest_of now ≡ Some place)
 
 -- ---- each direction
 

@@ -1,7 +1,7 @@
 //! Streams of frames in pieces.
 
-ghost use Rattle.std.specs.Prelude.{◌≡◌, ◌≤◌, true, false, length, OnOk, OnErr, IsOk};
-ghost use Rattle.frame_feed.specs.Feeding.{unfed, fed, behind, rest_of};
+ghost use Rattle.std.specs.Prelude.{◌≡◌, true, false, OnOk, OnErr, IsOk};
+ghost use Rattle.frame_feed.specs.Feeding.{StandsWhole, unfed, fed, behind, rest_of};
 ghost use Rattle.frame_feed.specs.Steps.{Steps, after};
 
 use crate::messages::{Message, decode};
@@ -103,10 +103,11 @@ impl FrameFeed {
         }
     }
 
-    /// Lets go of the bytes of the message that stands next.
+    /// Lets go of the bytes of the message that stands next, and of nothing else: so many bytes are
+    /// its frame.
     pub fn advance(&mut self, used: usize)
         requires waits { self.old.failed ≡ false }
-        requires held { used ≤ length self.old.held }
+        requires whole { StandsWhole used self.old }
         ensures { self.new ≡ behind self.old used }
     {
         self.held.advance(used);

@@ -1,6 +1,6 @@
 //! Laws of a feed.
 
-ghost use Rattle.frame_feed.specs.Laws.{GivesFrames, GivesTheSameHoweverCut, KeepsFault, AreRequests, AreReplies, GivesRequestsBack, GivesRepliesBack};
+ghost use Rattle.frame_feed.specs.Laws.{GivesFrames, GivesTheSameHoweverCut, KeepsFault, KeepsRefusal, AreRequests, AreReplies, GivesRequestsBack, GivesRepliesBack};
 
 use wire_frames::{frames_are_read_back, streams_are_read_once};
 
@@ -12,10 +12,14 @@ pub fn feeds_give_frames()
     streams_are_read_once();
 }
 
-/// A feed that met what is no frame answers so from then on.
+/// A feed whose `next` met what is no frame answers so from then on. Where `front` showed it, it is
+/// never let go, and each later call answers so, unless memory runs out.
 pub fn faults_stay()
-    ensures { KeepsFault }
-{}
+    ensures given { KeepsFault }
+    ensures shown { KeepsRefusal }
+{
+    streams_are_read_once();
+}
 
 /// The frames to the server are requests, those to the driver replies; what was written is given back.
 pub fn frames_of_each_way()

@@ -1,4 +1,4 @@
-ghost use Rattle.std.specs.Prelude.{◌≡◌, ◌≤◌, ℕ, List, Option, Contains, Err, IfOk, IfSome, length};
+ghost use Rattle.std.specs.Prelude.{◌≡◌, ◌≤◌, ℕ, List, Option, Contains, Err, IfOk, IfSome, None, OnErr, length};
 ghost use Rattle.ae_edge.specs.Devices.{Rose};
 ghost use Rattle.ae_edge.specs.Vaults.{KeyMap};
 ghost use Rattle.key_store.specs.Opening.{open_key, Opens};
@@ -56,7 +56,9 @@ impl KeyStore {
 
     /// The keys for the cells under a column key, opened by the one vault that the store is used
     /// with: each key that the store keeps is what this vault gives. The vault isn't asked for a key
-    /// that is kept. A key that isn't opened isn't kept, and the store stays one of this vault.
+    /// that is kept. Where no keys are given the store keeps what it kept before, in the same order; a
+    /// key that is opened may put out the one that was used longest ago. The store stays one of this
+    /// vault.
     pub fn column_key<V: Vault>(
         &mut self,
         vault: &mut V,
@@ -64,6 +66,7 @@ impl KeyStore {
     ) -> Result<CellKeys, OpenFault>
         requires { IsOf (V.keys vault.old) self.old }
         ensures opens { IfSome (V.keys vault.old) (λ map. Opens result (open_key map meta.now)) }
+        ensures refused { OnErr result (self.new ≡ self.old) }
         ensures of_vault { IsOf (V.keys vault.new) self.new }
         ensures unchanged { V.keys vault.new ≡ V.keys vault.old }
         ensures same { V.names vault.new ≡ V.names vault.old }
@@ -79,10 +82,12 @@ impl KeyStore {
         Ok(CellKeys::derive(&key))
     }
 
-    /// The key that is kept under an origin, which becomes the most recently used.
+    /// The key that is kept under an origin, which becomes the most recently used. Where none is, the
+    /// store stays as it is.
     fn kept(&mut self, origin: &Origin) -> Option<[u8; 32]>
         ensures found { IfSome result (λ key. Contains self.new (origin.now, key)) }
         ensures kept { AreKept self.old self.new }
+        ensures none { result ≡ None → self.new ≡ self.old }
     {
         self.kept.promote(origin);
         self.kept.peek(origin).copied()
@@ -90,7 +95,8 @@ impl KeyStore {
 
     /// Keeps a key under an origin. Want of memory changes nothing.
     fn keep(&mut self, origin: Origin, key: [u8; 32]) -> Result<(), AllocError>
-        ensures { AreKeptWith origin key self.old self.new }
+        ensures kept { AreKeptWith origin key self.old self.new }
+        ensures refused { OnErr result (self.new ≡ self.old) }
     {
         self.kept.put(origin, key)?;
         Ok(())

@@ -1,4 +1,5 @@
 pub mod BoundStatements
+pub mod Causes
 pub mod Joins
 pub mod Kept
 pub mod KeptWhole

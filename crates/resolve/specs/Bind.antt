@@ -1,5 +1,6 @@
 -- Binding a statement, in five passes over the whole of it: its tables, then its other names, then kinds that clash, then
--- what isn't grouped, then its length. The answer is the fault at the smallest place of the first pass that has one.
+-- what isn't grouped, then its length. The answer is the first fault of the first pass that has one: of tables and names in
+-- text order, of kinds and of what isn't grouped at the smallest place.
 use Rattle.std.specs.Prelude.{ℕ, List, [], map, Result, Ok}
 use Rattle.ae_base.specs.Results.{◌>>=◌}
 use Rattle.ae_base.specs.declared.batches.ParamDecl.{ParamDecl}

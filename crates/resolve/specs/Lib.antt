@@ -2,6 +2,7 @@ pub mod Bind
 pub mod Changes
 pub mod Definitions
 pub mod Dropped
+pub mod Faults
 pub mod Laws
 pub mod Names
 pub mod Queries

@@ -1,4 +1,4 @@
-ghost use Rattle.std.specs.Prelude.{◌≡◌, ◌++◌, [], IfOk, List, Ok, OnOk, map};
+ghost use Rattle.std.specs.Prelude.{◌≡◌, ◌++◌, [], IfErr, IfOk, List, Ok, OnOk, map};
 ghost use Rattle.std.specs.Option.{option_map};
 ghost use Rattle.ae_base.specs.Results.{AnswersAs};
 ghost use Rattle.sql_tree.specs.Bound as bound;
@@ -10,6 +10,7 @@ ghost use Rattle.resolve.specs.Tables.{all_sources};
 ghost use Rattle.ae_base.specs.declared.batches.ParamDecl.{ParamDecl};
 ghost use Rattle.resolve.specs.Bind.{bind, bound_over, named, named_master, type_of};
 ghost use Rattle.resolve.specs.Dropped.{drop_of};
+ghost use Rattle.resolve.specs.Faults.{IsBindFault};
 ghost use Rattle.resolve.specs.Seen.{bound_of_placed, sources_seen};
 
 use crate::changes::{bind_delete, bind_insert, bind_update};
@@ -301,12 +302,9 @@ fn named(
     })
 }
 
-/// Binds a statement over a catalog and the declarations of its parameters: each name becomes the
-/// place of its column or parameter, from 0. The answer is the fault at the smallest place of the
-/// first pass over the whole statement that has one: the tables, the other names, the kinds of
-/// values, what isn't grouped, and the length.
+/// The passes over a statement, one after another.
 #[tactic(auto, unfolding(crate::specs::Bind::bind))]
-pub fn bind(
+fn passed(
     alloc: Global,
     catalog: &Catalog,
     statement: &Statement,
@@ -322,4 +320,22 @@ pub fn bind(
             Err(refusal)
         }
     }
+}
+
+/// Binds a statement over a catalog and the declarations of its parameters: each name becomes the
+/// place of its column or parameter, from 0. The answer is the first fault of the first pass over
+/// the whole statement that has one: the tables (NoTable, Ambiguous) and the other names (NoColumn,
+/// Ambiguous, NoTable, NoParam, NoKey) in text order, the kinds of values (TypeClash) and what isn't
+/// grouped (NotGrouped) at the smallest place, and the length (TooLong).
+#[tactic(auto, using(crate::proofs::Causes::bind_causes))]
+pub fn bind(
+    alloc: Global,
+    catalog: &Catalog,
+    statement: &Statement,
+    declarations: &[ParamDecl],
+) -> Result<Bound, Refusal>
+    ensures exact { AnswersAs bound.bound_of result (bind catalog.now (tree.statement_of statement.now) declarations.now) }
+    ensures causes { IfErr result IsBindFault }
+{
+    passed(alloc, catalog, statement, declarations)
 }

@@ -11,7 +11,7 @@ use Rattle.wire_frames.specs.Frames.{End, Whole, Refused, Rest, EndsSo, IsNotYet
 use Rattle.wire_frames.specs.Laws.{placed_from}
 use Rattle.wire_frames.specs.declared.decoding.Way.{Way}
 use Rattle.wire_frames.specs.declared.decoding.Way.TheVariants.{ToServer}
-use Rattle.frame_feed.specs.Feeding.{Feeding, SpellsMessage, behind, fed, unfed}
+use Rattle.frame_feed.specs.Feeding.{Feeding, SpellsMessage, StandsWhole, behind, fed, unfed}
 use Rattle.frame_feed.specs.Steps.{Steps}
 use Rattle.frame_feed.specs.declared.feeds.Next.TheVariants as next
 use Rattle.frame_feed.specs.declared.messages.Message.{Message}
@@ -19,13 +19,20 @@ use Rattle.frame_feed.specs.declared.messages.Message.TheVariants.{Asks, Tells}
 use Rattle.server_core.specs.Serve.{State, serve, empty_state}
 use Rattle.serve_command.specs.ServeAll.{reply_frames, state_after}
 use Rattle.serve_command.specs.Serving.{Begins, AnswersAll, AnswersFirst, AnswersOpen, BreaksOff, IsOpen}
-use Rattle.serve_command.specs.Turns.{IsAsked, Answers, Turns, AnswersNext, BreaksNext, Stands}
+use Rattle.serve_command.specs.Turns.{IsAsked, IsNext, Answers, Turns, AnswersNext, BreaksNext, Stands}
 use Rattle.serve_command.specs.declared.turns.Turn.{Turn}
 use Rattle.serve_command.specs.declared.turns.Turn.TheVariants as turn
 use Rattle.serve_command.proofs.Replying.{state_more, frames_more}
 use Rattle.serve_command.proofs.Beginning.{begins_none, begins_more, begins_fed, requests_placed, reads_so}
 
 -- ---- what stands next
+
+pub stands_whole : (feed : Feeding) (request : Request) (used : ℕ) → feed.way ≡ ToServer → IsNext feed request used → StandsWhole used feed
+stands_whole feed request used way next = record {
+  message = Asks request;
+  held = next.held;
+  spelled = subst (λ (w : Way). SpellsMessage w (Asks request) (take used feed.held)) (sym way) next.spells;
+}
 
 -- a message to the server is a request
 pub is_asked : (way : Way) (message : Message) (bytes : List ℕ) → way ≡ ToServer → SpellsMessage way message bytes → IsAsked message

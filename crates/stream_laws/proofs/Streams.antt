@@ -6,7 +6,6 @@ use Rattle.scalar.specs.Classes.{Pairing, Listing}
 use Rattle.serve_command.specs.ServeAll.{requests_of, state_after}
 use Rattle.server_core.specs.Correspond.{RequestsCorrespond, StatesCorrespond}
 use Rattle.server_core.specs.Laws.{ServedAlike}
-use Rattle.server_core.specs.Serve.{empty_state, serve_all}
 use Rattle.wire_frames.specs.Frames.{Placed, End, ReadsAs, is_request_kind}
 use Rattle.wire_messages.specs.Conditions.{IsRequest}
 use Rattle.wire_messages.specs.declared.requests.Request.{Request}
@@ -27,6 +26,6 @@ pub streams_served_alike : ServedAlike → StreamsAreServedAlike
 streams_served_alike law entries renaming bytes others frames more after later left right h =
     let R = Listing entries in
     let a = law entries renaming (requests_of left.requests) (requests_of right.requests) (are_requests 0 bytes left.requests _ left.read) (in_order R left.requests right.requests h) in (
-      record { replies = (serve_all empty_state (requests_of left.requests)).0; seconds = (serve_all empty_state (requests_of right.requests)).0; left = left.replied; right = right.replied; correspond = a.0 },
+      record { left = left.replied; right = right.replied; correspond = a.0 },
       subst (λ s. StatesCorrespond R s later) (sym left.left) (subst (λ s. StatesCorrespond R (state_after (requests_of left.requests)) s) (sym right.left) a.1),
     )

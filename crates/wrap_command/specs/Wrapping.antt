@@ -74,7 +74,7 @@ Wraps ended.WriteFault path bytes old new = PutsWrapped AddsFront path bytes old
 Wraps ended.OutOfMemory path bytes old new = PutsWrapped AddsFront path bytes old new ⊎ (new.out ≡ old.out)
 Wraps ended.ReadFault path bytes old new = new.out ≡ old.out
 Wraps ended.TooLong path bytes old new = (most_input_bytes < length bytes) × (new.out ≡ old.out)
-Wraps ended.BadLine path bytes old new = ((key : List ℕ) → ¬ SpellsKey bytes key) × (new.out ≡ old.out)
+Wraps ended.BadLine path bytes old new = (length bytes ≤ most_input_bytes) × ((key : List ℕ) → ¬ SpellsKey bytes key) × (new.out ≡ old.out)
 Wraps ended.VaultFault path bytes old new = ((key : List ℕ) × SpellsKey bytes key) × (new.out ≡ old.out)
 Wraps ended.NoMasterKey path bytes old new = ((key : List ℕ) × SpellsKey bytes key) × IfSome old.keys (λ keys. key_at keys path ≡ None) × (new.out ≡ old.out)
 

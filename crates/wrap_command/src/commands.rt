@@ -2,7 +2,7 @@
 
 ghost use Rattle.std.specs.Prelude.{◌≡◌, ◌≤◌, ℕ, List, IfSome, length};
 ghost use Rattle.ae_edge.specs.Devices.{Rose, WhereTold};
-ghost use Rattle.wrap_command.specs.Wrapping.{IsRead, Puts, Takes, Wraps, wrapped_line};
+ghost use Rattle.wrap_command.specs.Wrapping.{IsRead, Puts, Takes, Wraps, most_input_bytes, wrapped_line};
 
 use crate::lines::key_in;
 use ae_base::texts::Txt;
@@ -60,6 +60,7 @@ fn put_line<W: Sink>(out: &mut W, line: &[u8]) -> Wrapped
 
 /// Wraps the key that the input spells.
 fn wrap_input<V: Vault, W: Sink>(path: &Txt, input: &[u8], vault: &mut V, out: &mut W) -> Wrapped
+    requires { length input.now ≤ most_input_bytes }
     ensures content { Wraps result path.now input.now (record { keys = V.keys vault.old; out = W.held out.old }) (record { keys = V.keys vault.new; out = W.held out.new }) }
     ensures read { IsRead result }
     ensures vault { result ≡ Wrapped.VaultFault → Rose (V.faults vault.old) (V.faults vault.new) }

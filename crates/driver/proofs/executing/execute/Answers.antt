@@ -37,3 +37,6 @@ returns-in-Reading-clause-sent g c = let e = c.nothing_pending-in-Reading.ensure
 
 pub returns-in-Skipping-clause-sent : goal.returns-in-Skipping-clause-sent
 returns-in-Skipping-clause-sent g c = let e = c.nothing_pending-in-Skipping.ensures in rw e tt
+
+pub returns-in-Pending-clause-kept : goal.returns-in-Pending-clause-kept
+returns-in-Pending-clause-kept g c = λ none. let pending = rw c.in-Pending.is at none in cc

@@ -20,3 +20,6 @@ returns-in-Begun-clause-replies g c = λ beside. let e = c.halted-in-Begun.ensur
 
 pub returns-in-Pending-clause-replies : goal.returns-in-Pending-clause-replies
 returns-in-Pending-clause-replies g c = λ beside. let e = c.halted-in-Pending.ensures in rw (c.in-Pending.is, e) (refl, refl, refl)
+
+pub returns-in-Sent-clause-kept : goal.returns-in-Sent-clause-kept
+returns-in-Sent-clause-kept g c = λ none. c.sent_replied.ensures.kept (rw c.in-Sent.is at none)

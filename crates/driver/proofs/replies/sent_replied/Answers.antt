@@ -17,3 +17,6 @@ returns-in-Row-clause-replies g c = λ beside. let e = c.halted.ensures in rw (c
 
 pub returns-in-Described-clause-replies : goal.returns-in-Described-clause-replies
 returns-in-Described-clause-replies g c = λ beside. let e = c.halted-in-Described.ensures in rw (c.in-Described.is, e) (refl, refl, refl)
+
+pub returns-in-Columns-clause-kept : goal.returns-in-Columns-clause-kept
+returns-in-Columns-clause-kept g c = λ none. let shown = rw c.in-Columns.is at none in cc

@@ -1,7 +1,12 @@
 -- One request more is answered, or what was taken ends there.
 use Rattle.std.proofs.Common.{◌∙◌}
-use Rattle.serve_command.proofs.Turning.{stands_more, stops_refused, breaks_off, stops_unheld}
+use Rattle.serve_command.proofs.Turning.{stands_whole, stands_more, stops_refused, breaks_off, stops_unheld}
 use Rattle.serve_command.proofs.turns.answer_held.Goals as goal
+
+pub advance-requires : goal.advance-requires
+advance-requires g c =
+    let a = c.in-Answered.ensures.turns in
+    record { waits = a.waits; whole = stands_whole c.requests.feed a.request c.in-Answered.used c.requests.invariant.way a.next }
 
 pub requests-preserved : goal.requests-preserved
 requests-preserved g c =

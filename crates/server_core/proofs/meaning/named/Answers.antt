@@ -12,8 +12,8 @@ use Rattle.server_core.proofs.meaning.named.Goals as goal
 pub returns-clause-exact : goal.returns-clause-exact
 returns-clause-exact c =
     goes_on statement_of bound_of (parsed (encode_utf8_all c.args.text.now)) (λ (statement : Statement). bind c.args.catalog.now statement c.args.declarations.now) c.in_ok-statement.statement
-    c.bind-bound.result (ap parsed (sym c.as_str.ensures.bytes) ∙ c.in_ok-statement.ensures.exact) c.bind-bound.ensures
+    c.bind-bound.result (ap parsed (sym c.as_str.ensures.bytes) ∙ c.in_ok-statement.ensures.exact) c.bind-bound.ensures.exact
 
 pub returns-clause-bound : goal.returns-clause-bound
 returns-clause-bound c =
-    named_so c.bound_statements_are.ensures c.args.catalog.now (statement_of c.in_ok-statement.statement) c.args.declarations.now c.bind-bound.result c.bind-bound.ensures
+    named_so c.bound_statements_are.ensures c.args.catalog.now (statement_of c.in_ok-statement.statement) c.args.declarations.now c.bind-bound.result c.bind-bound.ensures.exact

@@ -20,11 +20,11 @@ returns-in_err-key-clause-of_vault g c =
 pub returns-in_err-keep-clause-of_vault : goal.returns-in_err-keep-clause-of_vault
 returns-in_err-keep-clause-of_vault g c =
     let told = g.V.Vault.keys c.args.vault.now in
-    stays-with told (g.V.Vault.keys c.open.new.vault) c.args.meta.now c.in_ok-origin.origin c.in_ok-key.key c.kept.new.self c.keep.new.self c.open.ensures.unchanged c.keep.ensures
+    stays-with told (g.V.Vault.keys c.open.new.vault) c.args.meta.now c.in_ok-origin.origin c.in_ok-key.key c.kept.new.self c.keep.new.self c.open.ensures.unchanged c.keep.ensures.kept
     (stays told told c.args.self.now c.kept.new.self refl c.kept.ensures.kept c.requires) c.in_ok-origin.ensures c.in_ok-key.ensures.opens
 
 pub returns-clause-of_vault : goal.returns-clause-of_vault
 returns-clause-of_vault g c =
     let told = g.V.Vault.keys c.args.vault.now in
-    stays-with told (g.V.Vault.keys c.open.new.vault) c.args.meta.now c.in_ok-origin.origin c.in_ok-key.key c.kept.new.self c.keep.new.self c.open.ensures.unchanged c.keep.ensures
+    stays-with told (g.V.Vault.keys c.open.new.vault) c.args.meta.now c.in_ok-origin.origin c.in_ok-key.key c.kept.new.self c.keep.new.self c.open.ensures.unchanged c.keep.ensures.kept
     (stays told told c.args.self.now c.kept.new.self refl c.kept.ensures.kept c.requires) c.in_ok-origin.ensures c.in_ok-key.ensures.opens

@@ -3,6 +3,6 @@ use Rattle.key_store.specs.Stores.{AreKeptWith}
 use Rattle.key_store.proofs.Keeping.{put-kept}
 use Rattle.key_store.proofs.stores.KeyStore.keep.Goals as goal
 
-pub returns : goal.returns
-returns c = subst (λ old. AreKeptWith c.args.origin c.args.key old c.put.new.self.entries) c.self.view_is
+pub returns-clause-kept : goal.returns-clause-kept
+returns-clause-kept c = subst (λ old. AreKeptWith c.args.origin c.args.key old c.put.new.self.entries) c.self.view_is
     (put-kept c.args.origin c.args.key c.self.inside.kept c.put.new.self.entries (ap (λ cache. cache.entries) c.in_ok-put.ensures.entries))

@@ -1,0 +1,292 @@
+-- The faults of each part of a statement that is bound.
+use Rattle.std.specs.Prelude.{IfErr}
+use Rattle.std.proofs.Common.{ℕ, ◌+◌, List, [], ◌∷◌, ◌++◌, refl, subst, Bool, true, false, Option, Some, None, Result, Ok, Err, inl, inr, if◌then◌else◌}
+use Rattle.ae_base.specs.Results.{◌>>=◌, each, or_fault, AnswersAs}
+use Rattle.ae_base.specs.declared.batches.ParamDecl.{ParamDecl}
+use Rattle.ae_base.specs.declared.tables.ColumnDef.{ColumnDef}
+use Rattle.ae_base.specs.declared.tables.TableDef.{TableDef}
+use Rattle.ae_base.specs.declared.faults.SqlFault.{SqlFault}
+use Rattle.ae_base.specs.declared.faults.SqlFault.TheVariants as fault
+use Rattle.ae_base.specs.declared.refusals.Refusal.{Refusal}
+use Rattle.ae_base.specs.declared.refusals.Refusal.TheVariants.{Fault, OutOfMemory}
+use Rattle.sql_tree.specs.declared.operands.ColumnRef.{ColumnRef}
+use Rattle.sql_tree.specs.declared.statements.ColumnSpec.{ColumnSpec}
+use Rattle.sql_tree.specs.declared.statements.Encryption.{Encryption}
+use Rattle.sql_tree.specs.declared.statements.SourceTable.{SourceTable}
+use Rattle.sql_tree.specs.declared.statements.UniqueSpec.{UniqueSpec}
+use Rattle.sql_tree.specs.Operands.{Operand, Terms}
+use Rattle.sql_tree.specs.Operands as operands
+use Rattle.sql_tree.specs.Conditions.{Condition, Conditions}
+use Rattle.sql_tree.specs.Conditions as conditions
+use Rattle.sql_tree.specs.Statements as tree
+use Rattle.sql_tree.specs.Bound as bound
+use Rattle.bound_checks.specs.Checks.{least, none_at, is_too_long, checked}
+use Rattle.bound_checks.specs.Clashes.{clashes}
+use Rattle.bound_checks.specs.Grouping.{ungrouped}
+use Rattle.catalog.specs.Catalogs.{Catalog, table_named, key_named, master_named}
+use Rattle.resolve.specs.Bind.{named, bind}
+use Rattle.resolve.specs.Changes.{places_for, listed_place, bind_row, bind_assignment, assigned, table_scope, bind_insert, bind_update, bind_delete}
+use Rattle.resolve.specs.Definitions.{key_path, is_key_path, wrapped_key, is_wrapped_key, master_for, enc_for, new_name, column_behind, bind_column, bind_key_column, bind_unique, bind_table}
+use Rattle.resolve.specs.Faults.{IsStatementFault, IsBindFault}
+use Rattle.resolve.specs.Names.{short, bind_operand, bind_terms, bind_operands, bind_condition, bind_conditions, bind_filter}
+use Rattle.resolve.specs.Queries.{bind_value, bind_item, bind_items, bind_join, bind_joins, bind_column_at, bind_key, bind_order, bind_over, bind_query}
+use Rattle.resolve.specs.Scopes.{Scope, one_place, known_source, places_from, column_place, param_place, new_place, named_place}
+use Rattle.resolve.specs.Tables.{Joined, Sources, table_for, source_for, joined_from, sources_for}
+use Rattle.resolve.specs.Walks.{each_from}
+
+-- a part has a fault of a statement, if any
+abbrev Blames : {A : Type 0} → Result A SqlFault → Type 0
+Blames r = IfErr r IsStatementFault
+
+both : {A B : Type 0} (r : Result A SqlFault) (f : A → Result B SqlFault) → Blames r → ((x : A) → Blames (f x)) → Blames (r >>= f)
+both (Ok x) f first then_ = then_ x
+both (Err e) f first then_ = first
+
+alone : {A B : Type 0} (r : Result A SqlFault) (f : A → B) → Blames r → Blames (r >>= λ x. Ok (f x))
+alone (Ok x) f first = tt
+alone (Err e) f first = first
+
+looked_up : {A : Type 0} (e : SqlFault) (o : Option A) → IsStatementFault e → Blames (or_fault e o)
+looked_up e None is = is
+looked_up e (Some x) is = tt
+
+only_if : {A : Type 0} (test : Bool) (x : A) (e : SqlFault) → IsStatementFault e → Blames (if test then Ok x else Err e)
+only_if true x e is = tt
+only_if false x e is = is
+
+unless : {A : Type 0} (test : Bool) (r : Result A SqlFault) (e : SqlFault) → IsStatementFault e → Blames r → Blames (if test then Err e else r)
+unless true r e is rest = is
+unless false r e is rest = rest
+
+each_blames : {A B : Type 0} (f : A → Result B SqlFault) → ((x : A) → Blames (f x)) → (xs : List A) → Blames (each f xs)
+each_blames f one [] = tt
+each_blames f one (x ∷ xs) = both (f x) (λ y. each f xs >>= λ ys. Ok (y ∷ ys)) (one x) (λ y. alone (each f xs) (λ ys. y ∷ ys) (each_blames f one xs))
+
+each_from_blames : {A B : Type 0} (f : ℕ → A → Result B SqlFault) → ((i : ℕ) (x : A) → Blames (f i x)) → (i : ℕ) (xs : List A) → Blames (each_from f i xs)
+each_from_blames f one i [] = tt
+each_from_blames f one i (x ∷ xs) =
+    both (f i x) (λ y. each_from f (i + 1) xs >>= λ ys. Ok (y ∷ ys)) (one i x) (λ y. alone (each_from f (i + 1) xs) (λ ys. y ∷ ys) (each_from_blames f one (i + 1) xs))
+
+-- ---- the faults
+
+no_table : (name : List ℕ) → IsStatementFault (fault.NoTable name)
+no_table name = inl (name, inl refl)
+
+no_column : (name : List ℕ) → IsStatementFault (fault.NoColumn name)
+no_column name = inl (name, inr (inl refl))
+
+ambiguous : (name : List ℕ) → IsStatementFault (fault.Ambiguous name)
+ambiguous name = inl (name, inr (inr (inl refl)))
+
+no_param : (name : List ℕ) → IsStatementFault (fault.NoParam name)
+no_param name = inl (name, inr (inr (inr (inl refl))))
+
+no_key : (name : List ℕ) → IsStatementFault (fault.NoKey name)
+no_key name = inl (name, inr (inr (inr (inr refl))))
+
+type_clash : (at : ℕ) → IsStatementFault (fault.TypeClash at)
+type_clash at = inr (inl (at, inl refl))
+
+not_grouped : (at : ℕ) → IsStatementFault (fault.NotGrouped at)
+not_grouped at = inr (inl (at, inr refl))
+
+too_long : IsStatementFault fault.TooLong
+too_long = inr (inr refl)
+
+-- ---- names
+
+table_blames : (catalog : Catalog) (name : List ℕ) → Blames (table_for catalog name)
+table_blames catalog name = looked_up (fault.NoTable name) (table_named catalog name) (no_table name)
+
+one_blames : (name places : List ℕ) → Blames (one_place name places)
+one_blames name [] = no_column name
+one_blames name (p ∷ []) = tt
+one_blames name (p ∷ q ∷ more) = ambiguous name
+
+known_blames : (sources : List (List ℕ)) (qualifier : Option (List ℕ)) → Blames (known_source sources qualifier)
+known_blames sources None = tt
+known_blames sources (Some qualifier) = only_if _ tt (fault.NoTable qualifier) (no_table qualifier)
+
+column_blames : (scope : Scope) (ref : ColumnRef) → Blames (column_place scope ref)
+column_blames scope ref = both (known_source scope.sources ref.qualifier) _ (known_blames scope.sources ref.qualifier) (λ known. one_blames ref.name (places_from 0 ref scope.columns))
+
+param_blames : (declarations : List ParamDecl) (name : List ℕ) → Blames (param_place declarations name)
+param_blames declarations name = looked_up (fault.NoParam name) _ (no_param name)
+
+new_blames : (columns : List ColumnDef) (name : List ℕ) (given : Bool) → Blames (new_place columns name given)
+new_blames columns name given = both (or_fault (fault.NoColumn name) _) _ (looked_up (fault.NoColumn name) _ (no_column name)) (λ place. unless given (Ok place) (fault.Ambiguous name) (ambiguous name) tt)
+
+named_blames : (columns : List ColumnDef) (before : List (List ℕ)) (name : List ℕ) → Blames (named_place columns before name)
+named_blames columns before name = new_blames columns name _
+
+-- ---- operands and conditions
+
+mutual
+  operand_blames : (scope : Scope) (ds : List ParamDecl) (o : Operand ColumnRef (List ℕ)) → Blames (bind_operand scope ds o)
+  operand_blames scope ds (operands.Literal at v) = alone (short v) (λ fine. operands.Literal at v) (only_if _ tt fault.TooLong too_long)
+  operand_blames scope ds (operands.Param at name) = alone (param_place ds name) (operands.Param at) (param_blames ds name)
+  operand_blames scope ds (operands.Column at ref) = alone (column_place scope ref) (operands.Column at) (column_blames scope ref)
+  operand_blames scope ds (operands.Minus at operand) = alone (bind_operand scope ds operand) (operands.Minus at) (operand_blames scope ds operand)
+  operand_blames scope ds (operands.Sum first terms) =
+      both (bind_operand scope ds first) _ (operand_blames scope ds first) (λ one. alone (bind_terms scope ds terms) (operands.Sum one) (terms_blames scope ds terms))
+
+  terms_blames : (scope : Scope) (ds : List ParamDecl) (terms : Terms ColumnRef (List ℕ)) → Blames (bind_terms scope ds terms)
+  terms_blames scope ds operands.NoMore = tt
+  terms_blames scope ds (operands.PlusThen at operand terms) =
+      both (bind_operand scope ds operand) _ (operand_blames scope ds operand) (λ one. alone (bind_terms scope ds terms) (operands.PlusThen at one) (terms_blames scope ds terms))
+  terms_blames scope ds (operands.MinusThen at operand terms) =
+      both (bind_operand scope ds operand) _ (operand_blames scope ds operand) (λ one. alone (bind_terms scope ds terms) (operands.MinusThen at one) (terms_blames scope ds terms))
+
+operands_blame : (scope : Scope) (ds : List ParamDecl) (list : List (Operand ColumnRef (List ℕ))) → Blames (bind_operands scope ds list)
+operands_blame scope ds list = each_blames (bind_operand scope ds) (operand_blames scope ds) list
+
+mutual
+  condition_blames : (scope : Scope) (ds : List ParamDecl) (c : Condition ColumnRef (List ℕ)) → Blames (bind_condition scope ds c)
+  condition_blames scope ds (conditions.Compare at comparison left right) =
+      both (bind_operand scope ds left) _ (operand_blames scope ds left) (λ l. alone (bind_operand scope ds right) (conditions.Compare at comparison l) (operand_blames scope ds right))
+  condition_blames scope ds (conditions.IsNull negated operand) = alone (bind_operand scope ds operand) (conditions.IsNull negated) (operand_blames scope ds operand)
+  condition_blames scope ds (conditions.In at negated operand list) =
+      both (bind_operand scope ds operand) _ (operand_blames scope ds operand) (λ o. alone (bind_operands scope ds list) (conditions.In at negated o) (operands_blame scope ds list))
+  condition_blames scope ds (conditions.Not condition) = alone (bind_condition scope ds condition) conditions.Not (condition_blames scope ds condition)
+  condition_blames scope ds (conditions.AllOf all) = alone (bind_conditions scope ds all) conditions.AllOf (conditions_blame scope ds all)
+  condition_blames scope ds (conditions.AnyOf any) = alone (bind_conditions scope ds any) conditions.AnyOf (conditions_blame scope ds any)
+
+  conditions_blame : (scope : Scope) (ds : List ParamDecl) (all : Conditions ColumnRef (List ℕ)) → Blames (bind_conditions scope ds all)
+  conditions_blame scope ds conditions.NoMore = tt
+  conditions_blame scope ds (conditions.Then condition all) =
+      both (bind_condition scope ds condition) _ (condition_blames scope ds condition) (λ one. alone (bind_conditions scope ds all) (conditions.Then one) (conditions_blame scope ds all))
+
+filter_blames : (scope : Scope) (ds : List ParamDecl) (filter : Option (Condition ColumnRef (List ℕ))) → Blames (bind_filter scope ds filter)
+filter_blames scope ds None = tt
+filter_blames scope ds (Some condition) = alone (bind_condition scope ds condition) Some (condition_blames scope ds condition)
+
+-- ---- definitions
+
+encryption_blames : (catalog : Catalog) (encryption : Option Encryption) → Blames (enc_for catalog encryption)
+encryption_blames catalog None = tt
+encryption_blames catalog (Some encryption) = alone (or_fault (fault.NoKey encryption.key) (key_named catalog encryption.key)) _ (looked_up (fault.NoKey encryption.key) _ (no_key encryption.key))
+
+definition_blames : (catalog : Catalog) (before : List ColumnSpec) (column : ColumnSpec) → Blames (column_behind catalog before column)
+definition_blames catalog before column =
+    both (new_name _ column.name) _ (unless _ (Ok tt) (fault.Ambiguous column.name) (ambiguous column.name) tt)
+    (λ new. alone (enc_for catalog column.encryption) _ (encryption_blames catalog column.encryption))
+
+unique_blames : (columns : List ColumnDef) (unique : UniqueSpec) → Blames (bind_unique columns unique)
+unique_blames columns unique = each_from_blames (bind_key_column columns unique.columns) (λ i named. alone (named_place columns _ named.name) _ (named_blames columns _ named.name)) 0 unique.columns
+
+definitions_blame : (catalog : Catalog) (table : List ℕ) (columns : List ColumnSpec) (uniques : List UniqueSpec) → Blames (bind_table catalog table columns uniques)
+definitions_blame catalog table columns uniques =
+    both (each_from (bind_column catalog columns) 0 columns) _ (each_from_blames (bind_column catalog columns) (λ i column. definition_blames catalog _ column) 0 columns)
+    (λ defs. alone (each (bind_unique defs) uniques) _ (each_blames (bind_unique defs) (unique_blames defs) uniques))
+
+-- ---- changes
+
+places_blame : (columns : List ColumnDef) (names : Option (List (List ℕ))) → Blames (places_for columns names)
+places_blame columns None = tt
+places_blame columns (Some names) = each_from_blames (listed_place columns names) (λ i name. named_blames columns _ name) 0 names
+
+row_blames : (ds : List ParamDecl) (row : tree.ValueRow) → Blames (bind_row ds row)
+row_blames ds row = alone (bind_operands _ ds row.values) _ (operands_blame _ ds row.values)
+
+insert_blames : (ds : List ParamDecl) (def : TableDef) (table : List ℕ) (names : Option (List (List ℕ))) (rows : List tree.ValueRow) → Blames (bind_insert ds def table names rows)
+insert_blames ds def table names rows =
+    both (places_for def.columns names) _ (places_blame def.columns names) (λ named. alone (each (bind_row ds) rows) _ (each_blames (bind_row ds) (row_blames ds) rows))
+
+assignment_blames : (ds : List ParamDecl) (def : TableDef) (scope : Scope) (before : List tree.Assignment) (a : tree.Assignment) → Blames (bind_assignment ds def scope before a)
+assignment_blames ds def scope before a =
+    both (named_place def.columns _ a.column) _ (named_blames def.columns _ a.column) (λ place. alone (bind_operand scope ds a.value) _ (operand_blames scope ds a.value))
+
+update_blames : (ds : List ParamDecl) (def : TableDef) (table : List ℕ) (all : List tree.Assignment) (filter : Option (Condition ColumnRef (List ℕ))) → Blames (bind_update ds def table all filter)
+update_blames ds def table all filter =
+    both (each_from (assigned ds def (table_scope table def) all) 0 all) _ (each_from_blames (assigned ds def (table_scope table def) all) (λ i a. assignment_blames ds def (table_scope table def) _ a) 0 all)
+    (λ assignments. alone (bind_filter (table_scope table def) ds filter) _ (filter_blames (table_scope table def) ds filter))
+
+delete_blames : (ds : List ParamDecl) (def : TableDef) (table : List ℕ) (filter : Option (Condition ColumnRef (List ℕ))) → Blames (bind_delete ds def table filter)
+delete_blames ds def table filter = alone (bind_filter (table_scope table def) ds filter) _ (filter_blames (table_scope table def) ds filter)
+
+-- ---- queries
+
+source_blames : (catalog : Catalog) (given : List (List ℕ)) (source : SourceTable) → Blames (source_for catalog given source)
+source_blames catalog given source =
+    both (table_for catalog source.table) _ (table_blames catalog source.table) (λ def. unless _ (Ok _) (fault.Ambiguous _) (ambiguous _) tt)
+
+joins_blame : (catalog : Catalog) (given : List (List ℕ)) (joins : List tree.Join) → Blames (joined_from catalog given joins)
+joins_blame catalog given [] = tt
+joins_blame catalog given (join ∷ joins) =
+    both (source_for catalog given join.source) _ (source_blames catalog given join.source)
+    (λ source. alone (joined_from catalog (given ++ source.visible ∷ []) joins) _ (joins_blame catalog (given ++ source.visible ∷ []) joins))
+
+sources_blame : (catalog : Catalog) (query : tree.Query) → Blames (sources_for catalog query)
+sources_blame catalog query =
+    both (source_for catalog [] query.from) _ (source_blames catalog [] query.from)
+    (λ from. alone (joined_from catalog (from.visible ∷ []) query.joins) _ (joins_blame catalog (from.visible ∷ []) query.joins))
+
+value_blames : (scope : Scope) (ds : List ParamDecl) (value : tree.ItemValue) → Blames (bind_value scope ds value)
+value_blames scope ds (tree.Value operand) = alone (bind_operand scope ds operand) bound.Value (operand_blames scope ds operand)
+value_blames scope ds (tree.Count at) = tt
+
+items_blame : (scope : Scope) (ds : List ParamDecl) (items : tree.Items) → Blames (bind_items scope ds items)
+items_blame scope ds (tree.Star at) = tt
+items_blame scope ds (tree.Listed items) = each_blames (bind_item scope ds) (λ item. alone (bind_value scope ds item.value) _ (value_blames scope ds item.value)) items
+
+on_blames : (ds : List ParamDecl) (before : Scope) (joins : List Joined) → Blames (bind_joins ds before joins)
+on_blames ds before [] = tt
+on_blames ds before (join ∷ joins) =
+    both (bind_join _ ds join) _ (alone (bind_condition _ ds join.on) _ (condition_blames _ ds join.on)) (λ b. alone (bind_joins ds _ joins) _ (on_blames ds _ joins))
+
+order_blames : (scope : Scope) (query : tree.Query) → Blames (bind_order scope query)
+order_blames scope query =
+    both (each (bind_column_at scope) query.group_by) _ (each_blames (bind_column_at scope) (λ column. alone (column_place scope column.column) _ (column_blames scope column.column)) query.group_by)
+    (λ group_by. alone (each (bind_key scope) query.order_by) _
+    (each_blames (bind_key scope) (λ key. alone (column_place scope key.column.column) _ (column_blames scope key.column.column)) query.order_by))
+
+query_blames : (scope : Scope) (ds : List ParamDecl) (sources : Sources) (query : tree.Query) → Blames (bind_over scope ds sources query)
+query_blames scope ds sources query =
+    both (bind_items scope ds query.items) _ (items_blame scope ds query.items)
+    (λ items. both (bind_joins ds _ sources.joins) _ (on_blames ds _ sources.joins)
+    (λ joins. both (bind_filter scope ds query.filter) _ (filter_blames scope ds query.filter)
+    (λ filter. alone (bind_order scope query) _ (order_blames scope query))))
+
+-- ---- the whole statement
+
+named_blame : (catalog : Catalog) (statement : tree.Statement) (ds : List ParamDecl) → Blames (named catalog statement ds)
+named_blame catalog (tree.CreateMaster name path) ds = alone (key_path path) _ (only_if (is_key_path path) path fault.TooLong too_long)
+named_blame catalog (tree.CreateKey name master wrapped) ds =
+    both (wrapped_key wrapped) _ (only_if (is_wrapped_key wrapped) wrapped fault.TooLong too_long)
+    (λ w. alone (master_for catalog master) _ (alone (or_fault (fault.NoKey master) (master_named catalog master)) _ (looked_up (fault.NoKey master) _ (no_key master))))
+named_blame catalog (tree.CreateTable table columns uniques) ds = alone (bind_table catalog table columns uniques) _ (definitions_blame catalog table columns uniques)
+named_blame catalog (tree.DropTable name) ds = tt
+named_blame catalog (tree.DropMaster name) ds = tt
+named_blame catalog (tree.DropKey name) ds = tt
+named_blame catalog (tree.Insert table columns rows) ds =
+    both (table_for catalog table) _ (table_blames catalog table) (λ def. alone (bind_insert ds def table columns rows) _ (insert_blames ds def table columns rows))
+named_blame catalog (tree.Update table assignments filter) ds =
+    both (table_for catalog table) _ (table_blames catalog table) (λ def. alone (bind_update ds def table assignments filter) _ (update_blames ds def table assignments filter))
+named_blame catalog (tree.Delete table filter) ds =
+    both (table_for catalog table) _ (table_blames catalog table) (λ def. alone (bind_delete ds def table filter) _ (delete_blames ds def table filter))
+named_blame catalog (tree.Select query) ds =
+    both (sources_for catalog query) _ (sources_blame catalog query) (λ sources. alone (bind_query ds sources query) _ (query_blames _ ds sources query))
+named_blame catalog (tree.Control control) ds = tt
+
+at_places : (f : ℕ → SqlFault) (found : Option ℕ) → ((at : ℕ) → IsStatementFault (f at)) → Blames (none_at f found)
+at_places f None is = tt
+at_places f (Some at) is = is at
+
+checks_blame : (made : bound.Bound) → Blames (checked made)
+unfolding checked
+checks_blame made =
+    both (none_at fault.TypeClash (least (clashes made))) _ (at_places fault.TypeClash (least (clashes made)) type_clash)
+    (λ kinds. both (none_at fault.NotGrouped (least (ungrouped made))) _ (at_places fault.NotGrouped (least (ungrouped made)) not_grouped)
+    (λ grouped. unless (is_too_long made) (Ok tt) fault.TooLong too_long tt))
+
+bind_blames : (catalog : Catalog) (statement : tree.Statement) (ds : List ParamDecl) → Blames (bind catalog statement ds)
+unfolding bind
+bind_blames catalog statement ds =
+    both (named catalog statement ds) _ (named_blame catalog statement ds) (λ made. alone (checked made) _ (checks_blame made))
+
+-- what a call answers is such a fault
+pub bind_causes : {B : Type 0} (view : B → bound.Bound) (result : Result B (Refusal SqlFault)) (catalog : Catalog) (statement : tree.Statement) (ds : List ParamDecl)
+    → AnswersAs view result (bind catalog statement ds) → IfErr result IsBindFault
+bind_causes view (Ok x) catalog statement ds a = tt
+bind_causes view (Err OutOfMemory) catalog statement ds a = tt
+bind_causes view (Err (Fault f)) catalog statement ds a = subst (λ r. IfErr r IsStatementFault) a (bind_blames catalog statement ds)
