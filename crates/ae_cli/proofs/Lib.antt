@@ -1,3 +1,1 @@
-pub mod Sizes
-pub mod TwoWords
-pub mod Unread
+mod Unread

@@ -8,11 +8,12 @@ mod generating;
 mod serving;
 #[cfg(test)]
 mod tests;
-mod words;
 mod wrapping;
 
-ghost use Rattle.std.specs.Prelude.{◌≡◌, ℕ, true};
-ghost use Rattle.ae_cli.specs.Words.{AreNoCommand, IsOfRun, IsRefusedUsage, is_drive, is_run, is_summary};
+ghost use Rattle.std.specs.Prelude.{◌≡◌, ℕ, List, Bool, None, false};
+ghost use Rattle.ae_cli.specs.Words.{Are, IsOfRun, IsRefused};
+ghost use Rattle.command_words.specs.Words.{are_taken, command_in};
+ghost use Rattle.command_words.specs.declared.commands.Command.TheVariants.{Drive, Run};
 
 use ae_base::lists::Seq;
 use ae_base::texts::Txt;
@@ -25,6 +26,7 @@ use files::{FileSink, FileSource};
 use rand::rngs::SysRng;
 use script_run::status::Status;
 use server_core::server::Server;
+use std::alloc::Global;
 use std::io::ErrorKind;
 use std::process::ExitCode;
 use std::{env, io};
@@ -33,7 +35,7 @@ fn main(rt: HostRuntime) -> ExitCode {
     let status = match words_of(&rt) {
         Ok(words) => status_of(&rt, words.as_slice()),
         Err(error) if error.kind() == ErrorKind::OutOfMemory => Status::OutOfMemory,
-        Err(_) => words::usage(rt.alloc()),
+        Err(_) => not_utf8(rt.alloc()),
     };
     // The number stands, also where nothing can be said on standard error.
     let _ = eprint!(rt; "{status}");
@@ -49,14 +51,23 @@ fn words_of(rt: &HostRuntime) -> io::Result<Seq<Txt>> {
     Ok(words)
 }
 
+/// The status of words of which one isn't UTF-8.
+fn not_utf8(alloc: Global) -> Status
+    ensures { IsRefused result }
+{
+    match Txt::copied(alloc, "error: a word is not UTF-8\n") {
+        Ok(text) => Status::Usage(text),
+        Err(_) => Status::OutOfMemory,
+    }
+}
+
 fn status_of(rt: &HostRuntime, words: &[Txt]) -> Status
-    ensures usage { AreNoCommand words.now → IsRefusedUsage result }
-    ensures run { is_run words.now ≡ true → IsOfRun result }
-    ensures summed { is_summary words.now ≡ true → IsOfRun result }
-    ensures driven { is_drive words.now ≡ true → IsOfRun result }
+    ensures usage { command_in words.now ≡ None → IsRefused result }
+    ensures refused { (text : List ℕ) → result ≡ Status.Usage text → are_taken words.now ≡ false }
+    ensures run { (summary : Bool) → Are words.now (Run summary) → IsOfRun result }
+    ensures driven { Are words.now Drive → IsOfRun result }
     // The server in this process gives no reply that isn't awaited.
-    ensures awaited { is_run words.now ≡ true → (place : ℕ) → ¬ (result ≡ Status.BadReply place) }
-    ensures summed_awaited { is_summary words.now ≡ true → (place : ℕ) → ¬ (result ≡ Status.BadReply place) }
+    ensures awaited { (summary : Bool) → Are words.now (Run summary) → (place : ℕ) → ¬ (result ≡ Status.BadReply place) }
 {
     let alloc = rt.alloc();
     let Ok(mut vault) = FolderVault::new(alloc, rt, "keys") else {

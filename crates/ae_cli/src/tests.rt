@@ -121,13 +121,16 @@ fn drive_tells_where_a_reply_is_missing(rt: HostRuntime) -> Result<(), Fail> {
 
 #[test]
 fn other_words_put_nothing(rt: HostRuntime) -> Result<(), Fail> {
-    let cases: [&[&str]; 8] = [
+    let cases: [&[&str]; 11] = [
         &[],
         &["ae"],
         &["ae", "walk"],
         &["ae", "RUN"],
         &["ae", "run", "run"],
         &["ae", "run", "--summaries"],
+        &["ae", "run", "--help"],
+        &["ae", "wrap", "-h"],
+        &["ae", "wrap", "-x"],
         &["ae", "gen", "0"],
         &["ae", "gen", "20001"],
     ];

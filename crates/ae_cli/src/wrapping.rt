@@ -30,22 +30,20 @@ fn status_of(path: Txt, wrapped: Wrapped) -> Status
     }
 }
 
-/// Wraps a key. The memory of the status is taken first, so that nothing is read without it.
+/// Wraps a key.
 pub fn wrap_key<S: Source, V: Vault, W: Sink>(
     alloc: Global,
-    path: &Txt,
+    path: Txt,
     input: &mut S,
     vault: &mut V,
     out: &mut W,
 ) -> Status
-    ensures content { (wrapped : Wrapped) × (result ≡ status_of_wrapping path.now wrapped) × (bytes : List ℕ) × IfSome (S.left input.old) (λ left. bytes ≡ left) × Wraps wrapped path.now bytes (record { keys = V.keys vault.old; out = W.held out.old }) (record { keys = V.keys vault.new; out = W.held out.new }) }
-    ensures taken { (wrapped : Wrapped) × (result ≡ status_of_wrapping path.now wrapped) × WhereTold (Takes wrapped) (S.left input.old) (S.left input.new) }
+    ensures content { (wrapped : Wrapped) × (result ≡ status_of_wrapping path wrapped) × (bytes : List ℕ) × IfSome (S.left input.old) (λ left. bytes ≡ left) × Wraps wrapped path bytes (record { keys = V.keys vault.old; out = W.held out.old }) (record { keys = V.keys vault.new; out = W.held out.new }) }
+    ensures taken { (wrapped : Wrapped) × (result ≡ status_of_wrapping path wrapped) × WhereTold (Takes wrapped) (S.left input.old) (S.left input.new) }
     ensures read { result ≡ Status.ReadFault → Rose (S.faults input.old) (S.faults input.new) }
     ensures vault { result ≡ Status.VaultFault → Rose (V.faults vault.old) (V.faults vault.new) }
     ensures write { result ≡ Status.WriteFault → Rose (W.faults out.old) (W.faults out.new) }
 {
-    let Ok(told) = Txt::copied(alloc, path.as_str()) else {
-        return Status::OutOfMemory;
-    };
-    status_of(told, wrap(alloc, path, input, vault, out))
+    let wrapped = wrap(alloc, &path, input, vault, out);
+    status_of(path, wrapped)
 }

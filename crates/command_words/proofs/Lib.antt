@@ -1,0 +1,5 @@
+mod Faultless
+mod Filled
+mod Taken
+pub mod Matched
+mod Program

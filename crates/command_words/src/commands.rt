@@ -1,0 +1,133 @@
+//! The command that the words of a command line are.
+
+ghost use Rattle.std.specs.Prelude.{◌≡◌, IfOk, encode_utf8_all, is_some, map, option_and_then, true};
+ghost use Rattle.clap.specs.Words.{found_of, kind_of, rows_of, subcommand_rows_of};
+ghost use Rattle.command_words.specs.Found.{Finds, FindsPath, FindsSize, Is, IsOfKind};
+ghost use Rattle.command_words.specs.Words as words;
+ghost use Rattle.command_words.specs.Words.{Reads, TakenAreCommands};
+
+use crate::programs::program;
+use ae_base::refusals::Refusal;
+use ae_base::texts::Txt;
+use clap::error::ErrorKind;
+use clap::{ArgMatches, Error};
+use std::alloc::{AllocError, Global};
+
+/// What the program is asked to do.
+#[derive(Drop)]
+pub enum Command {
+    /// Run a script; its summary takes the place of its text, or not.
+    Run { summary: bool },
+    /// Serve requests.
+    Serve,
+    /// Run a script against recorded replies.
+    Drive,
+    /// Check a script.
+    Check,
+    /// Wrap a key under the master key at this path.
+    Wrap(Txt),
+    /// Write a script of so many rows.
+    Gen(u32),
+}
+
+/// Words that `clap` takes are a command.
+pub fn taken_words_are_commands()
+    ensures { TakenAreCommands }
+{}
+
+/// The command that the words, of which the first is the program's name, are by `clap`. The fault is
+/// the text with which `clap` refuses them or answers a request for help: how they are written.
+pub fn command_of(alloc: Global, words: &[Txt]) -> Result<Command, Refusal<Txt>>
+    ensures { Reads words.now result }
+{
+    let words = texts_of(alloc, words)?;
+    let program = program(alloc)?;
+    match program.try_get_matches_from(words.as_slice()) {
+        Ok(matches) => found_in(alloc, &matches),
+        Err(error) => Err(refusal_of(alloc, &error)),
+    }
+}
+
+/// The words in UTF-8.
+fn texts_of<'a>(alloc: Global, words: &'a [Txt]) -> Result<Vec<&'a str>, AllocError>
+    ensures { IfOk result (λ texts. map (λ text. text.now) texts.items ≡ map encode_utf8_all words.now) }
+{
+    let mut texts = Vec::new(alloc);
+    for word in words {
+        texts.push(word.as_str())?;
+    }
+    Ok(texts)
+}
+
+/// The text of an error.
+fn refusal_of(alloc: Global, error: &Error) -> Refusal<Txt>
+    ensures { IsOfKind (kind_of error.now) result }
+{
+    if error.kind() == ErrorKind::OutOfMemory {
+        return Refusal::OutOfMemory;
+    }
+    match format!(in alloc; "{error}") {
+        Ok(text) => Refusal::Fault(Txt::from_string(text)),
+        Err(_) => Refusal::OutOfMemory,
+    }
+}
+
+/// The command of the matches, which have one.
+fn found_in(alloc: Global, matches: &ArgMatches<'_>) -> Result<Command, Refusal<Txt>>
+    requires { is_some (option_and_then words.named (subcommand_rows_of matches.now)) ≡ true }
+    ensures { Finds (subcommand_rows_of matches.now) result }
+{
+    match matches.subcommand() {
+        Some((name, inner)) => named(alloc, name, inner),
+        None => unreachable!(),
+    }
+}
+
+/// The command of this name, with its arguments.
+fn named(alloc: Global, name: &str, inner: &ArgMatches<'_>) -> Result<Command, Refusal<Txt>>
+    requires { is_some (words.named (name.now, rows_of (found_of inner.now))) ≡ true }
+    ensures { Is (words.named (name.now, rows_of (found_of inner.now))) result }
+{
+    match name {
+        "run" => Ok(Command::Run {
+            summary: is_given(inner, "summary"),
+        }),
+        "serve" => Ok(Command::Serve),
+        "drive" => Ok(Command::Drive),
+        "check" => Ok(Command::Check),
+        "wrap" => wrap_in(alloc, inner),
+        "gen" => gen_in(inner),
+        _ => unreachable!(),
+    }
+}
+
+/// Whether a flag was given.
+fn is_given(matches: &ArgMatches<'_>, name: &str) -> bool
+    ensures { result ≡ words.is_given name.now (rows_of (found_of matches.now)) }
+{
+    match matches.get_str(name) {
+        Some(value) => value == "true",
+        None => false,
+    }
+}
+
+fn wrap_in(alloc: Global, matches: &ArgMatches<'_>) -> Result<Command, Refusal<Txt>>
+    requires { is_some (words.wrap_in (rows_of (found_of matches.now))) ≡ true }
+    ensures { FindsPath (rows_of (found_of matches.now)) result }
+{
+    match matches.get_str("PATH") {
+        Some(path) => Ok(Command::Wrap(Txt::copied(alloc, path)?)),
+        None => unreachable!(),
+    }
+}
+
+/// `clap` took the text of the number, so that `u32` reads it. That is not proved: the arm for a
+/// text that it doesn't read answers as without memory, of which nothing is claimed.
+fn gen_in(matches: &ArgMatches<'_>) -> Result<Command, Refusal<Txt>>
+    ensures { FindsSize (rows_of (found_of matches.now)) result }
+{
+    match matches.get_one::<u32>("N") {
+        Some(rows) => Ok(Command::Gen(rows)),
+        None => Err(Refusal::OutOfMemory),
+    }
+}

@@ -1,0 +1,7 @@
+//! The words of the command line, which `clap` reads.
+#![tactic(auto)]
+
+pub mod commands;
+mod programs;
+#[cfg(test)]
+mod tests;

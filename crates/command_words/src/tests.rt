@@ -1,0 +1,112 @@
+use crate::commands::{Command, command_of};
+use ae_base::refusals::Refusal;
+use ae_base::texts::Txt;
+use std::alloc::{AllocError, Global};
+use std::test::Fail;
+
+/// A command as a short text.
+fn said(alloc: Global, command: &Command) -> Result<String, AllocError> {
+    match command {
+        Command::Run { summary: false } => format!(in alloc; "run"),
+        Command::Run { summary: true } => format!(in alloc; "run, summary"),
+        Command::Serve => format!(in alloc; "serve"),
+        Command::Drive => format!(in alloc; "drive"),
+        Command::Check => format!(in alloc; "check"),
+        Command::Wrap(path) => format!(in alloc; "wrap [{}]", path.as_str()),
+        Command::Gen(rows) => format!(in alloc; "gen {rows}"),
+    }
+}
+
+/// The command of the words behind the program's name, or that they are refused.
+fn read(alloc: Global, words: &[&str]) -> Result<String, AllocError> {
+    let mut texts = Vec::new(alloc);
+    texts.push(Txt::copied(alloc, "ae")?)?;
+    for word in words {
+        texts.push(Txt::copied(alloc, word)?)?;
+    }
+    match command_of(alloc, texts.as_slice()) {
+        Ok(command) => said(alloc, &command),
+        Err(Refusal::Fault(_usage)) => format!(in alloc; "usage"),
+        Err(Refusal::OutOfMemory) => Err(AllocError),
+    }
+}
+
+#[test]
+fn words_are_commands(rt: HostRuntime) -> Result<(), Fail> {
+    let rows: [(&[&str], &str); 20] = [
+        (&["run"], "run"),
+        (&["run", "--summary"], "run, summary"),
+        (&["run", "--"], "run"),
+        (&["serve"], "serve"),
+        (&["serve", "--"], "serve"),
+        (&["drive"], "drive"),
+        (&["check"], "check"),
+        (&["wrap", "main"], "wrap [main]"),
+        (&["wrap", "-"], "wrap [-]"),
+        (&["wrap", ""], "wrap []"),
+        (&["wrap", "run"], "wrap [run]"),
+        (&["wrap", "--", "main"], "wrap [main]"),
+        (&["wrap", "main", "--"], "wrap [main]"),
+        (&["wrap", "--", "--help"], "wrap [--help]"),
+        (&["gen", "1"], "gen 1"),
+        (&["gen", "20000"], "gen 20000"),
+        (&["gen", "01"], "gen 1"),
+        (&["gen", "+1"], "gen 1"),
+        (&["gen", "--", "5"], "gen 5"),
+        (&["gen", "5", "--"], "gen 5"),
+    ];
+    for (words, command) in rows {
+        assert_eq!(rt; read(rt.alloc(), words)?.as_str(), command);
+    }
+    Ok(())
+}
+
+#[test]
+fn other_words_are_refused(rt: HostRuntime) -> Result<(), Fail> {
+    let rows: [&[&str]; 40] = [
+        &[],
+        &["walk"],
+        &["RUN"],
+        &["ru"],
+        &["--"],
+        &["--", "run"],
+        &["--summary"],
+        &["--summary", "run"],
+        &["run", "run"],
+        &["run", "--summary", "--summary"],
+        &["run", "--summary=true"],
+        &["run", "--sum"],
+        &["run", "--summaries"],
+        &["run", "--", "--summary"],
+        &["serve", "x"],
+        &["serve", "--summary"],
+        &["check", "-x"],
+        &["wrap"],
+        &["wrap", "-x"],
+        &["wrap", "a", "b"],
+        &["gen"],
+        &["gen", "0"],
+        &["gen", "-0"],
+        &["gen", "-1"],
+        &["gen", "--", "-1"],
+        &["gen", "20001"],
+        &["gen", "4294967297"],
+        &["gen", " 5"],
+        &["gen", "5x"],
+        &["gen", ""],
+        &["gen", "1", "2"],
+        &["help"],
+        &["help", "wrap"],
+        &["-h"],
+        &["--help"],
+        &["run", "-h"],
+        &["wrap", "-h"],
+        &["wrap", "--help"],
+        &["--version"],
+        &["-V"],
+    ];
+    for words in rows {
+        assert_eq!(rt; read(rt.alloc(), words)?.as_str(), "usage");
+    }
+    Ok(())
+}
