@@ -1,53 +1,98 @@
 -- What the steps of printing come to: hex digits, doubled quotes, values with tabs between.
-use Rattle.std.proofs.Common.{◌≡◌, ◌≢◌, ℕ, ◌+◌, ◌^◌, ◌-◌, ◌<◌, ◌≤◌, false, if◌then◌else◌, ◌==◌, List, [], ◌∷◌, ◌++◌, length, get_or, take, drop, map, flat_map, refl, ap, sym, ◌∙◌, append_assoc, encode_utf8_all, codes, decimal, string_bytes, String, Result, Ok, Err, IfOk, arith}
-use Rattle.std.proofs.lemmas.List.{append-nil, flat_map_more, take_more, take_rest, take_all}
+use Rattle.std.proofs.Common.{◌≡◌, ℕ, suc, ◌-◌, ◌/◌, ◌%◌, ◌<◌, ◌≤◌, true, if◌then◌else◌, ◌==◌, List, [], ◌∷◌, ◌++◌, length, get_or, take, drop, map, flat_map, refl, ap, sym, subst, ◌∙◌, append_assoc, encode_utf8_all, codes, decimal, string_bytes, String, Result, Ok, Err, IfOk, Some, arith}
+use Rattle.std.proofs.lemmas.Bool.{agree_below, agree_below_at, eqb-true}
+use Rattle.std.proofs.lemmas.List.{append-nil, take_rest, take_all, take-append-drop, length-drop}
 use Rattle.std.proofs.lemmas.List.Concat.{flat_map-append}
-use Rattle.std.proofs.lemmas.Bool.Decides.{nat_tests}
-use Rattle.std.proofs.lemmas.Fmt.{hex_byte}
-use Rattle.std.proofs.lemmas.Str.{encodes-append, encode_ascii}
-use Rattle.std.specs.Fmt.{digits, padded_integral, format_spec}
-use Rattle.std.specs.Char.{encode_utf8}
+use Rattle.std.proofs.lemmas.List.Elements.{All-head, All-tail}
+use Rattle.std.proofs.lemmas.Str.{encodes-append, encode_ascii, chars-append, chars_from_encodes, chars_past_char, IsCharBoundary-before_ascii, IsUtf8-take, IsUtf8-drop}
+use Rattle.std.specs.Char.{encode_utf8, digit_char}
+use Rattle.std.specs.List.{All}
+use Rattle.std.specs.Str.{chars, IsUtf8, IsCharBoundary, NonePass, NoCharPasses}
+use Rattle.std.specs.Str.Pattern.{FindsChar}
+use Rattle.hex.specs.Hex.{encode_with, encode_lower, lower_digits}
 use Rattle.run_words.specs.Printing.{hex_digits, doubled, line, joined_by_tabs}
 
 -- ---- bytes
 
--- what `{:02x}` writes of a byte
-abbrev pub hex_written : ℕ → List ℕ
-hex_written byte = padded_integral (format_spec 32 0 4 2 (2 ^ 64 - 1)) false [] (digits 16 false byte)
+-- a digit of the table is the one that prints
+digits_agree : agree_below (λ d. get_or lower_digits d 0 == digit_char d) (λ _. true) 16 ≡ true
+digits_agree = refl
 
-pub more-hex : (old bytes text new : List ℕ) (i : ℕ) → i < length bytes → get_or bytes i 0 < 256
-    → text ≡ old ++ codes "0x" ++ flat_map hex_digits (take i bytes) → new ≡ text ++ hex_written (get_or bytes i 0)
-    → new ≡ old ++ codes "0x" ++ flat_map hex_digits (take (i + 1) bytes)
-more-hex old bytes text new i inside low e f =
-    let byte = get_or bytes i 0 in
-    f ∙ ap (λ text. text ++ hex_written byte) e
-    ∙ ap (λ written. old ++ codes "0x" ++ flat_map hex_digits (take i bytes) ++ written) (hex_byte false byte low)
-    ∙ flat_map_more hex_digits (old ++ codes "0x") (take i bytes) byte
-    ∙ ap (λ front. old ++ codes "0x" ++ flat_map hex_digits front) (sym (take_more bytes i 0 inside))
+digit_same : (d : ℕ) → d < 16 → get_or lower_digits d 0 ≡ digit_char d
+digit_same d low = eqb-true (get_or lower_digits d 0) (digit_char d) (agree_below_at (λ d. get_or lower_digits d 0 == digit_char d) (λ _. true) 16 d digits_agree low)
+
+-- the digits of some bytes, as they are printed
+pub digits_printed : (bytes : List ℕ) → All (λ byte. byte < 256) bytes → encode_lower bytes ≡ flat_map hex_digits bytes
+unfolding encode_with
+digits_printed [] low = refl
+digits_printed (byte ∷ bytes) low =
+    let head : byte < 256 = All-head (λ byte. byte < 256) byte bytes low in
+    let rest = digits_printed bytes (All-tail (λ byte. byte < 256) byte bytes low) in
+    rw (digit_same (byte / 16) (omega arith), digit_same (byte % 16) (omega arith), rest) refl
 
 -- ---- characters
 
-more-doubled : (done : List ℕ) (c : ℕ) (put : List ℕ) → (if c == 39 then 39 ∷ 39 ∷ [] else c ∷ []) ≡ put
-    → encode_utf8_all (doubled (done ++ c ∷ [])) ≡ encode_utf8_all (doubled done) ++ encode_utf8_all put
-more-doubled done c put e =
-    let split = flat_map-append (λ c. if c == 39 then 39 ∷ 39 ∷ [] else c ∷ []) done (c ∷ []) in
-    rw split (encodes-append (doubled done) _ ∙ ap (λ put. encode_utf8_all (doubled done) ++ encode_utf8_all put) (append-nil _ ∙ e))
+-- characters of which none is ' are printed as they are
+undoubled : (cs : List ℕ) → NonePass (λ c. c == 39) cs → doubled cs ≡ cs
+undoubled [] none = refl
+undoubled (c ∷ cs) none = rw none.0 (ap (λ rest. c ∷ rest) (undoubled cs none.1))
 
-quoted : (c : ℕ) → c ≡ 39 → (if c == 39 then 39 ∷ 39 ∷ [] else c ∷ []) ≡ 39 ∷ c ∷ []
-quoted c is = rw is refl
+-- a text without ' is printed as it is
+pub plain_part : (bs : List ℕ) → IsUtf8 bs → NoCharPasses (λ c. c == 39) bs → encode_utf8_all (doubled (chars bs)) ≡ bs
+plain_part bs utf8 none =
+    let is : none.0 ≡ chars bs = chars_from_encodes none.0 bs utf8 none.1 in
+    rw (← is) (ap encode_utf8_all (undoubled none.0 none.2) ∙ none.1)
 
-plain : (c : ℕ) → c ≢ 39 → (if c == 39 then 39 ∷ 39 ∷ [] else c ∷ []) ≡ c ∷ []
-plain c differs = grind (arith, nat_tests)
+doubled_at : (xs ys : List ℕ) → doubled (xs ++ 39 ∷ ys) ≡ doubled xs ++ 39 ∷ 39 ∷ doubled ys
+doubled_at xs ys = flat_map-append (λ c. if c == 39 then 39 ∷ 39 ∷ [] else c ∷ []) xs (39 ∷ ys)
 
-pub more-quoted : (old done text first new : List ℕ) (c : ℕ) → c ≡ 39 → text ≡ old ++ codes "N'" ++ encode_utf8_all (doubled done)
-    → first ≡ text ++ encode_utf8 39 → new ≡ first ++ encode_utf8 c → new ≡ old ++ codes "N'" ++ encode_utf8_all (doubled (done ++ c ∷ []))
-more-quoted old done text first new c is e f g =
-    g ∙ rw (f, e) (simp append_assoc (ap (λ put. old ++ (codes "N'" ++ put)) (simp append-nil at (sym (more-doubled done c _ (quoted c is))))))
+encoded_at : (xs ys : List ℕ) → encode_utf8_all (xs ++ 39 ∷ 39 ∷ ys) ≡ encode_utf8_all xs ++ 39 ∷ 39 ∷ encode_utf8_all ys
+encoded_at xs ys =
+    encodes-append xs (39 ∷ 39 ∷ ys)
+    ∙ ap (λ quote. encode_utf8_all xs ++ (quote ++ (quote ++ encode_utf8_all ys))) (encode_ascii 39 (omega arith))
 
-pub more-plain : (old done text new : List ℕ) (c : ℕ) → c ≢ 39 → text ≡ old ++ codes "N'" ++ encode_utf8_all (doubled done)
-    → new ≡ text ++ encode_utf8 c → new ≡ old ++ codes "N'" ++ encode_utf8_all (doubled (done ++ c ∷ []))
-more-plain old done text new c differs e f =
-    f ∙ rw e (simp append_assoc (ap (λ put. old ++ (codes "N'" ++ put)) (simp append-nil at (sym (more-doubled done c _ (plain c differs))))))
+-- where the first ' stands from i to j
+pub record IsCutAt (rest : List ℕ) (i j : ℕ) : Type 0 where
+  pub utf8 : IsUtf8 (drop j rest)
+  pub printed : encode_utf8_all (doubled (chars rest)) ≡ take i rest ++ 39 ∷ 39 ∷ encode_utf8_all (doubled (chars (drop j rest)))
+
+pub cut_at : (rest : List ℕ) (i j : ℕ) → IsUtf8 rest → FindsChar 39 rest (Some (i, j)) → IsCutAt rest i j
+cut_at rest i j utf8 found =
+    let quote : encode_utf8 39 ≡ 39 ∷ [] = encode_ascii 39 (omega arith) in
+    let split : drop i rest ≡ encode_utf8 39 ++ drop j rest = found.1.split in
+    let left : length (drop i rest) ≡ suc (length (drop j rest)) = ap length split ∙ ap (λ quote. length (quote ++ drop j rest)) quote in
+    let inside : i < length rest = omega (arith, length-drop i rest) in
+    let at : get_or rest i 0 ≡ 39 = found.1.byte (omega arith) in
+    let boundary : IsCharBoundary rest i = IsCharBoundary-before_ascii rest i inside (omega arith) in
+    let front : IsUtf8 (take i rest) = IsUtf8-take rest i utf8 boundary in
+    let back : IsUtf8 (drop i rest) = IsUtf8-drop rest i utf8 boundary in
+    let behind : IsUtf8 (drop j rest) = IsUtf8-drop rest j utf8 (subst (IsCharBoundary rest) (sym found.1.ends) found.1.after) in
+    let characters : chars rest ≡ chars (take i rest) ++ 39 ∷ chars (drop j rest) =
+    ap chars (sym (take-append-drop i rest)) ∙ chars-append (take i rest) (drop i rest) front
+    ∙ ap (λ more. chars (take i rest) ++ more) (chars_past_char (drop i rest) (drop j rest) 39 back split) in
+    record {
+      utf8 = behind;
+      printed =
+          ap (λ cs. encode_utf8_all (doubled cs)) characters
+          ∙ ap encode_utf8_all (doubled_at (chars (take i rest)) (chars (drop j rest)))
+          ∙ encoded_at (doubled (chars (take i rest))) (doubled (chars (drop j rest)))
+          ∙ ap (λ front. front ++ 39 ∷ 39 ∷ encode_utf8_all (doubled (chars (drop j rest)))) (plain_part (take i rest) front found.0);
+    }
+
+-- what is left once the text before a ' and the ' are put
+pub more_cut : (whole rest before behind text first second : List ℕ) (i j : ℕ) → IsCutAt rest i j → before ≡ take i rest → behind ≡ drop j rest
+    → text ++ encode_utf8_all (doubled (chars rest)) ≡ whole → first ≡ text ++ before → second ≡ first ++ codes "''"
+    → IsUtf8 behind × (second ++ encode_utf8_all (doubled (chars behind)) ≡ whole)
+more_cut whole rest before behind text first second i j cut is_before is_behind left f g = (
+  subst IsUtf8 (sym is_behind) cut.utf8,
+  rw (g, f, is_before, is_behind) (simp append_assoc (ap (λ more. text ++ more) (sym cut.printed) ∙ left)),
+)
+
+-- the last part, which has no ', and the ' at the end
+pub last_part : (old shown rest text put new : List ℕ) → text ++ encode_utf8_all (doubled (chars rest)) ≡ old ++ codes "N'" ++ shown
+    → encode_utf8_all (doubled (chars rest)) ≡ rest → put ≡ text ++ rest → new ≡ put ++ codes "'" → new ≡ old ++ codes "N'" ++ shown ++ codes "'"
+last_part old shown rest text put new left plain f g =
+    g ∙ ap (λ put. put ++ codes "'") (f ∙ ap (λ rest. text ++ rest) (sym plain) ∙ left) ∙ simp append_assoc
 
 -- ---- tabs between
 

@@ -157,28 +157,28 @@ fn push_value(text: &mut String, value: &Value) -> Result<(), AllocError>
     Ok(())
 }
 
-/// N'..' with each ' doubled.
+/// N'..' with each ' doubled. What stands between two of them is put whole.
 fn push_characters(text: &mut String, characters: &str) -> Result<(), AllocError>
     ensures { OnOk result (string_bytes text.new ≡ string_bytes text.old ++ codes "N'" ++ encode_utf8_all (printing.doubled (chars characters.now)) ++ codes "'") }
 {
     text.push_str("N'")?;
-    for character in characters.chars() {
-        if character == '\'' {
-            text.push('\'')?;
-        }
-        text.push(character)?;
+    let mut rest = characters;
+    while let Some((before, behind)) = rest.split_once('\'') {
+        text.push_str(before)?;
+        text.push_str("''")?;
+        rest = behind;
     }
-    text.push('\'')?;
+    text.push_str(rest)?;
+    text.push_str("'")?;
     Ok(())
 }
 
-/// 0x and two lower-case digits for each byte.
+/// 0x and two lower-case digits for each byte, which are put whole.
 fn push_bytes(text: &mut String, bytes: &[u8]) -> Result<(), AllocError>
     ensures { OnOk result (string_bytes text.new ≡ string_bytes text.old ++ codes "0x" ++ flat_map printing.hex_digits bytes.now) }
 {
+    let digits = hex::encode(*text.allocator(), bytes)?;
     text.push_str("0x")?;
-    for byte in bytes {
-        write!(text, "{byte:02x}")?;
-    }
+    text.push_str(digits.as_str())?;
     Ok(())
 }

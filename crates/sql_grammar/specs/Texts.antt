@@ -1,5 +1,5 @@
 -- What a text parses to: the statement that its tokens spell, or its first fault.
-use Rattle.std.specs.Prelude.{ℕ, ◌+◌, ◌-◌, List, [], ◌∷◌, length, Option, Some, None, Result, Ok, Err, Bool, false, ◌||◌, not, nat_lt, nat_le, ◌&&◌, suc, if◌then◌else◌, encode_utf8_all}
+use Rattle.std.specs.Prelude.{ℕ, ◌+◌, ◌-◌, List, [], ◌∷◌, length, count_by, is_some, Option, Some, None, Result, Ok, Err, Bool, false, ◌||◌, not, nat_lt, nat_le, ◌&&◌, suc, if◌then◌else◌, encode_utf8_all}
 use Rattle.std.specs.List.{list_any}
 use Rattle.ae_base.specs.Options.{◌>>=◌}
 use Rattle.ae_base.specs.Values.{is_within}
@@ -12,6 +12,8 @@ use Rattle.sql_tree.specs.declared.lexemes.Lexeme.{Lexeme}
 use Rattle.sql_tree.specs.declared.lexemes.Lexeme.TheVariants as lexeme
 use Rattle.sql_tree.specs.declared.lexemes.Token.{Token}
 use Rattle.sql_tree.specs.Tokens.{tokens_of, first_wide}
+use Rattle.sql_tree.specs.declared.statements.ColumnSpec.{ColumnSpec}
+use Rattle.sql_tree.specs.declared.statements.UniqueSpec.{UniqueSpec}
 use Rattle.sql_tree.specs.Statements.{Items, Statement}
 use Rattle.sql_tree.specs.Statements as tree
 use Rattle.sql_grammar.specs.Readers.{is_symbol}
@@ -55,10 +57,14 @@ items_of (tree.Listed items) = length items
 abbrev pub is_key_length : ℕ → Bool
 is_key_length bytes = nat_lt 0 bytes && nat_le bytes 1024
 
+-- a column with the word UNIQUE is a unique key, as a list UNIQUE is
+abbrev pub unique_keys : List ColumnSpec → List UniqueSpec → ℕ
+unique_keys columns uniques = count_by (λ column. is_some column.unique) columns + length uniques
+
 -- 64 columns of a table, 8 unique keys, 16 columns of a key, 1,000 rows, 512 items and 8 tables
 abbrev pub passes_a_limit : Statement → Bool
 passes_a_limit (tree.CreateTable table columns uniques) =
-    nat_lt 64 (length columns) || nat_lt 8 (length uniques) || list_any (λ unique. nat_lt 16 (length unique.columns)) uniques
+    nat_lt 64 (length columns) || nat_lt 8 (unique_keys columns uniques) || list_any (λ unique. nat_lt 16 (length unique.columns)) uniques
 passes_a_limit (tree.Insert table columns rows) = nat_lt 1000 (length rows)
 passes_a_limit (tree.Select query) = nat_lt 512 (items_of query.items) || nat_lt 8 (suc (length query.joins))
 passes_a_limit (tree.CreateMaster word path) = not (is_key_length (length (encode_utf8_all path)))

@@ -7,7 +7,7 @@ ghost use Rattle.sql_grammar.specs.Texts as spec;
 use ae_base::values::has_units_within;
 use sql_conditions::operands::MOST_OPEN;
 use sql_tree::lexemes::{Lexeme, Symbol, Token};
-use sql_tree::statements::{Items, Statement, UniqueSpec};
+use sql_tree::statements::{ColumnSpec, Items, Statement, UniqueSpec};
 
 /// The most columns of a table.
 const MOST_COLUMNS: usize = 64;
@@ -91,7 +91,7 @@ pub(crate) fn passes_a_limit(statement: &Statement) -> bool
             ..
         } => {
             columns.len() > MOST_COLUMNS
-                || uniques.len() > MOST_KEYS
+                || has_many_keys(columns.as_slice(), uniques.as_slice())
                 || has_wide_key(uniques.as_slice())
         }
         Statement::Insert { rows, .. } => rows.len() > MOST_ROWS,
@@ -107,6 +107,17 @@ pub(crate) fn passes_a_limit(statement: &Statement) -> bool
         | Statement::Delete { .. }
         | Statement::Control(_) => false,
     }
+}
+
+/// Whether a table has too many unique keys: its columns with the word UNIQUE, and its lists UNIQUE.
+fn has_many_keys(columns: &[ColumnSpec], uniques: &[UniqueSpec]) -> bool
+    ensures { result ≡ nat_lt 8 (spec.unique_keys columns.now uniques.now) }
+{
+    let words = columns
+        .iter()
+        .filter(|column| column.unique.is_some())
+        .count();
+    uniques.len() > MOST_KEYS || words > MOST_KEYS - uniques.len()
 }
 
 fn has_wide_key(uniques: &[UniqueSpec]) -> bool

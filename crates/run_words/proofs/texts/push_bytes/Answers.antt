@@ -1,9 +1,14 @@
--- Each byte puts its two digits behind those so far.
-use Rattle.std.proofs.Common.{arith}
-use Rattle.run_words.proofs.Printed.{more-hex}
+-- The digits of all bytes stand behind 0x.
+use Rattle.std.proofs.Common.{◌<◌, ◌++◌, ap, ◌∙◌, append_assoc, arith, codes, string_bytes}
+use Rattle.std.proofs.lemmas.List.Elements.{All-from_get_or}
+use Rattle.run_words.proofs.Printed.{digits_printed}
 use Rattle.run_words.proofs.texts.push_bytes.Goals as goal
 
-pub loop-byte-preserved : goal.loop-byte-preserved
-loop-byte-preserved c =
-    more-hex _ c.args.bytes.now _ _ c.loop-byte.byte-index c.loop-byte-test.true (omega (arith, c.type_inv.bytes c.loop-byte.byte-index)) c.loop-byte.invariant
-    (rw (c.laid_out.ensures, c.in_radix.ensures) at c.in_ok-write.ensures.bytes)
+pub returns : goal.returns
+returns c =
+    let digits = digits_printed c.args.bytes.now (All-from_get_or (λ byte. byte < 256) c.args.bytes.now 0 (λ i _. omega (arith, c.type_inv.bytes i))) in
+    let put = c.as_str.ensures.value ∙ c.in_ok-digits.ensures ∙ digits in
+    c.in_ok-push_str-2.ensures.bytes
+    ∙ ap (λ text. text ++ c.as_str.result.now) c.in_ok-push_str.ensures.bytes
+    ∙ ap (λ digits. (string_bytes c.args.text.now ++ codes "0x") ++ digits) put
+    ∙ simp append_assoc

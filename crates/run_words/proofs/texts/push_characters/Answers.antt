@@ -1,24 +1,15 @@
--- Each character is printed as it is doubled, and those that were given are those of the text.
-use Rattle.std.proofs.Common.{◌≡◌, ◌++◌, ◌∙◌, ap, map-id, arith, string_bytes, codes, encode_utf8_all}
-use Rattle.std.proofs.lemmas.Iterator.{YieldsList-from_chars}
-use Rattle.std.proofs.lemmas.Iterator.Consumers.{YieldsList-end}
-use Rattle.std.proofs.lemmas.Str.{encode_ascii}
-use Rattle.std.specs.Str.{chars}
-use Rattle.run_words.specs.Printing.{doubled}
-use Rattle.run_words.proofs.Printed.{more-quoted, more-plain}
+-- What stands before a ' is put whole, and the ' twice.
+use Rattle.run_words.proofs.Printed.{cut_at, more_cut, plain_part, last_part}
 use Rattle.run_words.proofs.texts.push_characters.Goals as goal
-use Rattle.run_words.proofs.texts.push_characters.Goals.{then-character-eq39+in_ok-push, else-character-eq39}
 
-pub loop-character-preserved : goal.loop-character-preserved
-loop-character-preserved c = elim c.if-character-eq39.branch [
-  | then-character-eq39+in_ok-push w ↦ more-quoted _ c.loop-character.yielded _ _ _ _ w.if-character-eq39.true c.loop-character.invariant (ap string_bytes w.text-is ∙ w.in_ok-push.ensures.bytes) c.in_ok-push-2.ensures.bytes
-  | else-character-eq39 w ↦ more-plain _ c.loop-character.yielded _ _ _ w.if-character-eq39.false (ap string_bytes w.text-is ∙ c.loop-character.invariant) c.in_ok-push-2.ensures.bytes
-]
+pub loop-before-preserved : goal.loop-before-preserved
+loop-before-preserved c =
+    let found = c.in-Some.ensures.cases in
+    let cut = cut_at c.loop-before.rest.now found.0 found.1 c.loop-before.invariant.0 found.2 in
+    more_cut _ c.loop-before.rest.now c.in-Some.before.now c.in-Some.behind.now _ _ _ found.0 found.1 cut found.3 found.4 c.loop-before.invariant.1
+    c.in_ok-push_str-2.ensures.bytes c.in_ok-push_str-3.ensures.bytes
 
 pub returns : goal.returns
 returns c =
-    let chain = YieldsList-from_chars c.args.characters.now c.utf8.characters cc in
-    let t = YieldsList-end chain c.loop-character.yielded _ c.loop-character.yielded_by _ _ c.in-None.is c.next.ensures.steps in
-    let e : c.loop-character.yielded ≡ chars c.args.characters.now = simp map-id at t.0 in
-    let last = rw (encode_ascii 39 (omega arith)) at c.in_ok-push-3.ensures.bytes in
-    last ∙ ap (λ text. text ++ codes "'") (c.loop-character.invariant ∙ ap (λ given. string_bytes c.args.text.now ++ codes "N'" ++ encode_utf8_all (doubled given)) e)
+    let plain = plain_part c.loop-before.rest.now c.loop-before.invariant.0 c.in_default.ensures.cases in
+    last_part _ _ c.loop-before.rest.now _ _ _ c.loop-before.invariant.1 plain c.in_ok-push_str-4.ensures.bytes c.in_ok-push_str-5.ensures.bytes
