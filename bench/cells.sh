@@ -1,7 +1,9 @@
 #!/bin/sh
 # Times the opening of cells by `ae drive`, over replies that were recorded, and the sealing by `ae run`: cells of an INT, of 200
 # characters and of 8,000 bytes. Beside them the same work by Python's `cryptography`, and what OpenSSL takes for the cipher and
-# the HMAC alone: with the processor's AES instructions, without them, and by tables. All in processor time, in one table.
+# the HMAC alone: with the processor's AES instructions, without them, by tables, and by tables with an HMAC that uses no vector
+# instructions either. Where `perf` can count, a line says what the cipher and the HMAC alone take in `ae drive`. All in processor
+# time, in one table.
 # Usage: bench/cells.sh [N], where the program is built (./ae). N is a measure of how long it takes.
 . "$(dirname "$0")/lib.sh"
 n=${1:-1}
@@ -48,18 +50,30 @@ speed() {
     openssl speed -seconds 1 "$@" 2>/dev/null | awk 'END { if (sub(/k$/, "", $NF)) print $NF }'
 }
 
-# OpenSSL's line of a cell with $3 bytes of ciphertext, without the processor's instructions that the mask $2 takes from AES.
+# OpenSSL's line of a cell with $4 bytes of ciphertext, without the processor's instructions that the mask $2 takes from AES and
+# the mask $3 from the HMAC.
 openssl_line() {
     aes=$(
         if [ -n "$2" ]; then export OPENSSL_ia32cap="~$2"; fi
-        speed -evp aes-256-cbc -decrypt -bytes "$3"
+        speed -evp aes-256-cbc -decrypt -bytes "$4"
     )
-    hmac=$(speed -hmac sha256 -bytes $(($3 + 18)))
+    hmac=$(
+        if [ -n "$3" ]; then export OPENSSL_ia32cap="~$3"; fi
+        speed -hmac sha256 -bytes $(($4 + 18))
+    )
     if [ -z "$aes" ] || [ -z "$hmac" ]; then
         echo "    skipped: this openssl has no such speed"
         return
     fi
-    line "$1" 1 $(($3 + 49)) "$(awk -v aes="$aes" -v hmac="$hmac" -v bytes="$3" 'BEGIN { print (bytes / aes + (bytes + 18) / hmac) / 1000 }')"
+    line "$1" 1 $(($4 + 49)) "$(awk -v aes="$aes" -v hmac="$hmac" -v bytes="$4" 'BEGIN { print (bytes / aes + (bytes + 18) / hmac) / 1000 }')"
+}
+
+# The part of the processor time of `ae drive` that the crates of the cipher, the hash and the cells take; nothing where it can't
+# be counted.
+cipher_part() {
+    perf record -q -o counted "$top/ae" drive <script >/dev/null 2>&1 || return 0
+    perf report -i counted --stdio -q --no-children -F overhead,symbol 2>/dev/null |
+        awk '/ (aes_block|cbc_mode|sha2|hmac_kdf|cell_codec)::/ { sub(/%/, "", $1); sum += $1 } END { if (sum > 0) print sum / 100 }'
 }
 
 # One kind: its name, how many rows, how many queries, the bytes of its ciphertext.
@@ -81,6 +95,12 @@ kind() {
     python3 "$top/bench/apart.py"
     often=$(seconds drive)
     line 'opened by ae drive' $(($2 * ($3 - 1))) $size "$(awk -v a="$once" -v b="$often" 'BEGIN { print b - a }')"
+    part=$(cipher_part)
+    if [ -n "$part" ]; then
+        line '  its cipher and HMAC alone' $(($2 * $3)) $size "$(awk -v all="$often" -v part="$part" 'BEGIN { print all * part }')"
+    else
+        echo '    skipped: perf is not installed, or counts nothing here'
+    fi
 
     if python3 -c 'import cryptography' 2>/dev/null; then
         took=$(python3 "$top/bench/cells.py" "$1" $(($2 * 10)))
@@ -90,9 +110,10 @@ kind() {
         echo '    skipped: cryptography of Python is not installed'
     fi
     if command -v openssl >/dev/null; then
-        openssl_line 'OpenSSL, the cipher and HMAC alone' '' "$4"
-        openssl_line 'OpenSSL, without AES instructions' 0x200000000000000 "$4"
-        openssl_line 'OpenSSL, by tables' 0x200020000000000 "$4"
+        openssl_line 'OpenSSL, the cipher and HMAC alone' '' '' "$4"
+        openssl_line 'OpenSSL, without AES instructions' 0x200000000000000 '' "$4"
+        openssl_line 'OpenSSL, by tables' 0x200020000000000 '' "$4"
+        openssl_line 'OpenSSL, by tables, HMAC without vectors' 0x200020000000000 0x200020000000000 "$4"
     else
         echo '    skipped: openssl is not installed'
     fi
