@@ -1,5 +1,5 @@
 -- Columns of 32 bits: their sums, and what the tables of a round hold.
-use Rattle.std.proofs.Common.{◌≡◌, ℕ, ◌+◌, ◌-◌, ◌/◌, ◌%◌, ◌<◌, ◌^◌, List, [], ◌∷◌, length, map, slice_index, bit_xor, refl, ap, ◌∙◌}
+use Rattle.std.proofs.Common.{◌≡◌, ℕ, ◌+◌, ◌-◌, ◌/◌, ◌%◌, ◌<◌, ◌^◌, List, [], ◌∷◌, length, map, slice_index, slice_index_or, bit_xor, refl, ap, ◌∙◌}
 use Rattle.std.specs.Int.{from_le_bytes, w32}
 use Rattle.std.specs.Int.Bits.{xor_zero_r}
 use Rattle.std.specs.List.{range_with_len}
@@ -8,7 +8,7 @@ use Rattle.std.proofs.lemmas.Nat.{le_bytes_4, xor_mod, xor_shr}
 use Rattle.aes_block.specs.Field.{times_x, partial_product, product}
 use Rattle.aes_block.specs.Aes.{inv_mix_polynomial, inv_sub_byte, mix_polynomial, sub_byte, word_product, word_sum}
 use Rattle.aes_block.specs.Columns.{word_of}
-use Rattle.aes_block.specs.declared.tables.TheConstants.{INV_MIXED_0, INV_MIXED_1, INV_MIXED_2, INV_MIXED_3, INV_SBOX, MIXED_0, MIXED_1, MIXED_2, MIXED_3, SBOX}
+use Rattle.aes_block.specs.declared.tables.TheConstants.{INV_MIXED, INV_SBOX, MIXED, SBOX}
 use Rattle.aes_block.proofs.Blocks.{AreBytes-map, byte_at}
 use Rattle.aes_block.proofs.Inverses.{INV_SBOX-at, SBOX-at, inv_sub_byte-lt, sub_byte-lt}
 use Rattle.aes_block.proofs.Linear.{product-lt}
@@ -54,70 +54,70 @@ entry table a box i x byte holds low is low_byte =
     ∙ ap word_of (get_or-map column box x 0 0 low ∙ ap column is)
     ∙ term-packed a i byte low_byte
 
-mixed_0 : Holds MIXED_0 mix_polynomial 0 SBOX
+mixed_0 : Holds (slice_index_or MIXED 0 []) mix_polynomial 0 SBOX
 unfolding times_x partial_product product
 mixed_0 = refl
 
-mixed_1 : Holds MIXED_1 mix_polynomial 1 SBOX
+mixed_1 : Holds (slice_index_or MIXED 1 []) mix_polynomial 1 SBOX
 unfolding times_x partial_product product
 mixed_1 = refl
 
-mixed_2 : Holds MIXED_2 mix_polynomial 2 SBOX
+mixed_2 : Holds (slice_index_or MIXED 2 []) mix_polynomial 2 SBOX
 unfolding times_x partial_product product
 mixed_2 = refl
 
-mixed_3 : Holds MIXED_3 mix_polynomial 3 SBOX
+mixed_3 : Holds (slice_index_or MIXED 3 []) mix_polynomial 3 SBOX
 unfolding times_x partial_product product
 mixed_3 = refl
 
-inv_mixed_0 : Holds INV_MIXED_0 inv_mix_polynomial 0 INV_SBOX
+inv_mixed_0 : Holds (slice_index_or INV_MIXED 0 []) inv_mix_polynomial 0 INV_SBOX
 unfolding times_x partial_product product
 inv_mixed_0 = refl
 
-inv_mixed_1 : Holds INV_MIXED_1 inv_mix_polynomial 1 INV_SBOX
+inv_mixed_1 : Holds (slice_index_or INV_MIXED 1 []) inv_mix_polynomial 1 INV_SBOX
 unfolding times_x partial_product product
 inv_mixed_1 = refl
 
-inv_mixed_2 : Holds INV_MIXED_2 inv_mix_polynomial 2 INV_SBOX
+inv_mixed_2 : Holds (slice_index_or INV_MIXED 2 []) inv_mix_polynomial 2 INV_SBOX
 unfolding times_x partial_product product
 inv_mixed_2 = refl
 
-inv_mixed_3 : Holds INV_MIXED_3 inv_mix_polynomial 3 INV_SBOX
+inv_mixed_3 : Holds (slice_index_or INV_MIXED 3 []) inv_mix_polynomial 3 INV_SBOX
 unfolding times_x partial_product product
 inv_mixed_3 = refl
 
 mixed-product : (i j k l : ℕ) → i < 256 → j < 256 → k < 256 → l < 256
-    → word_of (bit_xor (bit_xor (bit_xor (slice_index MIXED_0 i) (slice_index MIXED_1 j)) (slice_index MIXED_2 k)) (slice_index MIXED_3 l))
+    → word_of (bit_xor (bit_xor (bit_xor (slice_index (slice_index_or MIXED 0 []) i) (slice_index (slice_index_or MIXED 1 []) j)) (slice_index (slice_index_or MIXED 2 []) k)) (slice_index (slice_index_or MIXED 3 []) l))
     ≡ word_product mix_polynomial (sub_byte i ∷ sub_byte j ∷ sub_byte k ∷ sub_byte l ∷ [])
 mixed-product i j k l li lj lk ll =
     word_of-four _ _ _ _ _ _ _ _
-    (entry MIXED_0 mix_polynomial SBOX 0 i (sub_byte i) mixed_0 li (SBOX-at i li) (sub_byte-lt i li))
-    (entry MIXED_1 mix_polynomial SBOX 1 j (sub_byte j) mixed_1 lj (SBOX-at j lj) (sub_byte-lt j lj))
-    (entry MIXED_2 mix_polynomial SBOX 2 k (sub_byte k) mixed_2 lk (SBOX-at k lk) (sub_byte-lt k lk))
-    (entry MIXED_3 mix_polynomial SBOX 3 l (sub_byte l) mixed_3 ll (SBOX-at l ll) (sub_byte-lt l ll))
+    (entry (slice_index_or MIXED 0 []) mix_polynomial SBOX 0 i (sub_byte i) mixed_0 li (SBOX-at i li) (sub_byte-lt i li))
+    (entry (slice_index_or MIXED 1 []) mix_polynomial SBOX 1 j (sub_byte j) mixed_1 lj (SBOX-at j lj) (sub_byte-lt j lj))
+    (entry (slice_index_or MIXED 2 []) mix_polynomial SBOX 2 k (sub_byte k) mixed_2 lk (SBOX-at k lk) (sub_byte-lt k lk))
+    (entry (slice_index_or MIXED 3 []) mix_polynomial SBOX 3 l (sub_byte l) mixed_3 ll (SBOX-at l ll) (sub_byte-lt l ll))
 
 inv_mixed-product : (i j k l : ℕ) → i < 256 → j < 256 → k < 256 → l < 256
-    → word_of (bit_xor (bit_xor (bit_xor (slice_index INV_MIXED_0 i) (slice_index INV_MIXED_1 j)) (slice_index INV_MIXED_2 k)) (slice_index INV_MIXED_3 l))
+    → word_of (bit_xor (bit_xor (bit_xor (slice_index (slice_index_or INV_MIXED 0 []) i) (slice_index (slice_index_or INV_MIXED 1 []) j)) (slice_index (slice_index_or INV_MIXED 2 []) k)) (slice_index (slice_index_or INV_MIXED 3 []) l))
     ≡ word_product inv_mix_polynomial (inv_sub_byte i ∷ inv_sub_byte j ∷ inv_sub_byte k ∷ inv_sub_byte l ∷ [])
 inv_mixed-product i j k l li lj lk ll =
     word_of-four _ _ _ _ _ _ _ _
-    (entry INV_MIXED_0 inv_mix_polynomial INV_SBOX 0 i (inv_sub_byte i) inv_mixed_0 li (INV_SBOX-at i li) (inv_sub_byte-lt i li))
-    (entry INV_MIXED_1 inv_mix_polynomial INV_SBOX 1 j (inv_sub_byte j) inv_mixed_1 lj (INV_SBOX-at j lj) (inv_sub_byte-lt j lj))
-    (entry INV_MIXED_2 inv_mix_polynomial INV_SBOX 2 k (inv_sub_byte k) inv_mixed_2 lk (INV_SBOX-at k lk) (inv_sub_byte-lt k lk))
-    (entry INV_MIXED_3 inv_mix_polynomial INV_SBOX 3 l (inv_sub_byte l) inv_mixed_3 ll (INV_SBOX-at l ll) (inv_sub_byte-lt l ll))
+    (entry (slice_index_or INV_MIXED 0 []) inv_mix_polynomial INV_SBOX 0 i (inv_sub_byte i) inv_mixed_0 li (INV_SBOX-at i li) (inv_sub_byte-lt i li))
+    (entry (slice_index_or INV_MIXED 1 []) inv_mix_polynomial INV_SBOX 1 j (inv_sub_byte j) inv_mixed_1 lj (INV_SBOX-at j lj) (inv_sub_byte-lt j lj))
+    (entry (slice_index_or INV_MIXED 2 []) inv_mix_polynomial INV_SBOX 2 k (inv_sub_byte k) inv_mixed_2 lk (INV_SBOX-at k lk) (inv_sub_byte-lt k lk))
+    (entry (slice_index_or INV_MIXED 3 []) inv_mix_polynomial INV_SBOX 3 l (inv_sub_byte l) inv_mixed_3 ll (INV_SBOX-at l ll) (inv_sub_byte-lt l ll))
 
 pub word_of-mixed : (i j k l key : ℕ) → i < 256 → j < 256 → k < 256 → l < 256
-    → word_of (bit_xor (bit_xor (bit_xor (bit_xor (slice_index MIXED_0 i) (slice_index MIXED_1 j)) (slice_index MIXED_2 k)) (slice_index MIXED_3 l)) key)
+    → word_of (bit_xor (bit_xor (bit_xor (bit_xor (slice_index (slice_index_or MIXED 0 []) i) (slice_index (slice_index_or MIXED 1 []) j)) (slice_index (slice_index_or MIXED 2 []) k)) (slice_index (slice_index_or MIXED 3 []) l)) key)
     ≡ word_sum (word_product mix_polynomial (sub_byte i ∷ sub_byte j ∷ sub_byte k ∷ sub_byte l ∷ [])) (word_of key)
 word_of-mixed i j k l key li lj lk ll =
-    word_of-xor (bit_xor (bit_xor (bit_xor (slice_index MIXED_0 i) (slice_index MIXED_1 j)) (slice_index MIXED_2 k)) (slice_index MIXED_3 l)) key
+    word_of-xor (bit_xor (bit_xor (bit_xor (slice_index (slice_index_or MIXED 0 []) i) (slice_index (slice_index_or MIXED 1 []) j)) (slice_index (slice_index_or MIXED 2 []) k)) (slice_index (slice_index_or MIXED 3 []) l)) key
     ∙ ap (λ (w : List ℕ). word_sum w (word_of key)) (mixed-product i j k l li lj lk ll)
 
 pub word_of-inv_mixed : (i j k l key : ℕ) → i < 256 → j < 256 → k < 256 → l < 256
-    → word_of (bit_xor (bit_xor (bit_xor (bit_xor (slice_index INV_MIXED_0 i) (slice_index INV_MIXED_1 j)) (slice_index INV_MIXED_2 k)) (slice_index INV_MIXED_3 l)) key)
+    → word_of (bit_xor (bit_xor (bit_xor (bit_xor (slice_index (slice_index_or INV_MIXED 0 []) i) (slice_index (slice_index_or INV_MIXED 1 []) j)) (slice_index (slice_index_or INV_MIXED 2 []) k)) (slice_index (slice_index_or INV_MIXED 3 []) l)) key)
     ≡ word_sum (word_product inv_mix_polynomial (inv_sub_byte i ∷ inv_sub_byte j ∷ inv_sub_byte k ∷ inv_sub_byte l ∷ [])) (word_of key)
 word_of-inv_mixed i j k l key li lj lk ll =
-    word_of-xor (bit_xor (bit_xor (bit_xor (slice_index INV_MIXED_0 i) (slice_index INV_MIXED_1 j)) (slice_index INV_MIXED_2 k)) (slice_index INV_MIXED_3 l)) key
+    word_of-xor (bit_xor (bit_xor (bit_xor (slice_index (slice_index_or INV_MIXED 0 []) i) (slice_index (slice_index_or INV_MIXED 1 []) j)) (slice_index (slice_index_or INV_MIXED 2 []) k)) (slice_index (slice_index_or INV_MIXED 3 []) l)) key
     ∙ ap (λ (w : List ℕ). word_sum w (word_of key)) (inv_mixed-product i j k l li lj lk ll)
 
 -- a product to which nothing is added

@@ -1,10 +1,11 @@
-pub mod Blocks
+mod Blocks
 mod Computed
 mod Entries
 mod Equivalence
 mod Expansion
+pub mod Interface
 mod Inverses
-pub mod Inversion
+mod Inversion
 mod KeyBytes
 mod Linear
 mod Mixing
@@ -12,4 +13,4 @@ mod Products
 mod RoundSteps
 mod States
 mod Vectors
-pub mod Xoring
+mod Xoring

@@ -1,3 +1,5 @@
+//! Exclusive or over blocks.
+
 // Arrays of bytes.
 
 ghost use Rattle.std.specs.Prelude.{◌≡◌};

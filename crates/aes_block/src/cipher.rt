@@ -1,3 +1,5 @@
+//! The cipher with its key schedules.
+
 // The block cipher under a key.
 
 ghost use Rattle.std.specs.Prelude.{◌≡◌, ℕ, List, map};
@@ -41,6 +43,16 @@ impl Aes256 {
         Aes256 {
             words,
             inverse_words: inv_key_words(&words),
+        }
+    }
+
+    /// The same cipher, whose key words are not computed again.
+    pub fn copy(&self) -> Aes256
+        ensures { result ≡ self.now }
+    {
+        Aes256 {
+            words: self.words,
+            inverse_words: self.inverse_words,
         }
     }
 

@@ -1,13 +1,12 @@
+//! Columns of a state, byte by byte.
+
 // A round's work on columns, by tables.
 
 ghost use Rattle.std.specs.Prelude.{◌≡◌, ◌<◌, map, slice_index};
 ghost use Rattle.aes_block.specs.Aes.{inv_mix_polynomial, inv_sub_byte, mix_polynomial, sub_byte, word_product, word_sum};
 ghost use Rattle.aes_block.specs.Columns.{diagonal, word_of};
 
-use crate::tables::{
-    INV_MIXED_0, INV_MIXED_1, INV_MIXED_2, INV_MIXED_3, INV_SBOX, MIXED_0, MIXED_1, MIXED_2,
-    MIXED_3, SBOX,
-};
+use crate::tables::{INV_MIXED, INV_SBOX, MIXED, SBOX};
 
 #[tactic(auto, unfolding(crate::specs::Columns::word_of))]
 fn row_0(column: u32) -> usize
@@ -47,7 +46,7 @@ pub(crate) fn mixed_column(a: u32, b: u32, c: u32, d: u32, key: u32) -> u32
     ensures { word_of result
         ≡ word_sum (word_product mix_polynomial (map sub_byte (diagonal a b c d))) (word_of key) }
 {
-    MIXED_0[row_0(a)] ^ MIXED_1[row_1(b)] ^ MIXED_2[row_2(c)] ^ MIXED_3[row_3(d)] ^ key
+    MIXED[0][row_0(a)] ^ MIXED[1][row_1(b)] ^ MIXED[2][row_2(c)] ^ MIXED[3][row_3(d)] ^ key
 }
 
 /// The same of InvSubBytes and InvMixColumns.
@@ -55,10 +54,10 @@ pub(crate) fn inv_mixed_column(a: u32, b: u32, c: u32, d: u32, key: u32) -> u32
     ensures { word_of result
         ≡ word_sum (word_product inv_mix_polynomial (map inv_sub_byte (diagonal a b c d))) (word_of key) }
 {
-    INV_MIXED_0[row_0(a)]
-        ^ INV_MIXED_1[row_1(b)]
-        ^ INV_MIXED_2[row_2(c)]
-        ^ INV_MIXED_3[row_3(d)]
+    INV_MIXED[0][row_0(a)]
+        ^ INV_MIXED[1][row_1(b)]
+        ^ INV_MIXED[2][row_2(c)]
+        ^ INV_MIXED[3][row_3(d)]
         ^ key
 }
 

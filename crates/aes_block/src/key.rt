@@ -1,3 +1,5 @@
+//! The key schedule.
+
 // The key expansion (FIPS 197, section 5.2).
 
 ghost use Rattle.std.specs.Prelude.{◌≡◌, ◌<◌, ◌≤◌, length, take};

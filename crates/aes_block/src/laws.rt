@@ -1,3 +1,5 @@
+//! Encryption and decryption undo each other, as a law.
+
 // Laws of the definitions, over every key and every block.
 
 ghost use Rattle.std.specs.Prelude.{◌≡◌, ℕ, List};

@@ -1,3 +1,5 @@
+//! States, and what a round does to one.
+
 // The state in four columns of 32 bits, and a round's transformations of it.
 
 ghost use Rattle.std.specs.Prelude.{◌≡◌, ◌<◌};

@@ -1,3 +1,5 @@
+//! The tables of a round, computed from the S-box.
+
 // The tables of the cipher: the S-box, its inverse and the round constants, and the products of their bytes
 // that a round adds up. A column is a number of 32 bits, whose lowest byte is row 0.
 
@@ -77,13 +79,34 @@ macro_rules! mixed {
     };
 }
 
-// The byte's products by InvMixColumns' polynomial (section 5.3.3).
+// The byte times x^2, and times x^3: each bit that comes in at x^8 or above is reduced (section 4.2).
+macro_rules! times_x_2 {
+    ($byte:literal) => {
+        ($byte << 2) ^ ((($byte >> 6) & 1) * 0x11b) ^ (($byte >> 7) * 0x236)
+    };
+}
+
+macro_rules! times_x_3 {
+    ($byte:literal) => {
+        ($byte << 3)
+            ^ ((($byte >> 5) & 1) * 0x11b)
+            ^ ((($byte >> 6) & 1) * 0x236)
+            ^ (($byte >> 7) * 0x46c)
+    };
+}
+
+// The byte's products by InvMixColumns' polynomial (section 5.3.3): x^3 stands in each of its coefficients, x^2
+// in the first and the third, x in the first and the last, 1 in all but the first.
 macro_rules! inv_mixed {
     ($byte:literal [$p:literal $q:literal $r:literal $s:literal]) => {
-        (times_x!(times_x!(times_x!($byte) ^ $byte) ^ $byte) << $p)
-            | ((times_x!(times_x!(times_x!($byte))) ^ $byte) << $q)
-            | ((times_x!(times_x!(times_x!($byte) ^ $byte)) ^ $byte) << $r)
-            | ((times_x!(times_x!(times_x!($byte)) ^ $byte) ^ $byte) << $s)
+        (times_x_3!($byte) * 0x01010101)
+            ^ (times_x_2!($byte) << $p)
+            ^ (times_x_2!($byte) << $r)
+            ^ (times_x!($byte) << $p)
+            ^ (times_x!($byte) << $s)
+            ^ ($byte << $q)
+            ^ ($byte << $r)
+            ^ ($byte << $s)
     };
 }
 
@@ -93,29 +116,21 @@ pub(crate) static SBOX: [u8; 256] = over_sbox!(itself []);
 /// The inverse S-box.
 pub(crate) static INV_SBOX: [u8; 256] = over_inv_sbox!(itself []);
 
-/// What a byte of row 0 gives to its column, once it is substituted, in MixColumns.
-pub(crate) static MIXED_0: [u32; 256] = over_sbox!(mixed [0 8 16 24]);
+/// What a byte gives to its column in MixColumns, once it is substituted: a table for each row.
+pub(crate) static MIXED: [[u32; 256]; 4] = [
+    over_sbox!(mixed [0 8 16 24]),
+    over_sbox!(mixed [8 16 24 0]),
+    over_sbox!(mixed [16 24 0 8]),
+    over_sbox!(mixed [24 0 8 16]),
+];
 
-/// The same of a byte of row 1.
-pub(crate) static MIXED_1: [u32; 256] = over_sbox!(mixed [8 16 24 0]);
-
-/// The same of a byte of row 2.
-pub(crate) static MIXED_2: [u32; 256] = over_sbox!(mixed [16 24 0 8]);
-
-/// The same of a byte of row 3.
-pub(crate) static MIXED_3: [u32; 256] = over_sbox!(mixed [24 0 8 16]);
-
-/// What a byte of row 0 gives to its column, once its substitution is undone, in InvMixColumns.
-pub(crate) static INV_MIXED_0: [u32; 256] = over_inv_sbox!(inv_mixed [0 8 16 24]);
-
-/// The same of a byte of row 1.
-pub(crate) static INV_MIXED_1: [u32; 256] = over_inv_sbox!(inv_mixed [8 16 24 0]);
-
-/// The same of a byte of row 2.
-pub(crate) static INV_MIXED_2: [u32; 256] = over_inv_sbox!(inv_mixed [16 24 0 8]);
-
-/// The same of a byte of row 3.
-pub(crate) static INV_MIXED_3: [u32; 256] = over_inv_sbox!(inv_mixed [24 0 8 16]);
+/// What a byte gives to its column in InvMixColumns, once its substitution is undone: a table for each row.
+pub(crate) static INV_MIXED: [[u32; 256]; 4] = [
+    over_inv_sbox!(inv_mixed [0 8 16 24]),
+    over_inv_sbox!(inv_mixed [8 16 24 0]),
+    over_inv_sbox!(inv_mixed [16 24 0 8]),
+    over_inv_sbox!(inv_mixed [24 0 8 16]),
+];
 
 /// The first bytes of Rcon[1] to Rcon[7] (section 5.2).
 pub(crate) static RCON: [u8; 7] = [0x01, 0x02, 0x04, 0x08, 0x10, 0x20, 0x40];

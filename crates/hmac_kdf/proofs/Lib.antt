@@ -1,3 +1,4 @@
-pub mod Blocks
-pub mod Codes
-pub mod Labels
+mod Blocks
+mod Codes
+pub mod Interface
+mod Labels

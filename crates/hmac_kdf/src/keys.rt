@@ -60,6 +60,20 @@ impl CellKeys {
         }
     }
 
+    /// The same keys, of which nothing is derived again.
+    pub fn copy(&self) -> CellKeys
+        ensures { result ≡ self.now }
+    {
+        CellKeys {
+            enc_key: self.enc_key,
+            mac_key: self.mac_key,
+            iv_key: self.iv_key,
+            cipher: self.cipher.copy(),
+            tag_mac: self.tag_mac.copy(),
+            iv_mac: self.iv_mac.copy(),
+        }
+    }
+
     /// The AES-256 key that encrypts cells.
     pub fn enc_key(&self) -> &[u8; 32]
         ensures { result.now ≡ self.now.enc_key }

@@ -1,6 +1,6 @@
 -- Laws of opened keys.
 use Rattle.std.specs.Prelude.{◌≡◌, ℕ, List, Ok}
-use Rattle.ae_base.specs.declared.batches.KeyMeta.{KeyMeta}
+use Rattle.ae_base.specs.declared.keys.KeyMeta.{KeyMeta}
 use Rattle.ae_edge.specs.Vaults.{KeyMap}
 use Rattle.hmac_kdf.specs.Keys.{Keys, keys_of}
 use Rattle.key_store.specs.Opening.{column_key, open_key}

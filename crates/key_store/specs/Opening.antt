@@ -2,7 +2,7 @@
 use Rattle.std.specs.Prelude.{◌≡◌, ℕ, List, Option, Result, Ok, Err}
 use Rattle.std.specs.Option.{option_and_then}
 use Rattle.ae_base.specs.Results.{◌>>=◌, or_fault}
-use Rattle.ae_base.specs.declared.batches.KeyMeta.{KeyMeta}
+use Rattle.ae_base.specs.declared.keys.KeyMeta.{KeyMeta}
 use Rattle.ae_edge.specs.Vaults.{KeyMap, key_at}
 use Rattle.hmac_kdf.specs.Keys.{Keys, keys_of}
 use Rattle.key_wrap.specs.Wrap.{unwrapped}

@@ -1,6 +1,7 @@
 -- A store of opened keys, as contracts see it: each column key beside the path and the wrapped bytes that it comes of.
 use Rattle.std.specs.Prelude.{◌≡◌, ℕ, List, Contains, Option, Some, None, ◌⊎◌}
 use Rattle.ae_edge.specs.Vaults.{KeyMap}
+use Rattle.hmac_kdf.specs.Keys.{Keys, keys_of}
 use Rattle.key_store.specs.Opening.{opened}
 use Rattle.key_store.specs.declared.origins.Origin.{Origin}
 
@@ -16,3 +17,7 @@ AreKept old new = (entry : Origin × List ℕ) → Contains new entry → Contai
 -- nothing is kept that wasn't before, but a key under its origin
 abbrev pub AreKeptWith : Origin → List ℕ → List (Origin × List ℕ) → List (Origin × List ℕ) → Type 0
 AreKeptWith origin key old new = (entry : Origin × List ℕ) → Contains new entry → Contains old entry ⊎ (entry ≡ (origin, key))
+
+-- keys for cells, under a key that is kept under the origin
+abbrev pub AreOfKept : List (Origin × List ℕ) → Origin → Keys → Type 0
+AreOfKept kept origin keys = (key : List ℕ) × Contains kept (origin, key) × (keys ≡ keys_of key)

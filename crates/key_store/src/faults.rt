@@ -1,3 +1,5 @@
+//! Why a key is not opened.
+
 use ae_base::keys::KeyPath;
 use ae_base::names::Name;
 use std::alloc::AllocError;

@@ -1,13 +1,55 @@
+//! Keys that are unwrapped.
+
 ghost use Rattle.std.specs.Prelude.{◌≡◌, ◌≤◌, Err, IfSome};
 ghost use Rattle.ae_edge.specs.Devices.{Rose};
+ghost use Rattle.hmac_kdf.specs.Keys.{keys_of};
 ghost use Rattle.key_wrap.specs.Wrap.{unwrapped};
 ghost use Rattle.key_store.specs.Opening.{column_key, Opens};
 
 use crate::faults::{KeyFault, OpenFault};
-use ae_base::batches::KeyMeta;
+use ae_base::keys::KeyMeta;
 use ae_base::lists::Duplicate;
 use ae_edge::vaults::{MasterKey, Vault};
 use aes_block::Aes256;
+use hmac_kdf::CellKeys;
+use std::marker::Model;
+
+/// A column key, and the keys of its cells, which are derived from it once.
+#[derive(Drop)]
+pub struct OpenedKey {
+    column_key: [u8; 32],
+    cell_keys: CellKeys,
+}
+
+impl Model for OpenedKey {
+    ghost use Rattle.std.specs.Prelude.{◌≡◌, List, ℕ};
+    ghost use Rattle.hmac_kdf.specs.Keys.{keys_of};
+
+    ghost Value = { List ℕ };
+
+    ghost view = { λ o. o.column_key };
+
+    ghost invariant = { λ o. o.cell_keys ≡ keys_of o.column_key };
+}
+
+impl OpenedKey {
+    /// The column key with the keys of its cells.
+    pub fn of(column_key: [u8; 32]) -> OpenedKey
+        ensures { result ≡ column_key }
+    {
+        OpenedKey {
+            column_key,
+            cell_keys: CellKeys::derive(&column_key),
+        }
+    }
+
+    /// The keys of its cells.
+    pub fn cell_keys(&self) -> CellKeys
+        ensures { result ≡ keys_of self.now }
+    {
+        self.cell_keys.copy()
+    }
+}
 
 /// Opens a column key by a call on the vault.
 pub(crate) fn open<V: Vault>(vault: &mut V, meta: &KeyMeta) -> Result<[u8; 32], OpenFault>

@@ -1,10 +1,11 @@
+//! What a kept key was opened from.
+
 ghost use Rattle.std.specs.Prelude.{◌≡◌, IfOk};
 ghost use Rattle.std.specs.Hash as fed;
 ghost use Rattle.std.specs.Cmp.Rules.{hashing};
 ghost use Rattle.std.proofs.Common.{rules};
 
-use ae_base::batches::KeyMeta;
-use ae_base::keys::{KeyPath, WrappedKey};
+use ae_base::keys::{KeyMeta, KeyPath, WrappedKey};
 use ae_base::lists::Duplicate;
 use std::alloc::AllocError;
 use std::hash::{Hash, Hasher};

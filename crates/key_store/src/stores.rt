@@ -1,13 +1,15 @@
-ghost use Rattle.std.specs.Prelude.{◌≡◌, ◌≤◌, ℕ, List, Option, Contains, Err, IfOk, IfSome, None, OnErr, length};
+//! The store of opened keys.
+
+ghost use Rattle.std.specs.Prelude.{◌≡◌, ◌≤◌, ℕ, List, Option, Err, IfOk, IfSome, None, OnErr, length};
 ghost use Rattle.ae_edge.specs.Devices.{Rose};
 ghost use Rattle.ae_edge.specs.Vaults.{KeyMap};
 ghost use Rattle.key_store.specs.Opening.{open_key, Opens};
-ghost use Rattle.key_store.specs.Stores.{IsOf, AreKept, AreKeptWith};
+ghost use Rattle.key_store.specs.Stores.{IsOf, AreKept, AreKeptWith, AreOfKept};
 
 use crate::faults::OpenFault;
-use crate::opening::open;
+use crate::opening::{OpenedKey, open};
 use crate::origins::Origin;
-use ae_base::batches::KeyMeta;
+use ae_base::keys::KeyMeta;
 use ae_edge::vaults::Vault;
 use hmac_kdf::CellKeys;
 use lru::LruCache;
@@ -19,7 +21,7 @@ use std::num::NonZeroUsize;
 /// its master key's path and its wrapped bytes, never by its name or number.
 #[derive(Drop)]
 pub struct KeyStore {
-    kept: LruCache<Origin, [u8; 32]>,
+    kept: LruCache<Origin, OpenedKey>,
 }
 
 impl Model for KeyStore {
@@ -74,27 +76,32 @@ impl KeyStore {
         ensures failed { result ≡ Err OpenFault.VaultFault → Rose (V.faults vault.old) (V.faults vault.new) }
     {
         let origin = Origin::of_meta(meta)?;
-        if let Some(key) = self.kept(&origin) {
-            return Ok(CellKeys::derive(&key));
+        if let Some(keys) = self.kept(&origin) {
+            return Ok(keys);
         }
         let key = open(vault, meta)?;
-        self.keep(origin, key)?;
-        Ok(CellKeys::derive(&key))
+        let opened = OpenedKey::of(key);
+        let keys = opened.cell_keys();
+        self.keep(origin, opened)?;
+        Ok(keys)
     }
 
-    /// The key that is kept under an origin, which becomes the most recently used. Where none is, the
-    /// store stays as it is.
-    fn kept(&mut self, origin: &Origin) -> Option<[u8; 32]>
-        ensures found { IfSome result (λ key. Contains self.new (origin.now, key)) }
+    /// The keys for the cells under the key that is kept under an origin, which becomes the most
+    /// recently used. Where none is, the store stays as it is.
+    fn kept(&mut self, origin: &Origin) -> Option<CellKeys>
+        ensures found { IfSome result (λ keys. AreOfKept self.new origin.now keys) }
         ensures kept { AreKept self.old self.new }
         ensures none { result ≡ None → self.new ≡ self.old }
     {
         self.kept.promote(origin);
-        self.kept.peek(origin).copied()
+        let Some(opened) = self.kept.peek(origin) else {
+            return None;
+        };
+        Some(opened.cell_keys())
     }
 
     /// Keeps a key under an origin. Want of memory changes nothing.
-    fn keep(&mut self, origin: Origin, key: [u8; 32]) -> Result<(), AllocError>
+    fn keep(&mut self, origin: Origin, key: OpenedKey) -> Result<(), AllocError>
         ensures kept { AreKeptWith origin key self.old self.new }
         ensures refused { OnErr result (self.new ≡ self.old) }
     {
