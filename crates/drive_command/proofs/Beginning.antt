@@ -8,8 +8,8 @@ use Rattle.wire_messages.specs.declared.replies.Reply.{Reply}
 use Rattle.wire_spelling.specs.Spelling.{SpellsReply, reply_frame}
 use Rattle.wire_frames.specs.Frames.{End, Whole, Refused, Rest, EndsSo, ReadsAs, IsNotYet, IsRefused, is_reply_kind, is_no_header, stated}
 use Rattle.wire_frames.specs.Laws.{IsReadOnce, IsReadBack}
-use Rattle.frame_feed.proofs.Streams.{refused_more}
-use Rattle.run_words.specs.Shares.{Begins, IsNext, coming_behind}
+use Rattle.frame_feed.proofs.Interface.{refused_more}
+use Rattle.run_effects.specs.Shares.{Begins, IsNext, coming_behind}
 
 module _ (once : IsReadOnce is_reply_kind SpellsReply) (back : IsReadBack is_reply_kind SpellsReply IsReply reply_frame) where
   -- a frame by itself is read as its reply

@@ -3,7 +3,7 @@ use Rattle.std.proofs.Common.{◌≡◌, ℕ, ◌≤◌, List, [], ◌∷◌, �
 use Rattle.std.specs.Prelude.{flat_map}
 use Rattle.ae_edge.specs.Devices.{IsFront, Removes}
 use Rattle.ae_edge.specs.Vaults.{KeyMap}
-use Rattle.ae_edge.proofs.Told.{front_none}
+use Rattle.ae_edge.proofs.Interface.{front_none}
 use Rattle.wire_messages.specs.declared.replies.Reply.{Reply}
 use Rattle.wire_spelling.specs.Spelling.{request_frame, reply_frame}
 use Rattle.wire_frames.specs.Frames.{End, Whole}
@@ -11,9 +11,9 @@ use Rattle.conversation.specs.declared.outcomes.Outcome.{Outcome}
 use Rattle.conversation.specs.Drive.{Driven, drive, outcomes_in}
 use Rattle.conversation.specs.Paths.{Event, Follows, stays, asks, takes_more, takes_last, strays, prints_last, draws, opens, prints, replies_to, taken_in, drawn_in}
 use Rattle.conversation.specs.Talk.{Talk, Ends, Stops, Asks, Hears, Draws, Opens, Prints}
-use Rattle.run_words.specs.Printing.{printed_outcome, print}
-use Rattle.run_words.specs.Shares.{Streams, coming_behind, frames_of, text_of}
-use Rattle.run_words.specs.Ways.{IsAtReply, IsStuck, off, printed_off}
+use Rattle.outcome_text.specs.Printing.{printed_outcome, print}
+use Rattle.run_effects.specs.Shares.{Streams, coming_behind, frames_of, text_of}
+use Rattle.run_effects.specs.Ways.{IsAtReply, IsStuck, off, printed_off}
 use Rattle.drive_command.specs.Drives.{IsAt, IsByReplies}
 use Rattle.drive_command.proofs.Driving.{no_replies, place_of}
 

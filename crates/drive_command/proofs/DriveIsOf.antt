@@ -11,20 +11,20 @@ use Rattle.conversation.specs.Laws.{PathIsDriven}
 use Rattle.conversation.specs.Paths.{taken_in}
 use Rattle.conversation.specs.Talk.{Talk, Ends}
 use Rattle.script_lang.specs.declared.steps.Step.{Step}
-use Rattle.run_words.specs.Counting.{nothing, has_errors}
-use Rattle.run_words.specs.Shares.{Outside, coming_behind}
-use Rattle.run_words.specs.Ways.{Goes, Lacks, IsPast, CantBeRead, StaysWithin, most_reply_bytes, off, printed_off}
-use Rattle.run_words.specs.declared.stops.Stop.{Stop}
-use Rattle.run_words.specs.declared.stops.Stop.TheVariants as stop
-use Rattle.run_words.specs.declared.tallies.Tally.{Tally}
+use Rattle.outcome_text.specs.Counting.{nothing, has_errors}
+use Rattle.run_effects.specs.Shares.{Outside, coming_behind}
+use Rattle.run_effects.specs.Ways.{Proceeds, Lacks, IsPast, CantBeRead, StaysWithin, most_stream_bytes, off, printed_off}
+use Rattle.run_effects.specs.declared.stops.Stop.{Stop}
+use Rattle.run_effects.specs.declared.stops.Stop.TheVariants as stop
+use Rattle.outcome_text.specs.declared.tallies.Tally.{Tally}
 use Rattle.script_run.specs.declared.runs.Ran.{Ran}
 use Rattle.script_run.specs.declared.runs.Ran.TheVariants as ran
 use Rattle.script_run.specs.declared.runs.Unread.TheVariants as unread
 use Rattle.script_run.specs.Ends.{IsScript}
-use Rattle.script_run.proofs.Plainly.{one_script}
+use Rattle.script_run.proofs.Interface.{one_script}
 use Rattle.drive_command.specs.DriveOf.{IsDriveOf, told_of}
 use Rattle.drive_command.specs.Drives.{DrivesWhole, DrivesTaken, DrivesPast, DrivesBytes, TakesWithin, IsBadAt, IsDone}
-use Rattle.drive_command.specs.Ends.{Lent, outside, CameTo, DrivesTo, DrivesSteps, DrivesScript}
+use Rattle.drive_command.specs.Ends.{DriveDevices, outside, CameTo, DrivesTo, DrivesSteps, DrivesScript}
 use Rattle.drive_command.proofs.Cutting.{off_still, off_taken, gone_so}
 use Rattle.drive_command.proofs.Driving.{Came, came_to, frames_first}
 use Rattle.drive_command.proofs.DrivesAre.{Starts, start, none_to_come, came, place_so, goes_front, done_drives, stuck_drives, cut_drives, breaks_drive}
@@ -33,7 +33,7 @@ coming_first : (bytes : List ℕ) (left : Option (List ℕ)) → left ≡ Some b
 coming_first bytes left e = subst (λ l. coming_behind [] l ≡ Some bytes) (sym e) refl
 
 module _ (path : PathIsDriven) (one : HasOneReading SpellsReply) (once : IsReadOnce is_reply_kind SpellsReply) (back : IsReadBack is_reply_kind SpellsReply IsReply reply_frame) where
-  module _ (keys : KeyMap) (steps : List Step) (bytes : List ℕ) (old new : Lent) (opens : old.keys ≡ Some keys) (left : old.replies ≡ Some bytes) where
+  module _ (keys : KeyMap) (steps : List Step) (bytes : List ℕ) (old new : DriveDevices) (opens : old.keys ≡ Some keys) (left : old.replies ≡ Some bytes) where
     -- ---- to its end
 
     module _ (ended : Result (Unit {0}) Stop) (tally : Tally) (c : CameTo ended tally steps old new) where
@@ -46,7 +46,7 @@ module _ (path : PathIsDriven) (one : HasOneReading SpellsReply) (once : IsReadO
       starts : Starts keys bytes Before
       starts = record { opens = opens; stream = coming_first bytes old.replies left; taken = refl; uncounted = refl }
 
-    module _ (ended : Result (Unit {0}) Stop) (tally : Tally) (c : CameTo ended tally steps old new) (u : Talk) (g : Goes (start steps) u (Before ended tally c) (After ended tally c)) where
+    module _ (ended : Result (Unit {0}) Stop) (tally : Tally) (c : CameTo ended tally steps old new) (u : Talk) (g : Proceeds (start steps) u (Before ended tally c) (After ended tally c)) where
       taken_within : TakesWithin bytes new.replies
       taken_within =
           let x = Before ended tally c in
@@ -56,17 +56,17 @@ module _ (path : PathIsDriven) (one : HasOneReading SpellsReply) (once : IsReadO
           let frames = flat_map reply_frame (flat_map taken_in g.events) in
           let l = length-append frames c.held in
           let p = place_so path one once back keys steps bytes u x y st g in
-          let w : c.taken + length c.held ≤ most_reply_bytes = g.limit (omega arith) in
+          let w : c.taken + length c.held ≤ most_stream_bytes = g.limit (omega arith) in
           (frames ++ c.held, gone_so frames c.held bytes k.left new.replies k.to_come (frames_first g.events bytes k.left k.streams), omega (arith, l, p, w))
 
-    all_within : TakesWithin bytes new.replies → new.replies ≡ Some [] → length bytes ≤ most_reply_bytes
+    all_within : TakesWithin bytes new.replies → new.replies ≡ Some [] → length bytes ≤ most_stream_bytes
     all_within t e =
         let g : bytes ≡ t.0 ++ [] = subst (Removes t.0 (Some bytes)) e t.1 in
         let l = ap length (g ∙ append-nil t.0) in
         let w = t.2 in
         omega (arith, l, w)
 
-    ends : (tally : Tally) (c : CameTo (Ok tt) tally steps old new) → (new.replies ≡ Some []) × DrivesWhole (IsDone (has_errors tally)) keys steps bytes (told_of old) (told_of new) × (length bytes ≤ most_reply_bytes)
+    ends : (tally : Tally) (c : CameTo (Ok tt) tally steps old new) → (new.replies ≡ Some []) × DrivesWhole (IsDone (has_errors tally)) keys steps bytes (told_of old) (told_of new) × (length bytes ≤ most_stream_bytes)
     ends tally c =
         let x = Before (Ok tt) tally c in
         let y = After (Ok tt) tally c in
@@ -101,7 +101,7 @@ module _ (path : PathIsDriven) (one : HasOneReading SpellsReply) (once : IsReadO
             let z = off_taken (off l.between) in
             let m = place_so path one once back keys steps bytes l.between (Before (Err why) tally c) l.mid (starts (Err why) tally c) l.goes in
             let n = length-append frames c.held in
-            let q : c.taken + length c.held ≤ most_reply_bytes = w (omega arith) in
+            let q : c.taken + length c.held ≤ most_stream_bytes = w (omega arith) in
             omega (arith, t, z, m, n, q);
         drives = cut_drives path one once back keys steps bytes l.between (Before (Err why) tally c) l.mid (After (Err why) tally c) (starts (Err why) tally c) l.goes l.awaits c.held l.put h.1;
       }
@@ -153,14 +153,14 @@ module _ (path : PathIsDriven) (one : HasOneReading SpellsReply) (once : IsReadO
           breaks_drive path one once back keys steps bytes (Before (Err stop.OutOfMemory) tally c) (After (Err stop.OutOfMemory) tally c) (starts (Err stop.OutOfMemory) tally c) c.leads
 
     steps_drive : (r : Ran) → DrivesTo r steps old new → DrivesBytes r keys steps bytes new.replies (told_of old) (told_of new)
-    steps_drive ran.Done c = subst (λ b. (new.replies ≡ Some []) × DrivesWhole (IsDone b) keys steps bytes (told_of old) (told_of new) × (length bytes ≤ most_reply_bytes)) c.2 (ends c.0 c.1)
-    steps_drive ran.Refusals c = subst (λ b. (new.replies ≡ Some []) × DrivesWhole (IsDone b) keys steps bytes (told_of old) (told_of new) × (length bytes ≤ most_reply_bytes)) c.2 (ends c.0 c.1)
+    steps_drive ran.Done c = subst (λ b. (new.replies ≡ Some []) × DrivesWhole (IsDone b) keys steps bytes (told_of old) (told_of new) × (length bytes ≤ most_stream_bytes)) c.2 (ends c.0 c.1)
+    steps_drive ran.Refusals c = subst (λ b. (new.replies ≡ Some []) × DrivesWhole (IsDone b) keys steps bytes (told_of old) (told_of new) × (length bytes ≤ most_stream_bytes)) c.2 (ends c.0 c.1)
     steps_drive (ran.Stopped why) c = stops c.0 why c.1
     steps_drive (ran.Unread why) c = absurd c
 
   -- ---- a script
 
-  module _ (script : List ℕ) (old new : Lent) (steps : List Step) (s : IsScript script steps) (keys : KeyMap) (opens : old.keys ≡ Some keys) (bytes : List ℕ) (left : old.replies ≡ Some bytes) where
+  module _ (script : List ℕ) (old new : DriveDevices) (steps : List Step) (s : IsScript script steps) (keys : KeyMap) (opens : old.keys ≡ Some keys) (bytes : List ℕ) (left : old.replies ≡ Some bytes) where
     drives_so : (r : Ran) → DrivesSteps r script old new → DrivesBytes r keys steps bytes new.replies (told_of old) (told_of new)
     drives_so r h =
         subst (λ (ss : List Step). DrivesBytes r keys ss bytes new.replies (told_of old) (told_of new)) (one_script script steps h.steps s h.script)
@@ -175,5 +175,5 @@ module _ (path : PathIsDriven) (one : HasOneReading SpellsReply) (once : IsReadO
     script_drives (ran.Unread (unread.BadLine line)) h = ap told_of h.2
     script_drives (ran.Unread unread.OutOfMemory) h = ap told_of h
 
-  pub drive_of : (r : Ran) (script : List ℕ) (old new : Lent) → DrivesScript r script old new → IsDriveOf r script old new
+  pub drive_of : (r : Ran) (script : List ℕ) (old new : DriveDevices) → DrivesScript r script old new → IsDriveOf r script old new
   drive_of r script old new h = record { content = h; exact = λ steps s keys opens bytes left. script_drives script old new steps s keys opens bytes left r h }

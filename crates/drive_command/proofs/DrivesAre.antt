@@ -3,7 +3,7 @@ use Rattle.std.proofs.Common.{◌≡◌, ℕ, List, [], ◌∷◌, ◌++◌, Opt
 use Rattle.std.specs.Prelude.{IfSome, flat_map}
 use Rattle.ae_edge.specs.Devices.{Adds, AddsFront, IsFront}
 use Rattle.ae_edge.specs.Vaults.{KeyMap}
-use Rattle.ae_edge.proofs.Told.{adds_none, adds_then, adds_front_then, adds_then_front, front_of, front_none, front_same, removes_then}
+use Rattle.ae_edge.proofs.Interface.{adds_none, adds_then, adds_front_then, adds_then_front, front_of, front_none, front_same, removes_then}
 use Rattle.wire_messages.specs.Conditions.{IsReply}
 use Rattle.wire_messages.specs.declared.replies.Reply.{Reply}
 use Rattle.wire_spelling.specs.Spelling.{SpellsReply, request_frame, reply_frame}
@@ -17,11 +17,11 @@ use Rattle.conversation.specs.Sessions.{nobody}
 use Rattle.conversation.specs.Talk.{Talk, Ends}
 use Rattle.script_lang.specs.declared.steps.Step.{Step}
 use Rattle.plain_meaning.specs.Steps.{talk}
-use Rattle.run_words.specs.Counting.{nothing, has_errors, counted}
-use Rattle.run_words.specs.Printing.{print, has_refusal}
-use Rattle.run_words.specs.Shares.{Outside, Stream, Streams, IsNext, HasPut, coming_behind, frames_of, text_of}
-use Rattle.run_words.specs.Ways.{Goes, Breaks, GoesOn, IsSilent, IsAtReply, IsStuck, off, printed_off}
-use Rattle.run_words.proofs.Counted.{has_errors_where}
+use Rattle.outcome_text.specs.Counting.{nothing, has_errors, counted}
+use Rattle.outcome_text.specs.Printing.{print, has_refusal}
+use Rattle.run_effects.specs.Shares.{Outside, Stream, Streams, IsNext, HasPut, coming_behind, frames_of, text_of}
+use Rattle.run_effects.specs.Ways.{Proceeds, Breaks, GoesOn, IsSilent, IsAtReply, IsStuck, off, printed_off}
+use Rattle.run_effects.proofs.Interface.{has_errors_where}
 use Rattle.script_run.specs.Transcript.{Drew}
 use Rattle.drive_command.specs.Drives.{Told, DrivesWhole, DrivesFront, DrivesPart, IsDone, IsBadAt, IsCut, IsWhole, IsAt, IsByReplies, messages_of, driven}
 use Rattle.drive_command.proofs.Cutting.{lost, stuck, one_front, streams_cut, off_frames, off_drawn}
@@ -30,17 +30,17 @@ use Rattle.drive_command.proofs.Fetching.{none_in_none}
 use Rattle.drive_command.proofs.Taken.{ReadsReplies, none_first, none_read}
 
 abbrev pub told : Outside → Told
-told o = record { out = o.desk.out; tap = o.wire.tap; entropy = o.desk.entropy }
+told o = record { out = o.client.out; tap = o.wire.tap; entropy = o.client.entropy }
 
 abbrev pub start : List Step → Talk
 start steps = talk steps nobody
 
 -- replies that tell their bytes, with keys that are told
 pub record Starts (keys : KeyMap) (bytes : List ℕ) (old : Outside) : Type 0 where
-  pub opens : old.desk.keys ≡ Some keys
+  pub opens : old.client.keys ≡ Some keys
   pub stream : ComesTo old.wire.stream bytes
   pub taken : old.wire.taken ≡ 0
-  pub uncounted : old.desk.tally ≡ nothing
+  pub uncounted : old.client.tally ≡ nothing
 
 -- ---- told bytes
 
@@ -64,12 +64,12 @@ at_end at bytes placed end r m e = subst (λ (x : End). ReadsReplies at bytes []
 
 module _ (path : PathIsDriven) (one : HasOneReading SpellsReply) (once : IsReadOnce is_reply_kind SpellsReply) (back : IsReadBack is_reply_kind SpellsReply IsReply reply_frame)
     (keys : KeyMap) (steps : List Step) (bytes : List ℕ) where
-  module _ (u : Talk) (old new : Outside) (st : Starts keys bytes old) (g : Goes (start steps) u old new) where
+  module _ (u : Talk) (old new : Outside) (st : Starts keys bytes old) (g : Proceeds (start steps) u old new) where
     pub came : Came g.events bytes new.wire.stream
     came = came_to g.events old.wire.stream new.wire.stream old.wire.waiting new.wire.waiting bytes st.stream g.read.wire.comes
 
     opened : OpensAll g.events keys
-    opened = subst (λ x. IfSome x (OpensAll g.events)) st.opens g.put.desk.opened
+    opened = subst (λ x. IfSome x (OpensAll g.events)) st.opens g.put.client.opened
 
     -- over other bytes, by the same events
     over : (from to : List ℕ) → Streams g.events from to → (placed : List (Placed Reply)) (end : End) → ReadsReplies 0 from placed end → Reached keys (start steps) u g.events to placed end
@@ -84,21 +84,21 @@ module _ (path : PathIsDriven) (one : HasOneReading SpellsReply) (once : IsReadO
     pub goes_front : DrivesFront keys steps bytes (told old) (told new)
     goes_front = record {
       drawn = flat_map drawn_in g.events;
-      share = g.put.desk.entropy;
+      share = g.put.client.entropy;
       front = λ placed end reads more.
           let r = there placed end reads in
           let d = driven keys steps (flat_map drawn_in g.events ++ more) placed in
           let e = drive keys u (length (flat_map taken_in g.events)) more (messages_of r.left) in (
             front_of (flat_map frames_of g.events) (flat_map request_frame d.requests) old.wire.tap new.wire.tap g.put.wire.tap
                 (subst (λ w. IsFront w (flat_map request_frame d.requests)) (append-nil (flat_map frames_of g.events)) (taps_front d e g.events (r.is more) [] came.silent (front_none (flat_map request_frame e.requests)))),
-            front_of (flat_map text_of g.events) (print d.outcomes) old.desk.out new.desk.out g.put.desk.out
+            front_of (flat_map text_of g.events) (print d.outcomes) old.client.out new.client.out g.put.client.out
                 (subst (λ w. IsFront w (print d.outcomes)) (append-nil (flat_map text_of g.events)) (texts_front d e g.events (r.is more) [] (front_none (print e.outcomes)))),
           );
     }
 
   -- ---- to its end
 
-  module _ (sessions : List Session) (old new : Outside) (st : Starts keys bytes old) (g : Goes (start steps) (Ends sessions) old new) (empty : (came (Ends sessions) old new st g).left ≡ []) where
+  module _ (sessions : List Session) (old new : Outside) (st : Starts keys bytes old) (g : Proceeds (start steps) (Ends sessions) old new) (empty : (came (Ends sessions) old new st g).left ≡ []) where
     abbrev last : List ℕ → Driven
     last more = ended [] more (Done sessions)
 
@@ -109,18 +109,18 @@ module _ (path : PathIsDriven) (one : HasOneReading SpellsReply) (once : IsReadO
         let n = none_read _ r.left end (subst (λ (w : List ℕ). ReadsReplies (length (flat_map reply_frame (flat_map taken_in g.events))) w r.left end) empty r.reads) in
         (r.is more ∙ ap (λ (l : List (Placed Reply)). behind g.events (ended [] more (end_at sessions (length (flat_map taken_in g.events)) (messages_of l)))) n.0, n.1)
 
-    refuses_so : has_refusal (flat_map outcome_in g.events ++ []) ≡ has_errors new.desk.tally
+    refuses_so : has_refusal (flat_map outcome_in g.events ++ []) ≡ has_errors new.client.tally
     refuses_so = ap has_refusal (append-nil (flat_map outcome_in g.events)) ∙ sym (ap has_errors (g.read.tally ∙ ap (counted g.events) st.uncounted) ∙ has_errors_where g.events)
 
-    pub done_drives : DrivesWhole (IsDone (has_errors new.desk.tally)) keys steps bytes (told old) (told new)
+    pub done_drives : DrivesWhole (IsDone (has_errors new.client.tally)) keys steps bytes (told old) (told new)
     done_drives = record {
       drawn = flat_map drawn_in g.events;
-      share = g.put.desk.entropy;
+      share = g.put.client.entropy;
       whole = λ placed end reads more.
           let d = driven keys steps (flat_map drawn_in g.events ++ more) placed in
           let k = done_is placed end reads more in (
             taps_whole d (last more) g.events k.0 old.wire.tap new.wire.tap (came (Ends sessions) old new st g).silent refl g.put.wire.tap,
-            texts_whole d (last more) g.events k.0 [] old.desk.out new.desk.out new.desk.out refl g.put.desk.out (adds_none new.desk.out),
+            texts_whole d (last more) g.events k.0 [] old.client.out new.client.out new.client.out refl g.put.client.out (adds_none new.client.out),
             ap (λ (x : Driven). x.entropy) k.0,
             (subst (λ (x : Driven). IsWhole x.end end) (sym k.0) k.1, ap (λ (x : Driven). has_refusal x.outcomes) k.0 ∙ refuses_so),
           );
@@ -128,12 +128,12 @@ module _ (path : PathIsDriven) (one : HasOneReading SpellsReply) (once : IsReadO
 
   -- ---- no further
 
-  module _ (u : Talk) (old new : Outside) (st : Starts keys bytes old) (g : Goes (start steps) u old new) (held : List ℕ) (left : Option (List ℕ))
+  module _ (u : Talk) (old new : Outside) (st : Starts keys bytes old) (g : Proceeds (start steps) u old new) (held : List ℕ) (left : Option (List ℕ))
       (to_come : coming_behind held left ≡ Some (came u old new st g).left) (s : IsStuck u held) where
     pub stuck_drives : DrivesWhole (IsBadAt new.wire.taken) keys steps bytes (told old) (told new)
     stuck_drives = record {
       drawn = flat_map drawn_in g.events;
-      share = g.put.desk.entropy;
+      share = g.put.client.entropy;
       whole = λ placed end reads more.
           let r = there u old new st g placed end reads in
           let d = driven keys steps (flat_map drawn_in g.events ++ more) placed in
@@ -141,7 +141,7 @@ module _ (path : PathIsDriven) (one : HasOneReading SpellsReply) (once : IsReadO
           let k = stuck keys u held s new.wire.taken more (flat_map taken_in g.events) (messages_of r.left) end (place_so u old new st g)
           (λ m w. none_held held (came u old new st g).left left to_come (at_end _ (came u old new st g).left r.left end r.reads m w)) in (
             taps_whole d e g.events (r.is more) old.wire.tap new.wire.tap (came u old new st g).silent k.requests g.put.wire.tap,
-            texts_whole d e g.events (r.is more) [] old.desk.out new.desk.out new.desk.out (ap print k.outcomes) g.put.desk.out (adds_none new.desk.out),
+            texts_whole d e g.events (r.is more) [] old.client.out new.client.out new.client.out (ap print k.outcomes) g.put.client.out (adds_none new.client.out),
             ap (λ (x : Driven). x.entropy) (r.is more) ∙ k.entropy,
             subst (λ (x : Driven). IsAt new.wire.taken (messages_of placed) x.end end) (sym (r.is more)) (subst (λ rs. IsAt new.wire.taken rs e.end end) (sym r.all) k.ends),
           );
@@ -149,7 +149,7 @@ module _ (path : PathIsDriven) (one : HasOneReading SpellsReply) (once : IsReadO
 
   -- ---- where a reply is awaited, and none can be read
 
-  module _ (u : Talk) (old mid new : Outside) (st : Starts keys bytes old) (g : Goes (start steps) u old mid) (w : IsAtReply u) (part : List ℕ) where
+  module _ (u : Talk) (old mid new : Outside) (st : Starts keys bytes old) (g : Proceeds (start steps) u old mid) (w : IsAtReply u) (part : List ℕ) where
     abbrev frames : List ℕ
     frames = flat_map reply_frame (flat_map taken_in g.events)
 
@@ -171,10 +171,10 @@ module _ (path : PathIsDriven) (one : HasOneReading SpellsReply) (once : IsReadO
           subst (λ xs. Adds xs old.wire.tap new.wire.tap) (ap (λ xs. flat_map frames_of g.events ++ xs) (off_frames (off u)) ∙ append-nil (flat_map frames_of g.events))
           (adds_then (flat_map frames_of g.events) (flat_map frames_of (printed_off (off u))) old.wire.tap mid.wire.tap new.wire.tap g.put.wire.tap put.wire.tap)
 
-      cut_drew : Drew (flat_map drawn_in g.events) old.desk.entropy new.desk.entropy
+      cut_drew : Drew (flat_map drawn_in g.events) old.client.entropy new.client.entropy
       cut_drew =
-          subst (λ xs. Drew xs old.desk.entropy new.desk.entropy) (ap (λ xs. flat_map drawn_in g.events ++ xs) (off_drawn (off u)) ∙ append-nil (flat_map drawn_in g.events))
-          (removes_then (flat_map drawn_in g.events) (flat_map drawn_in (printed_off (off u))) old.desk.entropy mid.desk.entropy new.desk.entropy g.put.desk.entropy put.desk.entropy)
+          subst (λ xs. Drew xs old.client.entropy new.client.entropy) (ap (λ xs. flat_map drawn_in g.events ++ xs) (off_drawn (off u)) ∙ append-nil (flat_map drawn_in g.events))
+          (removes_then (flat_map drawn_in g.events) (flat_map drawn_in (printed_off (off u))) old.client.entropy mid.client.entropy new.client.entropy g.put.client.entropy put.client.entropy)
 
       pub cut_drives : IsNext None part → DrivesWhole IsCut keys steps (frames ++ part) (told old) (told new)
       cut_drives n = record {
@@ -186,7 +186,7 @@ module _ (path : PathIsDriven) (one : HasOneReading SpellsReply) (once : IsReadO
             let i = cut_is n placed end reads more in
             let k = lost keys u w (length (flat_map taken_in g.events)) more in (
               taps_whole d e g.events i old.wire.tap new.wire.tap (came u old mid st g).silent k.requests cut_tap,
-              texts_whole d e g.events i (flat_map text_of (printed_off (off u))) old.desk.out mid.desk.out new.desk.out (ap print k.outcomes ∙ sym (off_text (off u))) g.put.desk.out put.desk.out,
+              texts_whole d e g.events i (flat_map text_of (printed_off (off u))) old.client.out mid.client.out new.client.out (ap print k.outcomes ∙ sym (off_text (off u))) g.put.client.out put.client.out,
               ap (λ (x : Driven). x.entropy) i ∙ k.entropy,
               subst (λ (x : Driven). IsByReplies x.end) (sym i) k.end,
             );
@@ -196,7 +196,7 @@ module _ (path : PathIsDriven) (one : HasOneReading SpellsReply) (once : IsReadO
     module _ (put : HasPut AddsFront (printed_off (off u)) mid new) where
       pub cut_front : IsNext None part → (more : List ℕ) (placed : List (Placed Reply)) (end : End) → ReadsReplies 0 (frames ++ part) placed end
           → let d = driven keys steps (flat_map drawn_in g.events ++ more) placed in
-          AddsFront (flat_map request_frame d.requests) old.wire.tap new.wire.tap × AddsFront (print d.outcomes) old.desk.out new.desk.out
+          AddsFront (flat_map request_frame d.requests) old.wire.tap new.wire.tap × AddsFront (print d.outcomes) old.client.out new.client.out
       cut_front n more placed end reads =
           let d = driven keys steps (flat_map drawn_in g.events ++ more) placed in
           let e = drive keys u (length (flat_map taken_in g.events)) more [] in
@@ -206,8 +206,8 @@ module _ (path : PathIsDriven) (one : HasOneReading SpellsReply) (once : IsReadO
             adds_front_then (flat_map frames_of g.events ++ flat_map frames_of last) (flat_map request_frame d.requests) old.wire.tap new.wire.tap
                 (adds_then_front (flat_map frames_of g.events) (flat_map frames_of last) old.wire.tap mid.wire.tap new.wire.tap g.put.wire.tap put.wire.tap)
                 (taps_front d e g.events i (flat_map frames_of last) (came u old mid st g).silent (subst (λ xs. IsFront xs (flat_map request_frame e.requests)) (sym (off_frames (off u))) (front_none (flat_map request_frame e.requests)))),
-            adds_front_then (flat_map text_of g.events ++ flat_map text_of last) (print d.outcomes) old.desk.out new.desk.out
-                (adds_then_front (flat_map text_of g.events) (flat_map text_of last) old.desk.out mid.desk.out new.desk.out g.put.desk.out put.desk.out)
+            adds_front_then (flat_map text_of g.events ++ flat_map text_of last) (print d.outcomes) old.client.out new.client.out
+                (adds_then_front (flat_map text_of g.events) (flat_map text_of last) old.client.out mid.client.out new.client.out g.put.client.out put.client.out)
                 (texts_front d e g.events i (flat_map text_of last) (subst (λ xs. IsFront xs (print e.outcomes)) (ap print k.outcomes ∙ sym (off_text (off u))) (front_same (print e.outcomes)))),
           )
 
@@ -221,8 +221,8 @@ module _ (path : PathIsDriven) (one : HasOneReading SpellsReply) (once : IsReadO
     abbrev drew : List ℕ
     drew = flat_map drawn_in b.goes.events ++ flat_map drawn_in b.last
 
-    broke_drew : Drew drew old.desk.entropy new.desk.entropy
-    broke_drew = removes_then (flat_map drawn_in b.goes.events) (flat_map drawn_in b.last) old.desk.entropy b.mid.desk.entropy new.desk.entropy b.goes.put.desk.entropy b.put.desk.entropy
+    broke_drew : Drew drew old.client.entropy new.client.entropy
+    broke_drew = removes_then (flat_map drawn_in b.goes.events) (flat_map drawn_in b.last) old.client.entropy b.mid.client.entropy new.client.entropy b.goes.put.client.entropy b.put.client.entropy
 
     drew_more : (more : List ℕ) (placed : List (Placed Reply)) → driven keys steps (drew ++ more) placed ≡ driven keys steps (flat_map drawn_in b.goes.events ++ (flat_map drawn_in b.last ++ more)) placed
     drew_more more placed = ap (λ xs. driven keys steps xs placed) (append_assoc (flat_map drawn_in b.goes.events) (flat_map drawn_in b.last) more)
@@ -230,7 +230,7 @@ module _ (path : PathIsDriven) (one : HasOneReading SpellsReply) (once : IsReadO
     -- it goes on so over all bytes
     went_on : Follows b.between b.last b.rest → flat_map replies_to b.last ≡ [] → (more : List ℕ) (placed : List (Placed Reply)) (end : End) → ReadsReplies 0 bytes placed end
         → let d = driven keys steps (flat_map drawn_in b.goes.events ++ (flat_map drawn_in b.last ++ more)) placed in
-        AddsFront (flat_map request_frame d.requests) old.wire.tap new.wire.tap × AddsFront (print d.outcomes) old.desk.out new.desk.out
+        AddsFront (flat_map request_frame d.requests) old.wire.tap new.wire.tap × AddsFront (print d.outcomes) old.client.out new.client.out
     went_on f s more placed end reads =
         let g = b.goes in
         let r = there b.between old b.mid st g placed end reads in
@@ -240,8 +240,8 @@ module _ (path : PathIsDriven) (one : HasOneReading SpellsReply) (once : IsReadO
           adds_front_then (flat_map frames_of g.events ++ flat_map frames_of b.last) (flat_map request_frame d.requests) old.wire.tap new.wire.tap
               (adds_then_front (flat_map frames_of g.events) (flat_map frames_of b.last) old.wire.tap b.mid.wire.tap new.wire.tap g.put.wire.tap b.put.wire.tap)
               (taps_front d e g.events (r.is (flat_map drawn_in b.last ++ more)) (flat_map frames_of b.last) (came b.between old b.mid st g).silent k.frames),
-          adds_front_then (flat_map text_of g.events ++ flat_map text_of b.last) (print d.outcomes) old.desk.out new.desk.out
-              (adds_then_front (flat_map text_of g.events) (flat_map text_of b.last) old.desk.out b.mid.desk.out new.desk.out g.put.desk.out b.put.desk.out)
+          adds_front_then (flat_map text_of g.events ++ flat_map text_of b.last) (print d.outcomes) old.client.out new.client.out
+              (adds_then_front (flat_map text_of g.events) (flat_map text_of b.last) old.client.out b.mid.client.out new.client.out g.put.client.out b.put.client.out)
               (texts_front d e g.events (r.is (flat_map drawn_in b.last ++ more)) (flat_map text_of b.last) k.text),
         )
 
@@ -260,7 +260,7 @@ module _ (path : PathIsDriven) (one : HasOneReading SpellsReply) (once : IsReadO
         share = broke_drew;
         front = λ placed end reads more.
             let c = came b.between old b.mid st b.goes in
-            subst (λ (d : Driven). AddsFront (flat_map request_frame d.requests) old.wire.tap new.wire.tap × AddsFront (print d.outcomes) old.desk.out new.desk.out)
+            subst (λ (d : Driven). AddsFront (flat_map request_frame d.requests) old.wire.tap new.wire.tap × AddsFront (print d.outcomes) old.client.out new.client.out)
             (sym (drew_more more placed)) (went_on f.0 (silent_of b.mid.wire.stream c.left b.last c.to_come f.1) more placed end reads);
       };
     }
@@ -271,7 +271,7 @@ module _ (path : PathIsDriven) (one : HasOneReading SpellsReply) (once : IsReadO
         drawn = drew;
         share = broke_drew;
         front = λ placed end reads more.
-            subst (λ (d : Driven). AddsFront (flat_map request_frame d.requests) old.wire.tap new.wire.tap × AddsFront (print d.outcomes) old.desk.out new.desk.out)
+            subst (λ (d : Driven). AddsFront (flat_map request_frame d.requests) old.wire.tap new.wire.tap × AddsFront (print d.outcomes) old.client.out new.client.out)
             (sym (drew_more more placed))
             (cut_front b.between old b.mid new st b.goes h.1 [] (subst (λ es. HasPut AddsFront es b.mid new) h.2 b.put) none_in_none (flat_map drawn_in b.last ++ more) placed end reads);
       };

@@ -4,7 +4,7 @@ use Rattle.std.specs.Prelude.{flat_map}
 use Rattle.std.proofs.Math.Seq.{take-append_seam}
 use Rattle.ae_edge.specs.Devices.{WhereTold, Adds, IsFront}
 use Rattle.ae_edge.specs.Vaults.{KeyMap}
-use Rattle.ae_edge.proofs.Told.{adds_then}
+use Rattle.ae_edge.proofs.Interface.{adds_then}
 use Rattle.wire_messages.specs.Conditions.{IsReply}
 use Rattle.wire_messages.specs.declared.replies.Reply.{Reply}
 use Rattle.wire_spelling.specs.Spelling.{SpellsReply, request_frame, reply_frame}
@@ -16,10 +16,10 @@ use Rattle.conversation.specs.Laws.{PathIsDriven, behind}
 use Rattle.conversation.specs.Paths.{Event, Asked, Took, Strayed, Drew, Opened, Printed, Follows, request_in, replies_to, taken_in, drawn_in, outcome_in, OpensAll, LastsTo}
 use Rattle.conversation.specs.Talk.{Talk}
 use Rattle.std.proofs.lemmas.Grind.{flat_map-append}
-use Rattle.run_words.specs.Printing.{printed_outcome, print}
-use Rattle.run_words.specs.Shares.{Stream, Streams, Comes, coming, frames_of, text_of}
-use Rattle.run_words.specs.Ways.{printed_off}
-use Rattle.script_run.proofs.Plainly.{text_is}
+use Rattle.outcome_text.specs.Printing.{printed_outcome, print}
+use Rattle.run_effects.specs.Shares.{Stream, Streams, Comes, coming, frames_of, text_of}
+use Rattle.run_effects.specs.Ways.{printed_off}
+use Rattle.script_run.proofs.Interface.{text_is}
 use Rattle.drive_command.specs.Drives.{messages_of, place_behind}
 use Rattle.drive_command.proofs.Taken.{ReadsReplies, taken_are}
 

@@ -4,16 +4,16 @@ use Rattle.std.specs.Prelude.{◌<◌, ◌-◌, IfSome, Err}
 use Rattle.ae_edge.specs.Devices.{WhereTold, Removes}
 use Rattle.ae_edge.specs.Sources.{Takes}
 use Rattle.ae_edge.specs.declared.sources.Taken.TheVariants as taken
-use Rattle.ae_edge.proofs.Told.{told_same}
+use Rattle.ae_edge.proofs.Interface.{told_same}
 use Rattle.wire_spelling.specs.Spelling.{SpellsReply, reply_frame}
 use Rattle.wire_messages.specs.Conditions.{IsReply}
 use Rattle.wire_frames.specs.Frames.{IsNotYet, is_reply_kind}
 use Rattle.wire_frames.specs.Laws.{IsReadOnce, IsReadBack}
-use Rattle.run_words.specs.Shares.{IsNext, coming_behind}
-use Rattle.run_words.specs.Ways.{IsLeft, IsPast, most_reply_bytes}
+use Rattle.run_effects.specs.Shares.{IsNext, coming_behind}
+use Rattle.run_effects.specs.Ways.{IsLeft, IsPast, most_stream_bytes}
 use Rattle.drive_command.specs.Holding.{Holding, came, held_more}
-use Rattle.script_run.specs.declared.lines.Lack.{Lack}
-use Rattle.script_run.specs.declared.lines.Lack.TheVariants as lack
+use Rattle.script_run.specs.declared.connection.ReplyFault.{ReplyFault}
+use Rattle.script_run.specs.declared.connection.ReplyFault.TheVariants as fault
 use Rattle.drive_command.specs.Reading.{Moves, Moved, HoldsWithin, Ends, ReadsMore, FetchesReply}
 use Rattle.drive_command.proofs.Beginning.{none_yet}
 
@@ -70,7 +70,7 @@ pub none_in_none : IsNext None []
 none_in_none = λ r b. let e = ap length b.is in let l = length-append (reply_frame r) b.rest in omega (arith, e, l)
 
 -- one byte past the limit
-pub is_past : (b c : Holding) (byte : ℕ) (l m : Option (List ℕ)) → Moves (byte ∷ []) b c l m → came b ≡ most_reply_bytes → IsNext None b.held → IsPast c.at c.held
+pub is_past : (b c : Holding) (byte : ℕ) (l m : Option (List ℕ)) → Moves (byte ∷ []) b c l m → came b ≡ most_stream_bytes → IsNext None b.held → IsPast c.at c.held
 is_past b c byte l m q e n =
     let i = q.held in
     subst (λ h. IsPast h.at h.held) (sym i) (record { within = b.held; byte = byte; is = refl; limit = e; none = n })
@@ -86,25 +86,25 @@ some_left b c piece l m q n = let i = q.held in subst (λ h. IsLeft h.held) (sym
 -- ---- a piece
 
 -- with no room there is one byte more
-pub one_past : (old new : Holding) (piece : List ℕ) (left after : Option (List ℕ)) (before now room : ℕ) → before ≤ now → room ≡ most_reply_bytes - came old → room ≡ 0 → 0 < length piece → length piece ≤ 1
-    → new ≡ held_more old piece → came new ≤ most_reply_bytes + 1 → WhereTold (Takes (taken.Bytes piece)) left after → ReadsMore (Err lack.TooLong) old new left after before now
+pub one_past : (old new : Holding) (piece : List ℕ) (left after : Option (List ℕ)) (before now room : ℕ) → before ≤ now → room ≡ most_stream_bytes - came old → room ≡ 0 → 0 < length piece → length piece ≤ 1
+    → new ≡ held_more old piece → came new ≤ most_stream_bytes + 1 → WhereTold (Takes (taken.Bytes piece)) left after → ReadsMore (Err fault.TooLong) old new left after before now
 one_past old new [] left after before now room b r z some one h w t = absurd (omega (arith, some))
 one_past old new (x ∷ []) left after before now room b r z some one h w t =
     let l = length-append old.held (x ∷ []) in
-    let v : came (held_more old (x ∷ [])) ≤ most_reply_bytes + 1 = subst (λ k. came k ≤ most_reply_bytes + 1) h w in
+    let v : came (held_more old (x ∷ [])) ≤ most_stream_bytes + 1 = subst (λ k. came k ≤ most_stream_bytes + 1) h w in
     (b, omega (arith, r, z, v, l), (x, record { held = h; gone = t }))
 one_past old new (x ∷ y ∷ ys) left after before now room b r z some one h w t = absurd (omega (arith, one))
 
 module _ (once : IsReadOnce is_reply_kind SpellsReply) (back : IsReadBack is_reply_kind SpellsReply IsReply reply_frame) where
   -- less than a frame is held, and no more can be had
-  pub fetch_lacks : (why : Lack) (a b c : Holding) (l m n : Option (List ℕ)) (x y z : ℕ) → Moved a b l m → x ≤ y → HoldsWithin a b → IsNotYet is_reply_kind b.held → ReadsMore (Err why) b c m n y z → FetchesReply (Err why) a c l n x z
-  fetch_lacks lack.BadReply a b c l m n x y z p i w s h = absurd h
-  fetch_lacks lack.ReadFault a b c l m n x y z p i w s h =
+  pub fetch_lacks : (why : ReplyFault) (a b c : Holding) (l m n : Option (List ℕ)) (x y z : ℕ) → Moved a b l m → x ≤ y → HoldsWithin a b → IsNotYet is_reply_kind b.held → ReadsMore (Err why) b c m n y z → FetchesReply (Err why) a c l n x z
+  fetch_lacks fault.BadReply a b c l m n x y z p i w s h = absurd h
+  fetch_lacks fault.ReadFault a b c l m n x y z p i w s h =
       let j = h.0 in
       let r = h.1 in
       let e : c.held ≡ b.held = ap (λ (k : Holding). k.held) h.2.held ∙ append-nil b.held in
       (moved_more a b c [] l m n p h.2, omega (arith, i, j), within_still a b c m n w h.2, omega (arith, i, r), subst (IsNext None) (sym e) (none_yet once back b.held s))
-  fetch_lacks lack.TooLong a b c l m n x y z p i w s h =
+  fetch_lacks fault.TooLong a b c l m n x y z p i w s h =
       let j = h.0 in
       (moved_more a b c (h.2.0 ∷ []) l m n p h.2.1, omega (arith, i, j), is_past b c h.2.0 m n h.2.1 h.1 (none_yet once back b.held s))
-  fetch_lacks lack.OutOfMemory a b c l m n x y z p i w s h = tt
+  fetch_lacks fault.OutOfMemory a b c l m n x y z p i w s h = tt

@@ -16,9 +16,9 @@ use Rattle.frame_feed.specs.declared.feeds.Next.{Next}
 use Rattle.frame_feed.specs.declared.feeds.Next.TheVariants as next
 use Rattle.frame_feed.specs.declared.messages.Message.{Message}
 use Rattle.frame_feed.specs.declared.messages.Message.TheVariants.{Asks, Tells}
-use Rattle.run_words.specs.Shares.{Begins}
-use Rattle.script_run.specs.Lines.{reply_of}
-use Rattle.script_run.specs.declared.lines.Front.{Front}
+use Rattle.run_effects.specs.Shares.{Begins}
+use Rattle.script_run.specs.Connections.{reply_of}
+use Rattle.script_run.specs.declared.connection.Front.{Front}
 use Rattle.drive_command.specs.Holding.{Holding, StandsSo, IsReadFront, kind_of}
 use Rattle.drive_command.specs.declared.holding.Stands.{Stands}
 

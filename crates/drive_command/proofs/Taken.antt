@@ -8,7 +8,7 @@ use Rattle.wire_spelling.specs.Spelling.{SpellsReply, reply_frame}
 use Rattle.wire_frames.specs.Frames.{End, Whole, Refused, Rest, Placed, EndsSo, ReadsAs, is_reply_kind}
 use Rattle.wire_frames.specs.Laws.{HasOneReading, IsReadOnce, IsReadBack}
 use Rattle.conversation.specs.Paths.{Event, Asked, Took, Strayed, Drew, Opened, Printed, replies_to, taken_in, Waits}
-use Rattle.run_words.specs.Shares.{Begins, IsNext, Streams}
+use Rattle.run_effects.specs.Shares.{Begins, IsNext, Streams}
 use Rattle.drive_command.specs.Drives.{messages_of}
 use Rattle.drive_command.proofs.Beginning.{not_refused, not_missing}
 use Rattle.drive_command.proofs.Fetching.{none_in_none}

@@ -3,18 +3,18 @@ use Rattle.std.proofs.Common.{◌≡◌, ℕ, ◌+◌, ◌≤◌, List, [], ◌�
 use Rattle.std.specs.Borrow.{GName}
 use Rattle.ae_edge.specs.Devices.{Adds, AddsFront, WhereTold}
 use Rattle.ae_edge.specs.declared.streams.PutAll.TheVariants as put
-use Rattle.ae_edge.proofs.Told.{told_same, adds_none, adds_front_none}
+use Rattle.ae_edge.proofs.Interface.{told_same, adds_none, adds_front_none}
 use Rattle.wire_messages.specs.declared.replies.Reply.{Reply}
 use Rattle.wire_messages.specs.declared.requests.Request.{Request}
 use Rattle.wire_spelling.specs.Spelling.{request_frame, reply_frame}
 use Rattle.conversation.specs.Paths.{Asked, Took}
-use Rattle.run_words.specs.Shares.{Begins, Streams, Wire, WirePut, WireRead, coming_behind}
-use Rattle.run_words.specs.Ways.{AsksInPart, TakesOne}
-use Rattle.script_run.specs.declared.lines.Lack.{Lack}
-use Rattle.script_run.specs.declared.lines.Lack.TheVariants as lack
-use Rattle.script_run.specs.declared.lines.Sent.TheVariants as sent
+use Rattle.run_effects.specs.Shares.{Begins, Streams, Wire, WirePut, WireRead, coming_behind}
+use Rattle.run_effects.specs.Ways.{AsksInPart, TakesOne}
+use Rattle.script_run.specs.declared.connection.ReplyFault.{ReplyFault}
+use Rattle.script_run.specs.declared.connection.ReplyFault.TheVariants as fault
+use Rattle.script_run.specs.declared.connection.Sent.TheVariants as sent
 use Rattle.script_run.specs.Frames.{PutsBytes}
-use Rattle.script_run.specs.Lines.{Rests, Fetches, Finishes, Sends}
+use Rattle.script_run.specs.Connections.{Rests, Fetches, Finishes, Sends}
 use Rattle.drive_command.specs.Holding.{Holding}
 use Rattle.drive_command.specs.Reading.{Moved, HoldsWithin, FetchesReply, FinishesReplies, wire_of}
 
@@ -39,19 +39,19 @@ module _ (tap_names source_names after_names : List GName) (same : after_names �
   rests : Moved h k left after → before ≤ now → HoldsWithin h k → Rests Old New
   rests m c w = (still, unread m c, w)
 
-  pub fetches : (result : Result (Unit {0}) Lack) → FetchesReply result h k left after before now → Fetches result Old New
+  pub fetches : (result : Result (Unit {0}) ReplyFault) → FetchesReply result h k left after before now → Fetches result Old New
   fetches (Ok o) f = (rests f.0 f.1 f.2, f.3)
-  fetches (Err lack.BadReply) f = (rests f.0 f.1 f.2, f.3)
-  fetches (Err lack.ReadFault) f = (rests f.0 f.1 f.2, (f.3, f.4))
-  fetches (Err lack.TooLong) f = (still, unread f.0 f.1, f.2)
-  fetches (Err lack.OutOfMemory) f = halted
+  fetches (Err fault.BadReply) f = (rests f.0 f.1 f.2, f.3)
+  fetches (Err fault.ReadFault) f = (rests f.0 f.1 f.2, (f.3, f.4))
+  fetches (Err fault.TooLong) f = (still, unread f.0 f.1, f.2)
+  fetches (Err fault.OutOfMemory) f = halted
 
-  pub finishes : (result : Result (Unit {0}) Lack) → FinishesReplies result h k left after before now → Finishes result Old New
+  pub finishes : (result : Result (Unit {0}) ReplyFault) → FinishesReplies result h k left after before now → Finishes result Old New
   finishes (Ok o) f = (rests f.0 f.1 f.2, (f.3, f.4))
-  finishes (Err lack.BadReply) f = (rests f.0 f.1 f.2, f.3)
-  finishes (Err lack.ReadFault) f = (rests f.0 f.1 f.2, (f.3, f.4))
-  finishes (Err lack.TooLong) f = (still, unread f.0 f.1, f.2)
-  finishes (Err lack.OutOfMemory) f = halted
+  finishes (Err fault.BadReply) f = (rests f.0 f.1 f.2, f.3)
+  finishes (Err fault.ReadFault) f = (rests f.0 f.1 f.2, (f.3, f.4))
+  finishes (Err fault.TooLong) f = (still, unread f.0 f.1, f.2)
+  finishes (Err fault.OutOfMemory) f = halted
 
 -- ---- a request is put on the tap
 

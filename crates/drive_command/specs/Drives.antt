@@ -10,9 +10,9 @@ use Rattle.conversation.specs.Drive as drives
 use Rattle.conversation.specs.Sessions.{nobody}
 use Rattle.script_lang.specs.declared.steps.Step.{Step}
 use Rattle.plain_meaning.specs.Steps.{talk}
-use Rattle.run_words.specs.Printing.{print, has_refusal}
-use Rattle.run_words.specs.Ways.{most_reply_bytes}
-use Rattle.run_words.specs.declared.stops.Stop.TheVariants as stop
+use Rattle.outcome_text.specs.Printing.{print, has_refusal}
+use Rattle.run_effects.specs.Ways.{most_stream_bytes}
+use Rattle.run_effects.specs.declared.stops.Stop.TheVariants as stop
 use Rattle.script_run.specs.declared.runs.Ran.{Ran}
 use Rattle.script_run.specs.declared.runs.Ran.TheVariants as ran
 use Rattle.script_run.specs.Transcript.{Drew}
@@ -91,13 +91,13 @@ pub record DrivesFront (keys : KeyMap) (steps : List Step) (replies : List ℕ) 
 
 -- no more were taken than may be
 abbrev pub TakesWithin : (bytes : List ℕ) → (after : Option (List ℕ)) → Type 0
-TakesWithin bytes after = (taken : List ℕ) × Removes taken (Some bytes) after × (length taken ≤ most_reply_bytes)
+TakesWithin bytes after = (taken : List ℕ) × Removes taken (Some bytes) after × (length taken ≤ most_stream_bytes)
 
 -- some of them were taken, within the limit, and it ended with these
 pub record DrivesTaken (keys : KeyMap) (steps : List Step) (bytes : List ℕ) (after : Option (List ℕ)) (old new : Told) : Type 0 where
   pub taken : List ℕ
   pub gone : Removes taken (Some bytes) after
-  pub limit : length taken ≤ most_reply_bytes
+  pub limit : length taken ≤ most_stream_bytes
   pub drives : DrivesWhole IsCut keys steps taken old new
 
 -- as many were taken as may be, and one more; it ended with those within the limit
@@ -105,7 +105,7 @@ pub record DrivesPast (keys : KeyMap) (steps : List Step) (bytes : List ℕ) (af
   pub taken : List ℕ
   pub byte : ℕ
   pub gone : Removes (taken ++ byte ∷ []) (Some bytes) after
-  pub limit : length taken ≡ most_reply_bytes
+  pub limit : length taken ≡ most_stream_bytes
   pub drives : DrivesWhole IsCut keys steps taken old new
 
 -- it broke off over a front of them
@@ -117,8 +117,8 @@ pub record DrivesPart (keys : KeyMap) (steps : List Step) (bytes : List ℕ) (ol
 -- The text and the tap are those of what is driven over the bytes, whatever they are; over those that were taken, where more couldn't be read
 -- or are past the limit; and fronts, where a device fails or memory ends.
 abbrev pub DrivesBytes : Ran → KeyMap → List Step → (bytes : List ℕ) → (after : Option (List ℕ)) → Told → Told → Type 0
-DrivesBytes ran.Done keys steps bytes after old new = (after ≡ Some []) × DrivesWhole (IsDone false) keys steps bytes old new × (length bytes ≤ most_reply_bytes)
-DrivesBytes ran.Refusals keys steps bytes after old new = (after ≡ Some []) × DrivesWhole (IsDone true) keys steps bytes old new × (length bytes ≤ most_reply_bytes)
+DrivesBytes ran.Done keys steps bytes after old new = (after ≡ Some []) × DrivesWhole (IsDone false) keys steps bytes old new × (length bytes ≤ most_stream_bytes)
+DrivesBytes ran.Refusals keys steps bytes after old new = (after ≡ Some []) × DrivesWhole (IsDone true) keys steps bytes old new × (length bytes ≤ most_stream_bytes)
 DrivesBytes (ran.Stopped (stop.BadReply place)) keys steps bytes after old new = DrivesWhole (IsBadAt place) keys steps bytes old new × TakesWithin bytes after
 DrivesBytes (ran.Stopped stop.ReadFault) keys steps bytes after old new = DrivesTaken keys steps bytes after old new
 DrivesBytes (ran.Stopped stop.TooLong) keys steps bytes after old new = DrivesPast keys steps bytes after old new

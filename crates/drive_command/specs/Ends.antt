@@ -5,11 +5,11 @@ use Rattle.ae_edge.specs.Vaults.{KeyMap}
 use Rattle.conversation.specs.declared.sessions.Session.{Session}
 use Rattle.conversation.specs.Sessions.{nobody}
 use Rattle.conversation.specs.Talk as talks
-use Rattle.run_words.specs.Counting.{nothing, has_errors}
-use Rattle.run_words.specs.Shares.{Outside}
-use Rattle.run_words.specs.Ways.{Leads}
-use Rattle.run_words.specs.declared.stops.Stop.{Stop}
-use Rattle.run_words.specs.declared.tallies.Tally.{Tally}
+use Rattle.outcome_text.specs.Counting.{nothing, has_errors}
+use Rattle.run_effects.specs.Shares.{Outside}
+use Rattle.run_effects.specs.Ways.{Advances}
+use Rattle.run_effects.specs.declared.stops.Stop.{Stop}
+use Rattle.outcome_text.specs.declared.tallies.Tally.{Tally}
 use Rattle.script_lang.specs.declared.steps.Step.{Step}
 use Rattle.script_lang.specs.Script.{steps_of}
 use Rattle.plain_meaning.specs.Steps.{talk}
@@ -20,7 +20,7 @@ use Rattle.script_run.specs.Ends.{IsScript, most_script_bytes}
 
 -- what is told of all that driving is lent: text and tap, the random bytes to come, the keys, the replies that are left, and the counts of
 -- faults
-pub record Lent : Type 0 where
+pub record DriveDevices : Type 0 where
   pub out : Option (List ℕ)
   pub tap : Option (List ℕ)
   pub entropy : Option (List ℕ)
@@ -34,9 +34,9 @@ pub record Lent : Type 0 where
 
 -- with the names of what is lent, and what is kept: what was counted, the bytes of replies that are held, and how many bytes those have
 -- that were taken
-abbrev pub outside : List GName → List GName → List GName → List (List GName) → Tally → List ℕ → ℕ → Lent → Outside
+abbrev pub outside : List GName → List GName → List GName → List (List GName) → Tally → List ℕ → ℕ → DriveDevices → Outside
 outside out_names entropy_names vault_names wire_names tally held taken l = record {
-  desk = record {
+  client = record {
     out_names = out_names;
     entropy_names = entropy_names;
     vault_names = vault_names;
@@ -61,7 +61,7 @@ outside out_names entropy_names vault_names wire_names tally held taken l = reco
 }
 
 -- from 64 idle sessions the script's conversation was followed to its end, with all replies read, or stopped
-pub record CameTo (ended : Result (Unit {0}) Stop) (tally : Tally) (steps : List Step) (old new : Lent) : Type 0 where
+pub record CameTo (ended : Result (Unit {0}) Stop) (tally : Tally) (steps : List Step) (old new : DriveDevices) : Type 0 where
   pub sessions : List Session
   pub held : List ℕ
   pub taken : ℕ
@@ -73,11 +73,11 @@ pub record CameTo (ended : Result (Unit {0}) Stop) (tally : Tally) (steps : List
   pub entropy_after : List GName
   pub vault_after : List GName
   pub wire_after : List (List GName)
-  pub leads : Leads ended (talk steps nobody) (λ o. talks.Ends sessions) (outside out entropy vault wire nothing [] 0 old) (outside out_after entropy_after vault_after wire_after tally held taken new)
+  pub leads : Advances ended (talk steps nobody) (λ o. talks.Ends sessions) (outside out entropy vault wire nothing [] 0 old) (outside out_after entropy_after vault_after wire_after tally held taken new)
   pub read : IfOk ended (λ o. (held ≡ []) × IfSome new.replies (λ left. left ≡ []))
 
 -- what driving these steps leaves, by how it ended
-abbrev pub DrivesTo : Ran → List Step → Lent → Lent → Type 0
+abbrev pub DrivesTo : Ran → List Step → DriveDevices → DriveDevices → Type 0
 DrivesTo ran.Done steps old new = (tally : Tally) × CameTo (Ok tt) tally steps old new × (has_errors tally ≡ false)
 DrivesTo ran.Refusals steps old new = (tally : Tally) × CameTo (Ok tt) tally steps old new × (has_errors tally ≡ true)
 DrivesTo (ran.Stopped stop) steps old new = (tally : Tally) × CameTo (Err stop) tally steps old new
@@ -85,13 +85,13 @@ DrivesTo (ran.Unread why) steps old new = ⊥
 
 -- ---- scripts
 
-pub record DrivesSteps (r : Ran) (bytes : List ℕ) (old new : Lent) : Type 0 where
+pub record DrivesSteps (r : Ran) (bytes : List ℕ) (old new : DriveDevices) : Type 0 where
   pub steps : List Step
   pub script : IsScript bytes steps
   pub drives : DrivesTo r steps old new
 
 -- what driving a script's bytes leaves, by how it ended; a script that is refused or can't be read leaves everything as it was
-abbrev pub DrivesScript : Ran → List ℕ → Lent → Lent → Type 0
+abbrev pub DrivesScript : Ran → List ℕ → DriveDevices → DriveDevices → Type 0
 DrivesScript ran.Done bytes old new = DrivesSteps ran.Done bytes old new
 DrivesScript ran.Refusals bytes old new = DrivesSteps ran.Refusals bytes old new
 DrivesScript (ran.Stopped stop) bytes old new = DrivesSteps (ran.Stopped stop) bytes old new

@@ -4,13 +4,13 @@ use Rattle.std.specs.declared.alloc.AllocError.{AllocError}
 use Rattle.wire_frames.specs.Frames.{IsNotYet, IsRefused, is_reply_kind}
 use Rattle.wire_messages.specs.declared.replies.Reply.{Reply}
 use Rattle.wire_spelling.specs.Spelling.{SpellsReply, reply_frame}
-use Rattle.run_words.specs.Shares.{Begins}
+use Rattle.run_effects.specs.Shares.{Begins}
 use Rattle.frame_feed.specs.declared.feeds.Next.{Next}
 use Rattle.frame_feed.specs.declared.feeds.Next.TheVariants as next
 use Rattle.frame_feed.specs.declared.messages.Message.{Message}
 use Rattle.frame_feed.specs.declared.messages.Message.TheVariants.{Tells}
-use Rattle.script_run.specs.Lines.{reply_of}
-use Rattle.script_run.specs.declared.lines.Front.{Front}
+use Rattle.script_run.specs.Connections.{reply_of}
+use Rattle.script_run.specs.declared.connection.Front.{Front}
 use Rattle.drive_command.specs.declared.holding.Stands.{Stands}
 use Rattle.drive_command.specs.declared.holding.Stands.TheVariants as stands
 

@@ -3,10 +3,10 @@ use Rattle.std.specs.Prelude.{◌≡◌, ℕ, ◌≤◌, ◌<◌, List, [], ◌�
 use Rattle.ae_edge.specs.Devices.{Rose, Removes, WhereTold}
 use Rattle.std.specs.Borrow.{GName}
 use Rattle.wire_messages.specs.declared.replies.Reply.{Reply}
-use Rattle.run_words.specs.Shares.{Begins, IsNext, Wire, coming_behind}
-use Rattle.run_words.specs.Ways.{IsLeft, IsPast, most_reply_bytes}
-use Rattle.script_run.specs.declared.lines.Lack.{Lack}
-use Rattle.script_run.specs.declared.lines.Lack.TheVariants as lack
+use Rattle.run_effects.specs.Shares.{Begins, IsNext, Wire, coming_behind}
+use Rattle.run_effects.specs.Ways.{IsLeft, IsPast, most_stream_bytes}
+use Rattle.script_run.specs.declared.connection.ReplyFault.{ReplyFault}
+use Rattle.script_run.specs.declared.connection.ReplyFault.TheVariants as fault
 use Rattle.drive_command.specs.Holding.{Holding, came, held_more}
 
 -- a piece is held that was left, or nothing changes
@@ -19,13 +19,13 @@ abbrev pub Ends : Option (List ℕ) → Option (List ℕ) → Type 0
 Ends = WhereTold (λ old new. (old ≡ []) × (new ≡ []))
 
 -- a piece came, or the end; or it couldn't be read, or it is past its limit
-abbrev pub ReadsMore : Result Bool Lack → Holding → Holding → (left after : Option (List ℕ)) → (before now : ℕ) → Type 0
-ReadsMore (Ok true) old new left after before now = (before ≤ now) × (came new ≤ most_reply_bytes) × ((piece : List ℕ) × (0 < length piece) × Moves piece old new left after)
+abbrev pub ReadsMore : Result Bool ReplyFault → Holding → Holding → (left after : Option (List ℕ)) → (before now : ℕ) → Type 0
+ReadsMore (Ok true) old new left after before now = (before ≤ now) × (came new ≤ most_stream_bytes) × ((piece : List ℕ) × (0 < length piece) × Moves piece old new left after)
 ReadsMore (Ok false) old new left after before now = (before ≤ now) × (new ≡ old) × Ends left after
-ReadsMore (Err lack.BadReply) old new left after before now = ⊥
-ReadsMore (Err lack.ReadFault) old new left after before now = (before ≤ now) × Rose before now × Moves [] old new left after
-ReadsMore (Err lack.TooLong) old new left after before now = (before ≤ now) × (came old ≡ most_reply_bytes) × ((byte : ℕ) × Moves (byte ∷ []) old new left after)
-ReadsMore (Err lack.OutOfMemory) old new left after before now = Unit {0}
+ReadsMore (Err fault.BadReply) old new left after before now = ⊥
+ReadsMore (Err fault.ReadFault) old new left after before now = (before ≤ now) × Rose before now × Moves [] old new left after
+ReadsMore (Err fault.TooLong) old new left after before now = (before ≤ now) × (came old ≡ most_stream_bytes) × ((byte : ℕ) × Moves (byte ∷ []) old new left after)
+ReadsMore (Err fault.OutOfMemory) old new left after before now = Unit {0}
 
 -- ---- a reply, or that none is left
 
@@ -35,23 +35,23 @@ Moved old new left after = (new.at ≡ old.at) × WhereTold (λ a b. b ≡ a) (c
 
 -- they stay within their limit
 abbrev pub HoldsWithin : Holding → Holding → Type 0
-HoldsWithin old new = came old ≤ most_reply_bytes → came new ≤ most_reply_bytes
+HoldsWithin old new = came old ≤ most_stream_bytes → came new ≤ most_stream_bytes
 
 -- a reply stands first, or none does, by its cause
-abbrev pub FetchesReply : Result (Unit {0}) Lack → Holding → Holding → (left after : Option (List ℕ)) → (before now : ℕ) → Type 0
+abbrev pub FetchesReply : Result (Unit {0}) ReplyFault → Holding → Holding → (left after : Option (List ℕ)) → (before now : ℕ) → Type 0
 FetchesReply (Ok o) old new left after before now = Moved old new left after × (before ≤ now) × HoldsWithin old new × ((reply : Reply) × Begins reply new.held)
-FetchesReply (Err lack.BadReply) old new left after before now = Moved old new left after × (before ≤ now) × HoldsWithin old new × IfSome (coming_behind new.held after) (IsNext None)
-FetchesReply (Err lack.ReadFault) old new left after before now = Moved old new left after × (before ≤ now) × HoldsWithin old new × Rose before now × IsNext None new.held
-FetchesReply (Err lack.TooLong) old new left after before now = Moved old new left after × (before ≤ now) × IsPast new.at new.held
-FetchesReply (Err lack.OutOfMemory) old new left after before now = Unit {0}
+FetchesReply (Err fault.BadReply) old new left after before now = Moved old new left after × (before ≤ now) × HoldsWithin old new × IfSome (coming_behind new.held after) (IsNext None)
+FetchesReply (Err fault.ReadFault) old new left after before now = Moved old new left after × (before ≤ now) × HoldsWithin old new × Rose before now × IsNext None new.held
+FetchesReply (Err fault.TooLong) old new left after before now = Moved old new left after × (before ≤ now) × IsPast new.at new.held
+FetchesReply (Err fault.OutOfMemory) old new left after before now = Unit {0}
 
 -- nothing is left, or something is, or that can't be known
-abbrev pub FinishesReplies : Result (Unit {0}) Lack → Holding → Holding → (left after : Option (List ℕ)) → (before now : ℕ) → Type 0
+abbrev pub FinishesReplies : Result (Unit {0}) ReplyFault → Holding → Holding → (left after : Option (List ℕ)) → (before now : ℕ) → Type 0
 FinishesReplies (Ok o) old new left after before now = Moved old new left after × (before ≤ now) × HoldsWithin old new × (new.held ≡ []) × IfSome after (λ bytes. bytes ≡ [])
-FinishesReplies (Err lack.BadReply) old new left after before now = Moved old new left after × (before ≤ now) × HoldsWithin old new × IsLeft new.held
-FinishesReplies (Err lack.ReadFault) old new left after before now = Moved old new left after × (before ≤ now) × HoldsWithin old new × Rose before now × IsNext None new.held
-FinishesReplies (Err lack.TooLong) old new left after before now = Moved old new left after × (before ≤ now) × IsPast new.at new.held
-FinishesReplies (Err lack.OutOfMemory) old new left after before now = Unit {0}
+FinishesReplies (Err fault.BadReply) old new left after before now = Moved old new left after × (before ≤ now) × HoldsWithin old new × IsLeft new.held
+FinishesReplies (Err fault.ReadFault) old new left after before now = Moved old new left after × (before ≤ now) × HoldsWithin old new × Rose before now × IsNext None new.held
+FinishesReplies (Err fault.TooLong) old new left after before now = Moved old new left after × (before ≤ now) × IsPast new.at new.held
+FinishesReplies (Err fault.OutOfMemory) old new left after before now = Unit {0}
 
 -- ---- the wire
 

@@ -2,7 +2,7 @@
 
 ghost use Rattle.std.specs.Prelude.{◌≡◌, ◌≤◌, ◌⊎◌, ℕ, List, IfSome, length};
 ghost use Rattle.ae_edge.specs.Devices.{Rose, WhereTold};
-ghost use Rattle.run_words.specs.declared.stops.Stop.TheVariants as stop;
+ghost use Rattle.run_effects.specs.declared.stops.Stop.TheVariants as stop;
 ghost use Rattle.script_run.specs.declared.runs.Ran.TheVariants as ran;
 ghost use Rattle.script_run.specs.declared.runs.Unread.TheVariants as unread;
 ghost use Rattle.script_run.specs.Ends.{IsRead, TakesScript, most_script_bytes};
@@ -11,6 +11,7 @@ ghost use Rattle.drive_command.specs.Ends.{DrivesScript};
 
 use crate::drives::drive_over;
 use ae_base::blobs::Blob;
+use ae_base::limits::MOST_SCRIPT_BYTES;
 use ae_edge::entropies::Entropy;
 use ae_edge::sinks::Sink;
 use ae_edge::sources::Source;
@@ -18,7 +19,6 @@ use ae_edge::streams::{ReadAll, read_all};
 use ae_edge::vaults::Vault;
 use conversation::laws::path_is_driven;
 use script_lang::scripts::{ScriptFault, read_script};
-use script_run::programs::MOST_SCRIPT_BYTES;
 use script_run::runs::{Ran, Unread};
 use std::alloc::Global;
 use wire_frames::{frames_are_read_back, one_reading, streams_are_read_once};

@@ -3,19 +3,20 @@
 ghost use Rattle.std.specs.Prelude.{◌≡◌, ◌≤◌, ◌<◌, ◌+◌, ◌-◌, ◌^◌, [], false, true, OnOk, IfOk, length};
 ghost use Rattle.wire_messages.specs.declared.replies.Reply.{Reply};
 ghost use Rattle.wire_spelling.specs.Spelling.{reply_frame};
-ghost use Rattle.run_words.specs.Shares.{Begins};
-ghost use Rattle.run_words.specs.Ways.{most_reply_bytes};
-ghost use Rattle.script_run.specs.Lines.{reply_of};
+ghost use Rattle.run_effects.specs.Shares.{Begins};
+ghost use Rattle.run_effects.specs.Ways.{most_stream_bytes};
+ghost use Rattle.script_run.specs.Connections.{reply_of};
 ghost use Rattle.drive_command.specs.Holding.{IsReadFront, StandsSo, IsBehind, came, held_more, held_none, kind_of};
 
+use ae_base::limits::MOST_STREAM_BYTES;
 use frame_feed::{FrameFeed, Message, Next};
-use script_run::lines::{Front, Lent};
+use script_run::connection::{Front, LentReply};
 use std::alloc::{AllocError, Global};
 use std::marker::Model;
 use wire_frames::Way;
 
 /// The most bytes that the replies have.
-pub const MOST_REPLY_BYTES: u64 = 1_073_741_824;
+pub const MOST_REPLY_BYTES: u64 = MOST_STREAM_BYTES as u64;
 
 /// What stands first.
 #[derive(Clone, Copy, PartialEq, Eq, Debug)]
@@ -47,7 +48,7 @@ fn read_front(message: Message<'_>, behind: u64) -> Result<Front<'_>, AllocError
 {
     match message {
         Message::Tells(reply) => Ok(Front {
-            reply: Lent::Read(reply),
+            reply: LentReply::Read(reply),
             behind,
         }),
         Message::Asks(request) => {
@@ -68,7 +69,7 @@ pub struct Holding {
 
 impl Model for Holding {
     ghost use Rattle.std.specs.Prelude.{◌≡◌, ◌+◌, ◌≤◌, false, length};
-    ghost use Rattle.run_words.specs.Ways.{most_reply_bytes};
+    ghost use Rattle.run_effects.specs.Ways.{most_stream_bytes};
     ghost use Rattle.wire_frames.specs.declared.decoding.Way.TheVariants.{ToDriver};
     ghost use Rattle.drive_command.specs.Holding as holding;
 
@@ -76,7 +77,7 @@ impl Model for Holding {
 
     ghost view = { λ h. record { at = h.at; held = h.feed.held } };
 
-    ghost invariant = { λ h. (h.feed.way ≡ ToDriver) × (h.feed.failed ≡ false) × (h.feed.at ≡ h.at) × (h.came ≡ h.at + length h.feed.held) × (h.came ≤ most_reply_bytes + 1) };
+    ghost invariant = { λ h. (h.feed.way ≡ ToDriver) × (h.feed.failed ≡ false) × (h.feed.at ≡ h.at) × (h.came ≡ h.at + length h.feed.held) × (h.came ≤ most_stream_bytes + 1) };
 }
 
 impl Holding {
@@ -93,7 +94,7 @@ impl Holding {
 
     /// How many bytes may come yet, within the limit.
     pub fn room(&self) -> u64
-        ensures { result ≡ most_reply_bytes - came self.now }
+        ensures { result ≡ most_stream_bytes - came self.now }
     {
         MOST_REPLY_BYTES.saturating_sub(self.came)
     }
@@ -102,7 +103,7 @@ impl Holding {
     /// memory nothing changes.
     pub fn push(&mut self, piece: &[u8]) -> Result<(), AllocError>
         ensures pushed { OnOk result (self.new ≡ held_more self.old piece.now) }
-        ensures within { OnOk result (came self.new ≤ most_reply_bytes + 1) }
+        ensures within { OnOk result (came self.new ≤ most_stream_bytes + 1) }
     {
         if piece.len() as u64 > MOST_REPLY_BYTES + 1 - self.came {
             return Err(AllocError);

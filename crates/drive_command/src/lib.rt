@@ -8,4 +8,4 @@
 pub mod commands;
 mod drives;
 mod holding;
-mod reply_lines;
+mod recorded_replies;

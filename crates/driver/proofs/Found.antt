@@ -3,7 +3,7 @@ use Rattle.std.proofs.Common.{◌≡◌, ℕ, ◌≤◌, List, Some, length, map
 use Rattle.std.specs.Prelude.{Option, None, IsTrue}
 use Rattle.ae_base.specs.Names.{all_differ}
 use Rattle.ae_base.specs.declared.batches.Batch.{Batch}
-use Rattle.ae_base.specs.declared.batches.KeyMeta.{KeyMeta}
+use Rattle.ae_base.specs.declared.keys.KeyMeta.{KeyMeta}
 use Rattle.ae_base.specs.declared.batches.Param.{Param}
 use Rattle.ae_base.specs.declared.types.Enc.{Enc}
 use Rattle.wire_messages.specs.declared.params.UsedParam.{UsedParam}

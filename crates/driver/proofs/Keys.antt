@@ -2,7 +2,7 @@
 use Rattle.std.proofs.Common.{◌≡◌, ℕ, ◌≤◌, List, Option, Some, None, Result, Ok, Err, refl, ap, arith}
 use Rattle.std.specs.Prelude.{IfSome}
 use Rattle.std.specs.Borrow.{GName}
-use Rattle.ae_base.specs.declared.batches.KeyMeta.{KeyMeta}
+use Rattle.ae_base.specs.declared.keys.KeyMeta.{KeyMeta}
 use Rattle.ae_edge.specs.Devices.{Rose}
 use Rattle.ae_edge.specs.Vaults.{KeyMap}
 use Rattle.hmac_kdf.specs.Keys.{Keys}
@@ -16,7 +16,7 @@ use Rattle.conversation.specs.Devices.{Devices, KeyLeads, with_vault}
 use Rattle.conversation.specs.Keys.{open_key, seen, refused_as}
 use Rattle.conversation.specs.Talk.{Talk, Opens}
 use Rattle.conversation.specs.Turns.{on}
-use Rattle.conversation.proofs.Going.{opened_goes, stay_by, halt_there}
+use Rattle.conversation.proofs.Interface.{opened_goes, stay_by, halt_there}
 use Rattle.driver.specs.Opened.{answered, keyed}
 
 told_as : (a : Option KeyMap) (meta : KeyMeta) (x : Result Keys KeyFault) → IfSome a (λ map. store.open_key map meta ≡ x) → IfSome a (λ map. open_key map meta ≡ seen x)

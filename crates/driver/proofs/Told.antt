@@ -10,7 +10,7 @@ use Rattle.conversation.specs.declared.sessions.ColumnType.{ColumnType}
 use Rattle.conversation.specs.Devices.{Devices}
 use Rattle.conversation.specs.Sessions.{Told, Tells, Shows, Stray, types_of}
 use Rattle.conversation.specs.Turns.{opening}
-use Rattle.conversation.proofs.Going.{halt_here}
+use Rattle.conversation.proofs.Interface.{halt_here}
 use Rattle.driver.specs.Calls.{TellsAs, Replies, SaysAs, HaltsAs, ShowsTurn}
 use Rattle.driver.specs.Listed.{AreListed}
 use Rattle.driver.proofs.Listing.{keys_listed}

@@ -12,7 +12,7 @@ use Rattle.std.proofs.lemmas.List.{drop_all}
 use Rattle.ae_base.specs.Batches.{first_unfit}
 use Rattle.ae_base.specs.Values.{value_is_within}
 use Rattle.ae_base.specs.declared.atoms.AtomOf.{AtomOf}
-use Rattle.ae_base.specs.declared.batches.KeyMeta.{KeyMeta}
+use Rattle.ae_base.specs.declared.keys.KeyMeta.{KeyMeta}
 use Rattle.ae_base.specs.declared.batches.Param.{Param}
 use Rattle.ae_base.specs.declared.types.Enc.{Enc}
 use Rattle.wire_messages.specs.declared.params.SentParam.{SentParam}

@@ -23,20 +23,12 @@ use Rattle.conversation.specs.Turns.{opening, execute}
 
 abbrev pub is_idle : Session → Bool
 is_idle Idle = true
-is_idle (Begun batch) = false
-is_idle (Pending pending) = false
-is_idle Sent = false
-is_idle (Reading columns keys count) = false
-is_idle (Skipping columns count) = false
+is_idle other = false
 
 -- a batch is described, and may be executed
 abbrev pub is_pending : Session → Bool
 is_pending (Pending pending) = true
-is_pending Idle = false
-is_pending (Begun batch) = false
-is_pending Sent = false
-is_pending (Reading columns keys count) = false
-is_pending (Skipping columns count) = false
+is_pending other = false
 
 -- a reply shows columns, whose keys are opened
 abbrev pub shows_columns : Told → Bool

@@ -17,7 +17,7 @@ use wire_parts::parts::TxtPart;
 use wire_parts::texts::StatementPart;
 
 /// The request to describe a batch in a session.
-#[tactic(auto, using(conversation::proofs::Fitting::fit_is_short))]
+#[tactic(auto, using(crate::proofs::Fitting::fit_is_short))]
 pub fn describe<'r>(
     alloc: Global,
     number: SessionId,

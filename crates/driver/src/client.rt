@@ -1,13 +1,14 @@
 //! The driver: its sessions, each by its number.
 
-ghost use Rattle.std.specs.Prelude.{◌≡◌, ℕ, IfOk, Option, false, length};
-ghost use Rattle.std.specs.List.{All};
+ghost use Rattle.std.specs.Prelude.{◌≡◌, IfOk, Option, false};
 ghost use Rattle.conversation.specs.declared.sessions.Session.{Session};
 ghost use Rattle.ae_edge.specs.Vaults.{KeyMap};
 ghost use Rattle.key_store.specs.Stores.{IsOf};
 ghost use Rattle.conversation.specs.Devices.{Devices, devices, with_vault};
 ghost use Rattle.conversation.specs.Sessions as held;
+ghost use Rattle.conversation.specs.Sessions.{nobody};
 ghost use Rattle.driver.specs.Calls.{Comes, Describes, Executes, IsSent, Replies, IsOnlyAt, is_pending, opens_keys};
+ghost use Rattle.driver.specs.Clients.{session_of};
 
 use crate::executing::execute;
 use crate::replies::replied;
@@ -45,16 +46,22 @@ impl Model for Driver {
 }
 
 impl Driver {
-    /// A driver whose sessions hold nothing, and which keeps no key.
+    /// A driver whose 64 sessions hold nothing, and which keeps no key.
     pub fn new(alloc: Global) -> Result<Driver, AllocError>
-        ensures count { IfOk result (λ driver. length driver.sessions ≡ 64) }
-        ensures idle { IfOk result (λ driver. All (λ s. s ≡ Session.Idle) driver.sessions) }
+        ensures idle { IfOk result (λ driver. driver.sessions ≡ nobody) }
         ensures of_vault { IfOk result (λ driver. (keys : Option KeyMap) → IsOf keys driver.kept) }
     {
         Ok(Driver {
             sessions: idle_sessions(alloc)?,
             store: KeyStore::new(alloc)?,
         })
+    }
+
+    /// What a session holds.
+    pub fn session(&self, number: SessionId) -> &Session
+        ensures { result.now ≡ session_of self.now number }
+    {
+        &self.sessions[number.number() as usize - 1]
     }
 
     /// Begins a batch in a session: the request to describe it. Refused where the session has a
@@ -67,7 +74,7 @@ impl Driver {
         number: SessionId,
         batch: Batch,
     ) -> Result<Result<Request<'r>, DriverFault>, AllocError>
-        ensures begun { Comes result (held.begin (held.session_at self.old.sessions number) number batch) (held.session_at self.old.sessions number) (held.session_at self.new.sessions number) }
+        ensures begun { Comes result (held.begin (session_of self.old number) number batch) (session_of self.old number) (session_of self.new number) }
         ensures others { IsOnlyAt number self.old.sessions self.new.sessions }
         ensures kept { self.new.kept ≡ self.old.kept }
     {
@@ -85,7 +92,7 @@ impl Driver {
         number: SessionId,
         reply: &Reply<'_>,
     ) -> Result<DescribeAnswer, Halt>
-        ensures described { Describes result (held.described (held.session_at self.old.sessions number) reply.now) (held.session_at self.old.sessions number) (held.session_at self.new.sessions number) }
+        ensures described { Describes result (held.described (session_of self.old number) reply.now) (session_of self.old number) (session_of self.new number) }
         ensures others { IsOnlyAt number self.old.sessions self.new.sessions }
         ensures kept { self.new.kept ≡ self.old.kept }
     {
@@ -108,10 +115,10 @@ impl Driver {
         entropy: &mut E,
     ) -> Result<Result<Request<'r>, DriverFault>, Halt>
         requires { IsOf (V.keys vault.old) self.old.kept }
-        ensures executed { Executes result number (held.session_at self.old.sessions number) (held.session_at self.new.sessions number) (devices (E.to_come entropy.old) (E.faults entropy.old) (E.names entropy.old) (V.keys vault.old) (V.faults vault.old) (V.names vault.old)) (devices (E.to_come entropy.new) (E.faults entropy.new) (E.names entropy.new) (V.keys vault.new) (V.faults vault.new) (V.names vault.new)) }
-        ensures sent { IsSent result (held.session_at self.new.sessions number) }
+        ensures executed { Executes result number (session_of self.old number) (session_of self.new number) (devices (E.to_come entropy.old) (E.faults entropy.old) (E.names entropy.old) (V.keys vault.old) (V.faults vault.old) (V.names vault.old)) (devices (E.to_come entropy.new) (E.faults entropy.new) (E.names entropy.new) (V.keys vault.new) (V.faults vault.new) (V.names vault.new)) }
+        ensures sent { IsSent result (session_of self.new number) }
         ensures others { IsOnlyAt number self.old.sessions self.new.sessions }
-        ensures kept { is_pending (held.session_at self.old.sessions number) ≡ false
+        ensures kept { is_pending (session_of self.old number) ≡ false
             → self.new.kept ≡ self.old.kept }
         ensures of_vault { IsOf (V.keys vault.new) self.new.kept }
     {
@@ -133,9 +140,9 @@ impl Driver {
         vault: &mut V,
     ) -> Result<ReplyAnswer, Halt>
         requires { IsOf (V.keys vault.old) self.old.kept }
-        ensures replied { (beside : Devices) → Replies result (held.replied (held.session_at self.old.sessions number) reply.now) (held.session_at self.old.sessions number) (held.session_at self.new.sessions number) (with_vault beside (V.keys vault.old) (V.faults vault.old) (V.names vault.old)) (with_vault beside (V.keys vault.new) (V.faults vault.new) (V.names vault.new)) }
+        ensures replied { (beside : Devices) → Replies result (held.replied (session_of self.old number) reply.now) (session_of self.old number) (session_of self.new number) (with_vault beside (V.keys vault.old) (V.faults vault.old) (V.names vault.old)) (with_vault beside (V.keys vault.new) (V.faults vault.new) (V.names vault.new)) }
         ensures others { IsOnlyAt number self.old.sessions self.new.sessions }
-        ensures kept { opens_keys (held.session_at self.old.sessions number) reply.now ≡ false
+        ensures kept { opens_keys (session_of self.old number) reply.now ≡ false
             → self.new.kept ≡ self.old.kept }
         ensures of_vault { IsOf (V.keys vault.new) self.new.kept }
     {
@@ -161,8 +168,7 @@ fn idle() -> Session
 }
 
 fn idle_sessions(alloc: Global) -> Result<Vec<Session>, AllocError>
-    ensures count { IfOk result (λ sessions. length sessions.items ≡ 64) }
-    ensures idle { IfOk result (λ sessions. All (λ s. s ≡ Session.Idle) sessions.items) }
+    ensures { IfOk result (λ sessions. sessions.items ≡ nobody) }
 {
     let mut sessions = Vec::with_capacity(alloc, SessionId::MOST as usize)?;
     for _ in 0..SessionId::MOST {

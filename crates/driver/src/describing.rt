@@ -10,7 +10,8 @@ ghost use Rattle.conversation.specs.Sessions.{encs_of, named_enc, described_para
 ghost use Rattle.driver.specs.Order.{first_enc, behind};
 ghost use Rattle.driver.specs.Listed.{IsListed, IsListedIfUsed, AreListed, described_if_used};
 
-use ae_base::batches::{KeyMeta, Param};
+use ae_base::batches::Param;
+use ae_base::keys::KeyMeta;
 use ae_base::lists::{Duplicate, Seq};
 use ae_base::types::{Enc, KeyId};
 use conversation::outcomes::{DescribedParam, NamedEnc};

@@ -18,7 +18,8 @@ ghost use Rattle.driver.specs.Sealed.{with_atom, sent, sent_names, use_names};
 
 use crate::asking::statement;
 use crate::sealing::seal_value;
-use ae_base::batches::{KeyMeta, Param};
+use ae_base::batches::Param;
+use ae_base::keys::KeyMeta;
 use ae_base::lists::{Duplicate, Seq};
 use ae_base::names::ParamName;
 use ae_base::params::ParamList;

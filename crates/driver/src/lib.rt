@@ -14,6 +14,4 @@ mod sealing;
 mod starting;
 
 pub use client::Driver;
-pub use executing::execute;
-pub use replies::replied;
 pub use starting::{begin, described};

@@ -13,7 +13,7 @@ ghost use Rattle.driver.specs.Listed.{IsListed, AreListed};
 ghost use Rattle.driver.specs.Opened.{not_opened, answered, keyed};
 
 use crate::describing::meta_of;
-use ae_base::batches::KeyMeta;
+use ae_base::keys::KeyMeta;
 use ae_base::lists::Seq;
 use ae_base::types::{Enc, KeyId};
 use ae_edge::vaults::Vault;

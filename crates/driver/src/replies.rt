@@ -12,8 +12,8 @@ ghost use Rattle.wire_messages.specs.declared.replies.Reply.TheVariants as reply
 use crate::describing::own_keys;
 use crate::opening::open_columns;
 use crate::reading::{RowRead, is_row_of, next_row};
-use ae_base::batches::KeyMeta;
 use ae_base::faults::SqlFault;
+use ae_base::keys::KeyMeta;
 use ae_base::lists::{Duplicate, Seq};
 use ae_base::names::Title;
 use ae_edge::vaults::Vault;

@@ -14,7 +14,7 @@ ghost use Rattle.driver.specs.Listed.{IsListed};
 use crate::describing::meta_of;
 use crate::opening::open_key;
 use crate::parts::{det_part, plain_part, rnd_part};
-use ae_base::batches::KeyMeta;
+use ae_base::keys::KeyMeta;
 use ae_base::types::{Enc, Ty};
 use ae_base::values::Value;
 use ae_edge::entropies::{Draw, Entropy};

@@ -10,8 +10,9 @@ ghost use Rattle.wire_messages.specs.declared.replies.Reply.TheVariants as reply
 
 use crate::asking::describe;
 use crate::describing::{described_params, encs_of, own_keys};
-use ae_base::batches::{Batch, KeyMeta};
+use ae_base::batches::Batch;
 use ae_base::faults::SqlFault;
+use ae_base::keys::KeyMeta;
 use ae_base::lists::{Duplicate, Seq};
 use ae_base::sessions::SessionId;
 use ae_base::types::Enc;

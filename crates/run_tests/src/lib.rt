@@ -1,5 +1,6 @@
-//! Tests of the commands `run`, `serve` and `drive`: runs over devices that fail, and the cells of a key that is made again; frames byte
-//! by byte, recorded runs, cells that are renamed, replies that are changed, devices that fail.
+//! Tests of the commands `run`, `serve` and `drive`: frames byte by byte, recorded runs, cells that are
+//! renamed, replies that are changed, the cells of a key that is made again, and two sessions of a
+//! driver in turn.
 #![tactic(auto)]
 
 #[cfg(test)]
@@ -7,7 +8,7 @@ mod devices;
 #[cfg(test)]
 mod driven;
 #[cfg(test)]
-mod failing;
+mod interleaved;
 #[cfg(test)]
 mod made_again;
 #[cfg(test)]

@@ -1,6 +1,8 @@
+//! A key that is made again while a batch waits.
+
 // A column key that is dropped and made again: what its columns show, and under which key each cell was sent.
 
-use crate::failing::MAIN;
+use crate::runs::MAIN;
 use ae_base::cells::Cell;
 use ae_base::texts::Txt;
 use ae_edge::memory::entropy::MemEntropy;
@@ -9,7 +11,7 @@ use ae_edge::memory::source::MemSource;
 use ae_edge::memory::vault::MemVault;
 use cell_codec::{CellFault, unseal};
 use hmac_kdf::CellKeys;
-use script_run::programs::run;
+use script_run::commands::run;
 use script_run::status::Status;
 use server_core::server::Server;
 use std::alloc::{AllocError, Global};

@@ -5,7 +5,7 @@ use ae_edge::memory::entropy::MemEntropy;
 use ae_edge::memory::sink::MemSink;
 use ae_edge::memory::source::MemSource;
 use ae_edge::memory::vault::MemVault;
-use script_run::programs::run;
+use script_run::commands::run;
 use server_core::server::Server;
 use std::alloc::{AllocError, Global};
 
@@ -51,7 +51,7 @@ GO
 ";
 
 /// The master key of RFC 3394, section 4.6.
-const MAIN: [u8; 32] = [
+pub const MAIN: [u8; 32] = [
     0, 1, 2, 3, 4, 5, 6, 7, 8, 9, 10, 11, 12, 13, 14, 15, 16, 17, 18, 19, 20, 21, 22, 23, 24, 25,
     26, 27, 28, 29, 30, 31,
 ];

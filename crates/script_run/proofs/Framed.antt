@@ -8,19 +8,19 @@ use Rattle.ae_edge.specs.Devices.{WhereTold, Adds, AddsFront, IsFront, Rose}
 use Rattle.ae_edge.specs.Streams.{PutsAll}
 use Rattle.ae_edge.specs.declared.streams.PutAll.{PutAll}
 use Rattle.ae_edge.specs.declared.streams.PutAll.TheVariants as put
-use Rattle.ae_edge.proofs.Told.{told_map, adds_none, adds_then, adds_then_front, adds_front_then, adds_front_none}
+use Rattle.ae_edge.proofs.Interface.{told_map, adds_none, adds_then, adds_then_front, adds_front_then, adds_front_none}
 use Rattle.wire_messages.specs.Exchanges.{Exchange}
 use Rattle.wire_messages.specs.declared.replies.Reply.{Reply}
 use Rattle.wire_messages.specs.declared.requests.Request.{Request}
 use Rattle.wire_spelling.specs.Spelling.{request_frame, reply_frame}
 use Rattle.server_core.specs.Serve.{State, serve}
 use Rattle.conversation.specs.Paths.{Asked}
-use Rattle.run_words.specs.Shares.{Wire, Serves}
-use Rattle.run_words.specs.Ways.{AsksInPart, IsSilent}
-use Rattle.run_words.proofs.Going.{same_state}
-use Rattle.script_run.specs.declared.lines.Sent.TheVariants as sent
+use Rattle.run_effects.specs.Shares.{Wire, AreServed}
+use Rattle.run_effects.specs.Ways.{AsksInPart, IsSilent}
+use Rattle.run_effects.proofs.Interface.{same_state}
+use Rattle.script_run.specs.declared.connection.Sent.TheVariants as sent
 use Rattle.script_run.specs.Frames.{PutsBytes}
-use Rattle.script_run.specs.Lines.{Sends}
+use Rattle.script_run.specs.Connections.{Sends}
 use Rattle.script_run.proofs.Queued.{queued}
 
 -- one more frame
@@ -59,9 +59,9 @@ module _ (request : Request) (replies : List Reply) (old : Wire) (log : Option (
     (logged : WhereTold (λ x y. y ≡ x ++ record { request = request; replies = replies } ∷ []) old.log log)
     (served : WhereTold (λ x y. serve x request ≡ record { replies = replies; after = y }) old.state state)
     (names : List (List GName)) (same : names ≡ old.names) (tap : Option (List ℕ)) (faults : ℕ) (count : old.faults ≤ faults) where
-  one_served : WhereTold (Serves (Asked request replies ∷ [])) old.state state
+  one_served : WhereTold (AreServed (Asked request replies ∷ [])) old.state state
   one_served =
-      told_map (λ x y. serve x request ≡ record { replies = replies; after = y }) (Serves (Asked request replies ∷ [])) (λ x y e. (y, e, refl)) old.state state served
+      told_map (λ x y. serve x request ≡ record { replies = replies; after = y }) (AreServed (Asked request replies ∷ [])) (λ x y e. (y, e, refl)) old.state state served
 
   pub asked_whole : Adds (request_frame request ++ flat_map reply_frame replies) old.tap tap → (waiting : List Reply) → old.stream ≡ None → waiting ≡ old.waiting ++ replies
       → Sends sent.Whole request old (record old { names = names; tap = tap; log = log; state = state; waiting = waiting; faults = faults })
@@ -87,7 +87,7 @@ unasked request old log state names same e f = inl (record {
   names = same;
   tap = adds_front_none [] old.tap;
   log = subst (Adds [] old.log) (sym e) (adds_none old.log);
-  state = subst (WhereTold (Serves []) old.state) (sym f) (same_state old.state);
+  state = subst (WhereTold (AreServed []) old.state) (sym f) (same_state old.state);
   count = omega arith;
 })
 

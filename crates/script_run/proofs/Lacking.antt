@@ -11,20 +11,20 @@ use Rattle.conversation.specs.declared.sessions.Session.{Session}
 use Rattle.conversation.specs.declared.sessions.Session.TheVariants.{Idle, Begun, Pending, Sent, Reading, Skipping}
 use Rattle.conversation.specs.Paths.{Follows, stays, prints_last, IsStray, replies_to}
 use Rattle.conversation.specs.Talk.{Talk, Ends, Stops, Hears, Heard, broken}
-use Rattle.run_words.specs.Counting.{printed}
-use Rattle.run_words.specs.Printing.{printed_listing}
-use Rattle.run_words.specs.Shares.{Desk, Stream, Wire, Outside, Comes, DeskPut, WirePut, WireRead, HasPut}
-use Rattle.run_words.specs.Ways.{Goes, Lacks, Breaks, Fails, CantBeRead, IsTooLong, IsStreamed, IsStuck, IsStuckOn, IsFirst, IsLeft, IsLeftOn, IsNextOn, StaysWithin, printed_off}
-use Rattle.run_words.specs.declared.stops.Stop.{Stop}
-use Rattle.run_words.specs.declared.stops.Stop.TheVariants as stop
-use Rattle.run_words.specs.declared.tallies.Tally.{Tally}
-use Rattle.run_words.proofs.Going.{stay, desk_still, desk_front, wire_still, wire_front, wire_unread, wire_then, wire_read_then, goes_then, fails_then, silent_by}
-use Rattle.run_words.proofs.Calls.{desk_printed, desk_cut, wire_printed, printed_read, strayed_goes}
-use Rattle.script_run.specs.declared.lines.Lack.{Lack}
-use Rattle.script_run.specs.declared.lines.Lack.TheVariants as lack
+use Rattle.outcome_text.specs.Counting.{printed}
+use Rattle.outcome_text.specs.Printing.{printed_listing}
+use Rattle.run_effects.specs.Shares.{ClientSide, Stream, Wire, Outside, Comes, ClientPut, WirePut, WireRead, HasPut}
+use Rattle.run_effects.specs.Ways.{Proceeds, Lacks, Breaks, StopsBy, CantBeRead, IsTooLong, IsStreamed, IsStuck, IsStuckOn, IsFirst, IsLeft, IsLeftOn, IsNextOn, StaysWithin, printed_off}
+use Rattle.run_effects.specs.declared.stops.Stop.{Stop}
+use Rattle.run_effects.specs.declared.stops.Stop.TheVariants as stop
+use Rattle.outcome_text.specs.declared.tallies.Tally.{Tally}
+use Rattle.run_effects.proofs.Interface.{stay, client_still, client_front, wire_still, wire_front, wire_unread, wire_then, wire_read_then, goes_then, fails_then, silent_by}
+use Rattle.run_effects.proofs.Interface.{client_printed, client_cut, wire_printed, printed_read, strayed_goes}
+use Rattle.script_run.specs.declared.connection.ReplyFault.{ReplyFault}
+use Rattle.script_run.specs.declared.connection.ReplyFault.TheVariants as fault
 use Rattle.script_run.specs.Breaking.{shown_if, is_shown, off_by, PutsOff, CutsOff, BreaksOff}
 use Rattle.script_run.specs.Heard.{stop_at, is_reading}
-use Rattle.script_run.specs.Lines.{Rests, Fetches, Finishes}
+use Rattle.script_run.specs.Connections.{Rests, Fetches, Finishes}
 use Rattle.script_run.specs.Onward.{IsRows}
 use Rattle.script_run.proofs.Heeded.{rests_goes, stuck_stop, missed, first_next}
 
@@ -47,12 +47,12 @@ read_off (Some comes) w = printed_read comes w
 read_off None w = wire_unread w
 
 -- why a front of it alone was put
-abbrev Cut : Stop → Desk → Desk → Type 0
+abbrev Cut : Stop → ClientSide → ClientSide → Type 0
 Cut result old new = ((result ≡ stop.WriteFault) × Rose old.out_faults new.out_faults) ⊎ (result ≡ stop.OutOfMemory)
 
-cut_by : (t : Talk) (x z : Outside) (result : Stop) → Breaks t x z → Cut result x.desk z.desk → Fails result t x z
-cut_by t x z result b (inl h) = subst (λ s. Fails s t x z) (sym h.0) (b, inl h.1)
-cut_by t x z result b (inr e) = subst (λ s. Fails s t x z) (sym e) b
+cut_by : (t : Talk) (x z : Outside) (result : Stop) → Breaks t x z → Cut result x.client z.client → StopsBy result t x z
+cut_by t x z result b (inl h) = subst (λ s. StopsBy s t x z) (sym h.0) (b, inl h.1)
+cut_by t x z result b (inr e) = subst (λ s. StopsBy s t x z) (sym e) b
 
 streamed_read : (s t : Option Stream) → CantBeRead s t → IsStreamed t
 streamed_read s (Some t) h = tt
@@ -73,27 +73,27 @@ off_silent (Some comes) = refl
 off_silent None = refl
 
 -- nothing was put, and it broke off
-halted_so : (t : Talk) (x : Outside) (w : Wire) (desk : Desk) → WirePut AddsFront [] x.wire w → DeskPut AddsFront [] x.desk desk → Breaks t x (record { desk = desk; wire = w })
-halted_so t x w desk h d = record { between = t; rest = t; mid = x; last = []; goes = stay t x; one = omega arith; follows = inl (stays t, silent_by x.wire.stream [] refl); put = record { desk = d; wire = h } }
+halted_so : (t : Talk) (x : Outside) (w : Wire) (client : ClientSide) → WirePut AddsFront [] x.wire w → ClientPut AddsFront [] x.client client → Breaks t x (record { client = client; wire = w })
+halted_so t x w client h d = record { between = t; rest = t; mid = x; last = []; goes = stay t x; one = omega arith; follows = inl (stays t, silent_by x.wire.stream [] refl); put = record { client = d; wire = h } }
 
-module _ (session : Session) (shown : Listing) (f : Heard → Talk) (x : Outside) (w : Wire) (desk : Desk) (result : Stop) where
+module _ (session : Session) (shown : Listing) (f : Heard → Talk) (x : Outside) (w : Wire) (client : ClientSide) (result : Stop) where
   abbrev After : Outside
-  After = record { desk = desk; wire = w }
+  After = record { client = client; wire = w }
 
-  put_off : (comes : Option Outcome) → DeskPut Adds (printed_off comes) x.desk desk → HasPut Adds (printed_off comes) (record x { wire = w }) After
-  put_off comes d = record { desk = d; wire = wire_off comes w }
+  put_off : (comes : Option Outcome) → ClientPut Adds (printed_off comes) x.client client → HasPut Adds (printed_off comes) (record x { wire = w }) After
+  put_off comes d = record { client = d; wire = wire_off comes w }
 
-  cut_off : (comes : Option Outcome) → DeskPut AddsFront (printed_off comes) x.desk desk → HasPut AddsFront (printed_off comes) (record x { wire = w }) After
-  cut_off comes d = record { desk = d; wire = wire_front (printed_off comes) w w (wire_off comes w) }
+  cut_off : (comes : Option Outcome) → ClientPut AddsFront (printed_off comes) x.client client → HasPut AddsFront (printed_off comes) (record x { wire = w }) After
+  cut_off comes d = record { client = d; wire = wire_front (printed_off comes) w w (wire_off comes w) }
 
   -- the next reply isn't awaited, or none is there
   module _ (next : Option Reply) (s : IsStray session shown next) (r : Rests x.wire w) (n : IsNextOn next w) where
-    away : Goes (Hears session shown f) (Stops (broken session shown)) x (record x { wire = w })
+    away : Proceeds (Hears session shown f) (Stops (broken session shown)) x (record x { wire = w })
     away = goes_then _ _ _ _ _ _ (rests_goes (Hears session shown f) x w r) (strayed_goes session shown f next (record x { wire = w }) s n)
 
-    pub strays_off : BreaksOff result (stop.BadReply w.taken) (broken session shown) x.desk desk → Fails result (Hears session shown f) x After
+    pub strays_off : BreaksOff result (stop.BadReply w.taken) (broken session shown) x.client client → StopsBy result (Hears session shown f) x After
     strays_off (inl h) =
-        let g : Goes (Stops (broken session shown)) (Stops None) (record x { wire = w }) After =
+        let g : Proceeds (Stops (broken session shown)) (Stops None) (record x { wire = w }) After =
         record {
           events = printed_off (broken session shown);
           follows = off_follows (broken session shown);
@@ -101,7 +101,7 @@ module _ (session : Session) (shown : Listing) (f : Heard → Talk) (x : Outside
           read = record { tally = h.2; wire = read_off (broken session shown) w };
           limit = λ l. l;
         } in
-        subst (λ s. Fails s (Hears session shown f) x After) (sym h.0)
+        subst (λ s. StopsBy s (Hears session shown f) x After) (sym h.0)
         (record { rest = Stops None; goes = goes_then _ _ _ _ _ _ away g; place = (stuck_stop w.stream w.waiting, refl) })
     strays_off (inr h) =
         cut_by (Hears session shown f) x After result
@@ -122,17 +122,17 @@ module _ (session : Session) (shown : Listing) (f : Heard → Talk) (x : Outside
     wire_so : WirePut Adds (printed_off (broken session shown)) x.wire w
     wire_so = wire_then [] (printed_off (broken session shown)) x.wire w w p (wire_off (broken session shown) w)
 
-    lacks : (why : Stop) → PutsOff result why (broken session shown) x.desk desk → Lacks (Hears session shown f) x After
+    lacks : (why : Stop) → PutsOff result why (broken session shown) x.client client → Lacks (Hears session shown f) x After
     lacks why h = record {
       between = Hears session shown f;
       mid = x;
       goes = stay (Hears session shown f) x;
       awaits = tt;
-      put = record { desk = h.1; wire = wire_so };
+      put = record { client = h.1; wire = wire_so };
       read = record { tally = h.2; wire = wire_read_then [] (printed_off (broken session shown)) x.wire w w q (read_off (broken session shown) w) };
     }
 
-    cut_lacks : IsStreamed w.stream → CutsOff result (broken session shown) x.desk desk → Fails result (Hears session shown f) x After
+    cut_lacks : IsStreamed w.stream → CutsOff result (broken session shown) x.client client → StopsBy result (Hears session shown f) x After
     cut_lacks i h =
         cut_by (Hears session shown f) x After result
         (record {
@@ -143,48 +143,48 @@ module _ (session : Session) (shown : Listing) (f : Heard → Talk) (x : Outside
           goes = stay (Hears session shown f) x;
           one = off_one (broken session shown);
           follows = inr (streamed_before x.wire.stream w.stream x.wire.waiting w.waiting q.comes i, tt, refl);
-          put = record { desk = h.1; wire = wire_front (printed_off (broken session shown)) x.wire w wire_so };
+          put = record { client = h.1; wire = wire_front (printed_off (broken session shown)) x.wire w wire_so };
         })
         h.0
 
-    unread_fails : CantBeRead x.wire.stream w.stream → StaysWithin x.wire w → BreaksOff result stop.ReadFault (broken session shown) x.desk desk → Fails result (Hears session shown f) x After
-    unread_fails c l (inl h) = subst (λ s. Fails s (Hears session shown f) x After) (sym h.0) (lacks stop.ReadFault h, c, l)
+    unread_fails : CantBeRead x.wire.stream w.stream → StaysWithin x.wire w → BreaksOff result stop.ReadFault (broken session shown) x.client client → StopsBy result (Hears session shown f) x After
+    unread_fails c l (inl h) = subst (λ s. StopsBy s (Hears session shown f) x After) (sym h.0) (lacks stop.ReadFault h, c, l)
     unread_fails c l (inr h) = cut_lacks (streamed_read x.wire.stream w.stream c) h
 
-    long_fails : IsTooLong w.taken w.stream → BreaksOff result stop.TooLong (broken session shown) x.desk desk → Fails result (Hears session shown f) x After
-    long_fails c (inl h) = subst (λ s. Fails s (Hears session shown f) x After) (sym h.0) (lacks stop.TooLong h, c)
+    long_fails : IsTooLong w.taken w.stream → BreaksOff result stop.TooLong (broken session shown) x.client client → StopsBy result (Hears session shown f) x After
+    long_fails c (inl h) = subst (λ s. StopsBy s (Hears session shown f) x After) (sym h.0) (lacks stop.TooLong h, c)
     long_fails c (inr h) = cut_lacks (streamed_long w.taken w.stream c) h
 
-  memory_fails : WirePut AddsFront [] x.wire w → BreaksOff result stop.OutOfMemory None x.desk desk → Fails result (Hears session shown f) x After
-  memory_fails h (inl b) = subst (λ s. Fails s (Hears session shown f) x After) (sym b.0) (halted_so (Hears session shown f) x w desk h (desk_front [] x.desk desk b.1))
-  memory_fails h (inr b) = cut_by (Hears session shown f) x After result (halted_so (Hears session shown f) x w desk h b.1) b.0
+  memory_fails : WirePut AddsFront [] x.wire w → BreaksOff result stop.OutOfMemory None x.client client → StopsBy result (Hears session shown f) x After
+  memory_fails h (inl b) = subst (λ s. StopsBy s (Hears session shown f) x After) (sym b.0) (halted_so (Hears session shown f) x w client h (client_front [] x.client client b.1))
+  memory_fails h (inr b) = cut_by (Hears session shown f) x After result (halted_so (Hears session shown f) x w client h b.1) b.0
 
   -- none comes, by its cause
-  pub fetch_fails : (why : Lack) → Fetches (Err why) x.wire w → BreaksOff result (stop_at why w.taken) (off_by why (broken session shown)) x.desk desk → Fails result (Hears session shown f) x After
-  fetch_fails lack.BadReply h b = strays_off None tt h.0 h.1 b
-  fetch_fails lack.ReadFault h b = unread_fails h.0.0 h.0.1 h.1 h.0.2 b
-  fetch_fails lack.TooLong h b = long_fails h.0 h.1 h.2 b
-  fetch_fails lack.OutOfMemory h b = memory_fails h b
+  pub fetch_fails : (why : ReplyFault) → Fetches (Err why) x.wire w → BreaksOff result (stop_at why w.taken) (off_by why (broken session shown)) x.client client → StopsBy result (Hears session shown f) x After
+  fetch_fails fault.BadReply h b = strays_off None tt h.0 h.1 b
+  fetch_fails fault.ReadFault h b = unread_fails h.0.0 h.0.1 h.1 h.0.2 b
+  fetch_fails fault.TooLong h b = long_fails h.0 h.1 h.2 b
+  fetch_fails fault.OutOfMemory h b = memory_fails h b
 
 -- nothing was shown
-off_none : (why : Lack) (comes : Option Outcome) → comes ≡ None → off_by why comes ≡ None
-off_none lack.BadReply comes e = e
-off_none lack.ReadFault comes e = e
-off_none lack.TooLong comes e = e
-off_none lack.OutOfMemory comes e = refl
+off_none : (why : ReplyFault) (comes : Option Outcome) → comes ≡ None → off_by why comes ≡ None
+off_none fault.BadReply comes e = e
+off_none fault.ReadFault comes e = e
+off_none fault.TooLong comes e = e
+off_none fault.OutOfMemory comes e = refl
 
-nothing_off : (why : Stop) (desk : Desk) → BreaksOff why why None desk desk
-nothing_off why desk = inl (refl, desk_still desk, refl)
+nothing_off : (why : Stop) (client : ClientSide) → BreaksOff why why None client client
+nothing_off why client = inl (refl, client_still client, refl)
 
-pub fetch_misses : (session : Session) (shown : Listing) (f : Heard → Talk) (x : Outside) (w : Wire) (why : Lack) (result : Stop) (place : ℕ) → broken session shown ≡ None → place ≡ w.taken → result ≡ stop_at why place
-    → Fetches (Err why) x.wire w → Fails result (Hears session shown f) x (record x { wire = w })
+pub fetch_misses : (session : Session) (shown : Listing) (f : Heard → Talk) (x : Outside) (w : Wire) (why : ReplyFault) (result : Stop) (place : ℕ) → broken session shown ≡ None → place ≡ w.taken → result ≡ stop_at why place
+    → Fetches (Err why) x.wire w → StopsBy result (Hears session shown f) x (record x { wire = w })
 fetch_misses session shown f x w why result place b p e h =
-    subst (λ s. Fails s (Hears session shown f) x (record x { wire = w })) (sym (e ∙ ap (stop_at why) p))
-    (fetch_fails session shown f x w x.desk (stop_at why w.taken) why h
-    (subst (λ c. BreaksOff (stop_at why w.taken) (stop_at why w.taken) c x.desk x.desk) (sym (off_none why (broken session shown) b)) (nothing_off (stop_at why w.taken) x.desk)))
+    subst (λ s. StopsBy s (Hears session shown f) x (record x { wire = w })) (sym (e ∙ ap (stop_at why) p))
+    (fetch_fails session shown f x w x.client (stop_at why w.taken) why h
+    (subst (λ c. BreaksOff (stop_at why w.taken) (stop_at why w.taken) c x.client x.client) (sym (off_none why (broken session shown) b)) (nothing_off (stop_at why w.taken) x.client)))
 
 pub stray_misses : (session : Session) (shown : Listing) (f : Heard → Talk) (r : Reply) (x : Outside) (w : Wire) (place : ℕ) → broken session shown ≡ None → IsStray session shown (Some r)
-    → Rests x.wire w → IsFirst r w → place ≡ w.taken → Fails (stop.BadReply place) (Hears session shown f) x (record x { wire = w })
+    → Rests x.wire w → IsFirst r w → place ≡ w.taken → StopsBy (stop.BadReply place) (Hears session shown f) x (record x { wire = w })
 stray_misses session shown f r x w place b s h i p =
     fails_then (stop.BadReply place) (Hears session shown f) (Hears session shown f) x (record x { wire = w }) (record x { wire = w }) (rests_goes (Hears session shown f) x w h)
     (missed session shown f (Some r) (record x { wire = w }) place b s (first_next r w i) p)
@@ -199,42 +199,42 @@ broken_is (Begun batch) shown r = absurd r
 broken_is (Pending pending) shown r = absurd r
 broken_is Sent shown r = absurd r
 
-pub off_is : (why : Lack) (session : Session) (shown : Listing) (reads : Bool) → IsRows session → reads ≡ is_reading session → shown_if (is_shown why reads) shown ≡ off_by why (broken session shown)
-off_is lack.BadReply session shown reads r e = ap (λ b. shown_if b shown) e ∙ sym (broken_is session shown r)
-off_is lack.ReadFault session shown reads r e = ap (λ b. shown_if b shown) e ∙ sym (broken_is session shown r)
-off_is lack.TooLong session shown reads r e = ap (λ b. shown_if b shown) e ∙ sym (broken_is session shown r)
-off_is lack.OutOfMemory session shown reads r e = refl
+pub off_is : (why : ReplyFault) (session : Session) (shown : Listing) (reads : Bool) → IsRows session → reads ≡ is_reading session → shown_if (is_shown why reads) shown ≡ off_by why (broken session shown)
+off_is fault.BadReply session shown reads r e = ap (λ b. shown_if b shown) e ∙ sym (broken_is session shown r)
+off_is fault.ReadFault session shown reads r e = ap (λ b. shown_if b shown) e ∙ sym (broken_is session shown r)
+off_is fault.TooLong session shown reads r e = ap (λ b. shown_if b shown) e ∙ sym (broken_is session shown r)
+off_is fault.OutOfMemory session shown reads r e = refl
 
-pub why_is : (why : Lack) (place taken : ℕ) (result : Stop) → result ≡ stop_at why place → place ≡ taken → result ≡ stop_at why taken
+pub why_is : (why : ReplyFault) (place taken : ℕ) (result : Stop) → result ≡ stop_at why place → place ≡ taken → result ≡ stop_at why taken
 why_is why place taken result e p = e ∙ ap (stop_at why) p
 
 -- nothing is put
-pub none_off : (is : Bool) (shown : Listing) (result why : Stop) (desk : Desk) → result ≡ why → is ≡ false → BreaksOff result why (shown_if is shown) desk desk
-none_off is shown result why desk e i = rw (i, e) (nothing_off why desk)
+pub none_off : (is : Bool) (shown : Listing) (result why : Stop) (client : ClientSide) → result ≡ why → is ≡ false → BreaksOff result why (shown_if is shown) client client
+none_off is shown result why client e i = rw (i, e) (nothing_off why client)
 
 -- it is put, or a front of it
-module _ (is : Bool) (shown : Listing) (why : Stop) (x : Outside) (i : is ≡ true) (out : Option (List ℕ)) (faults : ℕ) (names : List GName) (same : names ≡ x.desk.out_names) (count : x.desk.out_faults ≤ faults) where
-  abbrev Put : Desk
-  Put = record x.desk { out_names = names; out = out; out_faults = faults }
+module _ (is : Bool) (shown : Listing) (why : Stop) (x : Outside) (i : is ≡ true) (out : Option (List ℕ)) (faults : ℕ) (names : List GName) (same : names ≡ x.client.out_names) (count : x.client.out_faults ≤ faults) where
+  abbrev Put : ClientSide
+  Put = record x.client { out_names = names; out = out; out_faults = faults }
 
-  pub all_off : (result : Stop) → result ≡ why → Adds (printed_listing shown) x.desk.out out → (tally : Tally) → tally ≡ printed (outcome.Broken shown None) x.desk.tally
-      → BreaksOff result why (shown_if is shown) x.desk (record Put { tally = tally })
+  pub all_off : (result : Stop) → result ≡ why → Adds (printed_listing shown) x.client.out out → (tally : Tally) → tally ≡ printed (outcome.Broken shown None) x.client.tally
+      → BreaksOff result why (shown_if is shown) x.client (record Put { tally = tally })
   all_off result e h tally c =
-      subst (λ b. BreaksOff result why (shown_if b shown) x.desk (record Put { tally = tally })) (sym i)
+      subst (λ b. BreaksOff result why (shown_if b shown) x.client (record Put { tally = tally })) (sym i)
       (inl (
         e,
-        desk_printed (outcome.Broken shown None) x.desk out faults names same count (subst (λ w. Adds w x.desk.out out) (sym (append-nil (printed_listing shown))) h) tally,
+        client_printed (outcome.Broken shown None) x.client out faults names same count (subst (λ w. Adds w x.client.out out) (sym (append-nil (printed_listing shown))) h) tally,
         c,
       ))
 
-  part : AddsFront (printed_listing shown) x.desk.out out → DeskPut AddsFront (printed_off (Some (outcome.Broken shown None))) x.desk Put
-  part h = desk_cut (outcome.Broken shown None) x.desk out faults names same count (subst (λ w. AddsFront w x.desk.out out) (sym (append-nil (printed_listing shown))) h)
+  part : AddsFront (printed_listing shown) x.client.out out → ClientPut AddsFront (printed_off (Some (outcome.Broken shown None))) x.client Put
+  part h = client_cut (outcome.Broken shown None) x.client out faults names same count (subst (λ w. AddsFront w x.client.out out) (sym (append-nil (printed_listing shown))) h)
 
-  pub fault_off : AddsFront (printed_listing shown) x.desk.out out → Rose x.desk.out_faults faults → BreaksOff stop.WriteFault why (shown_if is shown) x.desk Put
-  fault_off h r = subst (λ b. BreaksOff stop.WriteFault why (shown_if b shown) x.desk Put) (sym i) (inr (inl (refl, r), part h))
+  pub fault_off : AddsFront (printed_listing shown) x.client.out out → Rose x.client.out_faults faults → BreaksOff stop.WriteFault why (shown_if is shown) x.client Put
+  fault_off h r = subst (λ b. BreaksOff stop.WriteFault why (shown_if b shown) x.client Put) (sym i) (inr (inl (refl, r), part h))
 
-  pub memory_off : AddsFront (printed_listing shown) x.desk.out out → BreaksOff stop.OutOfMemory why (shown_if is shown) x.desk Put
-  memory_off h = subst (λ b. BreaksOff stop.OutOfMemory why (shown_if b shown) x.desk Put) (sym i) (inr (inr refl, part h))
+  pub memory_off : AddsFront (printed_listing shown) x.client.out out → BreaksOff stop.OutOfMemory why (shown_if is shown) x.client Put
+  memory_off h = subst (λ b. BreaksOff stop.OutOfMemory why (shown_if b shown) x.client Put) (sym i) (inr (inr refl, part h))
 
 -- ---- at the end
 
@@ -252,12 +252,12 @@ ends_lacking sessions x w p q = record {
   mid = x;
   goes = stay (Ends sessions) x;
   awaits = tt;
-  put = record { desk = desk_still x.desk; wire = p };
+  put = record { client = client_still x.client; wire = p };
   read = record { tally = refl; wire = q };
 }
 
-pub finish_fails : (sessions : List Session) (x : Outside) (w : Wire) (why : Lack) (place : ℕ) → place ≡ w.taken → Finishes (Err why) x.wire w → Fails (stop_at why place) (Ends sessions) x (record x { wire = w })
-finish_fails sessions x w lack.BadReply place p h = record { rest = Ends sessions; goes = rests_goes (Ends sessions) x w h.0; place = (left_on sessions w.stream w.waiting h.1, sym p) }
-finish_fails sessions x w lack.ReadFault place p h = (ends_lacking sessions x w h.0.0 h.0.1, h.1, h.0.2)
-finish_fails sessions x w lack.TooLong place p h = (ends_lacking sessions x w h.0 h.1, h.2)
-finish_fails sessions x w lack.OutOfMemory place p h = halted_so (Ends sessions) x w x.desk h (desk_front [] x.desk x.desk (desk_still x.desk))
+pub finish_fails : (sessions : List Session) (x : Outside) (w : Wire) (why : ReplyFault) (place : ℕ) → place ≡ w.taken → Finishes (Err why) x.wire w → StopsBy (stop_at why place) (Ends sessions) x (record x { wire = w })
+finish_fails sessions x w fault.BadReply place p h = record { rest = Ends sessions; goes = rests_goes (Ends sessions) x w h.0; place = (left_on sessions w.stream w.waiting h.1, sym p) }
+finish_fails sessions x w fault.ReadFault place p h = (ends_lacking sessions x w h.0.0 h.0.1, h.1, h.0.2)
+finish_fails sessions x w fault.TooLong place p h = (ends_lacking sessions x w h.0 h.1, h.2)
+finish_fails sessions x w fault.OutOfMemory place p h = halted_so (Ends sessions) x w x.client h (client_front [] x.client x.client (client_still x.client))

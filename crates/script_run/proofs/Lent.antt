@@ -3,40 +3,40 @@ use Rattle.std.proofs.Common.{◌≡◌, ℕ, List, [], ◌∷◌, ◌++◌, Opt
 use Rattle.std.specs.List.{All}
 use Rattle.std.specs.Borrow.{GName}
 use Rattle.ae_edge.specs.Devices.{Rose, WhereTold}
-use Rattle.ae_edge.proofs.Told.{told_map}
+use Rattle.ae_edge.proofs.Interface.{told_map}
 use Rattle.ae_edge.specs.Streams.{ReadsAll}
 use Rattle.ae_edge.specs.declared.streams.ReadAll.TheVariants as read
 use Rattle.conversation.specs.Paths.{Event}
 use Rattle.conversation.specs.Sessions.{nobody}
 use Rattle.conversation.specs.Talk.{Talk}
 use Rattle.plain_meaning.specs.Steps.{talk}
-use Rattle.run_words.specs.Counting.{nothing}
-use Rattle.run_words.specs.Shares.{Outside, Puts, HasPut}
-use Rattle.run_words.specs.Ways.{Goes, Lacks, Breaks, Fails, Leads}
-use Rattle.run_words.specs.declared.stops.Stop.{Stop}
-use Rattle.run_words.specs.declared.stops.Stop.TheVariants as stop
-use Rattle.run_words.specs.declared.tallies.Tally.{Tally}
-use Rattle.run_words.proofs.Going.{stay, breaks_between}
+use Rattle.outcome_text.specs.Counting.{nothing}
+use Rattle.run_effects.specs.Shares.{Outside, Puts, HasPut}
+use Rattle.run_effects.specs.Ways.{Proceeds, Lacks, Breaks, StopsBy, Advances}
+use Rattle.run_effects.specs.declared.stops.Stop.{Stop}
+use Rattle.run_effects.specs.declared.stops.Stop.TheVariants as stop
+use Rattle.outcome_text.specs.declared.tallies.Tally.{Tally}
+use Rattle.run_effects.proofs.Interface.{stay, breaks_between}
 use Rattle.script_lang.specs.declared.steps.Step.{Step}
 use Rattle.script_lang.specs.Limits.{IsProperStep, IsWithinLimits}
 use Rattle.script_run.specs.declared.runs.Count.{Count}
 use Rattle.script_run.specs.declared.runs.Ran.{Ran}
 use Rattle.script_run.specs.declared.runs.Ran.TheVariants as ran
 use Rattle.script_run.specs.declared.runs.Unread.TheVariants as unread
-use Rattle.script_run.specs.Ends.{Lent, outside, CameTo, RunsTo, RunsScript, TakesScript, IsScript, IsOfPeer, IsRead, most_script_bytes}
+use Rattle.script_run.specs.Ends.{RunDevices, outside, CameTo, RunsTo, RunsScript, TakesScript, IsScript, IsOfPeer, IsRead, most_script_bytes}
 
 -- ---- the same is lent after it
 
 pub record AreSame (old new : Outside) : Type 0 where
-  pub out : new.desk.out_names ≡ old.desk.out_names
-  pub entropy : new.desk.entropy_names ≡ old.desk.entropy_names
-  pub vault : new.desk.vault_names ≡ old.desk.vault_names
+  pub out : new.client.out_names ≡ old.client.out_names
+  pub entropy : new.client.entropy_names ≡ old.client.entropy_names
+  pub vault : new.client.vault_names ≡ old.client.vault_names
   pub wire : new.wire.names ≡ old.wire.names
 
 put_same : (P : Puts) (events : List Event) (old new : Outside) → HasPut P events old new → AreSame old new
-put_same P events old new h = record { out = h.desk.out_same; entropy = h.desk.entropy_same; vault = h.desk.vault_same; wire = h.wire.names }
+put_same P events old new h = record { out = h.client.out_same; entropy = h.client.entropy_same; vault = h.client.vault_same; wire = h.wire.names }
 
-goes_same : (t u : Talk) (old new : Outside) → Goes t u old new → AreSame old new
+goes_same : (t u : Talk) (old new : Outside) → Proceeds t u old new → AreSame old new
 goes_same t u old new g = put_same _ g.events old new g.put
 
 breaks_same : (t : Talk) (old new : Outside) → Breaks t old new → AreSame old new
@@ -51,7 +51,7 @@ lacks_same t old new l =
     let q = put_same _ _ l.mid new l.put in
     record { out = q.out ∙ p.out; entropy = q.entropy ∙ p.entropy; vault = q.vault ∙ p.vault; wire = q.wire ∙ p.wire }
 
-fails_same : (s : Stop) (t : Talk) (old new : Outside) → Fails s t old new → AreSame old new
+fails_same : (s : Stop) (t : Talk) (old new : Outside) → StopsBy s t old new → AreSame old new
 fails_same (stop.BadReply place) t old new h = goes_same t h.rest old new h.goes
 fails_same stop.ReadFault t old new h = lacks_same t old new h.0
 fails_same stop.TooLong t old new h = lacks_same t old new h.0
@@ -60,7 +60,7 @@ fails_same stop.VaultFault t old new h = goes_same t h.0.rest old new h.0.goes
 fails_same stop.WriteFault t old new h = breaks_same t old new h.0
 fails_same stop.OutOfMemory t old new h = breaks_same t old new h
 
-pub leads_same : (result : Result (Unit {0}) Stop) (t : Talk) (onward : Unit {0} → Talk) (old new : Outside) → Leads result t onward old new → AreSame old new
+pub leads_same : (result : Result (Unit {0}) Stop) (t : Talk) (onward : Unit {0} → Talk) (old new : Outside) → Advances result t onward old new → AreSame old new
 leads_same (Ok o) t onward old new g = goes_same t (onward o) old new g
 leads_same (Err s) t onward old new f = fails_same s t old new f
 
@@ -76,7 +76,7 @@ peer_same a b c d e = cc
 -- ---- how it ended
 
 -- it ended before it began
-pub unstarted : (steps : List Step) (lent : Lent) → RunsTo (ran.Stopped stop.OutOfMemory) nothing steps lent lent
+pub unstarted : (steps : List Step) (lent : RunDevices) → RunsTo (ran.Stopped stop.OutOfMemory) nothing steps lent lent
 unstarted steps lent = record {
   sessions = nobody;
   waiting = [];
@@ -95,14 +95,14 @@ unstarted steps lent = record {
 
 -- ---- a script
 
-pub runs_script : (r : Ran) (count : Count) (bytes : List ℕ) (steps : List Step) (old new : Lent) → IsScript bytes steps → All IsWithinLimits steps → All IsProperStep steps → count.steps ≡ length steps
+pub runs_script : (r : Ran) (count : Count) (bytes : List ℕ) (steps : List Step) (old new : RunDevices) → IsScript bytes steps → All IsWithinLimits steps → All IsProperStep steps → count.steps ≡ length steps
     → RunsTo r count.tally steps old new → RunsScript r count bytes old new
 runs_script ran.Done count bytes steps old new s l p n h = record { steps = steps; script = s; limits = l; proper = p; counts = n; runs = h }
 runs_script ran.Refusals count bytes steps old new s l p n h = record { steps = steps; script = s; limits = l; proper = p; counts = n; runs = h }
 runs_script (ran.Stopped why) count bytes steps old new s l p n h = record { steps = steps; script = s; limits = l; proper = p; counts = n; runs = h }
 runs_script (ran.Unread why) count bytes steps old new s l p n h = absurd h
 
-pub was_read : (r : Ran) (tally : Tally) (steps : List Step) (old new : Lent) → RunsTo r tally steps old new → IsRead r
+pub was_read : (r : Ran) (tally : Tally) (steps : List Step) (old new : RunDevices) → RunsTo r tally steps old new → IsRead r
 was_read ran.Done tally steps old new h = tt
 was_read ran.Refusals tally steps old new h = tt
 was_read (ran.Stopped why) tally steps old new h = tt
@@ -128,7 +128,7 @@ pub read_it : (r : Ran) → IsRead r → r ≡ ran.Unread unread.ReadFault → �
 read_it r w e = subst IsRead e w
 
 -- a peer has no stream of replies
-pub of_peer : (r : Ran) (count : Count) (bytes : List ℕ) (old new : Lent) → RunsScript r count bytes old new → IsOfPeer r
+pub of_peer : (r : Ran) (count : Count) (bytes : List ℕ) (old new : RunDevices) → RunsScript r count bytes old new → IsOfPeer r
 of_peer ran.Done count bytes old new h = tt
 of_peer ran.Refusals count bytes old new h = tt
 of_peer (ran.Stopped (stop.BadReply place)) count bytes old new h = tt
@@ -142,21 +142,21 @@ of_peer (ran.Unread why) count bytes old new h = tt
 
 -- ---- a count rose
 
-stopped_rose : (P : Lent → Lent → Type 0) (s : Stop) (r : Ran) (count : Count) (bytes : List ℕ) (old new : Lent) → ((steps : List Step) → CameTo (Err s) count.tally steps old new → P old new)
+stopped_rose : (P : RunDevices → RunDevices → Type 0) (s : Stop) (r : Ran) (count : Count) (bytes : List ℕ) (old new : RunDevices) → ((steps : List Step) → CameTo (Err s) count.tally steps old new → P old new)
     → RunsScript r count bytes old new → r ≡ ran.Stopped s → P old new
 stopped_rose P s r count bytes old new f h e = let c = subst (λ w. RunsScript w count bytes old new) e h in f c.steps c.runs
 
-pub write_rose : (r : Ran) (count : Count) (bytes : List ℕ) (old new : Lent) → RunsScript r count bytes old new → r ≡ ran.Stopped stop.WriteFault → Rose old.out_faults new.out_faults ⊎ Rose old.tap_faults new.tap_faults
+pub write_rose : (r : Ran) (count : Count) (bytes : List ℕ) (old new : RunDevices) → RunsScript r count bytes old new → r ≡ ran.Stopped stop.WriteFault → Rose old.out_faults new.out_faults ⊎ Rose old.tap_faults new.tap_faults
 write_rose r count bytes old new =
     stopped_rose (λ x y. Rose x.out_faults y.out_faults ⊎ Rose x.tap_faults y.tap_faults) stop.WriteFault r count bytes old new
     (λ steps (c : CameTo (Err stop.WriteFault) count.tally steps old new). c.leads.1)
 
-pub entropy_rose : (r : Ran) (count : Count) (bytes : List ℕ) (old new : Lent) → RunsScript r count bytes old new → r ≡ ran.Stopped stop.EntropyFault → Rose old.entropy_faults new.entropy_faults
+pub entropy_rose : (r : Ran) (count : Count) (bytes : List ℕ) (old new : RunDevices) → RunsScript r count bytes old new → r ≡ ran.Stopped stop.EntropyFault → Rose old.entropy_faults new.entropy_faults
 entropy_rose r count bytes old new =
     stopped_rose (λ x y. Rose x.entropy_faults y.entropy_faults) stop.EntropyFault r count bytes old new
     (λ steps (c : CameTo (Err stop.EntropyFault) count.tally steps old new). c.leads.1)
 
-pub vault_rose : (r : Ran) (count : Count) (bytes : List ℕ) (old new : Lent) → RunsScript r count bytes old new → r ≡ ran.Stopped stop.VaultFault → Rose old.vault_faults new.vault_faults
+pub vault_rose : (r : Ran) (count : Count) (bytes : List ℕ) (old new : RunDevices) → RunsScript r count bytes old new → r ≡ ran.Stopped stop.VaultFault → Rose old.vault_faults new.vault_faults
 vault_rose r count bytes old new =
     stopped_rose (λ x y. Rose x.vault_faults y.vault_faults) stop.VaultFault r count bytes old new
     (λ steps (c : CameTo (Err stop.VaultFault) count.tally steps old new). c.leads.1)

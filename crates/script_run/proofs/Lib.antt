@@ -1,16 +1,19 @@
-pub mod Awaited
-pub mod Fetched
-pub mod Framed
-pub mod Heeded
-pub mod Lacking
-pub mod Lent
-pub mod NoStray
-pub mod Passing
-pub mod Places
-pub mod Plainly
-pub mod Queued
-pub mod RunsAre
-pub mod Serving
-pub mod Tapping
-pub mod Turning
-pub mod Waiting
+mod Awaited
+mod Fetched
+mod Framed
+mod Heeded
+pub mod Interface
+mod Lacking
+mod Leaving
+mod Lent
+mod NoStray
+mod Passing
+mod Places
+mod Plainly
+mod Queued
+mod RunsAre
+mod Serving
+mod Summed
+mod Tapping
+mod Turning
+mod Waiting

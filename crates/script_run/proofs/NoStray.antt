@@ -12,15 +12,15 @@ use Rattle.script_lang.specs.declared.steps.Step.{Step}
 use Rattle.plain_meaning.specs.Awaits.{IsHeardBy, IsHeard, Awaits}
 use Rattle.plain_meaning.specs.Laws.{RepliesAreAwaited}
 use Rattle.plain_meaning.specs.Steps.{talk}
-use Rattle.run_words.specs.Counting.{nothing}
-use Rattle.run_words.specs.Shares.{Outside, Serves}
-use Rattle.run_words.specs.Ways.{Fails, IsStuck}
-use Rattle.run_words.specs.declared.stops.Stop.TheVariants as stop
+use Rattle.outcome_text.specs.Counting.{nothing}
+use Rattle.run_effects.specs.Shares.{Outside, AreServed}
+use Rattle.run_effects.specs.Ways.{StopsBy, IsStuck}
+use Rattle.run_effects.specs.declared.stops.Stop.TheVariants as stop
 use Rattle.script_run.specs.declared.runs.Count.{Count}
 use Rattle.script_run.specs.declared.runs.Ran.{Ran}
 use Rattle.script_run.specs.declared.runs.Ran.TheVariants as ran
 use Rattle.script_run.specs.declared.runs.Unread.TheVariants as unread
-use Rattle.script_run.specs.Ends.{Lent, outside, IsScript, RunsScript}
+use Rattle.script_run.specs.Ends.{RunDevices, outside, IsScript, RunsScript}
 use Rattle.script_run.specs.Plain.{IsDoneOrFault}
 use Rattle.script_run.proofs.Plainly.{served}
 use Rattle.script_run.proofs.Queued.{waits_of, stuck_queue}
@@ -36,7 +36,7 @@ none_stray P (reply ∷ rest) next session shown e s a =
     subst (IsHeardBy (λ after more. IsHeard P rest after more) (λ heard. P heard rest)) m a
 
 -- what awaits each reply does so wherever it came
-pub path_awaits : (t u : Talk) (events : List Event) → Follows t events u → (queue left : List Reply) → Waits events queue left → (state after : State) → Serves events state after
+pub path_awaits : (t u : Talk) (events : List Event) → Follows t events u → (queue left : List Reply) → Waits events queue left → (state after : State) → AreServed events state after
     → Awaits serve t state queue → Awaits serve u after left
 path_awaits _ _ _ (stays t) queue left q state after v a = rw (q, v) a
 path_awaits _ _ _ (asks request replies t u events h) queue left q state after v a =
@@ -69,25 +69,25 @@ awaits_on (Prints comes t) state left a h = h
 
 -- over a peer that serves from the empty state it isn't stopped by a reply
 none_bad : (steps : List Step) → Awaits serve (talk steps nobody) empty_state [] → (place : ℕ) (old new : Outside) → old.wire.state ≡ Some empty_state → old.wire.waiting ≡ [] → old.wire.stream ≡ None
-    → Fails (stop.BadReply place) (talk steps nobody) old new → ⊥
+    → StopsBy (stop.BadReply place) (talk steps nobody) old new → ⊥
 none_bad steps a place old new w q n h =
     let g = h.goes in
     let v = served g.events old.wire.state new.wire.state empty_state w g.put.wire.state in
     let waits : Waits g.events [] new.wire.waiting = subst (λ x. Waits g.events x new.wire.waiting) q (waits_of g.events old.wire.stream new.wire.stream old.wire.waiting new.wire.waiting n g.read.wire.comes) in
     awaits_on h.rest v.0 new.wire.waiting (path_awaits (talk steps nobody) h.rest g.events g.follows [] new.wire.waiting waits empty_state v.0 v.1 a) (stuck_queue (talk steps nobody) h.rest old new n g h.place.0)
 
-pub runs_awaited : (law : RepliesAreAwaited) (place : ℕ) (count : Count) (bytes : List ℕ) (old new : Lent) → old.state ≡ Some empty_state → RunsScript (ran.Stopped (stop.BadReply place)) count bytes old new → ⊥
+pub runs_awaited : (law : RepliesAreAwaited) (place : ℕ) (count : Count) (bytes : List ℕ) (old new : RunDevices) → old.state ≡ Some empty_state → RunsScript (ran.Stopped (stop.BadReply place)) count bytes old new → ⊥
 runs_awaited law place count bytes old new w h =
     let c = h.runs in
     none_bad h.steps (law h.steps h.limits) place (outside c.out c.entropy c.vault c.wire nothing [] 0 old)
     (outside c.out_after c.entropy_after c.vault_after c.wire_after count.tally c.waiting c.taken new) w refl refl c.leads
 
-pub never_bad : (law : RepliesAreAwaited) (r : Ran) (place : ℕ) (count : Count) (bytes : List ℕ) (old new : Lent) → old.state ≡ Some empty_state → RunsScript r count bytes old new
+pub never_bad : (law : RepliesAreAwaited) (r : Ran) (place : ℕ) (count : Count) (bytes : List ℕ) (old new : RunDevices) → old.state ≡ Some empty_state → RunsScript r count bytes old new
     → ¬ (r ≡ ran.Stopped (stop.BadReply place))
 never_bad law r place count bytes old new w h e = runs_awaited law place count bytes old new w (subst (λ r. RunsScript r count bytes old new) e h)
 
 -- a good script is run to its end, or memory or a device fails
-pub runs_whole : (law : RepliesAreAwaited) (r : Ran) (count : Count) (bytes : List ℕ) (steps : List Step) (old new : Lent) → old.state ≡ Some empty_state → IsScript bytes steps → RunsScript r count bytes old new
+pub runs_whole : (law : RepliesAreAwaited) (r : Ran) (count : Count) (bytes : List ℕ) (steps : List Step) (old new : RunDevices) → old.state ≡ Some empty_state → IsScript bytes steps → RunsScript r count bytes old new
     → IsDoneOrFault r
 runs_whole law ran.Done count bytes steps old new w s h = tt
 runs_whole law ran.Refusals count bytes steps old new w s h = tt

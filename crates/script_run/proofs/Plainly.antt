@@ -6,7 +6,7 @@ use Rattle.std.proofs.lemmas.Grind.{flat_map-append}
 use Rattle.aes_block.specs.Bytes.{AreBytes}
 use Rattle.ae_edge.specs.Devices.{WhereTold, Adds, AddsFront, IsFront}
 use Rattle.ae_edge.specs.Vaults.{KeyMap}
-use Rattle.ae_edge.proofs.Told.{adds_then_front, adds_front_then, front_of}
+use Rattle.ae_edge.proofs.Interface.{adds_then_front, adds_front_then, front_of}
 use Rattle.wire_messages.specs.declared.replies.Reply.{Reply}
 use Rattle.server_core.specs.Serve.{State, serve, empty_state}
 use Rattle.conversation.specs.declared.outcomes.Outcome.{Outcome}
@@ -15,24 +15,24 @@ use Rattle.conversation.specs.Drive.{End, Done, Dry, BadReply, Passed, over, end
 use Rattle.conversation.specs.Paths.{Event, Asked, Took, Strayed, Drew, Opened, Printed, Follows, taken_in, drawn_in, outcome_in, Waits, OpensAll}
 use Rattle.conversation.specs.Sessions.{nobody}
 use Rattle.conversation.specs.Talk.{Talk, Ends, Stops, Asks, Hears, Draws, Opens, Prints}
-use Rattle.conversation.proofs.Drawing.{drawn_are_bytes}
+use Rattle.conversation.proofs.Interface.{drawn_are_bytes}
 use Rattle.script_lang.specs.Limits.{IsProperStep, IsWithinLimits}
 use Rattle.script_lang.specs.declared.steps.Step.{Step}
 use Rattle.plain_meaning.specs.Laws.{EndsWith, Agrees, ServedIsPlain}
 use Rattle.plain_meaning.specs.Steps.{talk}
-use Rattle.run_words.specs.Counting.{errors_in, rows_in, nothing, has_errors, counted}
-use Rattle.run_words.specs.Printing.{printed_outcome, print, has_refusal}
-use Rattle.run_words.specs.Shares.{Outside, Serves, text_of}
-use Rattle.run_words.specs.Ways.{Goes, Halts, Breaks, Fails, IsStuck}
-use Rattle.run_words.specs.declared.stops.Stop.{Stop}
-use Rattle.run_words.specs.declared.stops.Stop.TheVariants as stop
-use Rattle.run_words.specs.declared.tallies.Tally.{Tally}
-use Rattle.run_words.proofs.Counted.{errors_are, rows_are, has_errors_where}
+use Rattle.outcome_text.specs.Counting.{errors_in, rows_in, nothing, has_errors, counted}
+use Rattle.outcome_text.specs.Printing.{printed_outcome, print, has_refusal}
+use Rattle.run_effects.specs.Shares.{Outside, AreServed, text_of}
+use Rattle.run_effects.specs.Ways.{Proceeds, HaltsAt, Breaks, StopsBy, IsStuck}
+use Rattle.run_effects.specs.declared.stops.Stop.{Stop}
+use Rattle.run_effects.specs.declared.stops.Stop.TheVariants as stop
+use Rattle.outcome_text.specs.declared.tallies.Tally.{Tally}
+use Rattle.run_effects.proofs.Interface.{errors_are, rows_are, has_errors_where}
 use Rattle.script_run.specs.declared.runs.Count.{Count}
 use Rattle.script_run.specs.declared.runs.Ran.{Ran}
 use Rattle.script_run.specs.declared.runs.Ran.TheVariants as ran
 use Rattle.script_run.specs.declared.runs.Unread.TheVariants as unread
-use Rattle.script_run.specs.Ends.{Lent, outside, CameTo, RunsTo, IsScript, RunsSteps, RunsScript}
+use Rattle.script_run.specs.Ends.{RunDevices, outside, CameTo, RunsTo, IsScript, RunsSteps, RunsScript}
 use Rattle.script_run.specs.Plain.{meaning, PrintsPlain}
 use Rattle.script_run.proofs.Passing.{ahead, path_passes}
 use Rattle.script_run.proofs.Queued.{waits_of, lacks_after, stuck_queue, breaks_follow, never_unread, never_long}
@@ -40,7 +40,7 @@ use Rattle.script_run.proofs.Queued.{waits_of, lacks_after, stuck_queue, breaks_
 -- a conversation over a peer that serves from the empty state, with keys that are told
 pub record Starts (map : KeyMap) (old : Outside) : Type 0 where
   pub state : old.wire.state ≡ Some empty_state
-  pub keys : old.desk.keys ≡ Some map
+  pub keys : old.client.keys ≡ Some map
   pub waiting : old.wire.waiting ≡ []
   pub queue : old.wire.stream ≡ None
 
@@ -58,9 +58,9 @@ text_front outcomes wanted h = record { rest = print h.rest; is = ap print h.is 
 
 -- ---- where it stands
 
-pub served : (events : List Event) (a b : Option State) (s : State) → a ≡ Some s → WhereTold (Serves events) a b → (v : State) × Serves events s v
-served events a (Some v) s e h = (v, subst (λ x. WhereTold (Serves events) x (Some v)) e h)
-served events a None s e h = let g : ⊥ = subst (λ x. WhereTold (Serves events) x None) e h in absurd g
+pub served : (events : List Event) (a b : Option State) (s : State) → a ≡ Some s → WhereTold (AreServed events) a b → (v : State) × AreServed events s v
+served events a (Some v) s e h = (v, subst (λ x. WhereTold (AreServed events) x (Some v)) e h)
+served events a None s e h = let g : ⊥ = subst (λ x. WhereTold (AreServed events) x None) e h in absurd g
 
 stuck_ends : (keys : KeyMap) (t : Talk) (n : ℕ) (s : State) (left : List Reply) → IsStuck t left → (place : ℕ) × ((over serve keys t n [] s left).end ≡ BadReply place)
 stuck_ends keys (Stops None) n s left h = (n, refl)
@@ -92,12 +92,12 @@ module _ (keys : KeyMap) (steps : List Step) (wanted : List Outcome) (agrees : (
     pub taken : ℕ
     pub is : over serve keys (talk steps nobody) 0 (flat_map drawn_in events ++ []) empty_state [] ≡ ahead events (over serve keys u taken [] state left)
 
-  module _ (u : Talk) (old new : Outside) (st : Starts keys old) (g : Goes (talk steps nobody) u old new) where
+  module _ (u : Talk) (old new : Outside) (st : Starts keys old) (g : Proceeds (talk steps nobody) u old new) where
     reached : Reached u g.events new.wire.waiting
     reached =
         let v = served g.events old.wire.state new.wire.state empty_state st.state g.put.wire.state in
         let q : Waits g.events [] new.wire.waiting = subst (λ q. Waits g.events q new.wire.waiting) st.waiting (waits_of g.events old.wire.stream new.wire.stream old.wire.waiting new.wire.waiting st.queue g.read.wire.comes) in
-        let o : OpensAll g.events keys = subst (λ x. IfSome x (OpensAll g.events)) st.keys g.put.desk.opened in
+        let o : OpensAll g.events keys = subst (λ x. IfSome x (OpensAll g.events)) st.keys g.put.client.opened in
         record {
           state = v.0;
           taken = 0 + length (flat_map taken_in g.events);
@@ -113,9 +113,9 @@ module _ (keys : KeyMap) (steps : List Step) (wanted : List Outcome) (agrees : (
         let p = over serve keys u r.taken [] r.state new.wire.waiting in
         front_means p.end (flat_map outcome_in g.events) (flat_map outcome_in g.events ++ p.outcomes) p.outcomes wanted refl (ahead_agrees r)
 
-    goes_prints : AddsFront (print wanted) old.desk.out new.desk.out
+    goes_prints : AddsFront (print wanted) old.client.out new.client.out
     goes_prints =
-        front_of (flat_map text_of g.events) (print wanted) old.desk.out new.desk.out g.put.desk.out
+        front_of (flat_map text_of g.events) (print wanted) old.client.out new.client.out g.put.client.out
         (subst (λ xs. IsFront xs (print wanted)) (sym (text_is g.events)) (text_front (flat_map outcome_in g.events) wanted goes_front))
 
     -- with a print that is cut
@@ -139,14 +139,14 @@ module _ (keys : KeyMap) (steps : List Step) (wanted : List Outcome) (agrees : (
     last_front v (Opened meta key ∷ []) one f = quiet_front _ _ wanted refl goes_front
     last_front v (e ∷ d ∷ es) one f = absurd (omega arith)
 
-    cut_prints : (v : Talk) (last : List Event) (cut : Outside) → length last ≤ 1 → Follows u last v → AddsFront (flat_map text_of last) new.desk.out cut.desk.out → AddsFront (print wanted) old.desk.out cut.desk.out
+    cut_prints : (v : Talk) (last : List Event) (cut : Outside) → length last ≤ 1 → Follows u last v → AddsFront (flat_map text_of last) new.client.out cut.client.out → AddsFront (print wanted) old.client.out cut.client.out
     cut_prints v last cut one f h =
         let i : print (flat_map outcome_in g.events ++ flat_map outcome_in last) ≡ flat_map text_of g.events ++ flat_map text_of last =
         flat_map-append printed_outcome (flat_map outcome_in g.events) (flat_map outcome_in last)
         ∙ ap (λ w. w ++ print (flat_map outcome_in last)) (sym (text_is g.events))
         ∙ ap (λ w. flat_map text_of g.events ++ w) (sym (text_is last)) in
-        adds_front_then (flat_map text_of g.events ++ flat_map text_of last) (print wanted) old.desk.out cut.desk.out
-        (adds_then_front (flat_map text_of g.events) (flat_map text_of last) old.desk.out new.desk.out cut.desk.out g.put.desk.out h)
+        adds_front_then (flat_map text_of g.events ++ flat_map text_of last) (print wanted) old.client.out cut.client.out
+        (adds_then_front (flat_map text_of g.events) (flat_map text_of last) old.client.out new.client.out cut.client.out g.put.client.out h)
         (subst (λ xs. IsFront xs (print wanted)) i (text_front (flat_map outcome_in g.events ++ flat_map outcome_in last) wanted (last_front v last one f)))
 
     never_stuck : IsStuck u new.wire.waiting → ⊥
@@ -159,38 +159,38 @@ module _ (keys : KeyMap) (steps : List Step) (wanted : List Outcome) (agrees : (
   -- ---- to its end, no further, or cut
 
   module _ (old new : Outside) (st : Starts keys old) where
-    done_is : (sessions : List Session) (g : Goes (talk steps nobody) (Ends sessions) old new) → new.wire.waiting ≡ [] → flat_map outcome_in g.events ≡ wanted
+    done_is : (sessions : List Session) (g : Proceeds (talk steps nobody) (Ends sessions) old new) → new.wire.waiting ≡ [] → flat_map outcome_in g.events ≡ wanted
     done_is sessions g e =
         let r = reached (Ends sessions) old new st g in
         let a = ahead_agrees (Ends sessions) old new st g r in
         let b : (flat_map outcome_in g.events ++ []) ≡ wanted = subst (λ w. EndsWith (end_at sessions r.taken w) (flat_map outcome_in g.events ++ []) wanted) e a in
         sym (append-nil (flat_map outcome_in g.events)) ∙ b
 
-    pub done_prints : (sessions : List Session) → Goes (talk steps nobody) (Ends sessions) old new → new.wire.waiting ≡ [] → Adds (print wanted) old.desk.out new.desk.out
-    done_prints sessions g e = subst (λ xs. Adds xs old.desk.out new.desk.out) (text_is g.events ∙ ap print (done_is sessions g e)) g.put.desk.out
+    pub done_prints : (sessions : List Session) → Proceeds (talk steps nobody) (Ends sessions) old new → new.wire.waiting ≡ [] → Adds (print wanted) old.client.out new.client.out
+    done_prints sessions g e = subst (λ xs. Adds xs old.client.out new.client.out) (text_is g.events ∙ ap print (done_is sessions g e)) g.put.client.out
 
-    pub done_counts : (sessions : List Session) → Goes (talk steps nobody) (Ends sessions) old new → new.wire.waiting ≡ [] → old.desk.tally ≡ nothing
-        → (has_errors new.desk.tally ≡ has_refusal wanted) × (new.desk.tally.errors ≡ errors_in wanted) × (new.desk.tally.rows ≡ rows_in wanted)
+    pub done_counts : (sessions : List Session) → Proceeds (talk steps nobody) (Ends sessions) old new → new.wire.waiting ≡ [] → old.client.tally ≡ nothing
+        → (has_errors new.client.tally ≡ has_refusal wanted) × (new.client.tally.errors ≡ errors_in wanted) × (new.client.tally.rows ≡ rows_in wanted)
     done_counts sessions g e n =
-        let c : new.desk.tally ≡ counted g.events nothing = g.read.tally ∙ ap (counted g.events) n in
+        let c : new.client.tally ≡ counted g.events nothing = g.read.tally ∙ ap (counted g.events) n in
         let i = done_is sessions g e in (
           ap has_errors c ∙ has_errors_where g.events ∙ ap has_refusal i,
           ap (λ (t : Tally). t.errors) c ∙ errors_are g.events ∙ ap errors_in i,
           ap (λ (t : Tally). t.rows) c ∙ rows_are g.events ∙ ap rows_in i,
         )
 
-    pub halts_prints : (P : Talk → Outside → Type 0) → Halts P (talk steps nobody) old new → AddsFront (print wanted) old.desk.out new.desk.out
+    pub halts_prints : (P : Talk → Outside → Type 0) → HaltsAt P (talk steps nobody) old new → AddsFront (print wanted) old.client.out new.client.out
     halts_prints P h = goes_prints h.rest old new st h.goes
 
-    pub breaks_prints : Breaks (talk steps nobody) old new → AddsFront (print wanted) old.desk.out new.desk.out
-    breaks_prints b = cut_prints b.between old b.mid st b.goes b.rest b.last new b.one (breaks_follow (talk steps nobody) old new st.queue b) b.put.desk.out
+    pub breaks_prints : Breaks (talk steps nobody) old new → AddsFront (print wanted) old.client.out new.client.out
+    breaks_prints b = cut_prints b.between old b.mid st b.goes b.rest b.last new b.one (breaks_follow (talk steps nobody) old new st.queue b) b.put.client.out
 
-    pub no_stray : (place : ℕ) → Fails (stop.BadReply place) (talk steps nobody) old new → ⊥
+    pub no_stray : (place : ℕ) → StopsBy (stop.BadReply place) (talk steps nobody) old new → ⊥
     no_stray place h = never_stuck h.rest old new st h.goes (stuck_queue (talk steps nobody) h.rest old new st.queue h.goes h.place.0)
 
 -- ---- a run of a script
 
-module _ (law : ServedIsPlain) (keys : KeyMap) (steps : List Step) (limits : All IsWithinLimits steps) (proper : All IsProperStep steps) (old new : Lent) (state : old.state ≡ Some empty_state) (told : old.keys ≡ Some keys) where
+module _ (law : ServedIsPlain) (keys : KeyMap) (steps : List Step) (limits : All IsWithinLimits steps) (proper : All IsProperStep steps) (old new : RunDevices) (state : old.state ≡ Some empty_state) (told : old.keys ≡ Some keys) where
   agrees_so : (entropy : List ℕ) → AreBytes entropy → Agrees (over serve keys (talk steps nobody) 0 entropy empty_state []) (meaning keys steps)
   agrees_so entropy are = law keys steps limits proper entropy are
 
@@ -207,7 +207,7 @@ module _ (law : ServedIsPlain) (keys : KeyMap) (steps : List Step) (limits : All
       done_counts keys steps (meaning keys steps) agrees_so (outside c.out c.entropy c.vault c.wire nothing [] 0 old) (outside c.out_after c.entropy_after c.vault_after c.wire_after tally c.waiting c.taken new)
       (starts (Ok tt) tally c) c.sessions c.leads c.read refl
 
-  stops_at : (s : Stop) (x y : Outside) → Starts keys x → Fails s (talk steps nobody) x y → x.desk.out ≡ old.out → y.desk.out ≡ new.out → PrintsPlain (ran.Stopped s) keys steps old.out new.out
+  stops_at : (s : Stop) (x y : Outside) → Starts keys x → StopsBy s (talk steps nobody) x y → x.client.out ≡ old.out → y.client.out ≡ new.out → PrintsPlain (ran.Stopped s) keys steps old.out new.out
   stops_at (stop.BadReply place) x y st h e f = no_stray keys steps (meaning keys steps) agrees_so x y st place h
   stops_at stop.ReadFault x y st h e f = never_unread _ _ st.queue h.1
   stops_at stop.TooLong x y st h e f = never_long _ _ (lacks_after (talk steps nobody) x y st.queue h.0) h.1
@@ -231,17 +231,17 @@ module _ (law : ServedIsPlain) (keys : KeyMap) (steps : List Step) (limits : All
 pub one_script : (bytes : List ℕ) (steps others : List Step) → IsScript bytes steps → IsScript bytes others → others ≡ steps
 one_script bytes steps others s o = let a = s.read in let b = o.read in cc
 
-runs_so : (law : ServedIsPlain) (r : Ran) (count : Count) (keys : KeyMap) (bytes : List ℕ) (steps : List Step) (old new : Lent) → old.state ≡ Some empty_state → old.keys ≡ Some keys
+runs_so : (law : ServedIsPlain) (r : Ran) (count : Count) (keys : KeyMap) (bytes : List ℕ) (steps : List Step) (old new : RunDevices) → old.state ≡ Some empty_state → old.keys ≡ Some keys
     → IsScript bytes steps → RunsSteps r count bytes old new → PrintsPlain r keys steps old.out new.out
 runs_so law r count keys bytes steps old new w k s h =
     subst (λ ss. PrintsPlain r keys ss old.out new.out) (one_script bytes steps h.steps s h.script) (steps_plain law keys h.steps h.limits h.proper old new w k r count.tally h.runs)
 
-pub runs_plain : (law : ServedIsPlain) (r : Ran) (count : Count) (keys : KeyMap) (bytes : List ℕ) (steps : List Step) (old new : Lent) → old.state ≡ Some empty_state → old.keys ≡ Some keys
+pub runs_plain : (law : ServedIsPlain) (r : Ran) (count : Count) (keys : KeyMap) (bytes : List ℕ) (steps : List Step) (old new : RunDevices) → old.state ≡ Some empty_state → old.keys ≡ Some keys
     → IsScript bytes steps → RunsScript r count bytes old new → PrintsPlain r keys steps old.out new.out
 runs_plain law ran.Done count keys bytes steps old new w k s h = runs_so law ran.Done count keys bytes steps old new w k s h
 runs_plain law ran.Refusals count keys bytes steps old new w k s h = runs_so law ran.Refusals count keys bytes steps old new w k s h
 runs_plain law (ran.Stopped why) count keys bytes steps old new w k s h = runs_so law (ran.Stopped why) count keys bytes steps old new w k s h
-runs_plain law (ran.Unread unread.ReadFault) count keys bytes steps old new w k s h = ap (λ (x : Lent). x.out) h
-runs_plain law (ran.Unread unread.TooLong) count keys bytes steps old new w k s h = ap (λ (x : Lent). x.out) h.1
-runs_plain law (ran.Unread (unread.BadLine line)) count keys bytes steps old new w k s h = ap (λ (x : Lent). x.out) h.2
-runs_plain law (ran.Unread unread.OutOfMemory) count keys bytes steps old new w k s h = ap (λ (x : Lent). x.out) h
+runs_plain law (ran.Unread unread.ReadFault) count keys bytes steps old new w k s h = ap (λ (x : RunDevices). x.out) h
+runs_plain law (ran.Unread unread.TooLong) count keys bytes steps old new w k s h = ap (λ (x : RunDevices). x.out) h.1
+runs_plain law (ran.Unread (unread.BadLine line)) count keys bytes steps old new w k s h = ap (λ (x : RunDevices). x.out) h.2
+runs_plain law (ran.Unread unread.OutOfMemory) count keys bytes steps old new w k s h = ap (λ (x : RunDevices). x.out) h

@@ -3,8 +3,8 @@ use Rattle.std.proofs.Common.{◌≡◌, ℕ, List, Option, Some, None, subst, i
 use Rattle.wire_messages.specs.declared.replies.Reply.{Reply}
 use Rattle.conversation.specs.Paths.{Event, Follows, Waits}
 use Rattle.conversation.specs.Talk.{Talk}
-use Rattle.run_words.specs.Shares.{Stream, Wire, Outside, Comes}
-use Rattle.run_words.specs.Ways.{Goes, Lacks, Breaks, GoesOn, IsStreamed, IsStuck, IsStuckOn, CantBeRead, IsTooLong, off, printed_off}
+use Rattle.run_effects.specs.Shares.{Stream, Wire, Outside, Comes}
+use Rattle.run_effects.specs.Ways.{Proceeds, Lacks, Breaks, GoesOn, IsStreamed, IsStuck, IsStuckOn, CantBeRead, IsTooLong, off, printed_off}
 
 -- some, which isn't none
 abbrev IsSome : Option Stream → Type 0
@@ -25,7 +25,7 @@ none_after events None None a b e h = e
 none_after events None (Some t) a b e h = absurd h
 none_after events (Some s) t a b e h = absurd (subst IsSome e tt)
 
-pub goes_none : (t u : Talk) (old new : Outside) → old.wire.stream ≡ None → Goes t u old new → new.wire.stream ≡ None
+pub goes_none : (t u : Talk) (old new : Outside) → old.wire.stream ≡ None → Proceeds t u old new → new.wire.stream ≡ None
 goes_none t u old new e g = none_after g.events old.wire.stream new.wire.stream old.wire.waiting new.wire.waiting e g.read.wire.comes
 
 pub lacks_after : (t : Talk) (old new : Outside) → old.wire.stream ≡ None → Lacks t old new → new.wire.stream ≡ None
@@ -33,7 +33,7 @@ lacks_after t old new e l =
     none_after (printed_off (off l.between)) l.mid.wire.stream new.wire.stream l.mid.wire.waiting new.wire.waiting (goes_none t l.between old l.mid e l.goes) l.read.wire.comes
 
 -- where a run stopped, or broke off
-pub stuck_queue : (t u : Talk) (old new : Outside) → old.wire.stream ≡ None → Goes t u old new → IsStuckOn u new.wire.stream new.wire.waiting → IsStuck u new.wire.waiting
+pub stuck_queue : (t u : Talk) (old new : Outside) → old.wire.stream ≡ None → Proceeds t u old new → IsStuckOn u new.wire.stream new.wire.waiting → IsStuck u new.wire.waiting
 stuck_queue t u old new e g h = subst (λ s. IsStuckOn u s new.wire.waiting) (goes_none t u old new e g) h
 
 follows_of : (t u : Talk) (events : List Event) (wire : Wire) → wire.stream ≡ None → GoesOn t events u wire → Follows t events u

@@ -4,14 +4,14 @@ use Rattle.plain_meaning.specs.Laws.{RepliesAreAwaited, ServedIsPlain}
 use Rattle.server_core.specs.Laws.{RequestsAreSerial}
 use Rattle.script_run.specs.declared.runs.Count.{Count}
 use Rattle.script_run.specs.declared.runs.Ran.{Ran}
-use Rattle.script_run.specs.Ends.{Lent, RunsScript}
+use Rattle.script_run.specs.Ends.{RunDevices, RunsScript}
 use Rattle.script_run.specs.RunOf.{IsRunOf}
 use Rattle.script_run.proofs.NoStray.{runs_whole}
 use Rattle.script_run.proofs.Plainly.{runs_plain}
 use Rattle.script_run.proofs.Serving.{runs_serially}
 use Rattle.script_run.proofs.Tapping.{runs_tap}
 
-pub run_of : (plain : ServedIsPlain) (awaited : RepliesAreAwaited) (law : RequestsAreSerial) (r : Ran) (count : Count) (bytes : List ℕ) (old new : Lent) → RunsScript r count bytes old new → IsRunOf r bytes old new
+pub run_of : (plain : ServedIsPlain) (awaited : RepliesAreAwaited) (law : RequestsAreSerial) (r : Ran) (count : Count) (bytes : List ℕ) (old new : RunDevices) → RunsScript r count bytes old new → IsRunOf r bytes old new
 run_of plain awaited law r count bytes old new h = record {
   count = count;
   content = h;

@@ -4,7 +4,7 @@ use Rattle.std.specs.Prelude.{flat_map, IfSome, Result}
 use Rattle.std.proofs.lemmas.Grind.{flat_map-append}
 use Rattle.ae_edge.specs.Devices.{WhereTold, Adds, AddsFront, IsFront}
 use Rattle.ae_edge.specs.Vaults.{KeyMap}
-use Rattle.ae_edge.proofs.Told.{told_then, adds_then_front, adds_front_then, front_of}
+use Rattle.ae_edge.proofs.Interface.{told_then, adds_then_front, adds_front_then, front_of}
 use Rattle.wire_messages.specs.Exchanges.{Exchange}
 use Rattle.wire_messages.specs.declared.replies.Reply.{Reply}
 use Rattle.wire_messages.specs.declared.requests.Request.{Request}
@@ -16,18 +16,18 @@ use Rattle.conversation.specs.Sessions.{nobody}
 use Rattle.conversation.specs.Talk.{Talk, Ends}
 use Rattle.script_lang.specs.declared.steps.Step.{Step}
 use Rattle.plain_meaning.specs.Steps.{talk}
-use Rattle.run_words.specs.Counting.{nothing, counted}
-use Rattle.run_words.specs.Shares.{Outside, Serves, frames_of, exchanges_of}
-use Rattle.run_words.specs.Ways.{Goes, Halts, Breaks, Fails}
-use Rattle.run_words.specs.declared.stops.Stop.{Stop}
-use Rattle.run_words.specs.declared.stops.Stop.TheVariants as stop
-use Rattle.run_words.specs.declared.tallies.Tally.{Tally}
-use Rattle.run_words.proofs.Counted.{requests_are}
+use Rattle.outcome_text.specs.Counting.{nothing, counted}
+use Rattle.run_effects.specs.Shares.{Outside, AreServed, frames_of, exchanges_of}
+use Rattle.run_effects.specs.Ways.{Proceeds, HaltsAt, Breaks, StopsBy}
+use Rattle.run_effects.specs.declared.stops.Stop.{Stop}
+use Rattle.run_effects.specs.declared.stops.Stop.TheVariants as stop
+use Rattle.outcome_text.specs.declared.tallies.Tally.{Tally}
+use Rattle.run_effects.proofs.Interface.{requests_are}
 use Rattle.script_run.specs.declared.runs.Count.{Count}
 use Rattle.script_run.specs.declared.runs.Ran.{Ran}
 use Rattle.script_run.specs.declared.runs.Ran.TheVariants as ran
 use Rattle.script_run.specs.declared.runs.Unread.TheVariants as unread
-use Rattle.script_run.specs.Ends.{Lent, outside, CameTo, RunsTo, IsScript, RunsSteps, RunsScript}
+use Rattle.script_run.specs.Ends.{RunDevices, outside, CameTo, RunsTo, IsScript, RunsSteps, RunsScript}
 use Rattle.script_run.specs.Transcript.{exchange_frames, exchanges, transcript, TapsWhole, TapsFront, TapsTranscript}
 use Rattle.script_run.specs.Transcript as transcripts
 use Rattle.script_run.proofs.Passing.{ahead, path_passes}
@@ -50,9 +50,9 @@ frames_front events more = record {
 }
 
 -- the state that is told, behind some events
-pub served_so : (events : List Event) (a b : Option State) (s : State) → a ≡ Some s → WhereTold (Serves events) a b → (v : State) × (b ≡ Some v) × Serves events s v
-served_so events a (Some v) s e h = (v, refl, subst (λ x. WhereTold (Serves events) x (Some v)) e h)
-served_so events a None s e h = let g : ⊥ = subst (λ x. WhereTold (Serves events) x None) e h in absurd g
+pub served_so : (events : List Event) (a b : Option State) (s : State) → a ≡ Some s → WhereTold (AreServed events) a b → (v : State) × (b ≡ Some v) × AreServed events s v
+served_so events a (Some v) s e h = (v, refl, subst (λ x. WhereTold (AreServed events) x (Some v)) e h)
+served_so events a None s e h = let g : ⊥ = subst (λ x. WhereTold (AreServed events) x None) e h in absurd g
 
 module _ (keys : KeyMap) (steps : List Step) where
   record Reached (u : Talk) (events : List Event) (now : Option State) (left : List Reply) : Type 0 where
@@ -61,12 +61,12 @@ module _ (keys : KeyMap) (steps : List Step) where
     taken : ℕ
     is : (more : List ℕ) → over serve keys (talk steps nobody) 0 (flat_map drawn_in events ++ more) empty_state [] ≡ ahead events (over serve keys u taken more state left)
 
-  module _ (u : Talk) (old new : Outside) (st : Starts keys old) (g : Goes (talk steps nobody) u old new) where
+  module _ (u : Talk) (old new : Outside) (st : Starts keys old) (g : Proceeds (talk steps nobody) u old new) where
     reached : Reached u g.events new.wire.state new.wire.waiting
     reached =
         let v = served_so g.events old.wire.state new.wire.state empty_state st.state g.put.wire.state in
         let q : Waits g.events [] new.wire.waiting = subst (λ q. Waits g.events q new.wire.waiting) st.waiting (waits_of g.events old.wire.stream new.wire.stream old.wire.waiting new.wire.waiting st.queue g.read.wire.comes) in
-        let o : OpensAll g.events keys = subst (λ x. IfSome x (OpensAll g.events)) st.keys g.put.desk.opened in
+        let o : OpensAll g.events keys = subst (λ x. IfSome x (OpensAll g.events)) st.keys g.put.client.opened in
         record {
           state = v.0;
           told = v.1;
@@ -85,7 +85,7 @@ module _ (keys : KeyMap) (steps : List Step) where
 
     -- with a request that is cut
     ask_front : (request : Request) (replies : List Reply) (v : Talk) (after : Option State) → Follows u (Asked request replies ∷ []) v
-        → WhereTold (Serves (Asked request replies ∷ [])) new.wire.state after → (more : List ℕ)
+        → WhereTold (AreServed (Asked request replies ∷ [])) new.wire.state after → (more : List ℕ)
         → IsFront (flat_map frames_of g.events ++ flat_map frames_of (Asked request replies ∷ [])) (transcript keys steps (flat_map drawn_in g.events ++ more))
     ask_front request replies v after f h more =
         let r = reached in
@@ -109,7 +109,7 @@ module _ (keys : KeyMap) (steps : List Step) where
     quiet : (more : List ℕ) → IsFront (flat_map frames_of g.events ++ []) (transcript keys steps (flat_map drawn_in g.events ++ more))
     quiet more = subst (λ xs. IsFront xs (transcript keys steps (flat_map drawn_in g.events ++ more))) (sym (append-nil (flat_map frames_of g.events))) (goes_front more)
 
-    last_front : (v : Talk) (last : List Event) (after : Option State) → length last ≤ 1 → Follows u last v → WhereTold (Serves last) new.wire.state after → (more : List ℕ)
+    last_front : (v : Talk) (last : List Event) (after : Option State) → length last ≤ 1 → Follows u last v → WhereTold (AreServed last) new.wire.state after → (more : List ℕ)
         → IsFront (flat_map frames_of g.events ++ flat_map frames_of last) (transcript keys steps (flat_map drawn_in g.events ++ more))
     last_front v [] after one f h more = quiet more
     last_front v (Asked request replies ∷ []) after one f h more = ask_front request replies v after f h more
@@ -127,36 +127,36 @@ module _ (keys : KeyMap) (steps : List Step) where
   -- ---- to its end, no further, or cut
 
   module _ (old new : Outside) (st : Starts keys old) where
-    done_exchanges : (sessions : List Session) (g : Goes (talk steps nobody) (Ends sessions) old new) → exchanges keys steps (flat_map drawn_in g.events) ≡ flat_map exchanges_of g.events
+    done_exchanges : (sessions : List Session) (g : Proceeds (talk steps nobody) (Ends sessions) old new) → exchanges keys steps (flat_map drawn_in g.events) ≡ flat_map exchanges_of g.events
     done_exchanges sessions g =
         let r = reached (Ends sessions) old new st g in
         let a : exchanges keys steps (flat_map drawn_in g.events ++ []) ≡ flat_map exchanges_of g.events ++ [] = ap (λ (x : Passed State). x.exchanges) (r.is []) in
         ap (exchanges keys steps) (sym (append-nil (flat_map drawn_in g.events))) ∙ a ∙ append-nil (flat_map exchanges_of g.events)
 
-    done_taps : (sessions : List Session) → Goes (talk steps nobody) (Ends sessions) old new → TapsWhole keys steps old.desk.entropy new.desk.entropy old.wire.tap new.wire.tap
+    done_taps : (sessions : List Session) → Proceeds (talk steps nobody) (Ends sessions) old new → TapsWhole keys steps old.client.entropy new.client.entropy old.wire.tap new.wire.tap
     done_taps sessions g = record {
       drawn = flat_map drawn_in g.events;
-      share = g.put.desk.entropy;
+      share = g.put.client.entropy;
       tap = subst (λ xs. Adds xs old.wire.tap new.wire.tap) (frames_are g.events ∙ sym (ap (flat_map exchange_frames) (done_exchanges sessions g))) g.put.wire.tap;
     }
 
-    done_asks : (sessions : List Session) → Goes (talk steps nobody) (Ends sessions) old new → old.desk.tally ≡ nothing
-        → (drawn : List ℕ) × transcripts.Drew drawn old.desk.entropy new.desk.entropy × (new.desk.tally.requests ≡ length (exchanges keys steps drawn))
+    done_asks : (sessions : List Session) → Proceeds (talk steps nobody) (Ends sessions) old new → old.client.tally ≡ nothing
+        → (drawn : List ℕ) × transcripts.Drew drawn old.client.entropy new.client.entropy × (new.client.tally.requests ≡ length (exchanges keys steps drawn))
     done_asks sessions g n = (
       flat_map drawn_in g.events,
-      g.put.desk.entropy,
+      g.put.client.entropy,
       ap (λ (t : Tally). t.requests) (g.read.tally ∙ ap (counted g.events) n) ∙ requests_are g.events ∙ ap length (sym (done_exchanges sessions g)),
     )
 
-    halts_taps : (P : Talk → Outside → Type 0) → Halts P (talk steps nobody) old new → TapsFront keys steps old.desk.entropy new.desk.entropy old.wire.tap new.wire.tap
-    halts_taps P h = record { drawn = flat_map drawn_in h.goes.events; share = h.goes.put.desk.entropy; tap = goes_taps h.rest old new st h.goes }
+    halts_taps : (P : Talk → Outside → Type 0) → HaltsAt P (talk steps nobody) old new → TapsFront keys steps old.client.entropy new.client.entropy old.wire.tap new.wire.tap
+    halts_taps P h = record { drawn = flat_map drawn_in h.goes.events; share = h.goes.put.client.entropy; tap = goes_taps h.rest old new st h.goes }
 
-    breaks_taps : Breaks (talk steps nobody) old new → TapsFront keys steps old.desk.entropy new.desk.entropy old.wire.tap new.wire.tap
+    breaks_taps : Breaks (talk steps nobody) old new → TapsFront keys steps old.client.entropy new.client.entropy old.wire.tap new.wire.tap
     breaks_taps b =
         let events = b.goes.events in
         record {
           drawn = flat_map drawn_in events ++ flat_map drawn_in b.last;
-          share = both_drew (flat_map drawn_in events) (flat_map drawn_in b.last) old.desk.entropy b.mid.desk.entropy new.desk.entropy b.goes.put.desk.entropy b.put.desk.entropy;
+          share = both_drew (flat_map drawn_in events) (flat_map drawn_in b.last) old.client.entropy b.mid.client.entropy new.client.entropy b.goes.put.client.entropy b.put.client.entropy;
           tap = λ more.
               let f = last_front b.between old b.mid st b.goes b.rest b.last new.wire.state b.one (breaks_follow (talk steps nobody) old new st.queue b) b.put.wire.state (flat_map drawn_in b.last ++ more) in
               adds_front_then (flat_map frames_of events ++ flat_map frames_of b.last) _ old.wire.tap new.wire.tap
@@ -164,7 +164,7 @@ module _ (keys : KeyMap) (steps : List Step) where
               (subst (λ d. IsFront (flat_map frames_of events ++ flat_map frames_of b.last) (transcript keys steps d)) (sym (append_assoc (flat_map drawn_in events) (flat_map drawn_in b.last) more)) f);
         }
 
-    fails_taps : (why : Stop) → Fails why (talk steps nobody) old new → TapsFront keys steps old.desk.entropy new.desk.entropy old.wire.tap new.wire.tap
+    fails_taps : (why : Stop) → StopsBy why (talk steps nobody) old new → TapsFront keys steps old.client.entropy new.client.entropy old.wire.tap new.wire.tap
     fails_taps (stop.BadReply place) h = halts_taps _ h
     fails_taps stop.ReadFault h = absurd (never_unread _ _ st.queue h.1)
     fails_taps stop.TooLong h = absurd (never_long _ _ (lacks_after (talk steps nobody) old new st.queue h.0) h.1)
@@ -175,7 +175,7 @@ module _ (keys : KeyMap) (steps : List Step) where
 
 -- ---- a run of a script
 
-module _ (keys : KeyMap) (steps : List Step) (old new : Lent) (state : old.state ≡ Some empty_state) (told : old.keys ≡ Some keys) where
+module _ (keys : KeyMap) (steps : List Step) (old new : RunDevices) (state : old.state ≡ Some empty_state) (told : old.keys ≡ Some keys) where
   starts : (ended : Result (Unit {0}) Stop) (tally : Tally) (c : CameTo ended tally steps old new) → Starts keys (outside c.out c.entropy c.vault c.wire nothing [] 0 old)
   starts ended tally c = record { state = state; keys = told; waiting = refl; queue = refl }
 
@@ -197,17 +197,17 @@ module _ (keys : KeyMap) (steps : List Step) (old new : Lent) (state : old.state
       (starts (Err why) tally c) why c.leads
   steps_tap (ran.Unread why) tally c = absurd c
 
-taps_so : (r : Ran) (count : Count) (keys : KeyMap) (bytes : List ℕ) (steps : List Step) (old new : Lent) → old.state ≡ Some empty_state → old.keys ≡ Some keys → IsScript bytes steps → RunsSteps r count bytes old new
+taps_so : (r : Ran) (count : Count) (keys : KeyMap) (bytes : List ℕ) (steps : List Step) (old new : RunDevices) → old.state ≡ Some empty_state → old.keys ≡ Some keys → IsScript bytes steps → RunsSteps r count bytes old new
     → TapsTranscript r keys steps old.entropy new.entropy old.tap new.tap
 taps_so r count keys bytes steps old new w k s h =
     subst (λ ss. TapsTranscript r keys ss old.entropy new.entropy old.tap new.tap) (one_script bytes steps h.steps s h.script) (steps_tap keys h.steps old new w k r count.tally h.runs)
 
-pub runs_tap : (r : Ran) (count : Count) (keys : KeyMap) (bytes : List ℕ) (steps : List Step) (old new : Lent) → old.state ≡ Some empty_state → old.keys ≡ Some keys → IsScript bytes steps → RunsScript r count bytes old new
+pub runs_tap : (r : Ran) (count : Count) (keys : KeyMap) (bytes : List ℕ) (steps : List Step) (old new : RunDevices) → old.state ≡ Some empty_state → old.keys ≡ Some keys → IsScript bytes steps → RunsScript r count bytes old new
     → TapsTranscript r keys steps old.entropy new.entropy old.tap new.tap
 runs_tap ran.Done count keys bytes steps old new w k s h = taps_so ran.Done count keys bytes steps old new w k s h
 runs_tap ran.Refusals count keys bytes steps old new w k s h = taps_so ran.Refusals count keys bytes steps old new w k s h
 runs_tap (ran.Stopped why) count keys bytes steps old new w k s h = taps_so (ran.Stopped why) count keys bytes steps old new w k s h
-runs_tap (ran.Unread unread.ReadFault) count keys bytes steps old new w k s h = ap (λ (x : Lent). x.tap) h
-runs_tap (ran.Unread unread.TooLong) count keys bytes steps old new w k s h = ap (λ (x : Lent). x.tap) h.1
-runs_tap (ran.Unread (unread.BadLine line)) count keys bytes steps old new w k s h = ap (λ (x : Lent). x.tap) h.2
-runs_tap (ran.Unread unread.OutOfMemory) count keys bytes steps old new w k s h = ap (λ (x : Lent). x.tap) h
+runs_tap (ran.Unread unread.ReadFault) count keys bytes steps old new w k s h = ap (λ (x : RunDevices). x.tap) h
+runs_tap (ran.Unread unread.TooLong) count keys bytes steps old new w k s h = ap (λ (x : RunDevices). x.tap) h.1
+runs_tap (ran.Unread (unread.BadLine line)) count keys bytes steps old new w k s h = ap (λ (x : RunDevices). x.tap) h.2
+runs_tap (ran.Unread unread.OutOfMemory) count keys bytes steps old new w k s h = ap (λ (x : RunDevices). x.tap) h

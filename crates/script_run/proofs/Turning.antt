@@ -17,10 +17,10 @@ use Rattle.conversation.specs.Pending.{uses_of}
 use Rattle.conversation.specs.Sessions.{begin, begun, described_params}
 use Rattle.conversation.specs.Talk.{Talk, Hears, Prints, Heard, Said, printing, nothing_shown}
 use Rattle.conversation.specs.Turns.{rested, over_on, pending_on, executing}
-use Rattle.run_words.specs.Shares.{Outside}
-use Rattle.run_words.specs.Ways.{Goes, Leads}
-use Rattle.run_words.specs.declared.stops.Stop.{Stop}
-use Rattle.run_words.proofs.Going.{leads_then}
+use Rattle.run_effects.specs.Shares.{Outside}
+use Rattle.run_effects.specs.Ways.{Proceeds, Advances}
+use Rattle.run_effects.specs.declared.stops.Stop.{Stop}
+use Rattle.run_effects.proofs.Interface.{leads_then}
 use Rattle.script_run.specs.declared.turns.Described.TheVariants as described
 use Rattle.script_run.specs.Heard.{is_skipping}
 use Rattle.script_run.specs.Onward.{IsBegun, IsRows, IsReady, PrintsThen}
@@ -28,11 +28,11 @@ use Rattle.script_run.specs.Onward.{IsBegun, IsRows, IsReady, PrintsThen}
 -- ---- rows, and what is left of an answer
 
 module _ (session after : Session) (shown : Listing) (comes : Option Outcome) (f : Heard → Talk) (k : Session → Talk) (then : PrintsThen f k) (x y : Outside)
-    (heard : (f : Heard → Talk) → Goes (Hears session shown f) (f (Said comes after)) x y) where
-  heard_so : Goes (Hears session shown f) (printing comes (k after)) x y
-  heard_so = subst (λ t. Goes (Hears session shown f) t x y) (then comes after) (heard f)
+    (heard : (f : Heard → Talk) → Proceeds (Hears session shown f) (f (Said comes after)) x y) where
+  heard_so : Proceeds (Hears session shown f) (printing comes (k after)) x y
+  heard_so = subst (λ t. Proceeds (Hears session shown f) t x y) (then comes after) (heard f)
 
-  pub heard_out : (result : Result (Unit {0}) Stop) (z : Outside) → ((t : Talk) → Leads result (printing comes t) (λ o. t) y z) → Leads result (Hears session shown f) (λ o. k after) x z
+  pub heard_out : (result : Result (Unit {0}) Stop) (z : Outside) → ((t : Talk) → Advances result (printing comes t) (λ o. t) y z) → Advances result (Hears session shown f) (λ o. k after) x z
   heard_out result z said = leads_then result _ _ (λ o. k after) _ _ _ heard_so (said (k after))
 
 -- over rows that are skipped
@@ -92,15 +92,15 @@ module _ (k : Session → Talk) (after : Session) (params : List DescribedParam)
   pending_ready : (ready : told.Pending → Talk) → pending_on ready k after ≡ ready r.0
   pending_ready ready = let e = r.1 in rw e refl
 
-  pub then_executed : (number : ℕ) → Goes t (pending_on (λ p. executing number (Pending p) k) k after) x y → Leads result (executing number after k) (λ o. on) y z → Leads result t (λ o. on) x z
+  pub then_executed : (number : ℕ) → Proceeds t (pending_on (λ p. executing number (Pending p) k) k after) x y → Advances result (executing number after k) (λ o. on) y z → Advances result t (λ o. on) x z
   then_executed number g h =
       leads_then result t (executing number after k) (λ o. on) x y z
-      (subst (λ w. Goes t w x y) (pending_ready (λ p. executing number (Pending p) k) ∙ ap (λ w. executing number w k) (sym r.1)) g) h
+      (subst (λ w. Proceeds t w x y) (pending_ready (λ p. executing number (Pending p) k) ∙ ap (λ w. executing number w k) (sym r.1)) g) h
 
-  pub then_told : Goes t (pending_on (λ p. Prints (outcome.Described (described_params p.keys (uses_of p))) (k (Pending p))) k after) x y
-      → Leads result (Prints (outcome.Described params) (k after)) (λ o. on) y z → Leads result t (λ o. on) x z
+  pub then_told : Proceeds t (pending_on (λ p. Prints (outcome.Described (described_params p.keys (uses_of p))) (k (Pending p))) k after) x y
+      → Advances result (Prints (outcome.Described params) (k after)) (λ o. on) y z → Advances result t (λ o. on) x z
   then_told g h =
       leads_then result t (Prints (outcome.Described params) (k after)) (λ o. on) x y z
-      (subst (λ w. Goes t w x y)
+      (subst (λ w. Proceeds t w x y)
       (pending_ready (λ p. Prints (outcome.Described (described_params p.keys (uses_of p))) (k (Pending p)))
       ∙ ap (λ w. Prints (outcome.Described w) (k (Pending r.0))) (sym r.2) ∙ ap (λ w. Prints (outcome.Described params) (k w)) (sym r.1)) g) h

@@ -2,12 +2,12 @@
 use Rattle.std.proofs.Common.{◌≡◌, ℕ, ◌+◌, ◌<◌, List, [], ◌∷◌, ◌++◌, Option, Some, None, true, false, length, suc, drop, refl, sym, ◌∙◌, ap, subst, append-nil, arith}
 use Rattle.std.specs.Prelude.{◌==◌, ◌↔◌, IsSome, slice_index_or, option_to_list}
 use Rattle.std.proofs.lemmas.Bool.{false≢true}
-use Rattle.ae_edge.proofs.Told.{told_same, adds_none}
+use Rattle.ae_edge.proofs.Interface.{told_same, adds_none}
 use Rattle.wire_messages.specs.declared.replies.Reply.{Reply}
 use Rattle.wire_spelling.specs.Spelling.{reply_frame}
 use Rattle.conversation.specs.Paths.{Took, next_of}
-use Rattle.run_words.specs.Shares.{Stream, Wire, Serves}
-use Rattle.run_words.specs.Ways.{IsFirstOf, IsFirst, IsLeft, IsWithin, TakesOne}
+use Rattle.run_effects.specs.Shares.{Stream, Wire, AreServed}
+use Rattle.run_effects.specs.Ways.{IsFirstOf, IsFirst, IsLeft, IsWithin, TakesOne}
 use Rattle.script_run.proofs.Queued.{queued}
 
 zero_not : (n m : ℕ) → n ≡ suc m → (n == 0) ≡ true → ⊥
@@ -47,7 +47,7 @@ pub takes_one : (reply : Reply) (old : Wire) (got : Option Reply) (left : List R
     → TakesOne reply old (record old { waiting = left; taken = taken })
 takes_one reply old got left taken q first e n l s t =
     let f = first_waits reply old.stream old.waiting q first in record {
-      put = record { names = refl; tap = adds_none old.tap; log = adds_none old.log; state = told_same (Serves (Took reply ∷ [])) (λ x. refl) old.state; count = omega arith };
+      put = record { names = refl; tap = adds_none old.tap; log = adds_none old.log; state = told_same (AreServed (Took reply ∷ [])) (λ x. refl) old.state; count = omega arith };
       read = record {
         comes = queued (Took reply ∷ []) old.stream old.waiting left q (f.0, f.1, popped reply f.0 old.waiting got left f.1 e (subst (λ k. IsSome got ↔ (0 < k)) l s));
         taken = t ∙ ap (λ w. old.taken + length w) (sym (append-nil (reply_frame reply)));

@@ -10,12 +10,12 @@ use Rattle.server_core.specs.Serve.{State}
 use Rattle.conversation.specs.declared.sessions.Session.{Session}
 use Rattle.conversation.specs.Sessions.{nobody}
 use Rattle.conversation.specs.Talk as talks
-use Rattle.run_words.specs.Counting.{nothing, has_errors}
-use Rattle.run_words.specs.Shares.{Outside}
-use Rattle.run_words.specs.Ways.{Leads}
-use Rattle.run_words.specs.declared.stops.Stop.{Stop}
-use Rattle.run_words.specs.declared.stops.Stop.TheVariants as stop
-use Rattle.run_words.specs.declared.tallies.Tally.{Tally}
+use Rattle.outcome_text.specs.Counting.{nothing, has_errors}
+use Rattle.run_effects.specs.Shares.{Outside}
+use Rattle.run_effects.specs.Ways.{Advances}
+use Rattle.run_effects.specs.declared.stops.Stop.{Stop}
+use Rattle.run_effects.specs.declared.stops.Stop.TheVariants as stop
+use Rattle.outcome_text.specs.declared.tallies.Tally.{Tally}
 use Rattle.script_lang.specs.declared.steps.Step.{Step}
 use Rattle.script_lang.specs.Limits.{IsProperStep, IsWithinLimits}
 use Rattle.script_lang.specs.Script.{steps_of}
@@ -24,10 +24,11 @@ use Rattle.script_run.specs.declared.runs.Count.{Count}
 use Rattle.script_run.specs.declared.runs.Ran.{Ran}
 use Rattle.script_run.specs.declared.runs.Ran.TheVariants as ran
 use Rattle.script_run.specs.declared.runs.Unread.TheVariants as unread
+pub use Rattle.ae_base.specs.Limits.{most_script_bytes}
 
 -- what is told of all that a run is lent: text and tap, the random bytes to come, the keys, what the peer was asked and answered and the
 -- state that it serves by, and the counts of faults
-pub record Lent : Type 0 where
+pub record RunDevices : Type 0 where
   pub out : Option (List ℕ)
   pub tap : Option (List ℕ)
   pub entropy : Option (List ℕ)
@@ -41,9 +42,9 @@ pub record Lent : Type 0 where
 
 -- with the names of what is lent, and what a run keeps for itself: what it counted, the replies that wait, and how many bytes those
 -- have that were taken
-abbrev pub outside : List GName → List GName → List GName → List (List GName) → Tally → List Reply → ℕ → Lent → Outside
+abbrev pub outside : List GName → List GName → List GName → List (List GName) → Tally → List Reply → ℕ → RunDevices → Outside
 outside out_names entropy_names vault_names wire_names tally waiting taken l = record {
-  desk = record {
+  client = record {
     out_names = out_names;
     entropy_names = entropy_names;
     vault_names = vault_names;
@@ -59,7 +60,7 @@ outside out_names entropy_names vault_names wire_names tally waiting taken l = r
 }
 
 -- from 64 idle sessions the script's conversation was followed to its end, with no reply left, or stopped; so much was counted
-pub record CameTo (ended : Result (Unit {0}) Stop) (tally : Tally) (steps : List Step) (old new : Lent) : Type 0 where
+pub record CameTo (ended : Result (Unit {0}) Stop) (tally : Tally) (steps : List Step) (old new : RunDevices) : Type 0 where
   pub sessions : List Session
   pub waiting : List Reply
   pub taken : ℕ
@@ -71,11 +72,11 @@ pub record CameTo (ended : Result (Unit {0}) Stop) (tally : Tally) (steps : List
   pub entropy_after : List GName
   pub vault_after : List GName
   pub wire_after : List (List GName)
-  pub leads : Leads ended (talk steps nobody) (λ o. talks.Ends sessions) (outside out entropy vault wire nothing [] 0 old) (outside out_after entropy_after vault_after wire_after tally waiting taken new)
+  pub leads : Advances ended (talk steps nobody) (λ o. talks.Ends sessions) (outside out entropy vault wire nothing [] 0 old) (outside out_after entropy_after vault_after wire_after tally waiting taken new)
   pub read : IfOk ended (λ o. waiting ≡ [])
 
 -- what a run of these steps leaves, by how it ended and what it counted
-abbrev pub RunsTo : Ran → Tally → List Step → Lent → Lent → Type 0
+abbrev pub RunsTo : Ran → Tally → List Step → RunDevices → RunDevices → Type 0
 RunsTo ran.Done tally steps old new = CameTo (Ok tt) tally steps old new × (has_errors tally ≡ false)
 RunsTo ran.Refusals tally steps old new = CameTo (Ok tt) tally steps old new × (has_errors tally ≡ true)
 RunsTo (ran.Stopped stop) tally steps old new = CameTo (Err stop) tally steps old new
@@ -83,17 +84,13 @@ RunsTo (ran.Unread why) tally steps old new = ⊥
 
 -- ---- scripts
 
--- a script has at most 16,777,216 bytes
-abbrev pub most_script_bytes : ℕ
-most_script_bytes = 16777216
-
 -- the bytes are a script of these steps
 pub record IsScript (bytes : List ℕ) (steps : List Step) : Type 0 where
   pub within : length bytes ≤ most_script_bytes
   pub read : steps_of bytes ≡ Ok steps
 
 -- each step is of one of the sessions, with few parameters, whose names differ and whose values are proper
-pub record RunsSteps (r : Ran) (count : Count) (bytes : List ℕ) (old new : Lent) : Type 0 where
+pub record RunsSteps (r : Ran) (count : Count) (bytes : List ℕ) (old new : RunDevices) : Type 0 where
   pub steps : List Step
   pub script : IsScript bytes steps
   pub limits : All IsWithinLimits steps
@@ -103,7 +100,7 @@ pub record RunsSteps (r : Ran) (count : Count) (bytes : List ℕ) (old new : Len
 
 -- what a run of a script's bytes leaves, by how it ended and what it counted; a script that is refused or can't be read leaves everything as
 -- it was
-abbrev pub RunsScript : Ran → Count → List ℕ → Lent → Lent → Type 0
+abbrev pub RunsScript : Ran → Count → List ℕ → RunDevices → RunDevices → Type 0
 RunsScript ran.Done count bytes old new = RunsSteps ran.Done count bytes old new
 RunsScript ran.Refusals count bytes old new = RunsSteps ran.Refusals count bytes old new
 RunsScript (ran.Stopped stop) count bytes old new = RunsSteps (ran.Stopped stop) count bytes old new

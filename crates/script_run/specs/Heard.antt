@@ -9,10 +9,10 @@ use Rattle.conversation.specs.declared.outcomes.Outcome.TheVariants as outcome
 use Rattle.conversation.specs.declared.sessions.Session.{Session}
 use Rattle.conversation.specs.declared.sessions.Session.TheVariants.{Idle, Begun, Pending, Sent, Reading, Skipping}
 use Rattle.conversation.specs.Talk.{Hearing, More, Got, Said}
-use Rattle.run_words.specs.declared.stops.Stop.{Stop}
-use Rattle.run_words.specs.declared.stops.Stop.TheVariants as stop
-use Rattle.script_run.specs.declared.lines.Lack.{Lack}
-use Rattle.script_run.specs.declared.lines.Lack.TheVariants as lack
+use Rattle.run_effects.specs.declared.stops.Stop.{Stop}
+use Rattle.run_effects.specs.declared.stops.Stop.TheVariants as stop
+use Rattle.script_run.specs.declared.connection.ReplyFault.{ReplyFault}
+use Rattle.script_run.specs.declared.connection.ReplyFault.TheVariants as fault
 use Rattle.script_run.specs.declared.around.First.{First}
 use Rattle.script_run.specs.declared.around.First.TheVariants as first
 use Rattle.script_run.specs.declared.around.RowHeard.{RowHeard}
@@ -20,19 +20,11 @@ use Rattle.script_run.specs.declared.around.RowHeard.TheVariants as row
 
 abbrev pub is_reading : Session → Bool
 is_reading (Reading columns keys count) = true
-is_reading Idle = false
-is_reading (Begun batch) = false
-is_reading (Pending pending) = false
-is_reading Sent = false
-is_reading (Skipping columns count) = false
+is_reading other = false
 
 abbrev pub is_skipping : Session → Bool
 is_skipping (Skipping columns count) = true
-is_skipping (Reading columns keys count) = false
-is_skipping Idle = false
-is_skipping (Begun batch) = false
-is_skipping (Pending pending) = false
-is_skipping Sent = false
+is_skipping other = false
 
 -- why a call that halts stops the run
 abbrev pub stop_of : Halt → Stop
@@ -42,23 +34,19 @@ stop_of halt.OutOfMemory = stop.OutOfMemory
 stop_of halt.BadReply = stop.OutOfMemory
 
 -- why the run stops where the replies aren't as they are awaited, at this place
-abbrev pub stop_at : Lack → ℕ → Stop
-stop_at lack.BadReply place = stop.BadReply place
-stop_at lack.ReadFault place = stop.ReadFault
-stop_at lack.TooLong place = stop.TooLong
-stop_at lack.OutOfMemory place = stop.OutOfMemory
+abbrev pub stop_at : ReplyFault → ℕ → Stop
+stop_at fault.BadReply place = stop.BadReply place
+stop_at fault.ReadFault place = stop.ReadFault
+stop_at fault.TooLong place = stop.TooLong
+stop_at fault.OutOfMemory place = stop.OutOfMemory
 
 -- an answer to the first reply to an execution
 abbrev pub IsOfFirst : ReplyAnswer → Type 0
-IsOfFirst (answer.Header titles) = Unit {0}
-IsOfFirst (answer.Failed f) = Unit {0}
-IsOfFirst (answer.Changed count) = Unit {0}
-IsOfFirst answer.Defined = Unit {0}
-IsOfFirst (answer.Refused f) = Unit {0}
 IsOfFirst (answer.Row values) = ⊥
 IsOfFirst (answer.Rows count) = ⊥
 IsOfFirst answer.Skipped = ⊥
 IsOfFirst answer.Over = ⊥
+IsOfFirst other = Unit {0}
 
 abbrev pub FirstIs : First → ReplyAnswer → Type 0
 FirstIs x (answer.Header titles) = x ≡ first.Shows titles
@@ -66,10 +54,7 @@ FirstIs x (answer.Failed f) = x ≡ first.Skips f
 FirstIs x (answer.Changed count) = x ≡ first.Says (outcome.Changed count)
 FirstIs x answer.Defined = x ≡ first.Says outcome.Defined
 FirstIs x (answer.Refused f) = x ≡ first.Says (outcome.Refused f)
-FirstIs x (answer.Row values) = ⊥
-FirstIs x (answer.Rows count) = ⊥
-FirstIs x answer.Skipped = ⊥
-FirstIs x answer.Over = ⊥
+FirstIs x other = ⊥
 
 -- what was made of a hearing
 abbrev pub HeardAs : RowHeard → Listing → Session → Hearing → Type 0

@@ -1,12 +1,13 @@
 pub mod Breaking
-pub mod Desks
+pub mod ClientSides
 pub mod Ends
 pub mod Frames
 pub mod Heard
-pub mod Lines
+pub mod Connections
 pub mod Onward
 pub mod Plain
 pub mod RunOf
 pub mod Serially
 pub mod Statuses
 pub mod Transcript
+pub mod SummaryOf

@@ -1,5 +1,6 @@
 -- How a conversation goes on behind what was heard, and what is known of the session after it.
-use Rattle.std.specs.Prelude.{◌≡◌, [], Option}
+use Rattle.std.specs.Prelude.{◌≡◌, ℕ, [], Option}
+use Rattle.ae_edge.specs.Vaults.{KeyMap}
 use Rattle.conversation.specs.declared.answers.DescribeAnswer.{DescribeAnswer}
 use Rattle.conversation.specs.declared.answers.DescribeAnswer.TheVariants as describe_answer
 use Rattle.conversation.specs.declared.outcomes.Listing.{Listing}
@@ -12,6 +13,8 @@ use Rattle.conversation.specs.Pending.{uses_of}
 use Rattle.conversation.specs.Sessions.{described_params}
 use Rattle.conversation.specs.Talk.{Talk, Hears, Prints, Heard, Said, printing, described_outcome}
 use Rattle.conversation.specs.Turns.{rested, rows_on, pending_on}
+use Rattle.driver.specs.Calls.{IsOnlyAt}
+use Rattle.driver.specs.Clients.{Client, IsOfVault}
 use Rattle.script_run.specs.declared.around.First.{First}
 use Rattle.script_run.specs.declared.around.First.TheVariants as first
 use Rattle.script_run.specs.declared.around.RowHeard.{RowHeard}
@@ -22,20 +25,13 @@ use Rattle.script_run.specs.declared.turns.Described.TheVariants as described
 -- a description is awaited
 abbrev pub IsBegun : Session → Type 0
 IsBegun (Begun batch) = Unit {0}
-IsBegun Idle = ⊥
-IsBegun (Pending pending) = ⊥
-IsBegun Sent = ⊥
-IsBegun (Reading columns keys count) = ⊥
-IsBegun (Skipping columns count) = ⊥
+IsBegun other = ⊥
 
 -- rows are awaited
 abbrev pub IsRows : Session → Type 0
 IsRows (Reading columns keys count) = Unit {0}
 IsRows (Skipping columns count) = Unit {0}
-IsRows Idle = ⊥
-IsRows (Begun batch) = ⊥
-IsRows (Pending pending) = ⊥
-IsRows Sent = ⊥
+IsRows other = ⊥
 
 -- a described batch is pending, and its parameters are told; or nothing is
 abbrev pub IsDescribed : DescribeAnswer → Session → Type 0
@@ -77,3 +73,8 @@ ready_on ready k after described.Refused = k after
 abbrev pub IsReady : Session → Described → Type 0
 IsReady after (described.Ready params) = (p : told.Pending) × (after ≡ Pending p) × (params ≡ described_params p.keys (uses_of p))
 IsReady after described.Refused = Unit {0}
+
+-- a turn of one session leaves those of all other numbers; what the driver keeps is of the vault's keys
+pub record Leaves (number : ℕ) (old new : Client) (keys : Option KeyMap) : Type 0 where
+  pub others : IsOnlyAt number old.sessions new.sessions
+  pub of_vault : IsOfVault keys new

@@ -7,8 +7,8 @@ use Rattle.conversation.specs.Sessions.{nobody}
 use Rattle.conversation.specs.declared.outcomes.Outcome.{Outcome}
 use Rattle.script_lang.specs.declared.steps.Step.{Step}
 use Rattle.plain_meaning.specs.Reference.{reference}
-use Rattle.run_words.specs.Printing.{print, has_refusal}
-use Rattle.run_words.specs.declared.stops.Stop.TheVariants as stop
+use Rattle.outcome_text.specs.Printing.{print, has_refusal}
+use Rattle.run_effects.specs.declared.stops.Stop.TheVariants as stop
 use Rattle.script_run.specs.declared.runs.Ran.{Ran}
 use Rattle.script_run.specs.declared.runs.Ran.TheVariants as ran
 use Rattle.script_run.specs.declared.runs.Unread.TheVariants as unread

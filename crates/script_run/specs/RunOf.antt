@@ -5,17 +5,17 @@ use Rattle.server_core.specs.Serve.{empty_state}
 use Rattle.script_lang.specs.declared.steps.Step.{Step}
 use Rattle.script_run.specs.declared.runs.Count.{Count}
 use Rattle.script_run.specs.declared.runs.Ran.{Ran}
-use Rattle.script_run.specs.Ends.{Lent, IsScript, RunsScript}
+use Rattle.script_run.specs.Ends.{RunDevices, IsScript, RunsScript}
 use Rattle.script_run.specs.Plain.{PrintsPlain, IsDoneOrFault}
 use Rattle.script_run.specs.Serially.{IsServedSerially}
 use Rattle.script_run.specs.Transcript.{TapsTranscript}
 
 -- over a peer that serves from the empty state P holds of the steps by which the bytes are a script
-abbrev pub WhereServed : Lent → List ℕ → (List Step → Type 0) → Type 0
+abbrev pub WhereServed : RunDevices → List ℕ → (List Step → Type 0) → Type 0
 WhereServed old bytes P = old.state ≡ Some empty_state → (steps : List Step) → IsScript bytes steps → P steps
 
 -- and of the keys, where they are told
-abbrev pub WhereOpened : Lent → List ℕ → (KeyMap → List Step → Type 0) → Type 0
+abbrev pub WhereOpened : RunDevices → List ℕ → (KeyMap → List Step → Type 0) → Type 0
 WhereOpened old bytes P = WhereServed old bytes (λ steps. (keys : KeyMap) → old.keys ≡ Some keys → P keys steps)
 
 -- Over any peer: how far the conversation was followed, what was counted, what each device has of it, and why it was followed no further. Over one that serves
@@ -23,7 +23,7 @@ WhereOpened old bytes P = WhereServed old bytes (λ steps. (keys : KeyMap) → o
 -- and transactions take effect one after another, each whole at its COMMIT; and with keys that are told, the text is plain SQL's over the
 -- same values, whatever columns are protected, and the tap has the frames of the conversation over that server, with the cells sealed under
 -- the random bytes that were drawn.
-pub record IsRunOf (r : Ran) (bytes : List ℕ) (old new : Lent) : Type 0 where
+pub record IsRunOf (r : Ran) (bytes : List ℕ) (old new : RunDevices) : Type 0 where
   pub count : Count
   pub content : RunsScript r count bytes old new
   pub complete : WhereServed old bytes (λ steps. IsDoneOrFault r)

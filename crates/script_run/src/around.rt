@@ -1,18 +1,16 @@
 //! All that a turn touches, in one trait.
 
-ghost use Rattle.std.specs.Prelude.{◌≡◌, ◌<◌, ◌^◌, ℕ, List, Result, IfOk};
-ghost use Rattle.ae_edge.specs.Vaults.{KeyMap};
-ghost use Rattle.key_store.specs.Stores.{IsOf};
-ghost use Rattle.key_store.specs.declared.origins.Origin.{Origin};
+ghost use Rattle.std.specs.Prelude.{◌≡◌, ◌<◌, ◌^◌, List, Result, IfOk};
 ghost use Rattle.wire_messages.specs.declared.requests.Request.{Request};
 ghost use Rattle.conversation.specs.declared.faults.DriverFault.{DriverFault};
 ghost use Rattle.conversation.specs.declared.sessions.Session.{Session};
-ghost use Rattle.conversation.specs.declared.sessions.Session.TheVariants as session_of;
+ghost use Rattle.conversation.specs.declared.sessions.Session.TheVariants.{Sent};
 ghost use Rattle.conversation.specs.Talk.{Talk, Ends, Asks, Hears, Prints, Heard, nothing_shown};
 ghost use Rattle.conversation.specs.Turns as turns;
-ghost use Rattle.run_words.specs.Shares.{Outside};
-ghost use Rattle.run_words.specs.Ways.{IsReadOut, Leads};
-ghost use Rattle.script_run.specs.Onward.{IsBegun, IsRows, IsDescribed, RowsStay, shown_first, told_on, first_on, row_on};
+ghost use Rattle.driver.specs.Clients.{IsOfVault, session_of};
+ghost use Rattle.run_effects.specs.Shares.{Outside};
+ghost use Rattle.run_effects.specs.Ways.{IsReadOut, Advances};
+ghost use Rattle.script_run.specs.Onward.{IsBegun, IsRows, IsDescribed, Leaves, RowsStay, shown_first, told_on, first_on, row_on};
 
 use ae_base::lists::Seq;
 use ae_base::names::Title;
@@ -20,8 +18,8 @@ use ae_base::sessions::SessionId;
 use conversation::answers::DescribeAnswer;
 use conversation::faults::DriverFault;
 use conversation::outcomes::{Listing, Outcome};
-use conversation::sessions::Session;
-use run_words::stops::Stop;
+use driver::Driver;
+use run_effects::stops::Stop;
 use std::alloc::Global;
 use wire_messages::requests::Request;
 
@@ -49,69 +47,94 @@ pub enum RowHeard {
 pub trait Around {
     ghost outside: { Self → Outside };
 
-    /// The keys that the driver keeps.
-    ghost kept: { Self → List (Origin × List ℕ) };
-
     /// Asks a request.
     fn ask(&mut self, alloc: Global, request: &Request<'_>) -> Result<(), Stop>
-        requires { IsOf (outside self.old).desk.keys (kept self.old) }
-        ensures leads { (t : Talk) → Leads result (Asks request.now t) (λ _. t) (outside self.old) (outside self.new) }
-        ensures of_vault { IfOk result (λ _. IsOf (outside self.new).desk.keys (kept self.new)) };
+        ensures leads { (t : Talk) → Advances result (Asks request.now t) (λ _. t)
+            (outside self.old) (outside self.new) }
+        ensures keys { IfOk result
+            (λ _. (outside self.new).client.keys ≡ (outside self.old).client.keys) };
 
     /// Looks whether any reply is left. None may be.
     fn finish(&mut self, alloc: Global) -> Result<(), Stop>
-        ensures leads { (sessions : List Session) → Leads result (Ends sessions) (λ _. Ends sessions) (outside self.old) (outside self.new) }
-        ensures read { IfOk result (λ _. IsReadOut (outside self.new).wire.stream (outside self.new).wire.waiting) };
+        ensures leads { (sessions : List Session) → Advances result (Ends sessions)
+            (λ _. Ends sessions) (outside self.old) (outside self.new) }
+        ensures read { IfOk result
+            (λ _. IsReadOut (outside self.new).wire.stream (outside self.new).wire.waiting) };
 
     /// Prints an outcome.
     fn print(&mut self, alloc: Global, outcome: &Outcome) -> Result<(), Stop>
-        requires { IsOf (outside self.old).desk.keys (kept self.old) }
-        ensures leads { (t : Talk) → Leads result (Prints outcome.now t) (λ _. t) (outside self.old) (outside self.new) }
-        ensures of_vault { IfOk result (λ _. IsOf (outside self.new).desk.keys (kept self.new)) };
+        ensures leads { (t : Talk) → Advances result (Prints outcome.now t) (λ _. t)
+            (outside self.old) (outside self.new) }
+        ensures keys { IfOk result
+            (λ _. (outside self.new).client.keys ≡ (outside self.old).client.keys) };
 
     /// Executes what is pending: the request.
     fn execute<'r>(
         &mut self,
         alloc: Global,
-        session: &mut Session,
+        driver: &mut Driver,
         number: SessionId,
     ) -> Result<Result<Request<'r>, DriverFault>, Stop>
-        requires { IsOf (outside self.old).desk.keys (kept self.old) }
-        ensures leads { (k : Result Request DriverFault → Session → Talk) → Leads result (turns.execute number session.old k) (λ answer. k answer session.new) (outside self.old) (outside self.new) }
-        ensures sent { IfOk result (λ answer. IfOk answer (λ request. session.new ≡ session_of.Sent)) }
-        ensures of_vault { IfOk result (λ _. IsOf (outside self.new).desk.keys (kept self.new)) };
+        requires { IsOfVault (outside self.old).client.keys driver.old }
+        ensures leads { (k : Result Request DriverFault → Session → Talk) → Advances result
+            (turns.execute number (session_of driver.old number) k)
+            (λ answer. k answer (session_of driver.new number)) (outside self.old)
+            (outside self.new) }
+        ensures sent { IfOk result
+            (λ answer. IfOk answer (λ request. session_of driver.new number ≡ Sent)) }
+        ensures leaves { IfOk result
+            (λ _. Leaves number driver.old driver.new (outside self.new).client.keys) };
 
     /// Hears the description of a batch.
     fn hear_description(
         &mut self,
         alloc: Global,
-        session: &mut Session,
+        driver: &mut Driver,
+        number: SessionId,
     ) -> Result<DescribeAnswer, Stop>
-        requires begun { IsBegun session.old }
-        requires of_vault { IsOf (outside self.old).desk.keys (kept self.old) }
-        ensures leads { (f : Heard → Talk) → Leads result (Hears session.old nothing_shown f) (told_on f session.new) (outside self.old) (outside self.new) }
-        ensures described { IfOk result (λ answer. IsDescribed answer session.new) }
-        ensures of_vault { IfOk result (λ _. IsOf (outside self.new).desk.keys (kept self.new)) };
+        requires begun { IsBegun (session_of driver.old number) }
+        requires of_vault { IsOfVault (outside self.old).client.keys driver.old }
+        ensures leads { (f : Heard → Talk) → Advances result
+            (Hears (session_of driver.old number) nothing_shown f)
+            (told_on f (session_of driver.new number)) (outside self.old) (outside self.new) }
+        ensures described { IfOk result
+            (λ answer. IsDescribed answer (session_of driver.new number)) }
+        ensures leaves { IfOk result
+            (λ _. Leaves number driver.old driver.new (outside self.new).client.keys) };
 
     /// Hears the first reply to an execution.
-    fn hear_answer(&mut self, alloc: Global, session: &mut Session) -> Result<First, Stop>
-        requires sent { session.old ≡ session_of.Sent }
-        requires of_vault { IsOf (outside self.old).desk.keys (kept self.old) }
-        ensures leads { (k : Session → Talk) → Leads result (Hears session.old nothing_shown (turns.answered_on k)) (first_on k session.new) (outside self.old) (outside self.new) }
-        ensures rows { IfOk result (shown_first session.new) }
-        ensures of_vault { IfOk result (λ _. IsOf (outside self.new).desk.keys (kept self.new)) };
+    fn hear_answer(
+        &mut self,
+        alloc: Global,
+        driver: &mut Driver,
+        number: SessionId,
+    ) -> Result<First, Stop>
+        requires sent { session_of driver.old number ≡ Sent }
+        requires of_vault { IsOfVault (outside self.old).client.keys driver.old }
+        ensures leads { (k : Session → Talk) → Advances result
+            (Hears (session_of driver.old number) nothing_shown (turns.answered_on k))
+            (first_on k (session_of driver.new number)) (outside self.old) (outside self.new) }
+        ensures rows { IfOk result (shown_first (session_of driver.new number)) }
+        ensures leaves { IfOk result
+            (λ _. Leaves number driver.old driver.new (outside self.new).client.keys) };
 
     /// Hears one more reply where rows are awaited. A listing that breaks off is printed.
     fn hear_row(
         &mut self,
         alloc: Global,
-        session: &mut Session,
+        driver: &mut Driver,
+        number: SessionId,
         shown: &mut Listing,
     ) -> Result<RowHeard, Stop>
-        requires rows { IsRows session.old }
-        requires of_vault { IsOf (outside self.old).desk.keys (kept self.old) }
-        ensures leads { (f : Heard → Talk) → Leads result (Hears session.old shown.old f) (row_on f session.new shown.new) (outside self.old) (outside self.new) }
-        ensures rows { IfOk result (RowsStay session.new) }
-        ensures more { IfOk result (λ _. ((outside self.old).wire.taken < (outside self.new).wire.taken) × ((outside self.new).wire.taken < 2 ^ 64)) }
-        ensures of_vault { IfOk result (λ _. IsOf (outside self.new).desk.keys (kept self.new)) };
+        requires rows { IsRows (session_of driver.old number) }
+        requires of_vault { IsOfVault (outside self.old).client.keys driver.old }
+        ensures leads { (f : Heard → Talk) → Advances result
+            (Hears (session_of driver.old number) shown.old f)
+            (row_on f (session_of driver.new number) shown.new) (outside self.old)
+            (outside self.new) }
+        ensures rows { IfOk result (RowsStay (session_of driver.new number)) }
+        ensures more { IfOk result
+            (λ _. ((outside self.old).wire.taken < (outside self.new).wire.taken) × ((outside self.new).wire.taken < 2 ^ 64)) }
+        ensures leaves { IfOk result
+            (λ _. Leaves number driver.old driver.new (outside self.new).client.keys) };
 }

@@ -1,23 +1,24 @@
 //! All that a run touches.
 
-ghost use Rattle.std.specs.Prelude.{◌≡◌, IfOk, MatchResult, string_bytes};
-ghost use Rattle.key_store.specs.Stores.{IsOf};
+ghost use Rattle.std.specs.Prelude.{◌≡◌, Option, IfOk, MatchResult, string_bytes};
+ghost use Rattle.ae_edge.specs.Vaults.{KeyMap};
 ghost use Rattle.conversation.specs.declared.sessions.Session.{Session};
 ghost use Rattle.conversation.specs.Sessions.{Tells};
 ghost use Rattle.conversation.specs.Talk.{Talk, Hears, Heard, heard_answer, nothing_shown};
-ghost use Rattle.run_words.specs.declared.stops.Stop.TheVariants as stop_is;
+ghost use Rattle.run_effects.specs.declared.stops.Stop.TheVariants as stop_is;
+ghost use Rattle.driver.specs.Clients.{IsOfVault, session_of};
 ghost use Rattle.script_run.specs.Frames.{PutsBytes};
-ghost use Rattle.run_words.specs.Shares.{Outside, Desk};
-ghost use Rattle.run_words.specs.Ways.{Leads};
+ghost use Rattle.run_effects.specs.Shares.{Outside, ClientSide};
+ghost use Rattle.run_effects.specs.Ways.{Advances};
 ghost use Rattle.script_run.specs.Breaking.{BreaksOff, is_shown, shown_if};
 ghost use Rattle.script_run.specs.Heard.{HeardAs, stop_at};
-ghost use Rattle.script_run.specs.Onward.{IsBegun, IsDescribed, IsRows, told_on};
-ghost use Rattle.script_run.specs.Desks.{desk};
+ghost use Rattle.script_run.specs.Onward.{IsBegun, IsDescribed, IsRows, Leaves, told_on};
+ghost use Rattle.script_run.specs.ClientSides.{client};
 
 use crate::around::{Around, First, RowHeard};
-use crate::calls::{described_by, execute_in, replied_by};
+use crate::calls::{described, replied};
+use crate::connection::{Connection, Front, ReplyFault, Sent};
 use crate::hearing::{first_of, is_reading, is_shown, row_heard, stop_at, stop_of};
-use crate::lines::{Front, Lack, Line, Sent};
 use ae_base::sessions::SessionId;
 use ae_edge::entropies::Entropy;
 use ae_edge::sinks::Sink;
@@ -26,52 +27,61 @@ use ae_edge::vaults::Vault;
 use conversation::answers::{DescribeAnswer, ReplyAnswer};
 use conversation::faults::{DriverFault, Halt};
 use conversation::outcomes::{Listing, Outcome};
-use conversation::sessions::Session;
-use key_store::KeyStore;
-use run_words::stops::Stop;
-use run_words::tallies::{Page, Tally};
+use driver::Driver;
+use outcome_text::tallies::{Page, Tally};
+use run_effects::stops::Stop;
 use std::alloc::Global;
 use wire_messages::requests::Request;
 
 /// Puts a text.
 fn put_text<W: Sink>(out: &mut W, text: String) -> PutAll
-    ensures puts { PutsBytes result (string_bytes text) (W.held out.old) (W.held out.new) (W.faults out.old) (W.faults out.new) }
+    ensures puts { PutsBytes result (string_bytes text) (W.held out.old) (W.held out.new)
+        (W.faults out.old) (W.faults out.new) }
     ensures same { W.names out.new ≡ W.names out.old }
 {
     put_all(out, text.as_bytes())
 }
 
 /// Hears the description of a batch, which touches the wire alone.
-fn hear_described<L: Line>(
+fn hear_described<L: Connection>(
     alloc: Global,
-    line: &mut L,
-    session: &mut Session,
+    connection: &mut L,
+    driver: &mut Driver,
+    number: SessionId,
 ) -> Result<DescribeAnswer, Stop>
-    requires { IsBegun session.old }
-    ensures leads { (f : Heard → Talk) (desk : Desk) → Leads result (Hears session.old nothing_shown f) (told_on f session.new) (record { desk = desk; wire = L.wire line.old }) (record { desk = desk; wire = L.wire line.new }) }
-    ensures described { IfOk result (λ answer. IsDescribed answer session.new) }
+    requires { IsBegun (session_of driver.old number) }
+    ensures leads { (f : Heard → Talk) (client : ClientSide) → Advances result
+        (Hears (session_of driver.old number) nothing_shown f)
+        (told_on f (session_of driver.new number))
+        (record { client = client; wire = L.wire connection.old })
+        (record { client = client; wire = L.wire connection.new }) }
+    ensures described { IfOk result (λ answer. IsDescribed answer (session_of driver.new number)) }
+    ensures leaves { (keys : Option KeyMap) → IsOfVault keys driver.old → IfOk result
+        (λ _. Leaves number driver.old driver.new keys) }
 {
-    match line.fetch(alloc) {
+    match connection.fetch(alloc) {
         Ok(()) => {}
-        Err(lack) => return Err(stop_at(lack, line.place())),
+        Err(fault) => return Err(stop_at(fault, connection.place())),
     }
-    let Front { reply, behind } = match line.front(alloc) {
+    let Front { reply, behind } = match connection.front(alloc) {
         Ok(front) => front,
         Err(_) => return Err(Stop::OutOfMemory),
     };
-    match described_by(alloc, session, reply) {
+    match described(alloc, driver, number, reply) {
         Ok(answer) => {
-            line.take(behind);
+            connection.take(behind);
             Ok(answer)
         }
-        Err(Halt::BadReply) => Err(Stop::BadReply(line.place())),
+        Err(Halt::BadReply) => Err(Stop::BadReply(connection.place())),
         Err(_) => Err(Stop::OutOfMemory),
     }
 }
 
 /// What a reply says while rows are awaited, or there is no memory for it.
 fn row_or_stop(alloc: Global, answer: ReplyAnswer, shown: &mut Listing) -> Result<RowHeard, Stop>
-    ensures { (after : Session) → MatchResult result (λ h. HeardAs h shown.new after (heard_answer shown.old (Tells answer after))) (λ stop. stop ≡ stop_is.OutOfMemory) }
+    ensures { (after : Session) → MatchResult result
+        (λ h. HeardAs h shown.new after (heard_answer shown.old (Tells answer after)))
+        (λ stop. stop ≡ stop_is.OutOfMemory) }
 {
     match row_heard(alloc, answer, shown) {
         Ok(heard) => Ok(heard),
@@ -81,19 +91,18 @@ fn row_or_stop(alloc: Global, answer: ReplyAnswer, shown: &mut Listing) -> Resul
 
 /// All that a run touches.
 #[derive(Drop)]
-pub struct Env<'a, W: Sink, E: Entropy, V: Vault, L: Line> {
+pub struct Env<W: Sink, E: Entropy, V: Vault, L: Connection> {
     pub out: W,
     pub entropy: E,
     pub vault: V,
     /// What was counted.
     pub tally: Tally,
-    pub line: L,
-    pub store: &'a mut KeyStore,
+    pub connection: L,
 }
 
-impl<W: Sink, E: Entropy, V: Vault, L: Line> Around for Env<'_, W, E, V, L> {
+impl<W: Sink, E: Entropy, V: Vault, L: Connection> Around for Env<W, E, V, L> {
     ghost outside = { λ e. record {
-      desk = record {
+      client = record {
         out_names = W.names e.out;
         entropy_names = E.names e.entropy;
         vault_names = V.names e.vault;
@@ -105,17 +114,15 @@ impl<W: Sink, E: Entropy, V: Vault, L: Line> Around for Env<'_, W, E, V, L> {
         entropy_faults = E.faults e.entropy;
         vault_faults = V.faults e.vault;
       };
-      wire = L.wire e.line;
+      wire = L.wire e.connection;
     } };
-
-    ghost kept = { λ e. e.store.now };
 
     fn ask(&mut self, alloc: Global, request: &Request<'_>) -> Result<(), Stop> {
         let tally = match self.tally.asked() {
             Ok(tally) => tally,
             Err(_) => return Err(Stop::OutOfMemory),
         };
-        match self.line.ask(alloc, request) {
+        match self.connection.ask(alloc, request) {
             Sent::Whole => {
                 self.tally = tally;
                 Ok(())
@@ -126,9 +133,9 @@ impl<W: Sink, E: Entropy, V: Vault, L: Line> Around for Env<'_, W, E, V, L> {
     }
 
     fn finish(&mut self, alloc: Global) -> Result<(), Stop> {
-        match self.line.finish(alloc) {
+        match self.connection.finish(alloc) {
             Ok(()) => Ok(()),
-            Err(lack) => Err(stop_at(lack, self.line.place())),
+            Err(fault) => Err(stop_at(fault, self.connection.place())),
         }
     }
 
@@ -150,17 +157,10 @@ impl<W: Sink, E: Entropy, V: Vault, L: Line> Around for Env<'_, W, E, V, L> {
     fn execute<'r>(
         &mut self,
         alloc: Global,
-        session: &mut Session,
+        driver: &mut Driver,
         number: SessionId,
     ) -> Result<Result<Request<'r>, DriverFault>, Stop> {
-        match execute_in(
-            alloc,
-            self.store,
-            &mut self.vault,
-            &mut self.entropy,
-            session,
-            number,
-        ) {
+        match driver.execute(alloc, number, &mut self.vault, &mut self.entropy) {
             Ok(answer) => Ok(answer),
             Err(halt) => Err(stop_of(halt)),
         }
@@ -169,28 +169,34 @@ impl<W: Sink, E: Entropy, V: Vault, L: Line> Around for Env<'_, W, E, V, L> {
     fn hear_description(
         &mut self,
         alloc: Global,
-        session: &mut Session,
+        driver: &mut Driver,
+        number: SessionId,
     ) -> Result<DescribeAnswer, Stop> {
-        hear_described(alloc, &mut self.line, session)
+        hear_described(alloc, &mut self.connection, driver, number)
     }
 
-    fn hear_answer(&mut self, alloc: Global, session: &mut Session) -> Result<First, Stop> {
-        match self.line.fetch(alloc) {
+    fn hear_answer(
+        &mut self,
+        alloc: Global,
+        driver: &mut Driver,
+        number: SessionId,
+    ) -> Result<First, Stop> {
+        match self.connection.fetch(alloc) {
             Ok(()) => {}
-            Err(lack) => return Err(stop_at(lack, self.line.place())),
+            Err(fault) => return Err(stop_at(fault, self.connection.place())),
         }
-        let Front { reply, behind } = match self.line.front(alloc) {
+        let Front { reply, behind } = match self.connection.front(alloc) {
             Ok(front) => front,
             Err(_) => return Err(Stop::OutOfMemory),
         };
-        match replied_by(alloc, self.store, &mut self.vault, session, reply) {
+        match replied(alloc, driver, number, &mut self.vault, reply) {
             Ok(answer) => {
-                self.line.take(behind);
+                self.connection.take(behind);
                 Ok(first_of(answer))
             }
-            Err(Halt::BadReply) => Err(Stop::BadReply(self.line.place())),
+            Err(Halt::BadReply) => Err(Stop::BadReply(self.connection.place())),
             Err(halt) => {
-                self.line.take(behind);
+                self.connection.take(behind);
                 Err(stop_of(halt))
             }
         }
@@ -199,39 +205,40 @@ impl<W: Sink, E: Entropy, V: Vault, L: Line> Around for Env<'_, W, E, V, L> {
     fn hear_row(
         &mut self,
         alloc: Global,
-        session: &mut Session,
+        driver: &mut Driver,
+        number: SessionId,
         shown: &mut Listing,
     ) -> Result<RowHeard, Stop> {
-        let reads = is_reading(session);
-        match self.line.fetch(alloc) {
+        let reads = is_reading(driver.session(number));
+        match self.connection.fetch(alloc) {
             Ok(()) => {}
-            Err(lack) => return Err(self.break_off(alloc, lack, reads, shown)),
+            Err(fault) => return Err(self.break_off(alloc, fault, reads, shown)),
         }
-        let Front { reply, behind } = match self.line.front(alloc) {
+        let Front { reply, behind } = match self.connection.front(alloc) {
             Ok(front) => front,
             Err(_) => return Err(Stop::OutOfMemory),
         };
-        match replied_by(alloc, self.store, &mut self.vault, session, reply) {
+        match replied(alloc, driver, number, &mut self.vault, reply) {
             Ok(answer) => {
-                self.line.take(behind);
+                self.connection.take(behind);
                 row_or_stop(alloc, answer, shown)
             }
-            Err(Halt::BadReply) => Err(self.break_off(alloc, Lack::BadReply, reads, shown)),
+            Err(Halt::BadReply) => Err(self.break_off(alloc, ReplyFault::BadReply, reads, shown)),
             Err(_) => Err(Stop::OutOfMemory),
         }
     }
 }
 
-impl<W: Sink, E: Entropy, V: Vault, L: Line> Env<'_, W, E, V, L> {
+impl<W: Sink, E: Entropy, V: Vault, L: Connection> Env<W, E, V, L> {
     /// Puts what an answer came to before it broke off, and says why it did.
-    fn break_off(&mut self, alloc: Global, lack: Lack, reads: bool, shown: &Listing) -> Stop
-        ensures off { BreaksOff result (stop_at lack (L.wire self.old.line).taken) (shown_if (is_shown lack reads) shown.now)
-            (desk (W.names self.old.out) (E.names self.old.entropy) (V.names self.old.vault) (W.held self.old.out) (E.to_come self.old.entropy) (V.keys self.old.vault) self.old.tally (W.faults self.old.out) (E.faults self.old.entropy) (V.faults self.old.vault))
-            (desk (W.names self.new.out) (E.names self.new.entropy) (V.names self.new.vault) (W.held self.new.out) (E.to_come self.new.entropy) (V.keys self.new.vault) self.new.tally (W.faults self.new.out) (E.faults self.new.entropy) (V.faults self.new.vault)) }
-        ensures wire { L.wire self.new.line ≡ L.wire self.old.line }
+    fn break_off(&mut self, alloc: Global, fault: ReplyFault, reads: bool, shown: &Listing) -> Stop
+        ensures off { BreaksOff result (stop_at fault (L.wire self.old.connection).taken) (shown_if (is_shown fault reads) shown.now)
+            (client (W.names self.old.out) (E.names self.old.entropy) (V.names self.old.vault) (W.held self.old.out) (E.to_come self.old.entropy) (V.keys self.old.vault) self.old.tally (W.faults self.old.out) (E.faults self.old.entropy) (V.faults self.old.vault))
+            (client (W.names self.new.out) (E.names self.new.entropy) (V.names self.new.vault) (W.held self.new.out) (E.to_come self.new.entropy) (V.keys self.new.vault) self.new.tally (W.faults self.new.out) (E.faults self.new.entropy) (V.faults self.new.vault)) }
+        ensures wire { L.wire self.new.connection ≡ L.wire self.old.connection }
     {
-        let why = stop_at(lack, self.line.place());
-        if !is_shown(lack, reads) {
+        let why = stop_at(fault, self.connection.place());
+        if !is_shown(fault, reads) {
             return why;
         }
         let Page { text, tally } = match self.tally.page_of_listing(alloc, shown) {

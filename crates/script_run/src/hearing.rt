@@ -10,13 +10,13 @@ ghost use Rattle.script_run.specs.Breaking.{is_shown};
 ghost use Rattle.script_run.specs.Heard.{IsOfFirst, FirstIs, HeardAs, is_reading, is_skipping, stop_at, stop_of};
 
 use crate::around::{First, RowHeard};
-use crate::lines::Lack;
+use crate::connection::ReplyFault;
 use ae_base::lists::Seq;
 use conversation::answers::ReplyAnswer;
 use conversation::faults::Halt;
 use conversation::outcomes::{Listing, Outcome};
 use conversation::sessions::Session;
-use run_words::stops::Stop;
+use run_effects::stops::Stop;
 use std::alloc::{AllocError, Global};
 use std::mem;
 
@@ -60,24 +60,24 @@ pub fn stop_of(halt: Halt) -> Stop
 }
 
 /// Why a run stops where the replies aren't as they are awaited, at this place.
-pub fn stop_at(lack: Lack, place: u64) -> Stop
-    ensures { result ≡ stop_at lack place }
+pub fn stop_at(fault: ReplyFault, place: u64) -> Stop
+    ensures { result ≡ stop_at fault place }
 {
-    match lack {
-        Lack::BadReply => Stop::BadReply(place),
-        Lack::ReadFault => Stop::ReadFault,
-        Lack::TooLong => Stop::TooLong,
-        Lack::OutOfMemory => Stop::OutOfMemory,
+    match fault {
+        ReplyFault::BadReply => Stop::BadReply(place),
+        ReplyFault::ReadFault => Stop::ReadFault,
+        ReplyFault::TooLong => Stop::TooLong,
+        ReplyFault::OutOfMemory => Stop::OutOfMemory,
     }
 }
 
 /// Whether the rows that are read are shown where an answer breaks off.
-pub fn is_shown(lack: Lack, reads: bool) -> bool
-    ensures { result ≡ is_shown lack reads }
+pub fn is_shown(fault: ReplyFault, reads: bool) -> bool
+    ensures { result ≡ is_shown fault reads }
 {
-    match lack {
-        Lack::BadReply | Lack::ReadFault | Lack::TooLong => reads,
-        Lack::OutOfMemory => false,
+    match fault {
+        ReplyFault::BadReply | ReplyFault::ReadFault | ReplyFault::TooLong => reads,
+        ReplyFault::OutOfMemory => false,
     }
 }
 

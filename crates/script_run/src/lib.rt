@@ -4,12 +4,14 @@
 
 pub mod around;
 mod calls;
+pub mod commands;
+pub mod connection;
 pub mod env;
 mod hearing;
-pub mod lines;
-pub mod peer_lines;
-pub mod programs;
+mod nowhere;
+pub mod peer_connection;
 pub mod runs;
 pub mod status;
 pub mod steps;
+pub mod summaries;
 mod turns;

@@ -1,22 +1,21 @@
 //! A script's steps, run over devices that are lent.
 
 ghost use Rattle.std.specs.Prelude.{◌≡◌, ◌∷◌, [], IfOk, length};
-ghost use Rattle.key_store.specs.Stores.{IsOf};
 ghost use Rattle.conversation.specs.Talk.{Ends};
-ghost use Rattle.run_words.specs.Ways.{Leads};
+ghost use Rattle.driver.specs.Clients.{IsOfVault};
+ghost use Rattle.run_effects.specs.Ways.{Advances};
 ghost use Rattle.script_run.specs.Ends.{RunsTo, outside};
 ghost use Rattle.plain_meaning.specs.Steps.{talk};
 
 use crate::env::Env;
-use crate::peer_lines::{PeerLine, Waiting};
-use crate::steps::{nobody, run_all};
+use crate::peer_connection::{PeerConnection, Waiting};
+use crate::steps::run_all;
 use ae_edge::entropies::Entropy;
 use ae_edge::sinks::Sink;
 use ae_edge::vaults::Vault;
-use conversation::sessions::Session;
-use key_store::KeyStore;
-use run_words::stops::Stop;
-use run_words::tallies::Tally;
+use driver::Driver;
+use outcome_text::tallies::Tally;
+use run_effects::stops::Stop;
 use script_lang::steps::Step;
 use server_core::peers::Peer;
 use std::alloc::Global;
@@ -65,27 +64,26 @@ pub struct Run {
 /// The same devices are lent after it.
 fn run_lent<W: Sink, T: Sink, E: Entropy, V: Vault, P: Peer>(
     alloc: Global,
-    env: &mut Env<'_, &mut W, &mut E, &mut V, PeerLine<'_, &mut T, &mut P>>,
-    sessions: &mut Vec<Session>,
+    env: &mut Env<&mut W, &mut E, &mut V, PeerConnection<'_, &mut T, &mut P>>,
+    driver: &mut Driver,
     steps: &[Step],
 ) -> Result<(), Stop>
-    requires count { length sessions.old.items ≡ 64 }
-    requires of_vault { IsOf (V.keys env.old.vault.now) (env.old.store.now) }
+    requires { IsOfVault (V.keys env.old.vault.now) driver.old }
     ensures same_out { env.new.out.ghost_name ≡ env.old.out.ghost_name }
     ensures same_entropy { env.new.entropy.ghost_name ≡ env.old.entropy.ghost_name }
     ensures same_vault { env.new.vault.ghost_name ≡ env.old.vault.ghost_name }
-    ensures same_tap { env.new.line.tap.ghost_name ≡ env.old.line.tap.ghost_name }
-    ensures same_peer { env.new.line.peer.ghost_name ≡ env.old.line.peer.ghost_name }
-    ensures read { IfOk result (λ _. env.new.line.waiting.now.replies.items ≡ []) }
-    ensures leads { Leads result (talk steps.now sessions.old.items) (λ _. Ends sessions.new.items)
-        (outside (env.old.out.ghost_name ∷ []) (env.old.entropy.ghost_name ∷ []) (env.old.vault.ghost_name ∷ []) ((env.old.line.tap.ghost_name ∷ []) ∷ (env.old.line.peer.ghost_name ∷ []) ∷ [])
-        env.old.tally env.old.line.waiting.now.replies.items env.old.line.taken
-        (record { out = W.held env.old.out.now; tap = T.held env.old.line.tap.now; entropy = E.to_come env.old.entropy.now; keys = V.keys env.old.vault.now; log = P.log env.old.line.peer.now; state = P.state env.old.line.peer.now; out_faults = W.faults env.old.out.now; tap_faults = T.faults env.old.line.tap.now; entropy_faults = E.faults env.old.entropy.now; vault_faults = V.faults env.old.vault.now }))
-        (outside (env.new.out.ghost_name ∷ []) (env.new.entropy.ghost_name ∷ []) (env.new.vault.ghost_name ∷ []) ((env.new.line.tap.ghost_name ∷ []) ∷ (env.new.line.peer.ghost_name ∷ []) ∷ [])
-        env.new.tally env.new.line.waiting.now.replies.items env.new.line.taken
-        (record { out = W.held env.new.out.now; tap = T.held env.new.line.tap.now; entropy = E.to_come env.new.entropy.now; keys = V.keys env.new.vault.now; log = P.log env.new.line.peer.now; state = P.state env.new.line.peer.now; out_faults = W.faults env.new.out.now; tap_faults = T.faults env.new.line.tap.now; entropy_faults = E.faults env.new.entropy.now; vault_faults = V.faults env.new.vault.now })) }
+    ensures same_tap { env.new.connection.tap.ghost_name ≡ env.old.connection.tap.ghost_name }
+    ensures same_peer { env.new.connection.peer.ghost_name ≡ env.old.connection.peer.ghost_name }
+    ensures read { IfOk result (λ _. env.new.connection.waiting.now.replies.items ≡ []) }
+    ensures leads { Advances result (talk steps.now driver.old.sessions) (λ _. Ends driver.new.sessions)
+        (outside (env.old.out.ghost_name ∷ []) (env.old.entropy.ghost_name ∷ []) (env.old.vault.ghost_name ∷ []) ((env.old.connection.tap.ghost_name ∷ []) ∷ (env.old.connection.peer.ghost_name ∷ []) ∷ [])
+        env.old.tally env.old.connection.waiting.now.replies.items env.old.connection.taken
+        (record { out = W.held env.old.out.now; tap = T.held env.old.connection.tap.now; entropy = E.to_come env.old.entropy.now; keys = V.keys env.old.vault.now; log = P.log env.old.connection.peer.now; state = P.state env.old.connection.peer.now; out_faults = W.faults env.old.out.now; tap_faults = T.faults env.old.connection.tap.now; entropy_faults = E.faults env.old.entropy.now; vault_faults = V.faults env.old.vault.now }))
+        (outside (env.new.out.ghost_name ∷ []) (env.new.entropy.ghost_name ∷ []) (env.new.vault.ghost_name ∷ []) ((env.new.connection.tap.ghost_name ∷ []) ∷ (env.new.connection.peer.ghost_name ∷ []) ∷ [])
+        env.new.tally env.new.connection.waiting.now.replies.items env.new.connection.taken
+        (record { out = W.held env.new.out.now; tap = T.held env.new.connection.tap.now; entropy = E.to_come env.new.entropy.now; keys = V.keys env.new.vault.now; log = P.log env.new.connection.peer.now; state = P.state env.new.connection.peer.now; out_faults = W.faults env.new.out.now; tap_faults = T.faults env.new.connection.tap.now; entropy_faults = E.faults env.new.entropy.now; vault_faults = V.faults env.new.vault.now })) }
 {
-    run_all(alloc, env, sessions, steps)
+    run_all(alloc, env, driver, steps)
 }
 
 /// Runs the steps of a script over a peer: the text goes to `out`, and every frame to `tap` in the
@@ -112,12 +110,8 @@ pub fn run_over<W: Sink, T: Sink, E: Entropy, V: Vault, P: Peer>(
         ran: Ran::Stopped(Stop::OutOfMemory),
         count,
     };
-    let mut sessions = match nobody(alloc) {
-        Ok(sessions) => sessions,
-        Err(_) => return unstarted,
-    };
-    let mut store = match KeyStore::new(alloc) {
-        Ok(store) => store,
+    let mut driver = match Driver::new(alloc) {
+        Ok(driver) => driver,
         Err(_) => return unstarted,
     };
     let mut waiting = Waiting {
@@ -128,15 +122,14 @@ pub fn run_over<W: Sink, T: Sink, E: Entropy, V: Vault, P: Peer>(
         entropy,
         vault,
         tally: count.tally,
-        line: PeerLine {
+        connection: PeerConnection {
             tap,
             peer,
             waiting: &mut waiting,
             taken: 0,
         },
-        store: &mut store,
     };
-    let ended = run_lent(alloc, &mut env, &mut sessions, steps);
+    let ended = run_lent(alloc, &mut env, &mut driver, steps);
     count.tally = env.tally;
     let ran = match ended {
         Ok(()) if count.tally.has_errors() => Ran::Refusals,

@@ -1,9 +1,11 @@
+//! How a command ended, as a status and a line on standard error.
+
 ghost use Rattle.std.specs.Prelude.{◌≡◌};
 ghost use Rattle.script_run.specs.Statuses.{number_of};
 
 use crate::runs::{Ran, Unread};
 use ae_base::texts::Txt;
-use run_words::stops::Stop;
+use run_effects::stops::Stop;
 use std::fmt;
 
 /// How a command ended.

@@ -2,18 +2,17 @@
 
 ghost use Rattle.std.specs.Prelude.{◌≡◌, ◌≤◌, List, Option, [], IfOk, length};
 ghost use Rattle.ae_base.specs.declared.faults.SqlFault.{SqlFault};
-ghost use Rattle.key_store.specs.Stores.{IsOf};
 ghost use Rattle.conversation.specs.Pending as told;
 ghost use Rattle.conversation.specs.Talk.{Talk, Asks, Hears, Prints, Heard, Said, printing, nothing_shown};
 ghost use Rattle.conversation.specs.Turns as turns;
 ghost use Rattle.conversation.specs.declared.outcomes.Outcome.TheVariants as outcome_of;
 ghost use Rattle.conversation.specs.declared.sessions.Session.{Session};
-ghost use Rattle.conversation.specs.declared.sessions.Session.TheVariants as session_of;
-ghost use Rattle.run_words.specs.Ways.{Leads};
-ghost use Rattle.script_run.specs.Onward.{IsBegun, IsRows, IsReady, PrintsThen, ready_on};
+ghost use Rattle.conversation.specs.declared.sessions.Session.TheVariants.{Sent};
+ghost use Rattle.driver.specs.Clients.{IsOfVault, session_of};
+ghost use Rattle.run_effects.specs.Ways.{Advances};
+ghost use Rattle.script_run.specs.Onward.{IsBegun, IsRows, IsReady, Leaves, PrintsThen, ready_on};
 
 use crate::around::{Around, First, RowHeard};
-use crate::calls::begin_in;
 use crate::hearing::is_skipping;
 use ae_base::batches::Batch;
 use ae_base::faults::SqlFault;
@@ -22,8 +21,8 @@ use ae_base::sessions::SessionId;
 use conversation::answers::DescribeAnswer;
 use conversation::faults::DriverFault;
 use conversation::outcomes::{DescribedParam, Listing, Outcome};
-use conversation::sessions::Session;
-use run_words::stops::Stop;
+use driver::Driver;
+use run_effects::stops::Stop;
 use std::alloc::Global;
 use wire_messages::requests::Request;
 
@@ -37,27 +36,30 @@ pub enum Described {
 
 /// Prints an outcome.
 fn print<A: Around>(alloc: Global, env: &mut A, outcome: Outcome) -> Result<(), Stop>
-    requires { IsOf (A.outside env.old).desk.keys (A.kept env.old) }
-    ensures leads { (t : Talk) → Leads result (Prints outcome t) (λ _. t) (A.outside env.old) (A.outside env.new) }
-    ensures of_vault { IfOk result (λ _. IsOf (A.outside env.new).desk.keys (A.kept env.new)) }
+    ensures leads { (t : Talk) → Advances result (Prints outcome t) (λ _. t) (A.outside env.old)
+        (A.outside env.new) }
+    ensures keys { IfOk result
+        (λ _. (A.outside env.new).client.keys ≡ (A.outside env.old).client.keys) }
 {
     env.print(alloc, &outcome)
 }
 
 /// Prints a fault of the driver.
 fn print_fault<A: Around>(alloc: Global, env: &mut A, fault: DriverFault) -> Result<(), Stop>
-    requires { IsOf (A.outside env.old).desk.keys (A.kept env.old) }
-    ensures leads { (t : Talk) → Leads result (Prints (outcome_of.Failed fault) t) (λ _. t) (A.outside env.old) (A.outside env.new) }
-    ensures of_vault { IfOk result (λ _. IsOf (A.outside env.new).desk.keys (A.kept env.new)) }
+    ensures leads { (t : Talk) → Advances result (Prints (outcome_of.Failed fault) t) (λ _. t)
+        (A.outside env.old) (A.outside env.new) }
+    ensures keys { IfOk result
+        (λ _. (A.outside env.new).client.keys ≡ (A.outside env.old).client.keys) }
 {
     print(alloc, env, Outcome::Failed(fault))
 }
 
 /// Prints an outcome, where there is one.
 fn say<A: Around>(alloc: Global, env: &mut A, outcome: Option<Outcome>) -> Result<(), Stop>
-    requires { IsOf (A.outside env.old).desk.keys (A.kept env.old) }
-    ensures leads { (t : Talk) → Leads result (printing outcome t) (λ _. t) (A.outside env.old) (A.outside env.new) }
-    ensures of_vault { IfOk result (λ _. IsOf (A.outside env.new).desk.keys (A.kept env.new)) }
+    ensures leads { (t : Talk) → Advances result (printing outcome t) (λ _. t) (A.outside env.old)
+        (A.outside env.new) }
+    ensures keys { IfOk result
+        (λ _. (A.outside env.new).client.keys ≡ (A.outside env.old).client.keys) }
 {
     match outcome {
         Some(outcome) => print(alloc, env, outcome),
@@ -69,16 +71,21 @@ fn say<A: Around>(alloc: Global, env: &mut A, outcome: Option<Outcome>) -> Resul
 fn hear_rows<A: Around>(
     alloc: Global,
     env: &mut A,
-    session: &mut Session,
+    driver: &mut Driver,
+    number: SessionId,
     shown: &mut Listing,
 ) -> Result<Option<Outcome>, Stop>
-    requires rows { IsRows session.old }
-    requires of_vault { IsOf (A.outside env.old).desk.keys (A.kept env.old) }
-    ensures leads { (f : Heard → Talk) → Leads result (Hears session.old shown.old f) (λ comes. f (Said comes session.new)) (A.outside env.old) (A.outside env.new) }
-    ensures of_vault { IfOk result (λ _. IsOf (A.outside env.new).desk.keys (A.kept env.new)) }
+    requires rows { IsRows (session_of driver.old number) }
+    requires of_vault { IsOfVault (A.outside env.old).client.keys driver.old }
+    ensures leads { (f : Heard → Talk) → Advances result
+        (Hears (session_of driver.old number) shown.old f)
+        (λ comes. f (Said comes (session_of driver.new number))) (A.outside env.old)
+        (A.outside env.new) }
+    ensures leaves { IfOk result
+        (λ _. Leaves number driver.old driver.new (A.outside env.new).client.keys) }
 {
     'replies: loop {
-        match env.hear_row(alloc, session, shown) {
+        match env.hear_row(alloc, driver, number, shown) {
             Ok(RowHeard::More) => {}
             Ok(RowHeard::Said(outcome)) => return Ok(outcome),
             Err(stop) => return Err(stop),
@@ -90,16 +97,20 @@ fn hear_rows<A: Around>(
 fn hear_out<A: Around>(
     alloc: Global,
     env: &mut A,
-    session: &mut Session,
+    driver: &mut Driver,
+    number: SessionId,
     shown: Listing,
 ) -> Result<(), Stop>
-    requires rows { IsRows session.old }
-    requires of_vault { IsOf (A.outside env.old).desk.keys (A.kept env.old) }
-    ensures leads { (f : Heard → Talk) (k : Session → Talk) → PrintsThen f k → Leads result (Hears session.old shown f) (λ _. k session.new) (A.outside env.old) (A.outside env.new) }
-    ensures of_vault { IfOk result (λ _. IsOf (A.outside env.new).desk.keys (A.kept env.new)) }
+    requires rows { IsRows (session_of driver.old number) }
+    requires of_vault { IsOfVault (A.outside env.old).client.keys driver.old }
+    ensures leads { (f : Heard → Talk) (k : Session → Talk) → PrintsThen f k → Advances result
+        (Hears (session_of driver.old number) shown f) (λ _. k (session_of driver.new number))
+        (A.outside env.old) (A.outside env.new) }
+    ensures leaves { IfOk result
+        (λ _. Leaves number driver.old driver.new (A.outside env.new).client.keys) }
 {
     let mut shown = shown;
-    match hear_rows(alloc, env, session, &mut shown) {
+    match hear_rows(alloc, env, driver, number, &mut shown) {
         Ok(outcome) => say(alloc, env, outcome),
         Err(stop) => Err(stop),
     }
@@ -115,31 +126,43 @@ fn nothing_shown(alloc: Global) -> Listing
 }
 
 /// Hears to its end what is left of an answer that is no longer read.
-fn rest<A: Around>(alloc: Global, env: &mut A, session: &mut Session) -> Result<(), Stop>
-    requires { IsOf (A.outside env.old).desk.keys (A.kept env.old) }
-    ensures leads { (k : Session → Talk) → Leads result (turns.rested k session.old) (λ _. k session.new) (A.outside env.old) (A.outside env.new) }
-    ensures of_vault { IfOk result (λ _. IsOf (A.outside env.new).desk.keys (A.kept env.new)) }
+fn rest<A: Around>(
+    alloc: Global,
+    env: &mut A,
+    driver: &mut Driver,
+    number: SessionId,
+) -> Result<(), Stop>
+    requires { IsOfVault (A.outside env.old).client.keys driver.old }
+    ensures leads { (k : Session → Talk) → Advances result
+        (turns.rested k (session_of driver.old number)) (λ _. k (session_of driver.new number))
+        (A.outside env.old) (A.outside env.new) }
+    ensures leaves { IfOk result
+        (λ _. Leaves number driver.old driver.new (A.outside env.new).client.keys) }
 {
-    if !is_skipping(session) {
+    if !is_skipping(driver.session(number)) {
         return Ok(());
     }
-    hear_out(alloc, env, session, nothing_shown(alloc))
+    hear_out(alloc, env, driver, number, nothing_shown(alloc))
 }
 
 /// Hears the rows of an answer, and what is left of it.
 fn read<A: Around>(
     alloc: Global,
     env: &mut A,
-    session: &mut Session,
+    driver: &mut Driver,
+    number: SessionId,
     shown: Listing,
 ) -> Result<(), Stop>
-    requires rows { IsRows session.old }
-    requires of_vault { IsOf (A.outside env.old).desk.keys (A.kept env.old) }
-    ensures leads { (k : Session → Talk) → Leads result (Hears session.old shown (turns.rows_on k)) (λ _. k session.new) (A.outside env.old) (A.outside env.new) }
-    ensures of_vault { IfOk result (λ _. IsOf (A.outside env.new).desk.keys (A.kept env.new)) }
+    requires rows { IsRows (session_of driver.old number) }
+    requires of_vault { IsOfVault (A.outside env.old).client.keys driver.old }
+    ensures leads { (k : Session → Talk) → Advances result
+        (Hears (session_of driver.old number) shown (turns.rows_on k))
+        (λ _. k (session_of driver.new number)) (A.outside env.old) (A.outside env.new) }
+    ensures leaves { IfOk result
+        (λ _. Leaves number driver.old driver.new (A.outside env.new).client.keys) }
 {
-    match hear_out(alloc, env, session, shown) {
-        Ok(()) => rest(alloc, env, session),
+    match hear_out(alloc, env, driver, number, shown) {
+        Ok(()) => rest(alloc, env, driver, number),
         Err(stop) => Err(stop),
     }
 }
@@ -148,32 +171,44 @@ fn read<A: Around>(
 fn print_and_rest<A: Around>(
     alloc: Global,
     env: &mut A,
-    session: &mut Session,
+    driver: &mut Driver,
+    number: SessionId,
     fault: DriverFault,
 ) -> Result<(), Stop>
-    requires { IsOf (A.outside env.old).desk.keys (A.kept env.old) }
-    ensures leads { (k : Session → Talk) → Leads result (Prints (outcome_of.Failed fault) (turns.rested k session.old)) (λ _. k session.new) (A.outside env.old) (A.outside env.new) }
-    ensures of_vault { IfOk result (λ _. IsOf (A.outside env.new).desk.keys (A.kept env.new)) }
+    requires { IsOfVault (A.outside env.old).client.keys driver.old }
+    ensures leads { (k : Session → Talk) → Advances result
+        (Prints (outcome_of.Failed fault) (turns.rested k (session_of driver.old number)))
+        (λ _. k (session_of driver.new number)) (A.outside env.old) (A.outside env.new) }
+    ensures leaves { IfOk result
+        (λ _. Leaves number driver.old driver.new (A.outside env.new).client.keys) }
 {
     match print_fault(alloc, env, fault) {
-        Ok(()) => rest(alloc, env, session),
+        Ok(()) => rest(alloc, env, driver, number),
         Err(stop) => Err(stop),
     }
 }
 
 /// Hears the answer to an execution.
-fn hear_answer<A: Around>(alloc: Global, env: &mut A, session: &mut Session) -> Result<(), Stop>
-    requires sent { session.old ≡ session_of.Sent }
-    requires of_vault { IsOf (A.outside env.old).desk.keys (A.kept env.old) }
-    ensures leads { (k : Session → Talk) → Leads result (Hears session.old nothing_shown (turns.answered_on k)) (λ _. k session.new) (A.outside env.old) (A.outside env.new) }
-    ensures of_vault { IfOk result (λ _. IsOf (A.outside env.new).desk.keys (A.kept env.new)) }
+fn hear_answer<A: Around>(
+    alloc: Global,
+    env: &mut A,
+    driver: &mut Driver,
+    number: SessionId,
+) -> Result<(), Stop>
+    requires sent { session_of driver.old number ≡ Sent }
+    requires of_vault { IsOfVault (A.outside env.old).client.keys driver.old }
+    ensures leads { (k : Session → Talk) → Advances result
+        (Hears (session_of driver.old number) nothing_shown (turns.answered_on k))
+        (λ _. k (session_of driver.new number)) (A.outside env.old) (A.outside env.new) }
+    ensures leaves { IfOk result
+        (λ _. Leaves number driver.old driver.new (A.outside env.new).client.keys) }
 {
-    match env.hear_answer(alloc, session) {
+    match env.hear_answer(alloc, driver, number) {
         Ok(First::Shows(titles)) => {
             let rows = Seq::new(alloc);
-            read(alloc, env, session, Listing { titles, rows })
+            read(alloc, env, driver, number, Listing { titles, rows })
         }
-        Ok(First::Skips(fault)) => print_and_rest(alloc, env, session, fault),
+        Ok(First::Skips(fault)) => print_and_rest(alloc, env, driver, number, fault),
         Ok(First::Says(outcome)) => print(alloc, env, outcome),
         Err(stop) => Err(stop),
     }
@@ -181,9 +216,10 @@ fn hear_answer<A: Around>(alloc: Global, env: &mut A, session: &mut Session) -> 
 
 /// Asks a request.
 fn ask<A: Around>(alloc: Global, env: &mut A, request: Request<'_>) -> Result<(), Stop>
-    requires { IsOf (A.outside env.old).desk.keys (A.kept env.old) }
-    ensures leads { (t : Talk) → Leads result (Asks request.entry t) (λ _. t) (A.outside env.old) (A.outside env.new) }
-    ensures of_vault { IfOk result (λ _. IsOf (A.outside env.new).desk.keys (A.kept env.new)) }
+    ensures leads { (t : Talk) → Advances result (Asks request.entry t) (λ _. t) (A.outside env.old)
+        (A.outside env.new) }
+    ensures keys { IfOk result
+        (λ _. (A.outside env.new).client.keys ≡ (A.outside env.old).client.keys) }
 {
     env.ask(alloc, &request)
 }
@@ -192,17 +228,21 @@ fn ask<A: Around>(alloc: Global, env: &mut A, request: Request<'_>) -> Result<()
 fn answered<A: Around>(
     alloc: Global,
     env: &mut A,
-    session: &mut Session,
+    driver: &mut Driver,
+    number: SessionId,
     answer: Result<Request<'_>, DriverFault>,
 ) -> Result<(), Stop>
-    requires sent { IfOk answer (λ request. session.old ≡ session_of.Sent) }
-    requires of_vault { IsOf (A.outside env.old).desk.keys (A.kept env.old) }
-    ensures leads { (k : Session → Talk) → Leads result (turns.asked (λ after. Hears after nothing_shown (turns.answered_on k)) k answer.entry session.old) (λ _. k session.new) (A.outside env.old) (A.outside env.new) }
-    ensures of_vault { IfOk result (λ _. IsOf (A.outside env.new).desk.keys (A.kept env.new)) }
+    requires sent { IfOk answer (λ request. session_of driver.old number ≡ Sent) }
+    requires of_vault { IsOfVault (A.outside env.old).client.keys driver.old }
+    ensures leads { (k : Session → Talk) → Advances result
+        (turns.asked (λ after. Hears after nothing_shown (turns.answered_on k)) k answer.entry (session_of driver.old number))
+        (λ _. k (session_of driver.new number)) (A.outside env.old) (A.outside env.new) }
+    ensures leaves { IfOk result
+        (λ _. Leaves number driver.old driver.new (A.outside env.new).client.keys) }
 {
     match answer {
         Ok(request) => match ask(alloc, env, request) {
-            Ok(()) => hear_answer(alloc, env, session),
+            Ok(()) => hear_answer(alloc, env, driver, number),
             Err(stop) => Err(stop),
         },
         Err(fault) => print_fault(alloc, env, fault),
@@ -213,25 +253,30 @@ fn answered<A: Around>(
 pub fn execute<A: Around>(
     alloc: Global,
     env: &mut A,
-    session: &mut Session,
+    driver: &mut Driver,
     number: SessionId,
 ) -> Result<(), Stop>
-    requires { IsOf (A.outside env.old).desk.keys (A.kept env.old) }
-    ensures leads { (k : Session → Talk) → Leads result (turns.executing number session.old k) (λ _. k session.new) (A.outside env.old) (A.outside env.new) }
-    ensures of_vault { IfOk result (λ _. IsOf (A.outside env.new).desk.keys (A.kept env.new)) }
+    requires { IsOfVault (A.outside env.old).client.keys driver.old }
+    ensures leads { (k : Session → Talk) → Advances result
+        (turns.executing number (session_of driver.old number) k)
+        (λ _. k (session_of driver.new number)) (A.outside env.old) (A.outside env.new) }
+    ensures leaves { IfOk result
+        (λ _. Leaves number driver.old driver.new (A.outside env.new).client.keys) }
 {
-    match env.execute(alloc, session, number) {
-        Ok(answer) => answered(alloc, env, session, answer),
+    match env.execute(alloc, driver, number) {
+        Ok(answer) => answered(alloc, env, driver, number, answer),
         Err(stop) => Err(stop),
     }
 }
 
 /// Prints that a batch was refused.
 fn refused<A: Around>(alloc: Global, env: &mut A, fault: SqlFault) -> Result<Described, Stop>
-    requires { IsOf (A.outside env.old).desk.keys (A.kept env.old) }
-    ensures leads { (ready : told.Pending → Talk) (k : Session → Talk) (after : Session) → Leads result (Prints (outcome_of.Refused fault) (k after)) (ready_on ready k after) (A.outside env.old) (A.outside env.new) }
+    ensures leads { (ready : told.Pending → Talk) (k : Session → Talk) (after : Session) → Advances
+        result (Prints (outcome_of.Refused fault) (k after)) (ready_on ready k after)
+        (A.outside env.old) (A.outside env.new) }
     ensures ready { (after : Session) → IfOk result (IsReady after) }
-    ensures of_vault { IfOk result (λ _. IsOf (A.outside env.new).desk.keys (A.kept env.new)) }
+    ensures keys { IfOk result
+        (λ _. (A.outside env.new).client.keys ≡ (A.outside env.old).client.keys) }
 {
     match print(alloc, env, Outcome::Refused(fault)) {
         Ok(()) => Ok(Described::Refused),
@@ -241,10 +286,12 @@ fn refused<A: Around>(alloc: Global, env: &mut A, fault: SqlFault) -> Result<Des
 
 /// Prints that a batch wasn't begun.
 fn failed<A: Around>(alloc: Global, env: &mut A, fault: DriverFault) -> Result<Described, Stop>
-    requires { IsOf (A.outside env.old).desk.keys (A.kept env.old) }
-    ensures leads { (ready : told.Pending → Talk) (k : Session → Talk) (after : Session) → Leads result (Prints (outcome_of.Failed fault) (k after)) (ready_on ready k after) (A.outside env.old) (A.outside env.new) }
+    ensures leads { (ready : told.Pending → Talk) (k : Session → Talk) (after : Session) → Advances
+        result (Prints (outcome_of.Failed fault) (k after)) (ready_on ready k after)
+        (A.outside env.old) (A.outside env.new) }
     ensures ready { (after : Session) → IfOk result (IsReady after) }
-    ensures of_vault { IfOk result (λ _. IsOf (A.outside env.new).desk.keys (A.kept env.new)) }
+    ensures keys { IfOk result
+        (λ _. (A.outside env.new).client.keys ≡ (A.outside env.old).client.keys) }
 {
     match print_fault(alloc, env, fault) {
         Ok(()) => Ok(Described::Refused),
@@ -256,15 +303,19 @@ fn failed<A: Around>(alloc: Global, env: &mut A, fault: DriverFault) -> Result<D
 fn hear_description<A: Around>(
     alloc: Global,
     env: &mut A,
-    session: &mut Session,
+    driver: &mut Driver,
+    number: SessionId,
 ) -> Result<Described, Stop>
-    requires begun { IsBegun session.old }
-    requires of_vault { IsOf (A.outside env.old).desk.keys (A.kept env.old) }
-    ensures leads { (ready : told.Pending → Talk) (k : Session → Talk) → Leads result (Hears session.old nothing_shown (turns.described_on ready k)) (ready_on ready k session.new) (A.outside env.old) (A.outside env.new) }
-    ensures ready { IfOk result (IsReady session.new) }
-    ensures of_vault { IfOk result (λ _. IsOf (A.outside env.new).desk.keys (A.kept env.new)) }
+    requires begun { IsBegun (session_of driver.old number) }
+    requires of_vault { IsOfVault (A.outside env.old).client.keys driver.old }
+    ensures leads { (ready : told.Pending → Talk) (k : Session → Talk) → Advances result
+        (Hears (session_of driver.old number) nothing_shown (turns.described_on ready k))
+        (ready_on ready k (session_of driver.new number)) (A.outside env.old) (A.outside env.new) }
+    ensures ready { IfOk result (IsReady (session_of driver.new number)) }
+    ensures leaves { IfOk result
+        (λ _. Leaves number driver.old driver.new (A.outside env.new).client.keys) }
 {
-    match env.hear_description(alloc, session) {
+    match env.hear_description(alloc, driver, number) {
         Ok(DescribeAnswer::Ready(params)) => Ok(Described::Ready(params)),
         Ok(DescribeAnswer::Refused(fault)) => refused(alloc, env, fault),
         Err(stop) => Err(stop),
@@ -275,18 +326,22 @@ fn hear_description<A: Around>(
 fn ask_description<A: Around>(
     alloc: Global,
     env: &mut A,
-    session: &mut Session,
+    driver: &mut Driver,
+    number: SessionId,
     answer: Result<Request<'_>, DriverFault>,
 ) -> Result<Described, Stop>
-    requires begun { IfOk answer (λ request. IsBegun session.old) }
-    requires of_vault { IsOf (A.outside env.old).desk.keys (A.kept env.old) }
-    ensures leads { (ready : told.Pending → Talk) (k : Session → Talk) → Leads result (turns.asked (λ after. Hears after nothing_shown (turns.described_on ready k)) k answer.entry session.old) (ready_on ready k session.new) (A.outside env.old) (A.outside env.new) }
-    ensures ready { IfOk result (IsReady session.new) }
-    ensures of_vault { IfOk result (λ _. IsOf (A.outside env.new).desk.keys (A.kept env.new)) }
+    requires begun { IfOk answer (λ request. IsBegun (session_of driver.old number)) }
+    requires of_vault { IsOfVault (A.outside env.old).client.keys driver.old }
+    ensures leads { (ready : told.Pending → Talk) (k : Session → Talk) → Advances result
+        (turns.asked (λ after. Hears after nothing_shown (turns.described_on ready k)) k answer.entry (session_of driver.old number))
+        (ready_on ready k (session_of driver.new number)) (A.outside env.old) (A.outside env.new) }
+    ensures ready { IfOk result (IsReady (session_of driver.new number)) }
+    ensures leaves { IfOk result
+        (λ _. Leaves number driver.old driver.new (A.outside env.new).client.keys) }
 {
     match answer {
         Ok(request) => match ask(alloc, env, request) {
-            Ok(()) => hear_description(alloc, env, session),
+            Ok(()) => hear_description(alloc, env, driver, number),
             Err(stop) => Err(stop),
         },
         Err(fault) => failed(alloc, env, fault),
@@ -297,17 +352,20 @@ fn ask_description<A: Around>(
 fn describe<A: Around>(
     alloc: Global,
     env: &mut A,
-    session: &mut Session,
+    driver: &mut Driver,
     number: SessionId,
     batch: Batch,
 ) -> Result<Described, Stop>
-    requires { IsOf (A.outside env.old).desk.keys (A.kept env.old) }
-    ensures leads { (ready : told.Pending → Talk) (k : Session → Talk) → Leads result (turns.describing number batch session.old ready k) (ready_on ready k session.new) (A.outside env.old) (A.outside env.new) }
-    ensures ready { IfOk result (IsReady session.new) }
-    ensures of_vault { IfOk result (λ _. IsOf (A.outside env.new).desk.keys (A.kept env.new)) }
+    requires { IsOfVault (A.outside env.old).client.keys driver.old }
+    ensures leads { (ready : told.Pending → Talk) (k : Session → Talk) → Advances result
+        (turns.describing number batch (session_of driver.old number) ready k)
+        (ready_on ready k (session_of driver.new number)) (A.outside env.old) (A.outside env.new) }
+    ensures ready { IfOk result (IsReady (session_of driver.new number)) }
+    ensures leaves { IfOk result
+        (λ _. Leaves number driver.old driver.new (A.outside env.new).client.keys) }
 {
-    match begin_in(alloc, session, number, batch) {
-        Ok(answer) => ask_description(alloc, env, session, answer),
+    match driver.begin(alloc, number, batch) {
+        Ok(answer) => ask_description(alloc, env, driver, number, answer),
         Err(_) => Err(Stop::OutOfMemory),
     }
 }
@@ -316,16 +374,19 @@ fn describe<A: Around>(
 pub fn whole<A: Around>(
     alloc: Global,
     env: &mut A,
-    session: &mut Session,
+    driver: &mut Driver,
     number: SessionId,
     batch: Batch,
 ) -> Result<(), Stop>
-    requires { IsOf (A.outside env.old).desk.keys (A.kept env.old) }
-    ensures leads { (k : Session → Talk) → Leads result (turns.whole number batch session.old k) (λ _. k session.new) (A.outside env.old) (A.outside env.new) }
-    ensures of_vault { IfOk result (λ _. IsOf (A.outside env.new).desk.keys (A.kept env.new)) }
+    requires { IsOfVault (A.outside env.old).client.keys driver.old }
+    ensures leads { (k : Session → Talk) → Advances result
+        (turns.whole number batch (session_of driver.old number) k)
+        (λ _. k (session_of driver.new number)) (A.outside env.old) (A.outside env.new) }
+    ensures leaves { IfOk result
+        (λ _. Leaves number driver.old driver.new (A.outside env.new).client.keys) }
 {
-    match describe(alloc, env, session, number, batch) {
-        Ok(Described::Ready(_)) => execute(alloc, env, session, number),
+    match describe(alloc, env, driver, number, batch) {
+        Ok(Described::Ready(_)) => execute(alloc, env, driver, number),
         Ok(Described::Refused) => Ok(()),
         Err(stop) => Err(stop),
     }
@@ -335,15 +396,18 @@ pub fn whole<A: Around>(
 pub fn half<A: Around>(
     alloc: Global,
     env: &mut A,
-    session: &mut Session,
+    driver: &mut Driver,
     number: SessionId,
     batch: Batch,
 ) -> Result<(), Stop>
-    requires { IsOf (A.outside env.old).desk.keys (A.kept env.old) }
-    ensures leads { (k : Session → Talk) → Leads result (turns.half number batch session.old k) (λ _. k session.new) (A.outside env.old) (A.outside env.new) }
-    ensures of_vault { IfOk result (λ _. IsOf (A.outside env.new).desk.keys (A.kept env.new)) }
+    requires { IsOfVault (A.outside env.old).client.keys driver.old }
+    ensures leads { (k : Session → Talk) → Advances result
+        (turns.half number batch (session_of driver.old number) k)
+        (λ _. k (session_of driver.new number)) (A.outside env.old) (A.outside env.new) }
+    ensures leaves { IfOk result
+        (λ _. Leaves number driver.old driver.new (A.outside env.new).client.keys) }
 {
-    match describe(alloc, env, session, number, batch) {
+    match describe(alloc, env, driver, number, batch) {
         Ok(Described::Ready(params)) => print(alloc, env, Outcome::Described(params)),
         Ok(Described::Refused) => Ok(()),
         Err(stop) => Err(stop),

@@ -1,7 +1,7 @@
 -- As its bytes are driven, or they weren't read.
 use Rattle.std.proofs.Common.{refl}
-use Rattle.ae_edge.proofs.Whole.{some_bytes, too_many_bytes, whole_bytes}
-use Rattle.script_run.proofs.Lent.{takes_whole, read_it}
+use Rattle.ae_edge.proofs.Interface.{some_bytes, too_many_bytes, whole_bytes}
+use Rattle.script_run.proofs.Interface.{takes_whole, read_it}
 use Rattle.drive_command.proofs.Lent.{reply_rose, write_rose, entropy_rose, vault_rose}
 use Rattle.drive_command.proofs.commands.drive_source.Goals as goal
 

@@ -4,6 +4,3 @@ use Rattle.drive_command.proofs.drives.drive_over.Goals as goal
 
 pub returns-in-Err : goal.returns-in-Err
 returns-in-Err g c = unstarted _ _
-
-pub returns-in-Err-new : goal.returns-in-Err-new
-returns-in-Err-new g c = unstarted _ _

@@ -2,7 +2,7 @@
 use Rattle.std.proofs.Common.{◌<◌, ◌++◌, length, drop, map, refl, sym, subst, ap, ◌∙◌, append-nil, arith}
 use Rattle.conversation.specs.Pending.{Use, uses_in}
 use Rattle.conversation.specs.Turns.{sealing_one}
-use Rattle.conversation.proofs.Going.{each_none, each_more, each_leads, each_fails, each_short, each_done}
+use Rattle.conversation.proofs.Interface.{each_none, each_more, each_leads, each_fails, each_short, each_done}
 use Rattle.driver.specs.Listed.{AreListed}
 use Rattle.driver.specs.Sealed.{sent_names, use_names}
 use Rattle.driver.proofs.Uses.{blank, seals_same, uses_some, uses_none, uses_end, fit_next, fit_after, names_more}

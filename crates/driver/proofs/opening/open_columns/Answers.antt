@@ -1,7 +1,7 @@
 -- One more key is opened, or the end.
 use Rattle.std.proofs.Common.{◌<◌, length, arith}
 use Rattle.conversation.specs.Turns.{opening_one}
-use Rattle.conversation.proofs.Going.{each_none, each_more, each_leads, each_key_fails, each_short, each_done}
+use Rattle.conversation.proofs.Interface.{each_none, each_more, each_leads, each_key_fails, each_short, each_done}
 use Rattle.driver.proofs.Columns.{columns_next, columns_listed, columns_none}
 use Rattle.driver.proofs.opening.open_columns.Goals as goal
 

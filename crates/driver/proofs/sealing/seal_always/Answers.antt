@@ -1,7 +1,7 @@
 -- The key is opened, and the value sealed.
 use Rattle.conversation.specs.Cells.{det_atom}
 use Rattle.conversation.specs.Turns.{on}
-use Rattle.conversation.proofs.Going.{halt_there}
+use Rattle.conversation.proofs.Interface.{halt_there}
 use Rattle.driver.proofs.sealing.seal_always.Goals as goal
 
 pub returns-in-Err-clause-leads : goal.returns-in-Err-clause-leads

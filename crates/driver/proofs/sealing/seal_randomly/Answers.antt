@@ -1,7 +1,7 @@
 -- The key is opened, and then a cell is drawn.
 use Rattle.conversation.specs.Devices.{devices}
 use Rattle.conversation.specs.Turns.{on, drawing}
-use Rattle.conversation.proofs.Going.{goes_then, fails_then}
+use Rattle.conversation.proofs.Interface.{goes_then, fails_then}
 use Rattle.driver.proofs.sealing.seal_randomly.Goals as goal
 
 pub returns-in-Err-clause-leads : goal.returns-in-Err-clause-leads

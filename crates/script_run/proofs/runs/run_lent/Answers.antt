@@ -2,11 +2,8 @@
 use Rattle.script_run.proofs.Lent.{leads_same, only_same, tap_same, peer_same}
 use Rattle.script_run.proofs.runs.run_lent.Goals as goal
 
-pub run_all-requires-clause-count : goal.run_all-requires-clause-count
-run_all-requires-clause-count g c = c.requires.count
-
-pub run_all-requires-clause-of_vault : goal.run_all-requires-clause-of_vault
-run_all-requires-clause-of_vault g c = c.requires.of_vault
+pub run_all-requires : goal.run_all-requires
+run_all-requires g c = c.requires
 
 pub returns-clause-leads : goal.returns-clause-leads
 returns-clause-leads g c = c.run_all.ensures.leads

@@ -4,6 +4,3 @@ use Rattle.script_run.proofs.runs.run_over.Goals as goal
 
 pub returns-in-Err-clause-runs : goal.returns-in-Err-clause-runs
 returns-in-Err-clause-runs g c = let n = c.nothing.ensures in rw n (unstarted _ _)
-
-pub returns-in-Err-new-clause-runs : goal.returns-in-Err-new-clause-runs
-returns-in-Err-new-clause-runs g c = let n = c.nothing.ensures in rw n (unstarted _ _)

@@ -1,13 +1,12 @@
 -- The first so many steps are done.
-use Rattle.std.proofs.Common.{◌≡◌, length, drop}
-use Rattle.key_store.specs.Stores.{IsOf}
-use Rattle.run_words.specs.Ways.{Goes}
+use Rattle.std.proofs.Common.{drop}
+use Rattle.driver.specs.Clients.{IsOfVault}
+use Rattle.run_effects.specs.Ways.{Proceeds}
 use Rattle.plain_meaning.specs.Steps.{talk}
 use Rattle.script_run.proofs.steps.run_steps.Given as goal
 
 abbrev pub invariant-loop-one : goal.invariant-loop-one
 invariant-loop-one g l = record {
-  count : length l.sessions.items ≡ 64;
-  of_vault : let o = g.A.Around.outside l.env in IsOf o.desk.keys (g.A.Around.kept l.env);
-  goes : Goes (talk l.steps l.fn.sessions.items) (talk (drop l.one-index l.steps) l.sessions.items) (g.A.Around.outside l.fn.env) (g.A.Around.outside l.env);
+  of_vault : let o = g.A.Around.outside l.env in IsOfVault o.client.keys l.driver;
+  goes : Proceeds (talk l.steps l.fn.driver.sessions) (talk (drop l.one-index l.steps) l.driver.sessions) (g.A.Around.outside l.fn.env) (g.A.Around.outside l.env);
 }

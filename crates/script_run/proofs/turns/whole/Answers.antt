@@ -1,6 +1,7 @@
 -- It is described, and executed where that isn't refused.
 use Rattle.conversation.specs.declared.sessions.Session.TheVariants.{Pending}
 use Rattle.conversation.specs.Turns.{executing}
+use Rattle.script_run.proofs.Leaving.{leaves_then}
 use Rattle.script_run.proofs.Turning.{then_executed}
 use Rattle.script_run.proofs.turns.whole.Goals as goal
 
@@ -8,7 +9,7 @@ pub describe-requires : goal.describe-requires
 describe-requires g c = c.requires
 
 pub execute-requires : goal.execute-requires
-execute-requires g c = c.in-Ok-Ready.ensures.of_vault
+execute-requires g c = c.in-Ok-Ready.ensures.leaves.of_vault
 
 pub returns-in-Ok-Ready-clause-leads : goal.returns-in-Ok-Ready-clause-leads
 returns-in-Ok-Ready-clause-leads g c = λ k. let h = c.in-Ok-Ready.ensures.leads (λ p. executing c.args.number (Pending p) k) k in let r = c.in-Ok-Ready.ensures.ready in then_executed k _ _ (rw c.in-Ok-Ready.field-0-is at r) _ _ _ _ _ (k _) c.args.number (rw c.in-Ok-Ready.field-0-is at h) (c.execute.ensures.leads k)
@@ -19,11 +20,11 @@ returns-in-Ok-Refused-clause-leads g c = λ k. let h = c.in-Ok-Refused.ensures.l
 pub returns-clause-leads : goal.returns-clause-leads
 returns-clause-leads g c = λ k. c.in-Err.ensures.leads (λ p. executing c.args.number (Pending p) k) k
 
-pub returns-in-Ok-Ready-clause-of_vault : goal.returns-in-Ok-Ready-clause-of_vault
-returns-in-Ok-Ready-clause-of_vault g c = c.execute.ensures.of_vault
+pub returns-in-Ok-Ready-clause-leaves : goal.returns-in-Ok-Ready-clause-leaves
+returns-in-Ok-Ready-clause-leaves g c = leaves_then _ _ _ _ _ _ c.in-Ok-Ready.ensures.leaves.others c.execute.ensures.leaves
 
-pub returns-in-Ok-Refused-clause-of_vault : goal.returns-in-Ok-Refused-clause-of_vault
-returns-in-Ok-Refused-clause-of_vault g c = c.in-Ok-Refused.ensures.of_vault
+pub returns-in-Ok-Refused-clause-leaves : goal.returns-in-Ok-Refused-clause-leaves
+returns-in-Ok-Refused-clause-leaves g c = c.in-Ok-Refused.ensures.leaves
 
-pub returns-clause-of_vault : goal.returns-clause-of_vault
-returns-clause-of_vault g c = tt
+pub returns-clause-leaves : goal.returns-clause-leaves
+returns-clause-leaves g c = tt

@@ -1,6 +1,6 @@
 -- Its bytes are let go.
 use Rattle.std.proofs.Common.{◌≡◌, ◌-◌, ap, sym, subst, refl, length, arith}
-use Rattle.run_words.specs.Shares.{Begins}
+use Rattle.run_effects.specs.Shares.{Begins}
 use Rattle.wire_spelling.specs.Spelling.{reply_frame}
 use Rattle.drive_command.specs.Holding.{Holding}
 use Rattle.drive_command.proofs.Holdings.{taken_is, stands_whole}

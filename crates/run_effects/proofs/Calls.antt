@@ -1,0 +1,359 @@
+-- One call after another: printing, asking, hearing, and what the driver does by itself.
+use Rattle.std.proofs.Common.{◌≡◌, ℕ, ◌≤◌, List, [], ◌∷◌, ◌++◌, Option, Some, None, length, refl, sym, ◌∙◌, ap, subst, append-nil, inl, inr, arith}
+use Rattle.std.specs.Prelude.{flat_map, IfSome}
+use Rattle.std.specs.Borrow.{GName}
+use Rattle.ae_base.specs.declared.keys.KeyMeta.{KeyMeta}
+use Rattle.ae_edge.specs.Devices.{WhereTold, Adds, AddsFront}
+use Rattle.ae_edge.specs.Vaults.{KeyMap}
+use Rattle.ae_edge.proofs.Interface.{told_same, adds_none, removes_none}
+use Rattle.wire_messages.specs.declared.requests.Request.{Request}
+use Rattle.wire_messages.specs.declared.replies.Reply.{Reply}
+use Rattle.wire_spelling.specs.Spelling.{reply_frame}
+use Rattle.server_core.specs.Serve.{State}
+use Rattle.conversation.specs.declared.outcomes.Listing.{Listing}
+use Rattle.conversation.specs.declared.outcomes.Outcome.{Outcome}
+use Rattle.conversation.specs.declared.sessions.Session.{Session}
+use Rattle.conversation.specs.Devices.{Devices, AreOwn, HasShare}
+use Rattle.conversation.specs.Devices as own
+use Rattle.conversation.specs.Paths.{Event, Asked, Took, Strayed, Drew, Opened, Printed, Follows, stays, asks, takes_more, takes_last, strays, replies_to, taken_in, Waits, OpensAll, IsStray}
+use Rattle.conversation.specs.Talk.{Talk, Stops, Asks, Hears, Heard, More, Got, hear, broken}
+use Rattle.outcome_text.specs.Counting.{asked, counted, printed}
+use Rattle.outcome_text.specs.Printing.{printed_outcome}
+use Rattle.run_effects.specs.Shares.{ClientSide, Wire, Outside, AreServed, Stream, Streams, Comes, IsNext, coming, ClientPut, WirePut, WireRead, text_of, frames_of, exchanges_of, devices_of, with_devices}
+use Rattle.run_effects.specs.Ways.{Proceeds, HaltsAt, Breaks, AsksInPart, TakesOne, IsNextOf, IsNextOn, StaysWithin}
+use Rattle.outcome_text.specs.declared.tallies.Tally.{Tally}
+use Rattle.run_effects.proofs.Going.{client_still, comes_still, stay, client_front, wire_front, breaks_between, silent_by}
+
+-- ---- events of the driver by itself leave text, tap and replies
+
+module _ (f : Event → List ℕ) (draws : (bytes : List ℕ) → f (Drew bytes) ≡ []) (opens : (meta : KeyMeta) (key : _) → f (Opened meta key) ≡ []) where
+  none_of : (xs : List Event) → AreOwn xs → flat_map f xs ≡ []
+  none_of [] h = refl
+  none_of (Drew bytes ∷ xs) h = rw (draws bytes) (none_of xs h)
+  none_of (Opened meta key ∷ xs) h = rw (opens meta key) (none_of xs h)
+  none_of (Asked request replies ∷ xs) h = absurd h
+  none_of (Took reply ∷ xs) h = absurd h
+  none_of (Strayed next ∷ xs) h = absurd h
+  none_of (Printed comes ∷ xs) h = absurd h
+
+no_text : (xs : List Event) → AreOwn xs → flat_map text_of xs ≡ []
+no_text = none_of text_of (λ bytes. refl) (λ meta key. refl)
+
+no_frames : (xs : List Event) → AreOwn xs → flat_map frames_of xs ≡ []
+no_frames = none_of frames_of (λ bytes. refl) (λ meta key. refl)
+
+no_exchanges : (xs : List Event) → AreOwn xs → flat_map exchanges_of xs ≡ []
+no_exchanges [] h = refl
+no_exchanges (Drew bytes ∷ xs) h = no_exchanges xs h
+no_exchanges (Opened meta key ∷ xs) h = no_exchanges xs h
+no_exchanges (Asked request replies ∷ xs) h = absurd h
+no_exchanges (Took reply ∷ xs) h = absurd h
+no_exchanges (Strayed next ∷ xs) h = absurd h
+no_exchanges (Printed comes ∷ xs) h = absurd h
+
+own_uncounted : (xs : List Event) → AreOwn xs → (t : Tally) → counted xs t ≡ t
+own_uncounted [] h t = refl
+own_uncounted (Drew bytes ∷ xs) h t = own_uncounted xs h t
+own_uncounted (Opened meta key ∷ xs) h t = own_uncounted xs h t
+own_uncounted (Asked request replies ∷ xs) h t = absurd h
+own_uncounted (Took reply ∷ xs) h t = absurd h
+own_uncounted (Strayed next ∷ xs) h t = absurd h
+own_uncounted (Printed comes ∷ xs) h t = absurd h
+
+none_taken : (xs : List Event) → AreOwn xs → flat_map taken_in xs ≡ []
+none_taken [] h = refl
+none_taken (Drew bytes ∷ xs) h = none_taken xs h
+none_taken (Opened meta key ∷ xs) h = none_taken xs h
+none_taken (Asked request replies ∷ xs) h = absurd h
+none_taken (Took reply ∷ xs) h = absurd h
+none_taken (Strayed next ∷ xs) h = absurd h
+none_taken (Printed comes ∷ xs) h = absurd h
+
+own_serves : (xs : List Event) → AreOwn xs → (x : State) → AreServed xs x x
+own_serves [] h x = refl
+own_serves (Drew bytes ∷ xs) h x = own_serves xs h x
+own_serves (Opened meta key ∷ xs) h x = own_serves xs h x
+own_serves (Asked request replies ∷ xs) h x = absurd h
+own_serves (Took reply ∷ xs) h x = absurd h
+own_serves (Strayed next ∷ xs) h x = absurd h
+own_serves (Printed comes ∷ xs) h x = absurd h
+
+own_waits : (xs : List Event) → AreOwn xs → (x : List Reply) → Waits xs x x
+own_waits [] h x = refl
+own_waits (Drew bytes ∷ xs) h x = own_waits xs h x
+own_waits (Opened meta key ∷ xs) h x = own_waits xs h x
+own_waits (Asked request replies ∷ xs) h x = absurd h
+own_waits (Took reply ∷ xs) h x = absurd h
+own_waits (Strayed next ∷ xs) h x = absurd h
+own_waits (Printed comes ∷ xs) h x = absurd h
+
+none_come : (xs : List Event) → AreOwn xs → flat_map replies_to xs ≡ []
+none_come [] h = refl
+none_come (Drew bytes ∷ xs) h = none_come xs h
+none_come (Opened meta key ∷ xs) h = none_come xs h
+none_come (Asked request replies ∷ xs) h = absurd h
+none_come (Took reply ∷ xs) h = absurd h
+none_come (Strayed next ∷ xs) h = absurd h
+none_come (Printed comes ∷ xs) h = absurd h
+
+own_streams : (xs : List Event) → AreOwn xs → (x : List ℕ) → Streams xs x x
+own_streams [] h x = refl
+own_streams (Drew bytes ∷ xs) h x = own_streams xs h x
+own_streams (Opened meta key ∷ xs) h x = own_streams xs h x
+own_streams (Asked request replies ∷ xs) h x = absurd h
+own_streams (Took reply ∷ xs) h x = absurd h
+own_streams (Strayed next ∷ xs) h x = absurd h
+own_streams (Printed comes ∷ xs) h x = absurd h
+
+added_none : {A : Type 0} (xs : List A) (a : Option (List A)) → xs ≡ [] → Adds xs a a
+added_none xs a e = subst (λ w. Adds w a a) (sym e) (adds_none a)
+
+-- what the driver does by itself, beside all else
+pub own_goes : (t u : Talk) (old : Outside) (x : Devices) → own.Goes t u (devices_of old.client) x → Proceeds t u old (record old { client = with_devices old.client x })
+own_goes t u old x g = record {
+  events = g.events;
+  follows = g.follows;
+  put = record {
+    client = record {
+      out_same = refl;
+      entropy_same = g.share.entropy_same;
+      vault_same = g.share.vault_same;
+      out = added_none (flat_map text_of g.events) old.client.out (no_text g.events g.own);
+      entropy = g.share.entropy;
+      keys = g.share.keys;
+      opened = g.share.opened;
+      out_count = omega arith;
+      entropy_count = g.share.entropy_count;
+      vault_count = g.share.vault_count;
+    };
+    wire = record {
+      names = refl;
+      tap = added_none (flat_map frames_of g.events) old.wire.tap (no_frames g.events g.own);
+      log = added_none (flat_map exchanges_of g.events) old.wire.log (no_exchanges g.events g.own);
+      state = told_same (AreServed g.events) (own_serves g.events g.own) old.wire.state;
+      count = omega arith;
+    };
+  };
+  read = record {
+    tally = sym (own_uncounted g.events g.own old.client.tally);
+    wire = record {
+      comes = comes_still g.events (none_come g.events g.own) (own_waits g.events g.own) (own_streams g.events g.own) old.wire.stream old.wire.waiting;
+      taken = let e : length (flat_map reply_frame (flat_map taken_in g.events)) ≡ 0 = ap (λ w. length (flat_map reply_frame w)) (none_taken g.events g.own) in omega arith;
+    };
+  };
+  limit = λ h. h;
+}
+
+-- it stands at the draw, or at the key, that wasn't given
+pub own_halts : (P : Talk → Type 0) (t : Talk) (old : Outside) (x : Devices) → own.Halts P t (devices_of old.client) x → HaltsAt (λ rest now. P rest) t old (record old { client = with_devices old.client x })
+own_halts P t old x h = record { rest = h.rest; goes = own_goes t h.rest old x h.goes; place = h.place }
+
+pub own_breaks : (P : Talk → Type 0) (t : Talk) (old : Outside) (x : Devices) → own.Halts P t (devices_of old.client) x → Breaks t old (record old { client = with_devices old.client x })
+own_breaks P t old x h = breaks_between t h.rest old (record old { client = with_devices old.client x }) (own_goes t h.rest old x h.goes)
+
+-- ---- printing
+
+keys_printed : (comes : Outcome) (keys : Option KeyMap) → IfSome keys (OpensAll (Printed comes ∷ []))
+keys_printed comes None = tt
+keys_printed comes (Some keys) = tt
+
+twice_nil : (xs : List ℕ) → (xs ++ []) ++ [] ≡ xs
+twice_nil xs = append-nil (xs ++ []) ∙ append-nil xs
+
+pub wire_printed : (comes : Outcome) (w : Wire) → WirePut Adds (Printed comes ∷ []) w w
+wire_printed comes w = record { names = refl; tap = adds_none w.tap; log = adds_none w.log; state = told_same (AreServed (Printed comes ∷ [])) (λ x. refl) w.state; count = omega arith }
+
+module _ (comes : Outcome) (d : ClientSide) (out : Option (List ℕ)) (faults : ℕ) (names : List GName) (same : names ≡ d.out_names) (count : d.out_faults ≤ faults) where
+  pub client_printed : Adds (printed_outcome comes) d.out out → (tally : Tally) → ClientPut Adds (Printed comes ∷ []) d (record d { out_names = names; out = out; tally = tally; out_faults = faults })
+  client_printed h tally = record {
+    out_same = same;
+    entropy_same = refl;
+    vault_same = refl;
+    out = subst (λ w. Adds w d.out out) (sym (twice_nil (printed_outcome comes))) h;
+    entropy = removes_none d.entropy;
+    keys = refl;
+    opened = keys_printed comes d.keys;
+    out_count = count;
+    entropy_count = omega arith;
+    vault_count = omega arith;
+  }
+
+  pub client_cut : AddsFront (printed_outcome comes) d.out out → ClientPut AddsFront (Printed comes ∷ []) d (record d { out_names = names; out = out; out_faults = faults })
+  client_cut h = record {
+    out_same = same;
+    entropy_same = refl;
+    vault_same = refl;
+    out = subst (λ w. AddsFront w d.out out) (sym (twice_nil (printed_outcome comes))) h;
+    entropy = removes_none d.entropy;
+    keys = refl;
+    opened = keys_printed comes d.keys;
+    out_count = count;
+    entropy_count = omega arith;
+    vault_count = omega arith;
+  }
+
+pub printed_read : (comes : Outcome) (w : Wire) → WireRead (Printed comes ∷ []) w w
+printed_read comes w = record { comes = comes_still (Printed comes ∷ []) refl (λ x. refl) (λ x. refl) w.stream w.waiting; taken = omega arith }
+
+module _ (comes : Outcome) (t u : Talk) (follows : Follows t (Printed comes ∷ []) u) (old : Outside) (out : Option (List ℕ)) (faults : ℕ) (names : List GName)
+    (same : names ≡ old.client.out_names) (count : old.client.out_faults ≤ faults) where
+  pub printed_goes : Adds (printed_outcome comes) old.client.out out → (tally : Tally) → tally ≡ printed comes old.client.tally
+      → Proceeds t u old (record old { client = record old.client { out_names = names; out = out; tally = tally; out_faults = faults } })
+  printed_goes h tally c = record {
+    events = Printed comes ∷ [];
+    follows = follows;
+    put = record {
+      client = client_printed comes old.client out faults names same count h tally;
+      wire = wire_printed comes old.wire;
+    };
+    read = record { tally = c; wire = printed_read comes old.wire };
+    limit = λ h. h;
+  }
+
+  pub printed_breaks : AddsFront (printed_outcome comes) old.client.out out
+      → Breaks t old (record old { client = record old.client { out_names = names; out = out; out_faults = faults } })
+  printed_breaks h = record {
+    between = t;
+    rest = u;
+    mid = old;
+    last = Printed comes ∷ [];
+    goes = stay t old;
+    one = omega arith;
+    follows = inl (follows, silent_by old.wire.stream (Printed comes ∷ []) refl);
+    put = record {
+      client = client_cut comes old.client out faults names same count h;
+      wire = wire_front (Printed comes ∷ []) old.wire old.wire (wire_printed comes old.wire);
+    };
+  }
+
+-- ---- the wire
+
+keys_asked : (request : Request) (replies : List Reply) (keys : Option KeyMap) → IfSome keys (OpensAll (Asked request replies ∷ []))
+keys_asked request replies None = tt
+keys_asked request replies (Some keys) = tt
+
+client_asked : (request : Request) (replies : List Reply) (d : ClientSide) (tally : Tally) → ClientPut Adds (Asked request replies ∷ []) d (record d { tally = tally })
+client_asked request replies d tally = record {
+  out_same = refl;
+  entropy_same = refl;
+  vault_same = refl;
+  out = adds_none d.out;
+  entropy = removes_none d.entropy;
+  keys = refl;
+  opened = keys_asked request replies d.keys;
+  out_count = omega arith;
+  entropy_count = omega arith;
+  vault_count = omega arith;
+}
+
+-- a request was asked, and its replies wait
+pub asked_goes : (request : Request) (replies : List Reply) (t : Talk) (old : Outside) (wire : Wire)
+    → WirePut Adds (Asked request replies ∷ []) old.wire wire → WireRead (Asked request replies ∷ []) old.wire wire → StaysWithin old.wire wire
+    → (tally : Tally) → tally ≡ asked old.client.tally → Proceeds (Asks request t) t old (record { client = record old.client { tally = tally }; wire = wire })
+asked_goes request replies t old wire p r l tally c = record {
+  events = Asked request replies ∷ [];
+  follows = asks request replies t t [] (stays t);
+  put = record { client = client_asked request replies old.client tally; wire = p };
+  read = record { tally = c; wire = r };
+  limit = l;
+}
+
+pub asked_breaks : (request : Request) (t : Talk) (old : Outside) (wire : Wire) → AsksInPart request old.wire wire → Breaks (Asks request t) old (record old { wire = wire })
+asked_breaks request t old wire (inl h) = record {
+  between = Asks request t;
+  rest = Asks request t;
+  mid = old;
+  last = [];
+  goes = stay (Asks request t) old;
+  one = omega arith;
+  follows = inl (stays (Asks request t), silent_by old.wire.stream [] refl);
+  put = record { client = client_front [] old.client old.client (client_still old.client); wire = h };
+}
+asked_breaks request t old wire (inr h) = record {
+  between = Asks request t;
+  rest = t;
+  mid = old;
+  last = Asked request h.0 ∷ [];
+  goes = stay (Asks request t) old;
+  one = omega arith;
+  follows = inl (asks request h.0 t t [] (stays t), h.1);
+  put = record { client = client_front (Asked request h.0 ∷ []) old.client old.client (client_asked request h.0 old.client old.client.tally); wire = h.2 };
+}
+
+-- ---- hearing
+
+keys_took : (reply : Reply) (keys : Option KeyMap) → IfSome keys (OpensAll (Took reply ∷ []))
+keys_took reply None = tt
+keys_took reply (Some keys) = tt
+
+client_took : (reply : Reply) (d : ClientSide) → ClientPut Adds (Took reply ∷ []) d d
+client_took reply d = record {
+  out_same = refl;
+  entropy_same = refl;
+  vault_same = refl;
+  out = adds_none d.out;
+  entropy = removes_none d.entropy;
+  keys = refl;
+  opened = keys_took reply d.keys;
+  out_count = omega arith;
+  entropy_count = omega arith;
+  vault_count = omega arith;
+}
+
+took_goes : (reply : Reply) (t u : Talk) (old : Outside) (wire : Wire) → Follows t (Took reply ∷ []) u → TakesOne reply old.wire wire → Proceeds t u old (record old { wire = wire })
+took_goes reply t u old wire f h = record {
+  events = Took reply ∷ [];
+  follows = f;
+  put = record { client = client_took reply old.client; wire = h.put };
+  read = record { tally = refl; wire = h.read };
+  limit = h.limit;
+}
+
+-- a reply was taken, and more is awaited
+pub heard_more : (session after : Session) (shown more : Listing) (f : Heard → Talk) (reply : Reply) (old : Outside) (wire : Wire)
+    → hear session shown reply ≡ More after more → TakesOne reply old.wire wire → Proceeds (Hears session shown f) (Hears after more f) old (record old { wire = wire })
+heard_more session after shown more f reply old wire e h =
+    took_goes reply (Hears session shown f) (Hears after more f) old wire (takes_more session after shown more f reply (Hears after more f) [] e (stays (Hears after more f))) h
+
+-- a reply was taken, and all was heard
+pub heard_last : (session : Session) (shown : Listing) (f : Heard → Talk) (reply : Reply) (heard : Heard) (old : Outside) (wire : Wire)
+    → hear session shown reply ≡ Got heard → TakesOne reply old.wire wire → Proceeds (Hears session shown f) (f heard) old (record old { wire = wire })
+heard_last session shown f reply heard old wire e h =
+    took_goes reply (Hears session shown f) (f heard) old wire (takes_last session shown f reply heard (f heard) [] e (stays (f heard))) h
+
+keys_strayed : (next : Option Reply) (keys : Option KeyMap) → IfSome keys (OpensAll (Strayed next ∷ []))
+keys_strayed next None = tt
+keys_strayed next (Some keys) = tt
+
+streams_strayed : (next : Option Reply) (bytes : Option (List ℕ)) → IfSome bytes (IsNext next) → WhereTold (Streams (Strayed next ∷ [])) bytes bytes
+streams_strayed next None h = tt
+streams_strayed next (Some bytes) h = (h, refl)
+
+comes_strayed : (next : Option Reply) (s : Option Stream) (waiting : List Reply) → IsNextOf next s waiting → Comes (Strayed next ∷ []) s s waiting waiting
+comes_strayed next None waiting h = (h, refl)
+comes_strayed next (Some s) waiting h = (refl, streams_strayed next (coming s) h, omega arith)
+
+-- the next reply isn't awaited, or none is there
+pub strayed_goes : (session : Session) (shown : Listing) (f : Heard → Talk) (next : Option Reply) (old : Outside)
+    → IsStray session shown next → IsNextOn next old.wire → Proceeds (Hears session shown f) (Stops (broken session shown)) old old
+strayed_goes session shown f next old s e = record {
+  events = Strayed next ∷ [];
+  follows = strays session shown f next (Stops (broken session shown)) [] s (stays (Stops (broken session shown)));
+  put = record {
+    client = record {
+      out_same = refl;
+      entropy_same = refl;
+      vault_same = refl;
+      out = adds_none old.client.out;
+      entropy = removes_none old.client.entropy;
+      keys = refl;
+      opened = keys_strayed next old.client.keys;
+      out_count = omega arith;
+      entropy_count = omega arith;
+      vault_count = omega arith;
+    };
+    wire = record { names = refl; tap = adds_none old.wire.tap; log = adds_none old.wire.log; state = told_same (AreServed (Strayed next ∷ [])) (λ x. refl) old.wire.state; count = omega arith };
+  };
+  read = record { tally = refl; wire = record { comes = comes_strayed next old.wire.stream old.wire.waiting e; taken = omega arith } };
+  limit = λ h. h;
+}

@@ -1,0 +1,14 @@
+-- What crates above may cite of the proofs of this one. The rest is free to change.
+
+-- One call after another: printing, asking, hearing, and what the driver does by itself.
+pub use Rattle.run_effects.proofs.Calls.{asked_breaks, asked_goes, client_cut, client_printed}
+pub use Rattle.run_effects.proofs.Calls.{heard_last, heard_more, own_breaks, own_goes, own_halts}
+pub use Rattle.run_effects.proofs.Calls.{printed_breaks, printed_goes, printed_read, strayed_goes}
+pub use Rattle.run_effects.proofs.Calls.{wire_printed}
+-- What was counted of events is what their outcomes come to, and the requests among them.
+pub use Rattle.run_effects.proofs.Counted.{errors_are, has_errors_where, requests_are, rows_are}
+-- One way after another, with what all that a run touches has of them.
+pub use Rattle.run_effects.proofs.Going.{breaks_between, breaks_then, client_front, client_still}
+pub use Rattle.run_effects.proofs.Going.{fails_then, goes_then, leads_then, puts_then, same_state}
+pub use Rattle.run_effects.proofs.Going.{serves_then, silent_by, stay, wire_front, wire_read_then}
+pub use Rattle.run_effects.proofs.Going.{wire_still, wire_then, wire_unread}

@@ -1,0 +1,4 @@
+mod Calls
+mod Counted
+mod Going
+pub mod Interface

@@ -1,4 +1,0 @@
-pub mod Counting
-pub mod Printing
-pub mod Shares
-pub mod Ways
