@@ -1,0 +1,26 @@
+//! Hostile use: tables of cases, which are files of the folder in which the program is started. Of each case it prints what a command
+//! comes to over devices in memory, and what it comes to where one call of a device fails.
+#![tactic(auto)]
+
+mod answers;
+mod cases;
+mod commands;
+mod devices;
+mod frames;
+mod words;
+
+use cases::print_case;
+use std::{fs, io};
+
+/// Replies to a driver, requests to a server, requests at the limits of what is accepted, and devices that fail.
+const TABLES: [&str; 4] = ["replies.txt", "requests.txt", "limits.txt", "devices.txt"];
+
+fn main(rt: HostRuntime) -> io::Result<()> {
+    for table in TABLES {
+        println!(rt; "= {table}")?;
+        for case in fs::read_to_string(&rt, table)?.lines() {
+            print_case(&rt, case)?;
+        }
+    }
+    Ok(())
+}
