@@ -14,11 +14,11 @@ import time
 # Processor seconds of each proof: measured where docs/DECISIONS.md has them, else estimated; a crate that is not listed counts as
 # OTHER. They serve the time left and the order alone.
 SECONDS = {
-    "ae_base": 110, "ae_cli": 139, "ae_edge": 75, "aes_block": 60, "bound_checks": 80, "catalog": 60, "cell_codec": 50,
+    "ae_base": 110, "ae_cli": 139, "ae_edge": 75, "aes_block": 60, "semantic_checks": 80, "catalog": 60, "cell_codec": 50,
     "check_command": 75, "command_words": 95, "conversation": 70, "drive_command": 80, "driver": 177, "enc_types": 85,
     "engine": 119, "frame_feed": 67, "hmac_kdf": 20, "inference": 70, "key_wrap": 25, "operators": 131, "plain_meaning": 90,
     "resolve": 232, "row_changes": 175, "scalar": 80, "script_lang": 70, "script_run": 194, "server_core": 168,
-    "sql_conditions": 142, "sql_definitions": 60, "sql_parse": 105, "sql_tree": 80, "twin_scripts": 60, "wire_bodies": 59,
+    "sql_expressions": 142, "sql_ddl": 60, "sql_parse": 105, "sql_tree": 80, "twin_scripts": 60, "wire_bodies": 59,
     "wire_frames": 21, "wire_messages": 81, "wire_parts": 52, "wire_reading": 61, "wire_spelling": 108,
 }
 OTHER = 45

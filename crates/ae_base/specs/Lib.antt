@@ -2,6 +2,7 @@ pub mod Atoms
 pub mod Batches
 pub mod Faults
 pub mod Keys
+pub mod Limits
 pub mod Names
 pub mod Options
 pub mod Results

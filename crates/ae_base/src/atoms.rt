@@ -1,3 +1,5 @@
+//! Atoms, which are NULL, values or cells, and rows of them.
+
 ghost use Rattle.std.specs.Prelude.{◌≡◌, List, ℕ, IfOk};
 ghost use Rattle.ae_base.specs.Atoms.{Atom, atom_of, atom_eq, alike};
 ghost use Rattle.ae_base.specs.declared.atoms.AtomOf.TheVariants.{Null, Plain, Sealed};

@@ -1,12 +1,13 @@
+//! Batches: one statement with its declared parameters.
+
 ghost use Rattle.std.specs.Prelude.{◌≡◌};
 ghost use Rattle.std.specs.Str.{bytes_eq};
 
-use crate::keys::{KeyPath, WrappedKey};
 use crate::lists::Duplicate;
-use crate::names::{Name, ParamName};
+use crate::names::ParamName;
 use crate::params::{Named, ParamList};
 use crate::texts::Txt;
-use crate::types::{KeyId, Ty};
+use crate::types::Ty;
 use crate::values::Value;
 use std::alloc::AllocError;
 
@@ -35,16 +36,6 @@ pub type Params = ParamList<Param>;
 pub struct Batch {
     pub text: Txt,
     pub params: Params,
-}
-
-/// What a client is told of a column encryption key: its number and name, the path of the master
-/// key that wraps it, and the wrapped key.
-#[derive(Drop)]
-pub struct KeyMeta {
-    pub id: KeyId,
-    pub name: Name,
-    pub path: KeyPath,
-    pub wrapped: WrappedKey,
 }
 
 impl Named for ParamDecl {
@@ -86,17 +77,6 @@ impl Duplicate for Batch {
         Ok(Batch {
             text: self.text.copy()?,
             params: self.params.copy()?,
-        })
-    }
-}
-
-impl Duplicate for KeyMeta {
-    fn copy(&self) -> Result<KeyMeta, AllocError> {
-        Ok(KeyMeta {
-            id: self.id,
-            name: self.name.copy()?,
-            path: self.path.copy()?,
-            wrapped: self.wrapped.copy()?,
         })
     }
 }

@@ -1,3 +1,5 @@
+//! What is known of keys without opening them: paths, wrapped keys, and what a client is told.
+
 ghost use Rattle.std.specs.Prelude.{◌≡◌, IfSome, IsSome, ◌↔◌, IsTrue, encode_utf8_all};
 ghost use Rattle.std.specs.Cmp.Lexicographic.{nat_list_eq_equiv};
 ghost use Rattle.std.specs.Cmp.{partial_equiv_from_equiv};
@@ -5,8 +7,11 @@ ghost use Rattle.std.specs.Str.{bytes_eq, chars, all_scalars};
 ghost use Rattle.ae_base.specs.Keys.{IsKeyPath, IsWrappedKey};
 
 use crate::blobs::Blob;
+use crate::limits::MOST_KEY_BYTES;
 use crate::lists::Duplicate;
+use crate::names::Name;
 use crate::texts::Txt;
+use crate::types::KeyId;
 use std::alloc::AllocError;
 use std::marker::Model;
 
@@ -29,7 +34,7 @@ impl Model for KeyPath {
 
 impl KeyPath {
     /// The most bytes of a path.
-    pub const MOST_BYTES: usize = 1024;
+    pub const MOST_BYTES: usize = MOST_KEY_BYTES;
 
     /// The path that a text is, where it is one. It takes no memory.
     pub fn from_txt(text: Txt) -> Option<KeyPath>
@@ -111,7 +116,7 @@ impl Model for WrappedKey {
 
 impl WrappedKey {
     /// The most bytes of a wrapped key.
-    pub const MOST_BYTES: usize = 1024;
+    pub const MOST_BYTES: usize = MOST_KEY_BYTES;
 
     /// The wrapped key that some bytes are, where they are one. It takes no memory.
     pub fn from_blob(bytes: Blob) -> Option<WrappedKey>
@@ -159,6 +164,27 @@ impl Duplicate for WrappedKey {
     fn copy(&self) -> Result<WrappedKey, AllocError> {
         Ok(WrappedKey {
             bytes: self.bytes.copy()?,
+        })
+    }
+}
+
+/// What a client is told of a column encryption key: its number and name, the path of the master
+/// key that wraps it, and the wrapped key.
+#[derive(Drop)]
+pub struct KeyMeta {
+    pub id: KeyId,
+    pub name: Name,
+    pub path: KeyPath,
+    pub wrapped: WrappedKey,
+}
+
+impl Duplicate for KeyMeta {
+    fn copy(&self) -> Result<KeyMeta, AllocError> {
+        Ok(KeyMeta {
+            id: self.id,
+            name: self.name.copy()?,
+            path: self.path.copy()?,
+            wrapped: self.wrapped.copy()?,
         })
     }
 }

@@ -1,3 +1,5 @@
+//! Names of tables, columns and keys, of parameters, and the titles of columns.
+
 ghost use Rattle.std.specs.Prelude.{◌≡◌, ◌≤◌, [], List, ℕ, IfOk, IfSome, IsSome, MatchOption, ◌↔◌, IsTrue, length, string_bytes, encode_utf8_all};
 ghost use Rattle.std.specs.Str.{bytes_eq, chars, all_scalars};
 ghost use Rattle.std.specs.Cmp.Lexicographic.{nat_list_eq_equiv};
@@ -5,6 +7,7 @@ ghost use Rattle.std.specs.Cmp.{partial_equiv_from_equiv};
 ghost use Rattle.std.specs.List.{list_all};
 ghost use Rattle.ae_base.specs.Names.{IsName, IsParamName, IsTitle, is_param_char};
 
+use crate::limits::MOST_NAME_CHARACTERS;
 use crate::lists::Duplicate;
 use crate::texts::Txt;
 use std::alloc::{AllocError, Global};
@@ -29,7 +32,7 @@ impl Model for Name {
 
 impl Name {
     /// The most characters that an identifier has.
-    pub const MOST_CHARACTERS: usize = 128;
+    pub const MOST_CHARACTERS: usize = MOST_NAME_CHARACTERS;
 
     /// The name that a text is, where it is one. It takes no memory.
     pub fn from_txt(text: Txt) -> Option<Name>

@@ -1,14 +1,14 @@
+//! Lists of parameters whose names differ.
+
 ghost use Rattle.std.specs.Prelude.{◌≡◌, ◌∷◌, ◌++◌, [], ◌≤◌, ◌↔◌, List, ℕ, IfOk, IfSome, IsSome, OnErr, IsTrue, length, map, if◌then◌else◌};
 ghost use Rattle.std.specs.List.{list_any};
 ghost use Rattle.std.specs.Str.{bytes_eq};
 ghost use Rattle.ae_base.specs.Names.{admits, all_differ};
 
+use crate::limits::MOST_PARAMS;
 use crate::lists::{Duplicate, Seq};
 use std::alloc::{AllocError, Global};
 use std::marker::Model;
-
-/// The most parameters that a statement has.
-pub const MOST_PARAMS: usize = 128;
 
 /// What has a name, as a parameter has.
 pub trait Named: Drop {

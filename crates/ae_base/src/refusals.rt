@@ -1,3 +1,5 @@
+//! A fault, or out of memory.
+
 use crate::faults::SqlFault;
 use std::alloc::AllocError;
 

@@ -1,3 +1,5 @@
+//! Equality that is the same as that of the bytes.
+
 ghost use Rattle.std.specs.Prelude.{◌≡◌, List, ℕ, IfOk};
 ghost use Rattle.std.specs.Str.{bytes_eq};
 

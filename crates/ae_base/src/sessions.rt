@@ -1,6 +1,9 @@
+//! The numbers of sessions.
+
 ghost use Rattle.std.specs.Prelude.{◌≡◌, IfSome, IsSome, ◌↔◌};
 ghost use Rattle.ae_base.specs.Sessions.{IsSession};
 
+use crate::limits::MOST_SESSIONS;
 use std::marker::Model;
 
 /// The number of a session, from 1 to 64.
@@ -24,7 +27,7 @@ impl Model for SessionId {
 
 impl SessionId {
     /// The most sessions that there are.
-    pub const MOST: u16 = 64;
+    pub const MOST: u16 = MOST_SESSIONS;
 
     /// The session of a number, where there is one.
     pub fn from_number(number: u16) -> Option<SessionId>

@@ -1,3 +1,5 @@
+//! Definitions of tables.
+
 use crate::lists::{Duplicate, Seq};
 use crate::names::Name;
 use crate::types::{Enc, Ty};

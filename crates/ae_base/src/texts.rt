@@ -1,3 +1,5 @@
+//! Texts that contracts see as characters.
+
 ghost use Rattle.std.specs.Prelude.{◌≡◌, List, ℕ, IfOk, IsTrue, length, string_bytes, encode_utf8_all, refl};
 ghost use Rattle.std.specs.Str.{bytes_eq, chars, all_scalars};
 ghost use Rattle.std.specs.Cmp.Lexicographic.{nat_list_eq_equiv};

@@ -1,6 +1,9 @@
+//! Types of columns, and their encryptions.
+
 ghost use Rattle.std.specs.Prelude.{◌≡◌, ◌≤◌, ℕ, IfSome, IsSome, ◌↔◌};
 ghost use Rattle.ae_base.specs.Sizes.{IsTextSize, IsBinarySize};
 
+use crate::limits::{MOST_BINARY_BYTES, MOST_TEXT_UNITS};
 use std::marker::Model;
 
 /// The size of an NVARCHAR: the most UTF-16 units that its values have, from 1 to 4000.
@@ -24,7 +27,7 @@ impl Model for TextSize {
 
 impl TextSize {
     /// The largest size.
-    pub const MOST: u16 = 4000;
+    pub const MOST: u16 = MOST_TEXT_UNITS;
 
     /// The size of so many units, where there is one.
     pub fn from_number(units: u16) -> Option<TextSize>
@@ -76,7 +79,7 @@ impl Model for BinarySize {
 
 impl BinarySize {
     /// The largest size.
-    pub const MOST: u16 = 8000;
+    pub const MOST: u16 = MOST_BINARY_BYTES as u16;
 
     /// The size of so many bytes, where there is one.
     pub fn from_number(bytes: u16) -> Option<BinarySize>

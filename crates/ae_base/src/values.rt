@@ -1,3 +1,5 @@
+//! Values, and whether one fits a type.
+
 ghost use Rattle.std.specs.Prelude.{◌≡◌, IsTrue, ◌↔◌, ◌≤◌};
 ghost use Rattle.std.specs.Str.{chars};
 ghost use Rattle.ae_base.specs.Values.{DatumFits, Fits, is_within, units, value_is_within};

@@ -4,20 +4,20 @@ use Rattle.std.specs.Prelude.{IfSome}
 use Rattle.std.proofs.lemmas.List.{append-nil}
 use Rattle.std.proofs.lemmas.List.Elements.{All-nil}
 use Rattle.ae_edge.specs.Devices.{Adds, AddsFront, Removes, WhereTold}
-use Rattle.run_words.specs.Counting.{nothing}
+use Rattle.outcome_text.specs.Counting.{nothing}
 use Rattle.server_core.specs.Laws.{RequestsAreSerial}
 use Rattle.script_run.specs.Ends as script
 use Rattle.script_run.specs.RunOf.{IsRunOf}
 use Rattle.script_run.specs.declared.runs.Ran.TheVariants as ran
 use Rattle.script_run.specs.declared.runs.Unread.TheVariants as unread
-use Rattle.summary_command.specs.SummaryOf.{IsSummaryOf, silent}
+use Rattle.script_run.specs.SummaryOf.{IsSummaryOf, silent}
 use Rattle.drive_command.specs.DriveOf.{IsDriveOf}
 use Rattle.drive_command.specs.Ends as driving
 use Rattle.check_command.specs.Ends as check
 use Rattle.check_command.specs.declared.steps.Checked.TheVariants as checked
 use Rattle.wrap_command.specs.Wrapping.{Takes}
 use Rattle.wrap_command.specs.declared.commands.Wrapped.TheVariants as wrapped
-use Rattle.serve_command.specs.Serving.{Serves}
+use Rattle.serve_command.specs.Serving.{ServesStream}
 use Rattle.serve_command.specs.declared.commands.Served.TheVariants as served
 
 -- ---- contents that stay
@@ -56,7 +56,7 @@ key_kept None = tt
 -- ---- the commands
 
 module _ (serial : RequestsAreSerial) where
-  pub not_run : (bytes : List ℕ) (lent : script.Lent) → IsRunOf (ran.Unread unread.OutOfMemory) bytes lent lent
+  pub not_run : (bytes : List ℕ) (lent : script.RunDevices) → IsRunOf (ran.Unread unread.OutOfMemory) bytes lent lent
   not_run bytes lent = record {
     count = record { steps = 0; tally = nothing };
     content = refl;
@@ -66,7 +66,7 @@ module _ (serial : RequestsAreSerial) where
     transcript = λ empty steps spelled keys told. refl;
   }
 
-  pub not_summed : (bytes : List ℕ) (lent : script.Lent) → IsSummaryOf (ran.Unread unread.OutOfMemory) bytes lent lent
+  pub not_summed : (bytes : List ℕ) (lent : script.RunDevices) → IsSummaryOf (ran.Unread unread.OutOfMemory) bytes lent lent
   not_summed bytes lent = record {
     ran = ran.Unread unread.OutOfMemory;
     run = not_run bytes (silent lent);
@@ -74,7 +74,7 @@ module _ (serial : RequestsAreSerial) where
     counts = λ empty steps spelled keys told. tt;
   }
 
-  pub not_served : (left out : Option (List ℕ)) → Serves served.OutOfMemory left left out out
+  pub not_served : (left out : Option (List ℕ)) → ServesStream served.OutOfMemory left left out out
   not_served left out = record {
     taken = [];
     lost = removes_none left;
@@ -82,5 +82,5 @@ module _ (serial : RequestsAreSerial) where
     serial = λ requests others begins. serial requests;
   }
 
-pub not_driven : (bytes : List ℕ) (lent : driving.Lent) → IsDriveOf (ran.Unread unread.OutOfMemory) bytes lent lent
+pub not_driven : (bytes : List ℕ) (lent : driving.DriveDevices) → IsDriveOf (ran.Unread unread.OutOfMemory) bytes lent lent
 not_driven bytes lent = record { content = refl; exact = λ steps spelled keys told replies recorded. refl }

@@ -20,13 +20,13 @@ ghost use Rattle.ae_edge.specs.Devices.{Rose, WhereTold};
 ghost use Rattle.server_core.specs.Serve.{State, empty_state};
 ghost use Rattle.wire_frames.specs.Frames.{End};
 ghost use Rattle.serve_command.specs.ServeAll.{ServeAll};
-ghost use Rattle.serve_command.specs.Serving.{IsServed, Serves, most_input_bytes};
+ghost use Rattle.serve_command.specs.Serving.{IsServed, ServesStream, most_stream_bytes};
 ghost use Rattle.serve_command.specs.declared.commands.Served.{Served};
 ghost use Rattle.script_run.specs.declared.runs.Ran.{Ran};
 ghost use Rattle.script_run.specs.Ends.{TakesScript};
 ghost use Rattle.script_run.specs.RunOf.{IsRunOf};
 ghost use Rattle.script_run.specs.Statuses.{status_of};
-ghost use Rattle.summary_command.specs.SummaryOf.{IsSummaryOf};
+ghost use Rattle.script_run.specs.SummaryOf.{IsSummaryOf};
 
 use crate::checking::check_script;
 use crate::generating::generate_script;
@@ -40,12 +40,12 @@ use ae_edge::sources::Source;
 use ae_edge::vaults::Vault;
 use command_words::commands::{Command, command_of};
 use drive_command::commands::drive;
-use script_run::programs::run;
+use script_run::commands::run;
 use script_run::status::Status;
+use script_run::summaries::summarize;
 use server_core::laws::requests_are_serial;
 use server_core::peers::Peer;
 use std::alloc::Global;
-use summary_command::commands::summarize;
 
 /// Does what the words ask for, of which the first is the program's name, and says how it ended.
 ///
@@ -123,9 +123,9 @@ pub fn ae_main<S: Source, V: Vault, E: Entropy, L: Source, W: Sink, T: Sink, P: 
     ensures checked_alone { Are words.now Check → (vault.new ≡ vault.old) × (entropy.new ≡ entropy.old) × (tap.new ≡ tap.old) × (peer.new ≡ peer.old) }
     // Serving: what was taken of the script, and what was put for it, by how it ended; and that transactions took effect one after
     // another. Nothing else is touched.
-    ensures served { Are words.now Serve → (served : Served) × (result ≡ status_of_serving served) × Serves served (S.left script.old) (S.left script.new) (W.held out.old) (W.held out.new) }
+    ensures served { Are words.now Serve → (served : Served) × (result ≡ status_of_serving served) × ServesStream served (S.left script.old) (S.left script.new) (W.held out.old) (W.held out.new) }
     // Where the script tells its bytes: by how those within the limit end, and the frames of the replies to their requests.
-    ensures served_exactly { Are words.now Serve → (bytes frames : List ℕ) (end : End) (after : State) → S.left script.old ≡ Some bytes → ServeAll (take most_input_bytes bytes) end frames after
+    ensures served_exactly { Are words.now Serve → (bytes frames : List ℕ) (end : End) (after : State) → S.left script.old ≡ Some bytes → ServeAll (take most_stream_bytes bytes) end frames after
         → (served : Served) × (result ≡ status_of_serving served) × IsServed served bytes end frames (W.held out.old) (W.held out.new) }
     ensures served_alone { Are words.now Serve → (vault.new ≡ vault.old) × (entropy.new ≡ entropy.old) × (tap.new ≡ tap.old) × (peer.new ≡ peer.old) }
     // The faults of the outside come only where a count rose.

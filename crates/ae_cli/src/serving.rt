@@ -5,7 +5,7 @@ ghost use Rattle.ae_edge.specs.Devices.{Rose};
 ghost use Rattle.wire_frames.specs.Frames.{End};
 ghost use Rattle.server_core.specs.Serve.{State};
 ghost use Rattle.serve_command.specs.ServeAll.{ServeAll};
-ghost use Rattle.serve_command.specs.Serving.{IsServed, Serves, most_input_bytes};
+ghost use Rattle.serve_command.specs.Serving.{IsServed, ServesStream, most_stream_bytes};
 ghost use Rattle.serve_command.specs.declared.commands.Served.{Served};
 ghost use Rattle.ae_cli.specs.Serves.{status_of_serving};
 
@@ -29,10 +29,10 @@ fn status_of(served: Served) -> Status
     }
 }
 
-/// Serves the requests of the input.
+/// ServesStream the requests of the input.
 pub fn serve_requests<S: Source, W: Sink>(alloc: Global, input: &mut S, out: &mut W) -> Status
-    ensures content { (served : Served) × (result ≡ status_of_serving served) × Serves served (S.left input.old) (S.left input.new) (W.held out.old) (W.held out.new) }
-    ensures exact { (bytes frames : List ℕ) (end : End) (after : State) → S.left input.old ≡ Some bytes → ServeAll (take most_input_bytes bytes) end frames after
+    ensures content { (served : Served) × (result ≡ status_of_serving served) × ServesStream served (S.left input.old) (S.left input.new) (W.held out.old) (W.held out.new) }
+    ensures exact { (bytes frames : List ℕ) (end : End) (after : State) → S.left input.old ≡ Some bytes → ServeAll (take most_stream_bytes bytes) end frames after
         → (served : Served) × (result ≡ status_of_serving served) × IsServed served bytes end frames (W.held out.old) (W.held out.new) }
     ensures read { result ≡ Status.ReadFault → Rose (S.faults input.old) (S.faults input.new) }
     ensures write { result ≡ Status.WriteFault → Rose (W.faults out.old) (W.faults out.new) }

@@ -1,3 +1,5 @@
+//! The commands through the top call, over devices in memory.
+
 use crate::commands::ae_main;
 use ae_base::texts::Txt;
 use ae_edge::memory::entropy::MemEntropy;
@@ -26,10 +28,24 @@ struct Left {
     tap: MemSink,
 }
 
-fn left_by(alloc: Global, words: &[Txt], script: Vec<u8>, replies: Vec<u8>) -> Left {
+/// The master key of the path `main`.
+const MAIN: [u8; 32] = [
+    0, 1, 2, 3, 4, 5, 6, 7, 8, 9, 10, 11, 12, 13, 14, 15, 16, 17, 18, 19, 20, 21, 22, 23, 24, 25,
+    26, 27, 28, 29, 30, 31,
+];
+
+fn left_by(
+    alloc: Global,
+    words: &[Txt],
+    script: Vec<u8>,
+    replies: Vec<u8>,
+) -> Result<Left, AllocError> {
+    let drawn = vec![in alloc; 7u8; 16_000]?;
+    let mut keys = Vec::new(alloc);
+    keys.push((Txt::copied(alloc, "main")?, MAIN))?;
     let mut script = MemSource::new(script, 10, Vec::new(alloc));
-    let mut vault = MemVault::new(Vec::new(alloc), Vec::new(alloc));
-    let mut entropy = MemEntropy::new(Vec::new(alloc), Vec::new(alloc));
+    let mut vault = MemVault::new(keys, Vec::new(alloc));
+    let mut entropy = MemEntropy::new(drawn, Vec::new(alloc));
     let mut replies = MemSource::new(replies, 10, Vec::new(alloc));
     let mut out = MemSink::new(alloc, Vec::new(alloc));
     let mut tap = MemSink::new(alloc, Vec::new(alloc));
@@ -45,7 +61,7 @@ fn left_by(alloc: Global, words: &[Txt], script: Vec<u8>, replies: Vec<u8>) -> L
         &mut tap,
         &mut peer,
     );
-    Left { status, out, tap }
+    Ok(Left { status, out, tap })
 }
 
 fn words_of(alloc: Global, words: &[&str]) -> Result<Vec<Txt>, AllocError> {
@@ -67,7 +83,7 @@ const REPLIES: &[u8] =
 fn left_under(alloc: Global, words: &[&str]) -> Result<Left, AllocError> {
     let words = words_of(alloc, words)?;
     let script = PLAIN_TABLE.as_bytes().to_vec(alloc)?;
-    Ok(left_by(alloc, words.as_slice(), script, Vec::new(alloc)))
+    left_by(alloc, words.as_slice(), script, Vec::new(alloc))
 }
 
 #[test]
@@ -97,7 +113,7 @@ fn driven(alloc: Global, replies: &[u8]) -> Result<Left, AllocError> {
     let words = words_of(alloc, &["ae", "drive"])?;
     let script = b"CREATE TABLE t (a INT)".to_vec(alloc)?;
     let replies = replies.to_vec(alloc)?;
-    Ok(left_by(alloc, words.as_slice(), script, replies))
+    left_by(alloc, words.as_slice(), script, replies)
 }
 
 #[test]
@@ -166,5 +182,19 @@ fn gen_writes_a_script_of_one_row(rt: HostRuntime) -> Result<(), Fail> {
     let left = left_under(rt.alloc(), &["ae", "gen", "1"])?;
     assert_eq!(rt; left.status.number(), 0);
     assert_eq!(rt; left.out.bytes(), ONE_ROW.as_bytes());
+    Ok(())
+}
+
+#[test]
+fn a_thousand_generated_rows_are_counted(rt: HostRuntime) -> Result<(), Fail> {
+    let made = left_under(rt.alloc(), &["ae", "gen", "1000"])?;
+    let script = made.out.bytes().to_vec(rt.alloc())?;
+    let words = words_of(rt.alloc(), &["ae", "run", "--summary"])?;
+    let left = left_by(rt.alloc(), words.as_slice(), script, Vec::new(rt.alloc()))?;
+    assert_eq!(rt; left.status.number(), 0);
+    assert_eq!(rt;
+        left.out.bytes(),
+        b"steps 1005\nerrors 0\nrows 11\nrequests 2010\n".as_slice()
+    );
     Ok(())
 }

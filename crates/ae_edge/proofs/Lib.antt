@@ -1,6 +1,7 @@
+pub mod Interface
 mod KeyContents
 mod KeyPaths
 mod Progress
 mod Reading
-pub mod Told
-pub mod Whole
+mod Told
+mod Whole

@@ -8,9 +8,7 @@ use Rattle.ae_edge.specs.declared.sources.Taken.TheVariants.{Bytes, End, Failed,
 -- a piece has at least one byte, and at most max
 abbrev pub IsPiece : ℕ → Taken → Type 0
 IsPiece max (Bytes bytes) = (0 < length bytes) × (length bytes ≤ max)
-IsPiece max End = Unit {0}
-IsPiece max Failed = Unit {0}
-IsPiece max OutOfMemory = Unit {0}
+IsPiece max other = Unit {0}
 
 -- bytes leave the front; an end comes only where none are left; else they stay
 abbrev pub Takes : Taken → List ℕ → List ℕ → Type 0

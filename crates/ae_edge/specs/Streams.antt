@@ -27,9 +27,7 @@ CountsReadAll read.OutOfMemory old new = new ≡ old
 -- what was read whole is within the limit
 abbrev pub IsWithin : ℕ → ReadAll → Type 0
 IsWithin limit (read.Whole bytes) = length bytes ≤ limit
-IsWithin limit read.TooLong = Unit {0}
-IsWithin limit read.ReadFault = Unit {0}
-IsWithin limit read.OutOfMemory = Unit {0}
+IsWithin limit other = Unit {0}
 
 -- all bytes were put, or a front of them before a call failed
 abbrev pub PutsAll : List ℕ → PutAll → Option (List ℕ) → Option (List ℕ) → Type 0

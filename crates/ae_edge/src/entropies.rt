@@ -1,3 +1,5 @@
+//! Sources of random bytes.
+
 ghost use Rattle.std.specs.Prelude.{◌≡◌, ◌≤◌, ◌∷◌, [], ℕ, List, Option};
 ghost use Rattle.std.specs.Borrow.{GName};
 ghost use Rattle.ae_edge.specs.Devices.{Rose, WhereTold};

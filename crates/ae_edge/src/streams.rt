@@ -1,3 +1,5 @@
+//! Sources that are read to their end, and bytes that are put whole.
+
 ghost use Rattle.std.specs.Prelude.{◌≡◌, ◌≤◌};
 ghost use Rattle.ae_edge.specs.Devices.{Rose, WhereTold};
 ghost use Rattle.ae_edge.specs.Streams.{IsWithin, CountsPutAll, PutsAll, CountsReadAll, ReadsAll};

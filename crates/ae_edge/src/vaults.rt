@@ -1,3 +1,5 @@
+//! Vaults of master keys.
+
 ghost use Rattle.std.specs.Prelude.{◌≡◌, ◌≤◌, ◌∷◌, [], ℕ, List, Option, IfSome};
 ghost use Rattle.std.specs.Borrow.{GName};
 ghost use Rattle.ae_edge.specs.Devices.{Rose};

@@ -9,7 +9,7 @@ use Rattle.engine.specs.Laws.{StepKeepsWorlds}
 use Rattle.engine.specs.Step.{step}
 use Rattle.engine.specs.WellTyped.{IsWellTyped}
 use Rattle.engine.specs.Worlds.{World}
-use Rattle.engine.proofs.Simulating.{step_alike}
+use Rattle.engine.proofs.Interface.{step_alike}
 use Rattle.blind_laws.specs.Executions.{Execution, executed, any_cell, AreExecutable, ExecutionsCorrespond}
 use Rattle.blind_laws.specs.Laws.{AreAlike}
 use Rattle.blind_laws.specs.Renaming.{AreCells, PairsCells}

@@ -1,2 +1,3 @@
-pub mod InTurn
-pub mod Wider
+mod InTurn
+pub mod Interface
+mod Wider

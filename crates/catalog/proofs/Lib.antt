@@ -1,3 +1,4 @@
-pub mod Found
-pub mod Kept
-pub mod History
+mod Found
+mod History
+pub mod Interface
+mod Kept

@@ -1,3 +1,5 @@
+//! The catalog: what is defined, with its version.
+
 ghost use Rattle.std.specs.Prelude.{◌≡◌, ◌≤◌, IfOk, IsSome};
 ghost use Rattle.std.specs.List.{list_any};
 ghost use Rattle.std.specs.Option.{option_copied, option_map};
@@ -5,9 +7,9 @@ ghost use Rattle.catalog.specs.Catalogs.{nothing_defined, master_named, key_name
 ghost use Rattle.catalog.specs.Definitions.{Defines};
 
 use crate::keys::{ColumnKey, MasterKey};
-use ae_base::batches::KeyMeta;
 use ae_base::faults::SqlFault;
-use ae_base::keys::{KeyPath, WrappedKey};
+use ae_base::keys::{KeyMeta, KeyPath, WrappedKey};
+use ae_base::limits::{MOST_COLUMN_KEYS, MOST_MASTER_KEYS, MOST_TABLES};
 use ae_base::lists::{Duplicate, Seq};
 use ae_base::names::Name;
 use ae_base::refusals::Refusal;
@@ -39,15 +41,6 @@ impl Model for Catalog {
 }
 
 impl Catalog {
-    /// The most master keys that a catalog has.
-    pub const MOST_MASTERS: usize = 64;
-
-    /// The most column keys that a catalog has.
-    pub const MOST_KEYS: usize = 64;
-
-    /// The most tables that a catalog has.
-    pub const MOST_TABLES: usize = 256;
-
     /// The catalog in which nothing is defined, of version 0. It takes no memory.
     pub fn new(alloc: Global) -> Catalog
         ensures { result ≡ nothing_defined }
@@ -197,7 +190,7 @@ impl Catalog {
     pub fn is_full_of_masters(&self) -> bool
         ensures { result ≡ is_full_of_masters self.now }
     {
-        self.masters.len() >= Catalog::MOST_MASTERS || self.is_at_last_version()
+        self.masters.len() >= MOST_MASTER_KEYS || self.is_at_last_version()
     }
 
     /// Whether no further column key can be defined: there are 64, or the last number or the last
@@ -205,7 +198,7 @@ impl Catalog {
     pub fn is_full_of_keys(&self) -> bool
         ensures { result ≡ is_full_of_keys self.now }
     {
-        self.keys.len() >= Catalog::MOST_KEYS
+        self.keys.len() >= MOST_COLUMN_KEYS
             || self.next_id > u32::MAX as u64
             || self.is_at_last_version()
     }
@@ -214,7 +207,7 @@ impl Catalog {
     pub fn is_full_of_tables(&self) -> bool
         ensures { result ≡ is_full_of_tables self.now }
     {
-        self.tables.len() >= Catalog::MOST_TABLES || self.is_at_last_version()
+        self.tables.len() >= MOST_TABLES || self.is_at_last_version()
     }
 
     /// Defines a master key, at the end of the list. `Exists` for a name that a master key has, else

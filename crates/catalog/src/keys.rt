@@ -1,8 +1,9 @@
+//! The entries of a catalog for keys.
+
 ghost use Rattle.std.specs.Prelude.{◌≡◌, IfOk};
 ghost use Rattle.catalog.specs.Catalogs.{meta_of};
 
-use ae_base::batches::KeyMeta;
-use ae_base::keys::{KeyPath, WrappedKey};
+use ae_base::keys::{KeyMeta, KeyPath, WrappedKey};
 use ae_base::lists::Duplicate;
 use ae_base::names::Name;
 use ae_base::types::KeyId;

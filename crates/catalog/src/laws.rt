@@ -1,3 +1,5 @@
+//! What definitions do to catalogs, as laws.
+
 ghost use Rattle.catalog.specs.Laws.{DefinitionsKeepCatalogs, DefinitionsAreFollowed, EachFollowsItself, FollowingIsTransitive, IdsAreNotReused, KeysAreTold, NamedAreNumbered};
 
 /// Each definition keeps what a catalog is: that of a column key under a master key that is there,

@@ -8,7 +8,7 @@ use Rattle.std.specs.Simd.{first_chunks}
 use Rattle.aes_block.specs.Aes.{encrypted, decrypted, IsBlock}
 use Rattle.cbc_mode.specs.declared.CbcFault.TheVariants.{NotPadded}
 use Rattle.aes_block.specs.Bytes.{AreBytes, xored}
-use Rattle.aes_block.proofs.Xoring.{length-xored, AreBytes-xored, xored-xored}
+use Rattle.aes_block.proofs.Interface.{length-xored, AreBytes-xored, xored-xored}
 use Rattle.cbc_mode.specs.Cbc.{padded, chained, unchained, blocks_of, cbc, decrypted_cbc}
 use Rattle.cbc_mode.proofs.Blocks.{length-concat, concat-blocks_of, blocks_of-concat}
 use Rattle.cbc_mode.proofs.Unchaining.{IsUnchained-undone}

@@ -9,8 +9,8 @@ use Rattle.std.specs.Simd.{first_chunks}
 use Rattle.std.specs.Simd.Lanes.{zip2}
 use Rattle.aes_block.specs.Aes.{encrypted, decrypted}
 use Rattle.aes_block.specs.Bytes.{xored}
-use Rattle.aes_block.proofs.Inversion.{length-decrypted}
-use Rattle.aes_block.proofs.Xoring.{length-xored, xored-xored}
+use Rattle.aes_block.proofs.Interface.{length-decrypted}
+use Rattle.aes_block.proofs.Interface.{length-xored, xored-xored}
 use Rattle.cbc_mode.specs.Cbc.{chained, unchained, blocks_of, AreUndone, Unchains}
 use Rattle.cbc_mode.proofs.Blocks.{length-concat, concat-blocks_of, blocks_of-concat, blocks_of-long}
 

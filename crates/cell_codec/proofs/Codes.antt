@@ -5,7 +5,7 @@ use Rattle.std.proofs.lemmas.List.Elements.{All-take}
 use Rattle.aes_block.specs.Aes.{IsKey, IsBlock}
 use Rattle.hmac_kdf.specs.Hmac.{hmac}
 use Rattle.hmac_kdf.specs.Keys.{Keys, keys_of}
-use Rattle.hmac_kdf.proofs.Codes.{length-hmac, bytes-hmac}
+use Rattle.hmac_kdf.proofs.Interface.{length-hmac, bytes-hmac}
 use Rattle.cell_codec.specs.Cells.{iv_of}
 
 pub hmac-IsKey : (key message : List ℕ) → IsKey (hmac key message)

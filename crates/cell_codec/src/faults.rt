@@ -1,3 +1,5 @@
+//! Why a cell is refused.
+
 use thiserror::Error;
 
 /// Why a cell was not opened.

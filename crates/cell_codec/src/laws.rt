@@ -1,3 +1,5 @@
+//! What is sealed is read back, as laws.
+
 ghost use Rattle.cell_codec.specs.Laws.{SealedIsReadBack, SealedDetIsReadBack};
 ghost use Rattle.cell_codec.specs.Laws.{SealedIsCell, SealedHasShape};
 ghost use Rattle.cell_codec.specs.Laws.{DerivedAreKeys, IvIsBlock};

@@ -1,3 +1,5 @@
+//! Values sealed into cells.
+
 ghost use Rattle.std.specs.Prelude.{◌≡◌, ◌∷◌, ◌++◌, ◌+◌, ◌*◌, ◌/◌, ◌≤◌, IfOk, length};
 ghost use Rattle.cell_codec.specs.Cells.{version, sealed, sealed_det, iv_of};
 

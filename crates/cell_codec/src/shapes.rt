@@ -1,3 +1,5 @@
+//! The lengths that cells of a type have.
+
 ghost use Rattle.std.specs.Prelude.{◌≡◌, ◌^◌, ◌<◌, ◌↔◌, IsTrue};
 ghost use Rattle.cell_codec.specs.Cells.{IsShape, is_shape, is_cell_length, is_length_of, most_blocks};
 

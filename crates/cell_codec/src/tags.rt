@@ -1,3 +1,5 @@
+//! The tags of cells.
+
 ghost use Rattle.std.specs.Prelude.{◌≡◌};
 ghost use Rattle.std.specs.Str.{bytes_eq};
 ghost use Rattle.cell_codec.specs.Cells.{tag_of};

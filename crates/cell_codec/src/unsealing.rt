@@ -1,3 +1,5 @@
+//! Cells opened.
+
 ghost use Rattle.std.specs.Prelude.{◌≡◌, IsTrue, IfSome, is_some, length, slice_index};
 ghost use Rattle.cell_codec.specs.Cells.{unsealed, UnsealsTo, is_authentic, is_cell_length};
 ghost use Rattle.cell_codec.specs.Cells.{tag_in, iv_in, ciphertext_in};

@@ -27,8 +27,8 @@ use Rattle.conversation.specs.declared.sessions.Session.TheVariants as session
 use Rattle.conversation.specs.declared.sessions.Turn.{Turn}
 use Rattle.script_lang.specs.Limits.{HasParams}
 use Rattle.plain_meaning.specs.Reference.{declared, pending}
-use Rattle.plain_meaning.proofs.Sending.{told_among, encs_found}
-use Rattle.plain_meaning.proofs.Understood.{parts_of}
+use Rattle.plain_meaning.proofs.Interface.{told_among, encs_found}
+use Rattle.plain_meaning.proofs.Interface.{parts_of}
 use Rattle.check_command.proofs.Following.{bind_ok}
 use Rattle.conversation.specs.declared.faults.Halt.{Halt}
 use Rattle.conversation.specs.declared.faults.Halt.TheVariants as halt

@@ -14,7 +14,7 @@ use Rattle.sql_tree.specs.Bound as bound
 use Rattle.sql_tree.specs.Statements.{Statement}
 use Rattle.sql_tree.specs.Statements as tree
 use Rattle.sql_tree.specs.Uses.{uses}
-use Rattle.bound_checks.specs.Checks.{checked}
+use Rattle.semantic_checks.specs.Checks.{checked}
 use Rattle.catalog.specs.Catalogs.{Catalog, with_master, with_key, with_table, without_master, without_key, without_table}
 use Rattle.enc_types.specs.UsedAlone.{used_among, is_used, alone}
 use Rattle.resolve.specs.Bind.{bind, bound_over, table_sites}
@@ -42,7 +42,7 @@ use Rattle.conversation.specs.Sessions.{encs_of, with_enc}
 use Rattle.conversation.specs.declared.sessions.Session.TheVariants.{Idle}
 use Rattle.plain_meaning.specs.Reference.{Came, came, declared, pending}
 use Rattle.plain_meaning.specs.Reference as plain
-use Rattle.plain_meaning.proofs.Understood.{parts_of, understood_alone, transact_alone}
+use Rattle.plain_meaning.proofs.Interface.{parts_of, understood_alone, transact_alone}
 use Rattle.check_command.proofs.Following.{bind_ok}
 use Rattle.check_command.specs.Asked.{AnswersAs, ComesTo, IsDefinition}
 use Rattle.check_command.specs.Check.{defines, is_definition, reads_definition}

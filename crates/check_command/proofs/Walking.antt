@@ -3,8 +3,8 @@ use Rattle.std.proofs.Common.{◌≡◌, inl, inr, ℕ, suc, ◌+◌, ◌<◌, �
 use Rattle.std.proofs.Math.ListN.{drop_of_length-le}
 use Rattle.ae_base.specs.declared.batches.Batch.{Batch}
 use Rattle.ae_edge.specs.Devices.{Adds, AddsFront, IsFront}
-use Rattle.ae_edge.proofs.Told.{adds_none, adds_then}
-use Rattle.run_words.specs.Printing.{is_refusal, has_refusal}
+use Rattle.ae_edge.proofs.Interface.{adds_none, adds_then}
+use Rattle.outcome_text.specs.Printing.{is_refusal, has_refusal}
 use Rattle.script_lang.specs.declared.steps.Step.{Step}
 use Rattle.script_lang.specs.declared.steps.Step.TheVariants.{Whole, Half, Execute}
 use Rattle.server_core.specs.Serve.{State, empty_state}

@@ -95,19 +95,10 @@ ComesTo c after comes = (c.comes ≡ comes) × (c.state ≡ after)
 -- EncryptionClash
 abbrev pub is_clash : Outcome → Bool
 is_clash (outcome.Refused f) = code_of f == 30
-is_clash (outcome.Rows listing) = false
-is_clash (outcome.Broken listing why) = false
-is_clash (outcome.Changed count) = false
-is_clash outcome.Defined = false
-is_clash (outcome.Described params) = false
-is_clash (outcome.Failed f) = false
+is_clash other = false
 
 -- the one reply to a definition that is executed
 abbrev pub AnswersAs : List Reply → Outcome → Type 0
 AnswersAs replies outcome.Defined = replies ≡ reply.Ended done.Defined ∷ []
 AnswersAs replies (outcome.Refused f) = replies ≡ reply.Refused f ∷ []
-AnswersAs replies (outcome.Rows listing) = ⊥
-AnswersAs replies (outcome.Broken listing why) = ⊥
-AnswersAs replies (outcome.Changed count) = ⊥
-AnswersAs replies (outcome.Described params) = ⊥
-AnswersAs replies (outcome.Failed f) = ⊥
+AnswersAs replies other = ⊥

@@ -19,7 +19,7 @@ use Rattle.conversation.specs.declared.sessions.Session.TheVariants.{Idle}
 use Rattle.script_lang.specs.declared.steps.Step.{Step}
 use Rattle.script_lang.specs.declared.steps.Step.TheVariants.{Whole, Half, Execute}
 use Rattle.plain_meaning.specs.Reference.{Came, begins, declared, executed, waits}
-use Rattle.run_words.specs.Printing.{line, printed_outcome}
+use Rattle.outcome_text.specs.Printing.{line, printed_outcome}
 
 -- ---- which batches are executed
 

@@ -2,17 +2,14 @@
 use Rattle.std.specs.Prelude.{◌≡◌, ◌⊎◌, ℕ, ◌≤◌, ◌<◌, ◌+◌, List, [], length, Option, Ok, Err, Bool, true, false}
 use Rattle.ae_edge.specs.Devices.{Adds}
 use Rattle.ae_edge.specs.Streams.{HasTaken}
-use Rattle.run_words.specs.Printing.{has_refusal}
+use Rattle.outcome_text.specs.Printing.{has_refusal}
 use Rattle.script_lang.specs.Script.{steps_of}
 use Rattle.script_lang.specs.declared.steps.Step.{Step}
 use Rattle.server_core.specs.Serve.{empty_state}
 use Rattle.check_command.specs.Check.{batches, outcomes, IsCheck, IsCheckFront}
 use Rattle.check_command.specs.declared.steps.Checked.{Checked}
 use Rattle.check_command.specs.declared.steps.Checked.TheVariants as ended
-
--- a script has at most 16,777,216 bytes
-abbrev pub most_script_bytes : ℕ
-most_script_bytes = 16777216
+pub use Rattle.ae_base.specs.Limits.{most_script_bytes}
 
 -- ---- steps
 
@@ -66,10 +63,6 @@ Takes ended.TooLong bytes left = HasTaken (λ n. n ≡ most_script_bytes + 1) by
 
 -- the script was read whole
 abbrev pub IsRead : Checked → Type 0
-IsRead ended.Done = Unit {0}
-IsRead ended.Refusals = Unit {0}
-IsRead ended.WriteFault = Unit {0}
-IsRead ended.OutOfMemory = Unit {0}
 IsRead ended.ReadFault = ⊥
-IsRead (ended.BadLine n) = Unit {0}
 IsRead ended.TooLong = ⊥
+IsRead other = Unit {0}

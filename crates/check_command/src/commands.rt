@@ -7,14 +7,12 @@ ghost use Rattle.check_command.specs.Ends.{ChecksScript, IsRead, Takes, most_scr
 pub use crate::steps::Checked;
 use crate::steps::check_steps;
 use ae_base::blobs::Blob;
+use ae_base::limits::MOST_SCRIPT_BYTES;
 use ae_edge::sinks::Sink;
 use ae_edge::sources::Source;
 use ae_edge::streams::{ReadAll, read_all};
 use script_lang::scripts::{ScriptFault, read_script};
 use std::alloc::Global;
-
-/// The most bytes that a script has.
-pub const MOST_SCRIPT_BYTES: usize = 16_777_216;
 
 fn check_bytes<W: Sink>(alloc: Global, script: &Blob, out: &mut W) -> Checked
     requires { length script.now ≤ most_script_bytes }

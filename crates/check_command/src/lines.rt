@@ -4,7 +4,7 @@ ghost use Rattle.std.specs.Prelude.{◌≡◌, ◌++◌, IfOk, OnOk, None, flat_
 ghost use Rattle.ae_base.specs.declared.batches.Param.{Param};
 ghost use Rattle.conversation.specs.Batches.{why_unfit};
 ghost use Rattle.plain_meaning.specs.Reference.{declared};
-ghost use Rattle.run_words.specs.Printing.{printed_outcome};
+ghost use Rattle.outcome_text.specs.Printing.{printed_outcome};
 ghost use Rattle.server_core.specs.Describing.{named};
 ghost use Rattle.server_core.specs.Explaining.{Explains};
 ghost use Rattle.wire_parts.specs.Texts.{IsStatementText};
@@ -17,7 +17,7 @@ use ae_base::lists::{Duplicate, Seq};
 use ae_base::params::ParamList;
 use ae_base::texts::Txt;
 use conversation::outcomes::Outcome;
-use run_words::texts::text_of;
+use outcome_text::texts::text_of;
 use server_core::server::Server;
 use std::alloc::{AllocError, Global};
 use std::fmt::Write;

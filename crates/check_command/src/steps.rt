@@ -22,7 +22,7 @@ use ae_base::sessions::SessionId;
 use ae_edge::sinks::Sink;
 use ae_edge::streams::{PutAll, put_all};
 use conversation::outcomes::Outcome;
-use run_words::texts::is_refusal;
+use outcome_text::texts::is_refusal;
 use script_lang::steps::Step;
 use server_core::server::Server;
 use std::alloc::{AllocError, Global};

@@ -1,3 +1,5 @@
+//! Words that are commands, and words that are not.
+
 use crate::commands::{Command, command_of};
 use ae_base::refusals::Refusal;
 use ae_base::texts::Txt;

@@ -2,10 +2,10 @@
 use Rattle.std.proofs.Common.{◌≡◌, ℕ, ◌≤◌, List, [], ◌∷◌, ◌++◌, Option, Some, None, Result, Ok, Err, length, refl, sym, ◌∙◌, ap, subst, append_assoc, append-nil, arith}
 use Rattle.std.specs.Prelude.{flat_map, IfSome}
 use Rattle.std.proofs.lemmas.Grind.{flat_map-append}
-use Rattle.ae_base.specs.declared.batches.KeyMeta.{KeyMeta}
+use Rattle.ae_base.specs.declared.keys.KeyMeta.{KeyMeta}
 use Rattle.ae_edge.specs.Devices.{WhereTold}
 use Rattle.ae_edge.specs.Vaults.{KeyMap}
-use Rattle.ae_edge.proofs.Told.{rose_before}
+use Rattle.ae_edge.proofs.Interface.{rose_before}
 use Rattle.hmac_kdf.specs.Keys.{Keys}
 use Rattle.aes_block.specs.Bytes.{AreBytes}
 use Rattle.conversation.specs.declared.faults.DriverFault.{DriverFault}

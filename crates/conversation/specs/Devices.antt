@@ -53,22 +53,12 @@ pub record Halts (P : Talk → Type 0) (t : Talk) (old new : Devices) : Type 0 w
 -- 16 bytes are to be drawn
 abbrev pub IsAtDraw : Talk → Type 0
 IsAtDraw (Draws f) = Unit {0}
-IsAtDraw (Ends sessions) = ⊥
-IsAtDraw (Stops comes) = ⊥
-IsAtDraw (Asks request t) = ⊥
-IsAtDraw (Hears session shown f) = ⊥
-IsAtDraw (Opens meta f) = ⊥
-IsAtDraw (Prints comes t) = ⊥
+IsAtDraw other = ⊥
 
 -- a key is to be opened
 abbrev pub IsAtKey : Talk → Type 0
 IsAtKey (Opens meta f) = Unit {0}
-IsAtKey (Draws f) = ⊥
-IsAtKey (Ends sessions) = ⊥
-IsAtKey (Stops comes) = ⊥
-IsAtKey (Asks request t) = ⊥
-IsAtKey (Hears session shown f) = ⊥
-IsAtKey (Prints comes t) = ⊥
+IsAtKey other = ⊥
 
 -- anywhere on its way
 abbrev pub IsAnywhere : Talk → Type 0

@@ -1,6 +1,6 @@
 -- The opening of column encryption keys, with the driver's faults.
 use Rattle.std.specs.Prelude.{ℕ, List, [], ◌∷◌, Result, Ok, Err, ◌==◌, if◌then◌else◌}
-use Rattle.ae_base.specs.declared.batches.KeyMeta.{KeyMeta}
+use Rattle.ae_base.specs.declared.keys.KeyMeta.{KeyMeta}
 use Rattle.ae_edge.specs.Vaults.{KeyMap}
 use Rattle.hmac_kdf.specs.Keys.{Keys}
 use Rattle.key_store.specs.Opening as store

@@ -1,6 +1,6 @@
 -- A path through a conversation: what happens on it, one event after another.
 use Rattle.std.specs.Prelude.{◌≡◌, ℕ, List, [], ◌∷◌, ◌++◌, length, Option, Some, None, Result}
-use Rattle.ae_base.specs.declared.batches.KeyMeta.{KeyMeta}
+use Rattle.ae_base.specs.declared.keys.KeyMeta.{KeyMeta}
 use Rattle.ae_edge.specs.Vaults.{KeyMap}
 use Rattle.aes_block.specs.Bytes.{AreBytes}
 use Rattle.hmac_kdf.specs.Keys.{Keys}
@@ -48,43 +48,23 @@ pub data Follows : Talk → List Event → Talk → Type 0 where
 
 abbrev pub request_in : Event → List Request
 request_in (Asked request replies) = request ∷ []
-request_in (Took reply) = []
-request_in (Strayed next) = []
-request_in (Drew bytes) = []
-request_in (Opened meta key) = []
-request_in (Printed comes) = []
+request_in other = []
 
 abbrev pub replies_to : Event → List Reply
 replies_to (Asked request replies) = replies
-replies_to (Took reply) = []
-replies_to (Strayed next) = []
-replies_to (Drew bytes) = []
-replies_to (Opened meta key) = []
-replies_to (Printed comes) = []
+replies_to other = []
 
 abbrev pub taken_in : Event → List Reply
 taken_in (Took reply) = reply ∷ []
-taken_in (Asked request replies) = []
-taken_in (Strayed next) = []
-taken_in (Drew bytes) = []
-taken_in (Opened meta key) = []
-taken_in (Printed comes) = []
+taken_in other = []
 
 abbrev pub drawn_in : Event → List ℕ
 drawn_in (Drew bytes) = bytes
-drawn_in (Asked request replies) = []
-drawn_in (Took reply) = []
-drawn_in (Strayed next) = []
-drawn_in (Opened meta key) = []
-drawn_in (Printed comes) = []
+drawn_in other = []
 
 abbrev pub outcome_in : Event → List Outcome
 outcome_in (Printed comes) = comes ∷ []
-outcome_in (Asked request replies) = []
-outcome_in (Took reply) = []
-outcome_in (Strayed next) = []
-outcome_in (Drew bytes) = []
-outcome_in (Opened meta key) = []
+outcome_in other = []
 
 -- ---- what holds of some events
 

@@ -3,7 +3,7 @@ use Rattle.std.specs.Prelude.{ℕ, ◌+◌, ◌-◌, List, [], ◌∷◌, map, s
 use Rattle.std.specs.Str.{bytes_eq}
 use Rattle.ae_base.specs.declared.batches.Batch.{Batch}
 use Rattle.ae_base.specs.declared.batches.Param.{Param}
-use Rattle.ae_base.specs.declared.batches.KeyMeta.{KeyMeta}
+use Rattle.ae_base.specs.declared.keys.KeyMeta.{KeyMeta}
 use Rattle.ae_base.specs.declared.types.Enc.{Enc}
 use Rattle.ae_base.specs.declared.types.Enc.TheVariants as enc
 use Rattle.ae_base.specs.declared.values.Value.{Value}

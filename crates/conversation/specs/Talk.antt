@@ -1,6 +1,6 @@
 -- A conversation: what a driver does next, for each answer of what is around it.
 use Rattle.std.specs.Prelude.{ℕ, List, [], ◌∷◌, ◌++◌, Option, Some, None, Result}
-use Rattle.ae_base.specs.declared.batches.KeyMeta.{KeyMeta}
+use Rattle.ae_base.specs.declared.keys.KeyMeta.{KeyMeta}
 use Rattle.ae_base.specs.declared.values.Value.{Value}
 use Rattle.hmac_kdf.specs.Keys.{Keys}
 use Rattle.wire_messages.specs.Messages.{Header}
@@ -86,8 +86,4 @@ hear (Skipping columns count) shown r = heard_answer shown (replied (Skipping co
 -- an answer that breaks off keeps its titles and the rows before
 abbrev pub broken : Session → Listing → Option Outcome
 broken (Reading columns keys count) shown = Some (outcome.Broken shown None)
-broken Idle shown = None
-broken (Begun batch) shown = None
-broken (Pending pending) shown = None
-broken Sent shown = None
-broken (Skipping columns count) shown = None
+broken other shown = None

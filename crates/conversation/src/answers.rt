@@ -1,3 +1,5 @@
+//! What a driver makes of a reply.
+
 use crate::faults::DriverFault;
 use crate::outcomes::DescribedParam;
 use ae_base::faults::SqlFault;

@@ -1,3 +1,5 @@
+//! Why a driver refuses a step, and why it halts.
+
 ghost use Rattle.std.specs.Prelude.{◌≡◌};
 ghost use Rattle.conversation.specs.Faults.{printed_failure};
 

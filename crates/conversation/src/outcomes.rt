@@ -1,3 +1,5 @@
+//! The outcomes that are printed.
+
 use crate::faults::DriverFault;
 use ae_base::faults::SqlFault;
 use ae_base::lists::Seq;

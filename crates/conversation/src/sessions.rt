@@ -6,7 +6,9 @@ ghost use Rattle.conversation.specs.Batches.{fitted, why_unfit};
 ghost use Rattle.conversation.specs.Pending as told;
 
 use crate::faults::DriverFault;
-use ae_base::batches::{Batch, KeyMeta, Param};
+use ae_base::batches::{Batch, Param};
+use ae_base::keys::KeyMeta;
+use ae_base::limits::MOST_STATEMENT_BYTES;
 use ae_base::lists::{Duplicate, Seq};
 use ae_base::names::ParamName;
 use ae_base::texts::Txt;
@@ -14,9 +16,6 @@ use ae_base::types::{Enc, Ty};
 use hmac_kdf::CellKeys;
 use std::alloc::AllocError;
 use std::marker::Model;
-
-/// The most bytes of a statement's text.
-pub const MOST_TEXT_BYTES: usize = 65_536;
 
 /// A batch that may be sent: its values fit their types, and its text has at most 65,536 bytes.
 #[derive(Drop)]
@@ -45,7 +44,7 @@ impl FitBatch {
         if let Some(name) = first_unfit(batch.params.as_slice()) {
             return Ok(Err(DriverFault::DoesNotFit(name.copy()?)));
         }
-        if batch.text.as_str().len() > MOST_TEXT_BYTES {
+        if batch.text.as_str().len() > MOST_STATEMENT_BYTES {
             return Ok(Err(DriverFault::TooLong));
         }
         Ok(Ok(FitBatch { batch }))

@@ -1,3 +1,5 @@
+//! Cells made by another program, and cells of each length.
+
 // Whole cells.
 
 ghost use Rattle.std.specs.Prelude.{◌≤◌};

@@ -1,3 +1,5 @@
+//! The vectors of FIPS 197 and SP 800-38A.
+
 // Blocks, chains of blocks, and wrapped keys.
 
 use aes_block::{Aes256, xor};

@@ -1,3 +1,5 @@
+//! The vectors of RFC 4231, and the keys of cells.
+
 // Authentication codes, and the keys of cells.
 
 ghost use Rattle.std.specs.Prelude.{◌<◌};

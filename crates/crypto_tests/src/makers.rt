@@ -1,3 +1,5 @@
+//! Names, paths and wrapped keys for tests.
+
 // Names, paths and wrapped keys of tests, `None` where there is no such one or no memory.
 
 use ae_base::blobs::Blob;

@@ -1,7 +1,9 @@
+//! Column keys that a store opens, keeps and forgets.
+
 // Opened keys.
 
 use crate::makers::{name, path, wrapped};
-use ae_base::batches::KeyMeta;
+use ae_base::keys::KeyMeta;
 use ae_base::texts::Txt;
 use ae_base::types::KeyId;
 use ae_edge::memory::vault::MemVault;

@@ -1,3 +1,5 @@
+//! The bytes of values in cells.
+
 // The bytes of values.
 
 use ae_base::blobs::Blob;

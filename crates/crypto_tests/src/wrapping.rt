@@ -1,3 +1,5 @@
+//! The command `wrap` over devices in memory.
+
 // The command that wraps a key.
 
 use crate::opening::MASTER;

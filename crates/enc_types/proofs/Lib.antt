@@ -1,12 +1,13 @@
-mod Walks
-mod Trees
+mod Clashes
+mod ColumnEncs
+pub mod Interface
+mod Merging
+mod RenamedTypings
+mod Renaming
 mod Sorting
-pub mod Merging
-pub mod Clashes
-pub mod TypedLaws
-pub mod Renaming
-pub mod RenamedTypings
-pub mod UsedParams
-pub mod ColumnEncs
-pub mod UsedWithin
-pub mod UsedAlone
+mod Trees
+mod TypedLaws
+mod UsedAlone
+mod UsedParams
+mod UsedWithin
+mod Walks

@@ -9,7 +9,7 @@ use Rattle.sql_tree.specs.Listed.{terms_listed, conditions_listed}
 use Rattle.sql_tree.specs.declared.operands.Operand as code
 use Rattle.sql_tree.specs.declared.operands.Term as code_term
 use Rattle.sql_tree.specs.declared.conditions.Condition as code_condition
-use Rattle.sql_tree.proofs.Trees.{operand_of-Sum, condition_of-AllOf, condition_of-AnyOf}
+use Rattle.sql_tree.proofs.Interface.{operand_of-Sum, condition_of-AllOf, condition_of-AnyOf}
 use Rattle.enc_types.specs.Sites.{site_of}
 use Rattle.enc_types.specs.Rules.{operand_rules, terms_rules, first_rules, condition_rules, conditions_rules, statement_rules, in_order, rules}
 use Rattle.enc_types.specs.declared.rules.Rule.{Rule}

@@ -1,3 +1,5 @@
+//! Items that ask for rules, one after another.
+
 ghost use Rattle.std.specs.Prelude.{◌≡◌, ◌++◌, List, OnOk};
 ghost use Rattle.std.specs.List.{flat_map};
 ghost use Rattle.enc_types.specs.declared.rules.Rule.{Rule};

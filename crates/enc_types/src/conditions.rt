@@ -1,3 +1,5 @@
+//! The rules of conditions.
+
 ghost use Rattle.std.specs.Prelude.{◌≡◌, ◌++◌, map, OnOk};
 ghost use Rattle.std.specs.List.{flat_map};
 ghost use Rattle.sql_tree.specs.Operands.{operand_of};

@@ -1,3 +1,5 @@
+//! Typings of statements, as laws.
+
 ghost use Rattle.enc_types.specs.Laws.{LeastTyping, TypedStatements, TypingsAreOfColumns};
 ghost use Rattle.enc_types.specs.Renamed.{RulesRenamed, InferredRenamed};
 ghost use Rattle.enc_types.specs.UsedAlone.{InferredAlone};

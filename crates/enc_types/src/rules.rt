@@ -1,3 +1,5 @@
+//! Encryption rules: what must hold of the encryptions at two sites, or at one.
+
 ghost use Rattle.std.specs.Prelude.{◌≡◌};
 ghost use Rattle.enc_types.specs.Rules.{at_of};
 

@@ -1,3 +1,5 @@
+//! Sites: the parameters, columns and literals that a rule speaks of.
+
 ghost use Rattle.std.specs.Prelude.{◌≡◌};
 ghost use Rattle.sql_tree.specs.Operands.{operand_of};
 ghost use Rattle.enc_types.specs.Sites as spec;

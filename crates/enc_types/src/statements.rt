@@ -1,3 +1,5 @@
+//! The rules of a statement, in text order.
+
 ghost use Rattle.std.specs.Prelude.{◌≡◌, ◌++◌, map, IfOk, OnOk};
 ghost use Rattle.sql_tree.specs.Operands.{operand_of};
 ghost use Rattle.sql_tree.specs.Bound.{row_of, insert_of, update_of, statement_of, bound_of};

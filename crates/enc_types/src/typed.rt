@@ -1,3 +1,5 @@
+//! Bound statements with a typing.
+
 ghost use Rattle.std.specs.Prelude.{◌≡◌, Ok};
 ghost use Rattle.sql_tree.specs.Bound.{bound_of};
 ghost use Rattle.enc_types.specs.Least.{inferred};

@@ -1,20 +1,21 @@
-pub mod Admitted
-pub mod Changed
-pub mod Contents
-pub mod Dropped
-pub mod GivingAlike
-pub mod Held
-pub mod Kept
-pub mod Moving
-pub mod Planned
-pub mod Replaced
-pub mod Rowwise
-pub mod Shown
-pub mod Simulating
-pub mod Suited
-pub mod Swapping
-pub mod Tables
-pub mod Unset
-pub mod Updating
-pub mod Walks
-pub mod Written
+mod Admitted
+mod Changed
+mod Contents
+mod Dropped
+mod GivingAlike
+mod Held
+pub mod Interface
+mod Kept
+mod Moving
+mod Planned
+mod Replaced
+mod Rowwise
+mod Shown
+mod Simulating
+mod Suited
+mod Swapping
+mod Tables
+mod Unset
+mod Updating
+mod Walks
+mod Written

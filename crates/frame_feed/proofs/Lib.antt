@@ -1,5 +1,6 @@
-pub mod Refusals
-pub mod Streams
-mod Histories
-mod Ways
 mod Faults
+mod Histories
+pub mod Interface
+mod Refusals
+mod Streams
+mod Ways

@@ -37,9 +37,7 @@ bytes_of (Shown answer ∷ calls) = bytes_of calls
 -- the messages that were given, with their places
 abbrev pub given_by : Next → List (Placed Message)
 given_by (next.One place used message) = record { at = place; message = message } ∷ []
-given_by next.NotYet = []
-given_by (next.Bad place) = []
-given_by next.OutOfMemory = []
+given_by other = []
 
 abbrev pub messages_of : List Call → List (Placed Message)
 messages_of [] = []

@@ -12,7 +12,7 @@ use Rattle.enc_types.specs.Least.{is_open}
 use Rattle.enc_types.specs.Clash.{IsAmong}
 use Rattle.enc_types.specs.declared.sites.Site.{Site}
 use Rattle.enc_types.specs.declared.rules.Rule.{Rule}
-use Rattle.enc_types.proofs.Merging.{fixed_or_open, and_left, and_right}
+use Rattle.enc_types.proofs.Interface.{fixed_or_open, and_left, and_right}
 
 eq_comm : (m n : ℕ) → (m == n) ≡ (n == m)
 eq_comm m n = same_from_decides _ _ (Decides-eqb m n) ((λ e. sym ((Decides-eqb n m).0 e)), (λ e. (Decides-eqb n m).1 (sym e)))

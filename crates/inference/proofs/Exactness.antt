@@ -11,8 +11,8 @@ use Rattle.enc_types.specs.Rules.{at_of, rules}
 use Rattle.enc_types.specs.Typing.{HasTyping}
 use Rattle.enc_types.specs.Least.{least, has_typing, clash_behind, clash, encs_from, encs_or_clash, inferred_over, inferred}
 use Rattle.enc_types.specs.declared.rules.Rule.{Rule}
-use Rattle.enc_types.proofs.Merging.{has_typing-Decides}
-use Rattle.enc_types.proofs.Clashes.{none_typed, untyped, no_clash, step_typed, step_untyped, push_append, first_clash}
+use Rattle.enc_types.proofs.Interface.{has_typing-Decides}
+use Rattle.enc_types.proofs.Interface.{none_typed, untyped, no_clash, step_typed, step_untyped, push_append, first_clash}
 use Rattle.inference.specs.Laws.{IsInferredExactly, IsClashAt}
 
 module _ (params : List Ty) (columns : List ColumnSite) where

@@ -13,8 +13,8 @@ use Rattle.enc_types.specs.declared.sites.Site.{Site}
 use Rattle.enc_types.specs.declared.sites.Site.TheVariants.{Param}
 use Rattle.enc_types.specs.declared.rules.Rule.{Rule}
 use Rattle.enc_types.specs.declared.rules.Rule.TheVariants.{Same, NotRnd, PlainOnly}
-use Rattle.enc_types.proofs.Merging.{has_typing-Decides, one_least}
-use Rattle.enc_types.proofs.Clashes.{no_clash, none_typed, clash_at, first_clash, untyped}
+use Rattle.enc_types.proofs.Interface.{has_typing-Decides, one_least}
+use Rattle.enc_types.proofs.Interface.{no_clash, none_typed, clash_at, first_clash, untyped}
 use Rattle.inference.specs.Steps.{goes, is_settled, traced, way_back}
 use Rattle.std.proofs.lemmas.List.{reverse-append, append-nil, at_drop_more, at_drop_all}
 use Rattle.ae_base.specs.declared.types.Ty.TheVariants.{Int}

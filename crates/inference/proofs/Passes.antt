@@ -12,7 +12,7 @@ use Rattle.enc_types.specs.Least.{is_open}
 use Rattle.enc_types.specs.Clash.{IsAmong, Carries}
 use Rattle.enc_types.specs.declared.sites.Site.{Site}
 use Rattle.enc_types.specs.declared.rules.Rule.{Rule}
-use Rattle.enc_types.proofs.Merging.{fixed_or_open}
+use Rattle.enc_types.proofs.Interface.{fixed_or_open}
 use Rattle.inference.specs.Found.{enc_in}
 use Rattle.inference.specs.Steps.{goes, is_settled, loose, traced, IsTrace}
 use Rattle.inference.specs.Reached.{or_found, typing_of, IsReached, AreSettled}

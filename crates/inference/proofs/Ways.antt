@@ -13,7 +13,7 @@ use Rattle.enc_types.specs.Clash.{IsAmong, NoneTwice, Carries, HasSite, Breaks, 
 use Rattle.enc_types.specs.declared.sites.Site.{Site}
 use Rattle.enc_types.specs.declared.rules.Rule.{Rule}
 use Rattle.enc_types.specs.declared.rules.Rule.TheVariants.{Same, NotRnd, PlainOnly}
-use Rattle.enc_types.proofs.Merging.{enc_eq-Decides, fixed_or_open, and_left, and_right, plain_is, not_plain}
+use Rattle.enc_types.proofs.Interface.{enc_eq-Decides, fixed_or_open, and_left, and_right, plain_is, not_plain}
 use Rattle.inference.specs.Steps.{goes, is_settled, traced, IsTrace, way_back}
 use Rattle.inference.specs.Ways.{onto, beyond, through, through_either, chain_through}
 use Rattle.inference.specs.declared.steps.Step.{Step}

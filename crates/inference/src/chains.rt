@@ -1,3 +1,5 @@
+//! Chains of rules that lead from one site to another.
+
 ghost use Rattle.std.specs.Prelude.{◌≡◌, ◌∷◌, ◌++◌, [], List, reverse, IfOk, OnOk};
 ghost use Rattle.inference.specs.Steps as spec;
 ghost use Rattle.inference.specs.Ways as ways;

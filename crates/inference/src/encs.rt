@@ -1,3 +1,5 @@
+//! The encryptions that a typing gives to parameters.
+
 ghost use Rattle.std.specs.Prelude.{◌≡◌, OnOk, if◌then◌else◌};
 ghost use Rattle.ae_base.specs.declared.types.Enc.TheVariants.{Plain};
 ghost use Rattle.enc_types.specs.SiteLaws.{site_eq};

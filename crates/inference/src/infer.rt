@@ -1,3 +1,5 @@
+//! The least typing of a statement, or a clash with its chain.
+
 ghost use Rattle.std.specs.Prelude.{◌≡◌, ◌<◌, ◌≤◌, ◌+◌, true, false, length, take, Some, IfOk};
 ghost use Rattle.sql_tree.specs.Bound.{bound_of};
 ghost use Rattle.enc_types.specs.Least as least_spec;

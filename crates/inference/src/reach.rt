@@ -1,3 +1,5 @@
+//! The sites that rules lead to.
+
 ghost use Rattle.std.specs.Prelude.{◌≡◌, ◌||◌, List, ◌<◌, ◌∷◌, ◌++◌, [], true, false, IfOk, IfSome, OnOk, MatchOption, if◌then◌else◌};
 ghost use Rattle.std.specs.List.{list_all};
 ghost use Rattle.ae_base.specs.declared.types.Ty.{Ty};

@@ -1,3 +1,5 @@
+//! Sites as places of one list.
+
 ghost use Rattle.std.specs.Prelude.{◌≡◌};
 ghost use Rattle.enc_types.specs.Typing as spec;
 ghost use Rattle.enc_types.specs.Least.{is_open};

@@ -1,3 +1,5 @@
+//! Steps of a chain.
+
 use enc_types::rules::Rule;
 use enc_types::sites::Site;
 

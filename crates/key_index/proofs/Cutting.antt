@@ -4,7 +4,7 @@ use Rattle.std.proofs.lemmas.List.{take_more}
 use Rattle.ae_base.specs.Atoms.{Atom}
 use Rattle.scalar.specs.Eval.{atom_at}
 use Rattle.operators.specs.Alike.{key_of}
-use Rattle.operators.proofs.Grouping.{map-push}
+use Rattle.operators.proofs.Interface.{map-push}
 use Rattle.std.specs.Prelude.{unwrap_or}
 use Rattle.std.specs.List.{slice_get}
 use Rattle.ae_base.specs.declared.atoms.AtomOf.TheVariants.{Null}

@@ -1,3 +1,4 @@
-pub mod Counting
-pub mod Cutting
-pub mod Looking
+mod Counting
+mod Cutting
+pub mod Interface
+mod Looking

@@ -1,3 +1,5 @@
+//! An index: the places of the rows with a key, in order.
+
 ghost use Rattle.std.specs.Prelude.{◌≡◌, ◌++◌, ◌∷◌, [], List, length, map, not, false, filter, ◌==◌, nat_lt, OnOk, OnErr};
 ghost use Rattle.std.specs.List.{list_any};
 ghost use Rattle.ae_base.specs.Atoms.{Atom};

@@ -1,3 +1,5 @@
+//! Keys: copies of a row's atoms in some columns.
+
 ghost use Rattle.std.specs.Prelude.{◌≡◌, IfOk};
 ghost use Rattle.scalar.specs.Eval.{atom_at};
 ghost use Rattle.operators.specs.Alike.{key_of};

@@ -1,3 +1,5 @@
+//! The first of some keys that an index has, or that comes twice.
+
 ghost use Rattle.std.specs.Prelude.{◌≡◌, ◌<◌, ◌+◌, ◌++◌, [], ◌∷◌, length, true, not, IfOk};
 ghost use Rattle.std.specs.List.{list_any};
 ghost use Rattle.operators.specs.Alike.{are_alike};

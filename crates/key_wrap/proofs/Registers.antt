@@ -6,7 +6,7 @@ use Rattle.std.specs.List.{All}
 use Rattle.std.specs.Int.{byte_at, bytes_high_first}
 use Rattle.aes_block.specs.Aes.{encrypted, decrypted, IsBlock}
 use Rattle.aes_block.specs.Bytes.{AreBytes, xored}
-use Rattle.aes_block.proofs.Xoring.{length-xored, AreBytes-xored, xored-xored}
+use Rattle.aes_block.proofs.Interface.{length-xored, AreBytes-xored, xored-xored}
 use Rattle.key_wrap.specs.Wrap.{step_number, register, wrap_step, wrap_steps, wrap_rounds, unwrap_step, unwrap_steps, unwrap_rounds}
 use Rattle.key_wrap.proofs.Steps.{wrap_step-undoes, unwrap_step-wrap_step}
 

@@ -3,7 +3,7 @@ use Rattle.std.proofs.Common.{◌≡◌, ◌≢◌, ℕ, ◌<◌, ◌≤◌, Lis
 use Rattle.std.proofs.lemmas.List.{get_or-set_same, get_or-set_other, set-set, set_comm, set-get_or, length-set, take_at, drop_at, take-append-drop, length-take-le}
 use Rattle.aes_block.specs.Aes.{encrypted, decrypted}
 use Rattle.aes_block.specs.Bytes.{xored}
-use Rattle.aes_block.proofs.Xoring.{xored-xored}
+use Rattle.aes_block.proofs.Interface.{xored-xored}
 use Rattle.key_wrap.specs.Wrap.{step_number, register, wrap_step, unwrap_step}
 
 -- both registers of a step set and set back

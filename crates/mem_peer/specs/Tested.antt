@@ -21,11 +21,8 @@ describes (Refused f ∷ rest) = is_alone rest
 
 -- a row of so many atoms
 abbrev pub is_row : ℕ → Reply → Bool
-is_row width (Described description) = false
-is_row width (Columns header) = false
 is_row width (Row atoms) = length atoms == width
-is_row width (Ended what) = false
-is_row width (Refused f) = false
+is_row width other = false
 
 abbrev pub is_answered : Done → Bool
 is_answered Defined = false
@@ -34,11 +31,8 @@ is_answered (Answered count) = true
 
 -- the end of rows
 abbrev pub is_end : Reply → Bool
-is_end (Described description) = false
-is_end (Columns header) = false
-is_end (Row atoms) = false
 is_end (Ended what) = is_answered what
-is_end (Refused f) = false
+is_end other = false
 
 -- rows of so many atoms, and then their end
 abbrev pub are_rows : ℕ → List Reply → Bool

@@ -1,3 +1,5 @@
+//! Requests with the replies that are given to them.
+
 ghost use Rattle.std.specs.Prelude.{◌≡◌, IfOk, map};
 
 use ae_base::lists::Seq;

@@ -9,7 +9,7 @@ use Rattle.std.proofs.lemmas.List.Elements.{All-head, All-tail, All-cons, All-ni
 use Rattle.std.proofs.lemmas.Option.{slice_get_read}
 use Rattle.std.proofs.Math.Seq.{take-suc}
 use Rattle.row_store.specs.Paged.{flat}
-use Rattle.row_store.proofs.Flat.{flat-append, flat_taken, flat_left}
+use Rattle.row_store.proofs.Interface.{flat-append, flat_taken, flat_left}
 use Rattle.ae_base.specs.Atoms.{Atom, alike}
 use Rattle.ae_base.specs.declared.atoms.AtomOf.TheVariants.{Null}
 use Rattle.sql_tree.specs.declared.bound.PlaceAt.{PlaceAt}

@@ -8,7 +8,7 @@ use Rattle.ae_base.specs.Atoms.{Atom, alike}
 use Rattle.sql_tree.specs.declared.bound.BoundOrderKey.{BoundOrderKey}
 use Rattle.scalar.specs.Classes.{Class, Pairing, IsOneToOne, RowsCorrespond}
 use Rattle.scalar.specs.Typed.{IsNotRandomized}
-use Rattle.scalar.proofs.Correspondence.{alike_alike}
+use Rattle.scalar.proofs.Interface.{alike_alike}
 use Rattle.operators.specs.Alike.{are_alike}
 use Rattle.operators.specs.Found.{Found, first_seen, keys_cmp, put, sorted_by, topped}
 use Rattle.operators.proofs.Pairs.{any_alike, zip_append}

@@ -1,13 +1,14 @@
-pub mod Collected
-pub mod Firsts
-pub mod Grouping
-pub mod GroupsAlike
-pub mod Keeping
-pub mod Limits
-pub mod Orders
-pub mod Pairs
-pub mod Places
-pub mod Rowwise
-pub mod Sorting
-pub mod Walking
-pub mod Widths
+mod Collected
+mod Firsts
+mod Grouping
+mod GroupsAlike
+pub mod Interface
+mod Keeping
+mod Limits
+mod Orders
+mod Pairs
+mod Places
+mod Rowwise
+mod Sorting
+mod Walking
+mod Widths

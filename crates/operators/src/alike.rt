@@ -1,3 +1,5 @@
+//! Atoms that are alike for grouping, and their hash.
+
 ghost use Rattle.std.specs.Prelude.{◌≡◌, ◌<◌, length, map, fold, IfOk};
 ghost use Rattle.std.specs.List.{All};
 ghost use Rattle.scalar.specs.Eval.{atom_at};

@@ -1,3 +1,5 @@
+//! Rows without those that came before.
+
 ghost use Rattle.std.specs.Prelude.{◌≡◌, ◌++◌, [], ◌∷◌, List, map, if◌then◌else◌, IfOk, OnOk};
 ghost use Rattle.sql_tree.specs.declared.bound.BoundOrderKey.{BoundOrderKey};
 ghost use Rattle.operators.specs.Found.{found_by, first_seen, are_first};

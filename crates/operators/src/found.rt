@@ -1,3 +1,5 @@
+//! Rows that were found, beside what orders them.
+
 use ae_base::atoms::Row;
 use ae_base::sameness::Same;
 

@@ -1,3 +1,5 @@
+//! Groups of rows with equal keys.
+
 ghost use Rattle.std.specs.Prelude.{◌≡◌, ℕ, ◌+◌, ◌<◌, ◌≤◌, ◌^◌, [], length, map, IfOk, OnOk};
 ghost use Rattle.std.specs.List.{All};
 ghost use Rattle.row_store.specs.Paged.{flat};

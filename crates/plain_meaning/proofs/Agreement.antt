@@ -23,8 +23,8 @@ use Rattle.engine.specs.Step.{Answer, Rows, Changed, Defined, step}
 use Rattle.transactions.specs.Counted.{Counted, Execution, execution}
 use Rattle.transactions.specs.Laws.{TransactionsKeepStores, TransactionsSimulate}
 use Rattle.transactions.specs.Stores.{Ask, Executes, ask_of, Transaction, Transacted, transaction_at, seen_by, world_of, transact}
-use Rattle.transactions.proofs.Asking.{asks_alike, may_ask, same_execution, rows_by_step}
-use Rattle.transactions.proofs.Seen.{seen_well, seen_alike, shared_by, slot_of, set_back}
+use Rattle.transactions.proofs.Interface.{asks_alike, may_ask, same_execution, rows_by_step}
+use Rattle.transactions.proofs.Interface.{seen_well, seen_alike, shared_by, slot_of, set_back}
 use Rattle.catalog.specs.WellFormed.{IsCatalog}
 use Rattle.engine.specs.WellTyped.{AreValuesOf, IsAnswerOf, AreResults}
 use Rattle.engine.specs.declared.answers.ResultColumn.{ResultColumn}
@@ -32,7 +32,7 @@ use Rattle.wire_messages.specs.Messages.{Header}
 use Rattle.wire_messages.specs.declared.columns.SentColumn.{SentColumn}
 use Rattle.wire_messages.specs.declared.replies.Done.TheVariants.{Answered}
 use Rattle.wire_messages.specs.declared.replies.Reply.TheVariants.{Row, Ended}
-use Rattle.server_core.proofs.Understanding.{parts_of}
+use Rattle.server_core.proofs.Interface.{parts_of}
 use Rattle.server_core.specs.Describing.{Meant, understood, describe, description, keys_of}
 use Rattle.server_core.specs.Params.{declaration_of, suited}
 use Rattle.server_core.specs.Serve.{State, empty_state, catalog_of, described, answered, executed, sent_column, header, serve}
@@ -49,7 +49,7 @@ use Rattle.conversation.specs.declared.sessions.ColumnType.{ColumnType}
 use Rattle.conversation.specs.declared.sessions.Session.{Session}
 use Rattle.script_lang.specs.Limits.{IsWithinLimits, HasParams, HasProperParams, IsProperStep}
 use Rattle.script_lang.specs.declared.steps.Step.{Step}
-use Rattle.ae_base.specs.declared.batches.KeyMeta.{KeyMeta}
+use Rattle.ae_base.specs.declared.keys.KeyMeta.{KeyMeta}
 use Rattle.ae_base.specs.declared.types.Enc.{Enc}
 use Rattle.aes_block.specs.Bytes.{AreBytes}
 use Rattle.catalog.specs.Laws.{DefinitionsKeepCatalogs, DefinitionsAreFollowed, IdsAreNotReused, KeysAreTold}
@@ -63,12 +63,12 @@ use Rattle.plain_meaning.specs.Laws.{Agrees, EndsWith, ServedIsPlain}
 use Rattle.plain_meaning.specs.Reference.{Came, came, declared, means, reference}
 use Rattle.plain_meaning.specs.Steps.{number_of, turn, talk}
 use Rattle.sql_tree.specs.Bound as bound
-use Rattle.engine.proofs.Kept.{has_master}
+use Rattle.engine.proofs.Interface.{has_master}
 use Rattle.wire_messages.specs.declared.requests.Request.TheVariants as request
 use Rattle.conversation.specs.declared.outcomes.Outcome as outcomes
 use Rattle.conversation.specs.declared.outcomes.Outcome.TheVariants as outcome
 use Rattle.conversation.specs.declared.sessions.Session.TheVariants as session
-use Rattle.conversation.proofs.Fitting.{fit_fits}
+use Rattle.conversation.proofs.Interface.{fit_fits}
 use Rattle.script_lang.specs.declared.steps.Step.TheVariants as steps_of
 use Rattle.plain_meaning.specs.Reference as plain
 use Rattle.plain_meaning.proofs.Between.{StandsFor, IsSendableParam, DescribedAs, HoldsBatch, HoldsIn, AllHold, seen_told, sessions_told, stores_longer, all_told_longer, all_go, hold_place, all_held, empty_stands}

@@ -8,7 +8,7 @@ use Rattle.ae_base.specs.Atoms.{Atom, plain_atom}
 use Rattle.ae_base.specs.Results.{◌>>=◌}
 use Rattle.ae_base.specs.declared.atoms.AtomOf.TheVariants as atom
 use Rattle.ae_base.specs.declared.batches.Batch.{Batch}
-use Rattle.ae_base.specs.declared.batches.KeyMeta.{KeyMeta}
+use Rattle.ae_base.specs.declared.keys.KeyMeta.{KeyMeta}
 use Rattle.ae_base.specs.declared.batches.Param.{Param}
 use Rattle.ae_base.specs.declared.faults.SqlFault.{SqlFault}
 use Rattle.ae_base.specs.declared.faults.SqlFault.TheVariants.{Moved}
@@ -32,19 +32,19 @@ use Rattle.transactions.specs.Counted.{Execution, nothing_counted, execution}
 use Rattle.transactions.specs.Laws.{TransactionsKeepStores, TransactionsSimulate}
 use Rattle.transactions.specs.Stores.{ask_of, world_of, transact}
 use Rattle.transactions.specs.WellKept.{IsOpen}
-use Rattle.transactions.proofs.Asking.{asks_alike, may_ask}
-use Rattle.server_core.proofs.Alike.{no_sessions}
+use Rattle.transactions.proofs.Interface.{asks_alike, may_ask}
+use Rattle.server_core.proofs.Interface.{no_sessions}
 use Rattle.engine.specs.Step.{Answer, Rows, Changed, Defined}
 use Rattle.engine.specs.Typed.{param_classes}
 use Rattle.engine.specs.WellTyped.{IsAtomOf, AreValuesOf, AreResults, IsAnswerOf}
 use Rattle.engine.specs.declared.answers.ResultColumn.{ResultColumn}
-use Rattle.engine.proofs.Kept.{has_master}
+use Rattle.engine.proofs.Interface.{has_master}
 use Rattle.wire_messages.specs.Messages.{Header}
 use Rattle.wire_messages.specs.declared.params.SentParam.{SentParam}
 use Rattle.wire_messages.specs.declared.replies.Done.TheVariants.{Answered}
 use Rattle.wire_messages.specs.declared.replies.Reply.{Reply}
 use Rattle.wire_messages.specs.declared.replies.Reply.TheVariants.{Row, Ended}
-use Rattle.server_core.proofs.Understanding.{parts_of}
+use Rattle.server_core.proofs.Interface.{parts_of}
 use Rattle.server_core.specs.Describing.{Meant, understood, description}
 use Rattle.server_core.specs.Params.{declaration_of, suited}
 use Rattle.server_core.specs.Serve.{State, empty_state, catalog_of, serve, header, described, answered, executed}

@@ -11,18 +11,18 @@ use Rattle.enc_types.specs.UsedAlone.{used_among, is_used}
 use Rattle.transactions.specs.Correspond.{CountedCorrespond, SessionsCorrespond, StoresCorrespond}
 use Rattle.transactions.specs.Counted.{Counted}
 use Rattle.transactions.specs.Stores.{Transaction, transaction_at, seen_by}
-use Rattle.transactions.proofs.Alike.{zip_at, zip_set}
-use Rattle.transactions.proofs.Keeping.{all_at, all_set}
-use Rattle.transactions.proofs.Seen.{IsOwnCatalog, IsSlotOf}
+use Rattle.transactions.proofs.Interface.{zip_at, zip_set}
+use Rattle.transactions.proofs.Interface.{all_at, all_set}
+use Rattle.transactions.proofs.Interface.{IsOwnCatalog, IsSlotOf}
 use Rattle.server_core.specs.Describing.{Meant, understood, keys_of}
 use Rattle.server_core.specs.Serve.{State, empty_state, catalog_of}
 use Rattle.server_core.specs.States.{IsState}
-use Rattle.server_core.proofs.Alike.{no_sessions}
-use Rattle.server_core.proofs.Beginning.{empty_is_state}
+use Rattle.server_core.proofs.Interface.{no_sessions}
+use Rattle.server_core.proofs.Interface.{empty_is_state}
 use Rattle.conversation.specs.Pending.{Pending}
 use Rattle.conversation.specs.Sessions.{nobody, session_at, with_session}
 use Rattle.conversation.specs.declared.sessions.Session.{Session}
-use Rattle.ae_base.specs.declared.batches.KeyMeta.{KeyMeta}
+use Rattle.ae_base.specs.declared.keys.KeyMeta.{KeyMeta}
 use Rattle.plain_meaning.specs.Reference.{declared}
 use Rattle.conversation.specs.declared.sessions.Session.TheVariants as session
 use Rattle.plain_meaning.proofs.History.{Known, IsTold}

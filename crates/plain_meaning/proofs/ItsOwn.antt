@@ -20,7 +20,7 @@ use Rattle.engine.specs.WellTyped.{IsAtomOf, AreValuesOf}
 use Rattle.transactions.specs.Correspond.{StoresCorrespond}
 use Rattle.transactions.specs.WellKept.{IsStore}
 use Rattle.server_core.specs.Serve.{State}
-use Rattle.engine.proofs.Suited.{within_is}
+use Rattle.engine.proofs.Interface.{within_is}
 use Rattle.wire_messages.specs.declared.params.SentParam.{SentParam}
 use Rattle.server_core.specs.Params.{declaration_of, is_of, is_shaped, suited_atom, suited}
 

@@ -1,15 +1,16 @@
-pub mod Agreement
-pub mod Awaiting
-pub mod Between
-pub mod Growing
-pub mod History
-pub mod ItsOwn
-pub mod Pairs
-pub mod Sealed
-pub mod Sending
-pub mod Talk
-pub mod Told
-pub mod Understood
-pub mod Used
-pub mod Versions
+mod Agreement
+mod Awaiting
+mod Between
+mod Growing
+mod History
+pub mod Interface
+mod ItsOwn
+mod Pairs
+mod Sealed
+mod Sending
+mod Talk
+mod Told
+mod Understood
+mod Used
+mod Versions
 mod Worked

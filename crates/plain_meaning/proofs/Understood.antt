@@ -15,14 +15,14 @@ use Rattle.sql_grammar.specs.Texts.{parsed}
 use Rattle.catalog.specs.Catalogs.{Catalog}
 use Rattle.enc_types.specs.Least.{inferred}
 use Rattle.enc_types.specs.UsedAlone.{used_among, place_among, is_used, alone}
-use Rattle.enc_types.proofs.UsedAlone.{found_among}
+use Rattle.enc_types.proofs.Interface.{found_among}
 use Rattle.resolve.specs.Bind.{bind}
 use Rattle.resolve.specs.Laws.{PreparedAlone}
 use Rattle.transactions.specs.Counted.{execution}
 use Rattle.transactions.specs.Stores.{Store, ask_of, transact}
-use Rattle.transactions.proofs.Asking.{asks_renamed}
+use Rattle.transactions.proofs.Interface.{asks_renamed}
 use Rattle.server_core.specs.Describing.{Meant, understood}
-pub use Rattle.server_core.proofs.Understanding.{Parts, parts_of}
+pub use Rattle.server_core.proofs.Interface.{Parts, parts_of}
 
 abbrev pub followed : {A B E : Type 0} → Result A E → (A → Result B E) → Result B E
 followed r f = r >>= f

@@ -9,7 +9,7 @@ use Rattle.ae_edge.specs.Vaults.{KeyMap}
 use Rattle.key_store.specs.Opening.{opened}
 use Rattle.sql_grammar.specs.Parse.{operand_in, inner_in}
 use Rattle.sql_grammar.specs.Texts.{tree_of, parsed}
-use Rattle.bound_checks.specs.Checks.{checked}
+use Rattle.semantic_checks.specs.Checks.{checked}
 use Rattle.resolve.specs.Bind.{bind}
 use Rattle.enc_types.specs.Least.{inferred, least, has_typing, clash_behind}
 use Rattle.enc_types.specs.Rules.{rules}

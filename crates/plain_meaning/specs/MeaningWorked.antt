@@ -11,7 +11,7 @@ use Rattle.ae_base.specs.declared.values.Datum.TheVariants.{Num}
 use Rattle.ae_base.specs.declared.values.Value.TheVariants as value
 use Rattle.sql_grammar.specs.Parse.{operand_in, inner_in}
 use Rattle.sql_grammar.specs.Texts.{tree_of, parsed}
-use Rattle.bound_checks.specs.Checks.{checked}
+use Rattle.semantic_checks.specs.Checks.{checked}
 use Rattle.catalog.specs.Catalogs.{Catalog}
 use Rattle.resolve.specs.Bind.{bind}
 use Rattle.enc_types.specs.Least.{inferred, least, has_typing, clash_behind}

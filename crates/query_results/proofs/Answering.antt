@@ -11,9 +11,9 @@ use Rattle.scalar.specs.Typed.{IsNotRandomized}
 use Rattle.operators.specs.Found.{Found, found_by, keys_cmp, ordered, topped}
 use Rattle.operators.specs.declared.found.Found as code
 use Rattle.query_results.specs.Results.{distinct_if, answered}
-use Rattle.operators.proofs.Places.{all_mapped}
-use Rattle.operators.proofs.Grouping.{map-push}
-use Rattle.operators.proofs.Keeping.{all_first, all_sorted, all_top, FoundCorresponds, Founds, firsts_alike, sorted_alike, top_alike, shown_alike}
+use Rattle.operators.proofs.Interface.{all_mapped}
+use Rattle.operators.proofs.Interface.{map-push}
+use Rattle.operators.proofs.Interface.{all_first, all_sorted, all_top, FoundCorresponds, Founds, firsts_alike, sorted_alike, top_alike, shown_alike}
 
 module _ (P : Found → Type 0) where
   all_distinct : (distinct : Option ℕ) (fs : List Found) → All P fs → All P (distinct_if distinct fs)

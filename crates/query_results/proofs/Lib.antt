@@ -1,5 +1,6 @@
-pub mod Answering
-pub mod Finding
-pub mod Grouped
-pub mod Nulls
-pub mod Resulting
+mod Answering
+mod Finding
+mod Grouped
+pub mod Interface
+mod Nulls
+mod Resulting

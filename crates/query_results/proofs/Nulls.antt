@@ -12,7 +12,7 @@ use Rattle.sql_tree.specs.Operands as operands
 use Rattle.sql_tree.specs.Bound.{BoundOperand, BoundItemValue, BoundItem, BoundQuery}
 use Rattle.sql_tree.specs.Bound as bound
 use Rattle.scalar.specs.Eval.{combined, negated, number_or_null, atom_at, eval, eval_terms}
-use Rattle.scalar.proofs.Renaming.{both_same}
+use Rattle.scalar.proofs.Interface.{both_same}
 use Rattle.operators.specs.Events.{or_overflow}
 use Rattle.operators.specs.Found.{Found, keys_of}
 use Rattle.query_results.specs.Results.{item_of, items_of, found_of}

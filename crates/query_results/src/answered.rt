@@ -1,3 +1,5 @@
+//! The rows of an answer, distinct, in order and cut.
+
 ghost use Rattle.std.specs.Prelude.{◌≡◌, map, IfOk};
 ghost use Rattle.sql_tree.specs.Bound.{query_of};
 ghost use Rattle.operators.specs.Found.{found_by, topped};

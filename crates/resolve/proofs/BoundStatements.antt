@@ -1,8 +1,8 @@
 -- What each bound statement is.
 use Rattle.std.proofs.Common.{◌≡◌, refl, Bool, true, false, ◌||◌, Ok}
 use Rattle.ae_base.specs.Results.{◌>>=◌}
-use Rattle.bound_checks.specs.Checks.{checked}
-use Rattle.bound_checks.proofs.Smallest.{smallest_first}
+use Rattle.semantic_checks.specs.Checks.{checked}
+use Rattle.semantic_checks.proofs.Interface.{smallest_first}
 use Rattle.resolve.specs.Bind.{named, bind}
 use Rattle.resolve.specs.Laws.{IsBoundOver, BoundStatementsAre}
 use Rattle.resolve.proofs.Parts.{one_part, first_part}

@@ -20,9 +20,9 @@ use Rattle.sql_tree.specs.Conditions.{Condition, Conditions}
 use Rattle.sql_tree.specs.Conditions as conditions
 use Rattle.sql_tree.specs.Statements as tree
 use Rattle.sql_tree.specs.Bound as bound
-use Rattle.bound_checks.specs.Checks.{least, none_at, is_too_long, checked}
-use Rattle.bound_checks.specs.Clashes.{clashes}
-use Rattle.bound_checks.specs.Grouping.{ungrouped}
+use Rattle.semantic_checks.specs.Checks.{least, none_at, is_too_long, checked}
+use Rattle.semantic_checks.specs.Clashes.{clashes}
+use Rattle.semantic_checks.specs.Grouping.{ungrouped}
 use Rattle.catalog.specs.Catalogs.{Catalog, table_named, key_named, master_named}
 use Rattle.resolve.specs.Bind.{named, bind}
 use Rattle.resolve.specs.Changes.{places_for, listed_place, bind_row, bind_assignment, assigned, table_scope, bind_insert, bind_update, bind_delete}

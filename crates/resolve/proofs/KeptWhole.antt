@@ -11,9 +11,9 @@ use Rattle.sql_tree.specs.Statements.{Statement}
 use Rattle.sql_tree.specs.Bound.{Bound}
 use Rattle.sql_tree.specs.Uses.{uses, renamed}
 use Rattle.enc_types.specs.UsedAlone.{used_among, place_among, is_used}
-use Rattle.enc_types.proofs.UsedAlone.{found_among, inferred_alone}
-use Rattle.bound_checks.specs.Checks.{checked}
-use Rattle.bound_checks.proofs.RenamedChecks.{checks_keep_the_used}
+use Rattle.enc_types.proofs.Interface.{found_among, inferred_alone}
+use Rattle.semantic_checks.specs.Checks.{checked}
+use Rattle.semantic_checks.proofs.Interface.{checks_keep_the_used}
 use Rattle.catalog.specs.Catalogs.{Catalog}
 use Rattle.resolve.specs.Bind.{type_of, named, bind}
 use Rattle.resolve.specs.Laws.{Keeps, BindKeepsTheUsed, PreparedAlone}

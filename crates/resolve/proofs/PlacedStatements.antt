@@ -24,8 +24,8 @@ use Rattle.sql_tree.specs.Conditions.{Condition}
 use Rattle.sql_tree.specs.Statements as tree
 use Rattle.sql_tree.specs.Bound as bound
 use Rattle.sql_tree.specs.Placed.{IsPlaced, IsPlacedCondition, IsPlacedFilter, IsPlacedValue, ArePlacedJoins, IsPlacedInsert, IsPlacedQuery, IsPlacedTable, IsPlacedStatement, IsWellPlaced, site_of}
-use Rattle.bound_checks.specs.Clashes.{Types, operand_clashes, paired_clashes, row_clashes, clashes}
-use Rattle.bound_checks.specs.Checks.{is_long_statement}
+use Rattle.semantic_checks.specs.Clashes.{Types, operand_clashes, paired_clashes, row_clashes, clashes}
+use Rattle.semantic_checks.specs.Checks.{is_long_statement}
 use Rattle.catalog.specs.Catalogs.{Catalog}
 use Rattle.resolve.specs.Walks.{each_from}
 use Rattle.resolve.specs.Scopes.{Source, Scope, ScopeColumn, nothing_in_scope, with_source, with_sources, scope_of, bound_source, sites_of, named_place, column_place}

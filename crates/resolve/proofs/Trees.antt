@@ -13,7 +13,7 @@ use Rattle.sql_tree.specs.Listed.{terms_listed, conditions_listed}
 use Rattle.sql_tree.specs.declared.operands.Operand as code
 use Rattle.sql_tree.specs.declared.operands.Term as code_term
 use Rattle.sql_tree.specs.declared.conditions.Condition as code_condition
-use Rattle.sql_tree.proofs.Trees.{operand_of-Sum, condition_of-AllOf, condition_of-AnyOf}
+use Rattle.sql_tree.proofs.Interface.{operand_of-Sum, condition_of-AllOf, condition_of-AnyOf}
 use Rattle.resolve.specs.Scopes.{Scope}
 use Rattle.resolve.specs.Names.{bind_operand, bind_terms, bind_condition, bind_conditions}
 

@@ -19,7 +19,7 @@ use Rattle.resolve.specs.Tables.{table_for, sources_for, all_sources}
 use Rattle.resolve.specs.Queries.{bind_query}
 use Rattle.resolve.specs.Changes.{bind_insert, bind_update, bind_delete}
 use Rattle.resolve.specs.Definitions.{key_path, wrapped_key, master_for, bind_table}
-use Rattle.bound_checks.specs.Checks.{checked}
+use Rattle.semantic_checks.specs.Checks.{checked}
 
 -- ---- the tables and the other names
 

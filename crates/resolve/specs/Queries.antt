@@ -24,11 +24,8 @@ starred at i [] = []
 starred at i (c ∷ cs) = record { title = c.column.name; value = bound.Value (operands.Column at i) } ∷ starred at (i + 1) cs
 
 abbrev pub operand_title : Operand ColumnRef (List ℕ) → List ℕ
-operand_title (operands.Literal at v) = []
-operand_title (operands.Param at name) = []
 operand_title (operands.Column at ref) = ref.name
-operand_title (operands.Minus at operand) = []
-operand_title (operands.Sum first terms) = []
+operand_title other = []
 
 abbrev pub value_title : ItemValue → List ℕ
 value_title (tree.Value operand) = operand_title operand

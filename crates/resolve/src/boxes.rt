@@ -1,3 +1,5 @@
+//! Boxes that may find no memory.
+
 ghost use Rattle.std.specs.Prelude.{◌≡◌, IfOk};
 
 use std::alloc::{AllocError, Global};

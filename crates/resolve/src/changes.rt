@@ -1,3 +1,5 @@
+//! Names in INSERT, UPDATE and DELETE.
+
 ghost use Rattle.std.specs.Prelude.{◌≡◌, IfOk, map, take};
 ghost use Rattle.std.specs.List.{list_any};
 ghost use Rattle.std.specs.Option.{option_map};

@@ -1,3 +1,5 @@
+//! Names in conditions.
+
 ghost use Rattle.std.specs.Prelude.{map};
 ghost use Rattle.std.specs.Option.{option_map};
 ghost use Rattle.ae_base.specs.Results.{AnswersAs};

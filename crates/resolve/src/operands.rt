@@ -1,3 +1,5 @@
+//! Names in operands.
+
 ghost use Rattle.std.specs.Prelude.{Ok, [], ◌∷◌, map};
 ghost use Rattle.sql_tree.specs.Listed.{terms_listed};
 ghost use Rattle.sql_tree.specs.Operands.{Sum, operand_of};

@@ -1,3 +1,5 @@
+//! Names in queries.
+
 ghost use Rattle.std.specs.Prelude.{◌≡◌, [], ◌∷◌, IfOk, map};
 ghost use Rattle.ae_base.specs.Results.{each, Answers, AnswersAs};
 ghost use Rattle.sql_tree.specs.Operands.{operand_of};

@@ -1,3 +1,5 @@
+//! Scopes: which column or parameter a name means.
+
 ghost use Rattle.std.specs.Prelude.{◌≡◌, ◌++◌, OnOk, map};
 ghost use Rattle.std.specs.List.{list_any, position};
 ghost use Rattle.std.specs.Str.{bytes_eq};

@@ -1,3 +1,5 @@
+//! The tables of a FROM.
+
 ghost use Rattle.std.specs.Prelude.{◌≡◌, [], ◌∷◌, map};
 ghost use Rattle.sql_tree.specs.Statements.{join_of, query_of};
 ghost use Rattle.ae_base.specs.Results.{Answers, AnswersAs};

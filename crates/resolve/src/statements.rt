@@ -1,3 +1,5 @@
+//! Bound statements, with the sites of their columns.
+
 ghost use Rattle.std.specs.Prelude.{◌≡◌, ◌++◌, [], IfErr, IfOk, List, Ok, OnOk, map};
 ghost use Rattle.std.specs.Option.{option_map};
 ghost use Rattle.ae_base.specs.Results.{AnswersAs};
@@ -25,8 +27,8 @@ use ae_base::refusals::Refusal;
 use ae_base::tables::ColumnDef;
 use ae_base::texts::Txt;
 use ae_base::types::Ty;
-use bound_checks::checks::checked;
 use catalog::catalogs::Catalog;
+use semantic_checks::checks::checked;
 use sql_tree::bound::{Bound, BoundStatement, ColumnSite};
 use sql_tree::conditions::Condition;
 use sql_tree::operands::ColumnRef;

@@ -13,8 +13,8 @@ use Rattle.ae_base.specs.declared.faults.SqlFault.{SqlFault}
 use Rattle.row_changes.specs.Changes.{changed, all_changed, all_tested, staying, Tested, selects, tested_row, row_to_delete}
 use Rattle.row_store.specs.Changes.{unhit}
 use Rattle.row_changes.specs.Rows.{replaced}
-use Rattle.operators.proofs.Collected.{collected, collected_more}
-use Rattle.operators.proofs.Places.{drop_there}
+use Rattle.operators.proofs.Interface.{collected, collected_more}
+use Rattle.operators.proofs.Interface.{drop_there}
 
 -- ---- each in turn
 

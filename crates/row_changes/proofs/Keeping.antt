@@ -13,7 +13,7 @@ use Rattle.sql_tree.specs.Bound.{BoundAssignment}
 use Rattle.operators.specs.Alike.{key_of}
 use Rattle.unique_keys.specs.Keys.{has_twins, first_twins, unless_twins}
 use Rattle.unique_keys.specs.Indexes.{Indexed, IndexesRows, AreDistinct, AreAdmitted, keys_of}
-use Rattle.unique_keys.proofs.Twins.{twins_same}
+use Rattle.unique_keys.proofs.Interface.{twins_same}
 use Rattle.key_index.specs.Places.{IndexesKeys}
 use Rattle.row_changes.specs.Changes.{is_set, sets_a_key, AreKept, nothing_more}
 

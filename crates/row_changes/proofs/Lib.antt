@@ -1,5 +1,6 @@
-pub mod Changing
-pub mod Keeping
-pub mod Lent
-pub mod Spreading
-pub mod Values
+mod Changing
+pub mod Interface
+mod Keeping
+mod Lent
+mod Spreading
+mod Values

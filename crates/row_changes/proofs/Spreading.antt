@@ -9,7 +9,7 @@ use Rattle.std.proofs.lemmas.Bool.Decides.{nat_tests}
 use Rattle.ae_base.specs.Atoms.{Atom}
 use Rattle.ae_base.specs.Results.{each}
 use Rattle.ae_base.specs.declared.faults.SqlFault.{SqlFault}
-use Rattle.operators.proofs.Collected.{collected}
+use Rattle.operators.proofs.Interface.{collected}
 use Rattle.row_store.specs.declared.changes.Change.{Change}
 use Rattle.row_store.specs.Changes.{written}
 use Rattle.row_changes.specs.Changes.{Tested, changed, all_changed, standing, spread, noted, AreRising}

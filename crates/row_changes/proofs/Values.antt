@@ -18,8 +18,8 @@ use Rattle.scalar.specs.Eval.{eval}
 use Rattle.scalar.specs.declared.faults.Overflow.{Overflow}
 use Rattle.operators.specs.Events.{or_overflow}
 use Rattle.row_changes.specs.Rows.{admitted, no_column, column_at, value_into, values_into, value_at, value_or_null, completed, new_row, new_rows}
-use Rattle.operators.proofs.Collected.{collected, before, collected_more, collected_fault, came, came_before}
-use Rattle.operators.proofs.Places.{drop_there, map_there}
+use Rattle.operators.proofs.Interface.{collected, before, collected_more, collected_fault, came, came_before}
+use Rattle.operators.proofs.Interface.{drop_there, map_there}
 
 -- a column that was read is the one at its place
 pub column_read : (columns : List ColumnDef) (place : ℕ) (column : ColumnDef) → place < length columns → column ≡ get_or columns place column → column_at columns place ≡ column

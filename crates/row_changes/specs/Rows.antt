@@ -14,6 +14,7 @@ use Rattle.ae_base.specs.declared.types.Ty.TheVariants as ty
 use Rattle.sql_tree.specs.Bound.{BoundOperand, BoundRow}
 use Rattle.scalar.specs.Eval.{eval}
 use Rattle.operators.specs.Events.{or_overflow}
+use Rattle.ae_base.specs.Limits.{most_table_rows}
 
 -- NULL for a column that takes none, then a plain value that isn't within its column's type; a sealed one was tested when
 -- it came
@@ -67,7 +68,7 @@ new_row columns named params values = values_into columns [] params named values
 abbrev pub new_rows : List ColumnDef → List ℕ → List Atom → ℕ → List BoundRow → Result (List (List Atom)) SqlFault
 new_rows columns named params count [] = Ok []
 new_rows columns named params count (row ∷ rows) =
-    (if nat_le 100000 count then Err fault.TableFull else new_row columns named params row.values) >>= λ new.
+    (if nat_le most_table_rows count then Err fault.TableFull else new_row columns named params row.values) >>= λ new.
     new_rows columns named params (count + 1) rows >>= λ rest.
     Ok (new ∷ rest)
 

@@ -1,3 +1,5 @@
+//! The rows that a DELETE hits.
+
 ghost use Rattle.std.specs.Prelude.{◌≡◌, length, map, count_by, IfOk};
 ghost use Rattle.std.specs.List.{All};
 ghost use Rattle.std.specs.Option.{option_map};

@@ -1,3 +1,5 @@
+//! Whether WHERE selects a row.
+
 ghost use Rattle.std.specs.Prelude.{length};
 ghost use Rattle.std.specs.Option.{option_map};
 ghost use Rattle.ae_base.specs.Results.{Answers};

@@ -1,3 +1,5 @@
+//! The rows that an INSERT makes.
+
 ghost use Rattle.std.specs.Prelude.{◌≡◌, ◌<◌, ◌≤◌, ◌+◌, [], ◌∷◌, length, map};
 ghost use Rattle.std.specs.List.{All};
 ghost use Rattle.std.specs.Option.{option_copied};
@@ -9,6 +11,7 @@ ghost use Rattle.row_changes.specs.Rows as rows;
 
 use ae_base::atoms::{Atom, AtomOf, Row, Rows};
 use ae_base::faults::SqlFault;
+use ae_base::limits::MOST_TABLE_ROWS;
 use ae_base::lists::{Duplicate, Seq};
 use ae_base::refusals::Refusal;
 use ae_base::sameness::Same;
@@ -17,9 +20,6 @@ use scalar::operands::eval;
 use scalar::rows::LentRow;
 use sql_tree::bound::{BoundOperand, BoundRow};
 use std::alloc::Global;
-
-/// The most rows that a table has.
-pub(crate) const MOST_ROWS: usize = 100000;
 
 /// The new rows of a table that has so many already, or the first fault.
 pub fn new_rows<K: Same>(
@@ -37,7 +37,7 @@ pub fn new_rows<K: Same>(
 {
     let mut rows = Rows::new(alloc);
     for row in bound {
-        if rows.len() >= MOST_ROWS - count {
+        if rows.len() >= MOST_TABLE_ROWS - count {
             return Err(Refusal::Fault(SqlFault::TableFull));
         }
         rows.push(new_row(alloc, columns, named, row.values.as_slice(), params)?)?;

@@ -1,3 +1,5 @@
+//! Whether an UPDATE sets a column of a unique key.
+
 ghost use Rattle.std.specs.Prelude.{◌≡◌, map};
 ghost use Rattle.std.specs.List.{list_any};
 ghost use Rattle.sql_tree.specs.Bound.{assignment_of};

@@ -1,3 +1,5 @@
+//! The rows of a table as they will be, lent.
+
 ghost use Rattle.std.specs.Prelude.{◌≡◌, ◌<◌, ◌++◌, ◌∷◌, [], length, map, OnOk, IfOk};
 ghost use Rattle.std.specs.List.{All};
 ghost use Rattle.row_store.specs.Changes.{written, unhit};

@@ -1,3 +1,5 @@
+//! Tables: rows in pages, with an index for each unique key.
+
 ghost use Rattle.std.specs.Prelude.{◌≡◌, ◌<◌, ◌≤◌, ◌++◌, [], List, length, map, OnOk, OnErr, IfOk};
 ghost use Rattle.std.specs.List.{All};
 ghost use Rattle.ae_base.specs.Atoms.{Atom};

@@ -1,3 +1,5 @@
+//! Pages of at most 256 rows.
+
 ghost use Rattle.std.specs.Prelude.{◌≡◌, ◌<◌, ◌≤◌, ◌+◌, ◌++◌, ◌∷◌, [], length, remove, slice_set, slice_index_or, IfOk};
 ghost use Rattle.std.specs.Vec.{vec_capacity};
 ghost use Rattle.row_store.specs.Changes.{unhit};

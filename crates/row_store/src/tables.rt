@@ -1,3 +1,5 @@
+//! Tables: lists of rows in pages.
+
 ghost use Rattle.std.specs.Prelude.{◌≡◌, ◌<◌, ◌≤◌, ◌+◌, ◌*◌, ◌/◌, ◌++◌, ◌∷◌, [], length, slice_index_or, slice_set, remove, count_by, not, IfOk, OnOk};
 ghost use Rattle.std.specs.List.{All};
 ghost use Rattle.row_store.specs.Changes.{written, unhit};

@@ -1,4 +1,5 @@
-pub mod Correspondence
-pub mod Junctions
-pub mod Renaming
-pub mod Terms
+mod Correspondence
+pub mod Interface
+mod Junctions
+mod Renaming
+mod Terms

@@ -12,7 +12,7 @@ use Rattle.scalar.specs.declared.faults.Overflow.{Overflow}
 use Rattle.scalar.specs.Eval.{atom_at, number_or_null, eval, eval_terms}
 use Rattle.sql_tree.specs.Listed.{terms_listed}
 use Rattle.sql_tree.specs.Placed.{IsPlaced, ArePlaced}
-use Rattle.sql_tree.proofs.Trees.{operand_of-Sum}
+use Rattle.sql_tree.proofs.Interface.{operand_of-Sum}
 
 -- the terms of a sum lie within the places where the sum does
 pub terms_within : (width count : ℕ) (operand : code.Operand ℕ ℕ) (first : Box (code.Operand ℕ ℕ) Global) (terms : Vec (code_term.Term ℕ ℕ) Global) (items : List (code_term.Term ℕ ℕ))

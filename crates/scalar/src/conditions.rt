@@ -1,3 +1,5 @@
+//! The truth of a condition in a row.
+
 ghost use Rattle.std.specs.Prelude.{◌≡◌, length, map};
 ghost use Rattle.std.specs.List.{All};
 ghost use Rattle.sql_tree.specs.Operands.{operand_of};

@@ -1,3 +1,5 @@
+//! Values that are lent by a row, a statement or a batch.
+
 ghost use Rattle.std.specs.Prelude.{◌≡◌, ◌+ℤ◌, ◌-ℤ◌, IfOk};
 ghost use Rattle.ae_base.specs.declared.atoms.AtomOf.TheVariants.{Plain};
 ghost use Rattle.ae_base.specs.declared.values.Datum.TheVariants.{Num};

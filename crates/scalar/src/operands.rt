@@ -1,3 +1,5 @@
+//! The value of an operand in a row.
+
 ghost use Rattle.std.specs.Prelude.{◌≡◌, ◌∷◌, [], length};
 ghost use Rattle.sql_tree.specs.Operands.{operand_of};
 ghost use Rattle.scalar.specs.Eval.{eval, eval_terms};

@@ -1,3 +1,5 @@
+//! True, false and unknown.
+
 ghost use Rattle.std.specs.Prelude.{◌≡◌};
 ghost use Rattle.scalar.specs.Eval.{truth_of, negation, conjunction, disjunction, if_negated};
 

@@ -8,7 +8,7 @@ use Rattle.std.proofs.lemmas.List.Elements.{All-nil, All-cons, All-append}
 use Rattle.std.proofs.lemmas.Bool.{and_parts}
 use Rattle.std.proofs.lemmas.Bool.Decides.{nat_tests}
 use Rattle.ae_base.specs.Names.{admits, all_differ}
-use Rattle.ae_base.proofs.NameLaws.{admitted as one_more}
+use Rattle.ae_base.proofs.Interface.{admitted as one_more}
 use Rattle.ae_base.specs.Sessions.{IsSession}
 use Rattle.ae_base.specs.declared.batches.Param.{Param}
 use Rattle.sql_tree.specs.Tokens.{is_digit}

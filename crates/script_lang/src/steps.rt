@@ -1,3 +1,5 @@
+//! The steps of a script.
+
 use ae_base::batches::Batch;
 use ae_base::sessions::SessionId;
 

@@ -1,3 +1,5 @@
+//! A walk through the lines of a script.
+
 ghost use Rattle.std.specs.Prelude.{◌≡◌, ◌<◌, ◌||◌, ◌^◌, ◌∷◌, ◌++◌, [], true, Some, IfOk, OnOk, length, take, codes, string_bytes};
 ghost use Rattle.std.specs.Str.{bytes_eq};
 ghost use Rattle.std.specs.List.{All};

@@ -1,3 +1,5 @@
+//! Words and blanks of a line.
+
 ghost use Rattle.std.specs.Prelude.{◌≡◌, ◌==◌, IsTrue, length, slice_index, take_while, MatchOption, Some, None};
 ghost use Rattle.std.specs.List.{list_all};
 ghost use Rattle.std.specs.Str.{bytes_eq};

@@ -6,7 +6,7 @@ use Rattle.std.specs.List.{All}
 use Rattle.std.proofs.lemmas.List.{append_cancel_left, append-nil, take-append-le, take-append-drop, flat_map_more}
 use Rattle.std.proofs.lemmas.List.Elements.{All-nil, All-cons, All-push, All-head, All-tail}
 use Rattle.ae_edge.specs.Devices.{IsFront}
-use Rattle.ae_edge.proofs.Told.{front_none}
+use Rattle.ae_edge.proofs.Interface.{front_none}
 use Rattle.wire_messages.specs.Conditions.{IsRequest}
 use Rattle.wire_messages.specs.declared.requests.Request.{Request}
 use Rattle.wire_spelling.specs.Spelling.{SpellsRequest, request_frame}

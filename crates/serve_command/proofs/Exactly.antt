@@ -6,7 +6,7 @@ use Rattle.std.proofs.Math.Seq.{take-append-add, take-nil}
 use Rattle.std.proofs.lemmas.List.{take-append-le}
 use Rattle.std.proofs.lemmas.List.Elements.{All-cons}
 use Rattle.ae_edge.specs.Devices.{Adds, AddsFront, IsFront, Removes}
-use Rattle.ae_edge.proofs.Told.{front_of, front_behind, front_then}
+use Rattle.ae_edge.proofs.Interface.{front_of, front_behind, front_then}
 use Rattle.wire_messages.specs.Conditions.{IsRequest}
 use Rattle.wire_messages.specs.declared.requests.Request.{Request}
 use Rattle.wire_spelling.specs.Spelling.{SpellsRequest, request_frame, reply_frame}
@@ -14,7 +14,7 @@ use Rattle.wire_frames.specs.Frames.{Placed, End, Whole, Refused, Rest, ReadsAs,
 use Rattle.wire_frames.specs.Laws.{HasOneReading, IsReadBack, IsReadOnce}
 use Rattle.server_core.specs.Serve.{State, serve}
 use Rattle.serve_command.specs.ServeAll.{ServeAll, requests_of, reply_frames, state_after}
-use Rattle.serve_command.specs.Serving.{AnswersAll, AnswersFirst, AnswersOpen, Begins, BreaksOff, Ends, IsOpen, IsServed, Serves, most_input_bytes}
+use Rattle.serve_command.specs.Serving.{AnswersAll, AnswersFirst, AnswersOpen, Begins, BreaksOff, Ends, IsOpen, IsServed, ServesStream, most_stream_bytes}
 use Rattle.serve_command.specs.declared.commands.Served.{Served}
 use Rattle.serve_command.specs.declared.commands.Served.TheVariants as served
 use Rattle.serve_command.proofs.Replying.{frames_front, frames_more}
@@ -23,16 +23,16 @@ use Rattle.serve_command.proofs.Beginning.{begins_fed, begins_none, refused_furt
 -- ---- the bytes within the limit
 
 -- what was taken is a front of them
-within_limit : (taken rest bytes : List ℕ) → bytes ≡ taken ++ rest → length taken ≤ most_input_bytes → take most_input_bytes bytes ≡ taken ++ take (most_input_bytes - length taken) rest
+within_limit : (taken rest bytes : List ℕ) → bytes ≡ taken ++ rest → length taken ≤ most_stream_bytes → take most_stream_bytes bytes ≡ taken ++ take (most_stream_bytes - length taken) rest
 within_limit taken rest bytes e l =
-    let n : most_input_bytes ≡ length taken + (most_input_bytes - length taken) = omega (arith, l) in
-    ap (take most_input_bytes) e ∙ ap (λ (k : ℕ). take k (taken ++ rest)) n ∙ take-append-add taken rest (most_input_bytes - length taken)
+    let n : most_stream_bytes ≡ length taken + (most_stream_bytes - length taken) = omega (arith, l) in
+    ap (take most_stream_bytes) e ∙ ap (λ (k : ℕ). take k (taken ++ rest)) n ∙ take-append-add taken rest (most_stream_bytes - length taken)
 
 -- where nothing is left, it is all of them
-all_within : (taken bytes : List ℕ) → bytes ≡ taken ++ [] → length taken ≤ most_input_bytes → (take most_input_bytes bytes ≡ taken) × (length bytes ≤ most_input_bytes)
+all_within : (taken bytes : List ℕ) → bytes ≡ taken ++ [] → length taken ≤ most_stream_bytes → (take most_stream_bytes bytes ≡ taken) × (length bytes ≤ most_stream_bytes)
 all_within taken bytes e l =
     let same : bytes ≡ taken = e ∙ append-nil taken in
-    let nothing : taken ++ take (most_input_bytes - length taken) [] ≡ taken = ap (λ (l : List ℕ). taken ++ l) (take-nil (most_input_bytes - length taken)) ∙ append-nil taken in
+    let nothing : taken ++ take (most_stream_bytes - length taken) [] ≡ taken = ap (λ (l : List ℕ). taken ++ l) (take-nil (most_stream_bytes - length taken)) ∙ append-nil taken in
     (within_limit taken [] bytes e l ∙ nothing, omega (arith, ap length same, l))
 
 -- where a source tells its bytes, it tells what is left
@@ -61,20 +61,20 @@ first_of_all taken end out now a =
     record { answered = requests_of a.serves.requests; others = b.0; begins = b.1; put = subst (λ (l : List ℕ). Adds l out now) a.serves.replied a.put }
 
 module _ (reading : HasOneReading SpellsRequest) (once : IsReadOnce is_request_kind SpellsRequest) (back : IsReadBack is_request_kind SpellsRequest IsRequest request_frame)
-    (bytes frames : List ℕ) (end : End) (after : State) (serves : ServeAll (take most_input_bytes bytes) end frames after) (out now : Option (List ℕ)) where
+    (bytes frames : List ℕ) (end : End) (after : State) (serves : ServeAll (take most_stream_bytes bytes) end frames after) (out now : Option (List ℕ)) where
   -- other frames of the bytes within the limit are these
-  same_serve : (other : End) → AnswersAll (take most_input_bytes bytes) other out now → (end ≡ other) × Adds frames out now
+  same_serve : (other : End) → AnswersAll (take most_stream_bytes bytes) other out now → (end ≡ other) × Adds frames out now
   same_serve other a =
-      let same = once 0 (take most_input_bytes bytes) serves.requests a.serves.requests end other serves.read a.serves.read in
+      let same = once 0 (take most_stream_bytes bytes) serves.requests a.serves.requests end other serves.read a.serves.read in
       let f : a.frames ≡ frames = a.serves.replied ∙ ap (λ (l : List (Placed Request)). reply_frames (requests_of l)) (sym same.0) ∙ sym serves.replied in
       (same.1, subst (λ (l : List ℕ). Adds l out now) f a.put)
 
-  module _ (taken rest : List ℕ) (split : bytes ≡ taken ++ rest) (within : length taken ≤ most_input_bytes) where
+  module _ (taken rest : List ℕ) (split : bytes ≡ taken ++ rest) (within : length taken ≤ most_stream_bytes) where
     first_frames : (requests : List Request) (others : List ℕ) → Begins taken requests others → IsFront (reply_frames requests) frames
     first_frames requests others b =
-        let more = take (most_input_bytes - length taken) rest in
+        let more = take (most_stream_bytes - length taken) rest in
         let longer = subst (λ (l : List ℕ). Begins l requests (others ++ more)) (sym (within_limit taken rest bytes split within)) (begins_fed taken requests others more b) in
-        let front = requests_front reading once back (take most_input_bytes bytes) requests (others ++ more) serves.requests end longer serves.read in
+        let front = requests_front reading once back (take most_stream_bytes bytes) requests (others ++ more) serves.requests end longer serves.read in
         let whole : frames ≡ reply_frames (requests ++ front.rest) = serves.replied ∙ ap reply_frames front.is in
         subst (λ (l : List ℕ). IsFront (reply_frames requests) l) (sym whole) (frames_front requests front.rest)
 
@@ -91,7 +91,7 @@ module _ (reading : HasOneReading SpellsRequest) (once : IsReadOnce is_request_k
 
     refused_put : (place : ℕ) → AnswersAll taken (Refused place) out now → (end ≡ Refused place) × Adds frames out now
     refused_put place a =
-        let more = take (most_input_bytes - length taken) rest in
+        let more = take (most_stream_bytes - length taken) rest in
         same_serve (Refused place)
         (record {
           frames = a.frames;
@@ -107,17 +107,17 @@ module _ (reading : HasOneReading SpellsRequest) (once : IsReadOnce is_request_k
           put = a.put;
         })
 
-  all_put : (taken rest : List ℕ) (other : End) → bytes ≡ taken ++ rest → rest ≡ [] → length taken ≤ most_input_bytes → AnswersAll taken other out now
-      → (length bytes ≤ most_input_bytes) × (end ≡ other) × Adds frames out now
+  all_put : (taken rest : List ℕ) (other : End) → bytes ≡ taken ++ rest → rest ≡ [] → length taken ≤ most_stream_bytes → AnswersAll taken other out now
+      → (length bytes ≤ most_stream_bytes) × (end ≡ other) × Adds frames out now
   all_put taken rest other split none within a =
       let whole = all_within taken bytes (split ∙ ap (λ (l : List ℕ). taken ++ l) none) within in
       let same = same_serve other (subst (λ (l : List ℕ). AnswersAll l other out now) (sym whole.0) a) in
       (whole.1, same.0, same.1)
 
-  past_put : (taken rest : List ℕ) → bytes ≡ taken ++ rest → length taken ≡ most_input_bytes + 1 → AnswersOpen (take most_input_bytes taken) out now
-      → (most_input_bytes < length bytes) × IsOpen end × Adds frames out now
+  past_put : (taken rest : List ℕ) → bytes ≡ taken ++ rest → length taken ≡ most_stream_bytes + 1 → AnswersOpen (take most_stream_bytes taken) out now
+      → (most_stream_bytes < length bytes) × IsOpen end × Adds frames out now
   past_put taken rest split past a =
-      let front : take most_input_bytes bytes ≡ take most_input_bytes taken = ap (take most_input_bytes) split ∙ take-append-le most_input_bytes taken rest (omega (arith, past)) in
+      let front : take most_stream_bytes bytes ≡ take most_stream_bytes taken = ap (take most_stream_bytes) split ∙ take-append-le most_stream_bytes taken rest (omega (arith, past)) in
       let same = same_serve a.0 (subst (λ (l : List ℕ). AnswersAll l a.0 out now) (sym front) a.2) in
       (omega (arith, past, ap length split, length-append taken rest), subst IsOpen (sym same.0) a.1, same.1)
 
@@ -135,8 +135,8 @@ module _ (reading : HasOneReading SpellsRequest) (once : IsReadOnce is_request_k
       elim h.1 [ inl first ↦ first_put taken rest split h.0 first | inr part ↦ part_put taken rest split h.0 part ]
 
 pub exactly : HasOneReading SpellsRequest → IsReadOnce is_request_kind SpellsRequest → IsReadBack is_request_kind SpellsRequest IsRequest request_frame
-    → (r : Served) (source left out now : Option (List ℕ)) → Serves r source left out now
-    → (bytes frames : List ℕ) (end : End) (after : State) → source ≡ Some bytes → ServeAll (take most_input_bytes bytes) end frames after → IsServed r bytes end frames out now
+    → (r : Served) (source left out now : Option (List ℕ)) → ServesStream r source left out now
+    → (bytes frames : List ℕ) (end : End) (after : State) → source ≡ Some bytes → ServeAll (take most_stream_bytes bytes) end frames after → IsServed r bytes end frames out now
 exactly reading once back r source left out now s bytes frames end after e serves =
     let l = left_of s.taken bytes left (subst (λ (x : Option (List ℕ)). Removes s.taken x left) e s.lost) in
     served_so reading once back bytes frames end after serves out now r s.taken l.0 left l.1 l.2 s.ends

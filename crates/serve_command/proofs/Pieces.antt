@@ -5,14 +5,14 @@ use Rattle.std.proofs.lemmas.List.{take-append-le, take_all}
 use Rattle.ae_edge.specs.Devices.{WhereTold, Removes}
 use Rattle.ae_edge.specs.Sources.{Takes}
 use Rattle.ae_edge.specs.declared.sources.Taken.TheVariants as taken
-use Rattle.ae_edge.proofs.Told.{told_map, removes_none, removes_then}
+use Rattle.ae_edge.proofs.Interface.{told_map, removes_none, removes_then}
 use Rattle.wire_frames.specs.Frames.{Whole, Refused, Rest, IsNotYet, is_request_kind}
 use Rattle.wire_frames.specs.declared.decoding.Way.TheVariants.{ToServer}
 use Rattle.frame_feed.specs.Feeding.{Feeding, unfed}
 use Rattle.server_core.specs.Laws.{AreServedSerially, RequestsAreSerial}
 use Rattle.server_core.specs.Serve.{State, empty_state}
 use Rattle.wire_messages.specs.declared.requests.Request.{Request}
-use Rattle.serve_command.specs.Serving.{AnswersAll, AnswersFirst, AnswersOpen, Begins, BreaksOff, Serves, most_input_bytes}
+use Rattle.serve_command.specs.Serving.{AnswersAll, AnswersFirst, AnswersOpen, Begins, BreaksOff, ServesStream, most_stream_bytes}
 use Rattle.serve_command.specs.Turns.{Comes, EndsAt, Stands}
 use Rattle.serve_command.specs.declared.commands.Served.{Served}
 use Rattle.serve_command.specs.declared.commands.Served.TheVariants as served
@@ -23,14 +23,14 @@ use Rattle.serve_command.proofs.Turning.{stands_first, answers_all, answers_firs
 pub record Going (count : ℕ) (feed : Feeding) (state : State) (source left out now : Option (List ℕ)) : Type 0 where
   pub taken : List ℕ
   pub lost : Removes taken source left
-  pub few : length taken + count ≡ most_input_bytes
+  pub few : length taken + count ≡ most_stream_bytes
   pub stands : Stands taken feed state out now
   pub waits : IsNotYet is_request_kind feed.held
 
-pub goes_first : (feed : Feeding) (state : State) (source out : Option (List ℕ)) → feed ≡ unfed ToServer → state ≡ empty_state → Going most_input_bytes feed state source source out out
+pub goes_first : (feed : Feeding) (state : State) (source out : Option (List ℕ)) → feed ≡ unfed ToServer → state ≡ empty_state → Going most_stream_bytes feed state source source out out
 goes_first feed state source out e f =
-    subst (λ (x : Feeding). Going most_input_bytes x state source source out out) (sym e)
-    (subst (λ (x : State). Going most_input_bytes (unfed ToServer) x source source out out) (sym f)
+    subst (λ (x : Feeding). Going most_stream_bytes x state source source out out) (sym e)
+    (subst (λ (x : State). Going most_stream_bytes (unfed ToServer) x source source out out) (sym f)
     (record { taken = []; lost = removes_none source; few = refl; stands = stands_first out; waits = inl (omega arith) }))
 
 -- ---- what a call on the input takes
@@ -69,11 +69,11 @@ module _ (law : RequestsAreSerial) (count : ℕ) (feed : Feeding) (state : State
   lost_same : (after : Option (List ℕ)) → Removes [] left after → Removes g.taken source after
   lost_same after h = subst (λ (l : List ℕ). Removes l source after) (append-nil g.taken) (removes_then g.taken [] source left after g.lost h)
 
-  within : length g.taken ≤ most_input_bytes
+  within : length g.taken ≤ most_stream_bytes
   within = omega (arith, g.few)
 
   module _ (piece : List ℕ) (after : Option (List ℕ)) (took : WhereTold (Takes (taken.Bytes piece)) left after) (fits : length piece ≤ count) where
-    still_within : length (g.taken ++ piece) ≤ most_input_bytes
+    still_within : length (g.taken ++ piece) ≤ most_stream_bytes
     still_within = omega (arith, g.few, fits, length-append g.taken piece)
 
     -- what holds of the bytes taken with the piece, wherever they began
@@ -95,7 +95,7 @@ module _ (law : RequestsAreSerial) (count : ℕ) (feed : Feeding) (state : State
           waits = h.1;
         }
 
-    pub ends_refused : (place : ℕ) (new : Option (List ℕ)) → After (λ bytes first. AnswersAll bytes (Refused place) first new) → Serves (served.BadFrame place) source after out new
+    pub ends_refused : (place : ℕ) (new : Option (List ℕ)) → After (λ bytes first. AnswersAll bytes (Refused place) first new) → ServesStream (served.BadFrame place) source after out new
     ends_refused place new f = record {
       taken = g.taken ++ piece;
       lost = lost_more piece after took;
@@ -103,7 +103,7 @@ module _ (law : RequestsAreSerial) (count : ℕ) (feed : Feeding) (state : State
       serial = serially (g.taken ++ piece);
     }
 
-    pub ends_unput : (new : Option (List ℕ)) → After (λ bytes first. BreaksOff bytes first new) → Serves served.WriteFault source after out new
+    pub ends_unput : (new : Option (List ℕ)) → After (λ bytes first. BreaksOff bytes first new) → ServesStream served.WriteFault source after out new
     ends_unput new f = record {
       taken = g.taken ++ piece;
       lost = lost_more piece after took;
@@ -111,7 +111,7 @@ module _ (law : RequestsAreSerial) (count : ℕ) (feed : Feeding) (state : State
       serial = serially (g.taken ++ piece);
     }
 
-    pub ends_unheld : (new : Option (List ℕ)) → After (λ bytes first. AnswersFirst bytes first new ⊎ BreaksOff bytes first new) → Serves served.OutOfMemory source after out new
+    pub ends_unheld : (new : Option (List ℕ)) → After (λ bytes first. AnswersFirst bytes first new ⊎ BreaksOff bytes first new) → ServesStream served.OutOfMemory source after out new
     ends_unheld new f = record {
       taken = g.taken ++ piece;
       lost = lost_more piece after took;
@@ -120,11 +120,11 @@ module _ (law : RequestsAreSerial) (count : ℕ) (feed : Feeding) (state : State
     }
 
   -- a byte past the limit
-  pub ends_past : (piece : List ℕ) (after : Option (List ℕ)) → WhereTold (Takes (taken.Bytes piece)) left after → length piece ≡ 1 → count ≡ 0 → Serves served.TooLong source after out now
+  pub ends_past : (piece : List ℕ) (after : Option (List ℕ)) → WhereTold (Takes (taken.Bytes piece)) left after → length piece ≡ 1 → count ≡ 0 → ServesStream served.TooLong source after out now
   ends_past piece after took one none =
-      let all : length g.taken ≡ most_input_bytes = omega (arith, g.few, none) in
-      let front : take most_input_bytes (g.taken ++ piece) ≡ g.taken =
-      take-append-le most_input_bytes g.taken piece (omega (arith, all)) ∙ take_all most_input_bytes g.taken (omega (arith, all)) in
+      let all : length g.taken ≡ most_stream_bytes = omega (arith, g.few, none) in
+      let front : take most_stream_bytes (g.taken ++ piece) ≡ g.taken =
+      take-append-le most_stream_bytes g.taken piece (omega (arith, all)) ∙ take_all most_stream_bytes g.taken (omega (arith, all)) in
       record {
         taken = g.taken ++ piece;
         lost = lost_more piece after took;
@@ -132,7 +132,7 @@ module _ (law : RequestsAreSerial) (count : ℕ) (feed : Feeding) (state : State
         serial = serially (g.taken ++ piece);
       }
 
-  pub ends_unread : (after : Option (List ℕ)) → WhereTold (Takes taken.Failed) left after → Serves served.ReadFault source after out now
+  pub ends_unread : (after : Option (List ℕ)) → WhereTold (Takes taken.Failed) left after → ServesStream served.ReadFault source after out now
   ends_unread after h = record {
     taken = g.taken;
     lost = lost_same after (removes_failed left after h);
@@ -140,7 +140,7 @@ module _ (law : RequestsAreSerial) (count : ℕ) (feed : Feeding) (state : State
     serial = serially g.taken;
   }
 
-  pub ends_without : (after : Option (List ℕ)) → WhereTold (Takes taken.OutOfMemory) left after → Serves served.OutOfMemory source after out now
+  pub ends_without : (after : Option (List ℕ)) → WhereTold (Takes taken.OutOfMemory) left after → ServesStream served.OutOfMemory source after out now
   ends_without after h = record {
     taken = g.taken;
     lost = lost_same after (removes_unheld left after h);
@@ -149,7 +149,7 @@ module _ (law : RequestsAreSerial) (count : ℕ) (feed : Feeding) (state : State
   }
 
   -- the end of the input
-  pub ends_whole : (r : Served) (after : Option (List ℕ)) → WhereTold (Takes taken.End) left after → EndsAt r feed → Serves r source after out now
+  pub ends_whole : (r : Served) (after : Option (List ℕ)) → WhereTold (Takes taken.End) left after → EndsAt r feed → ServesStream r source after out now
   ends_whole served.Done after h e = record {
     taken = g.taken;
     lost = lost_same after (removes_end left after h);

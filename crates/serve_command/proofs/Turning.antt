@@ -3,7 +3,7 @@ use Rattle.std.proofs.Common.{◌≡◌, ◌⊎◌, ◌+◌, ◌<◌, ◌^◌, �
 use Rattle.std.specs.Prelude.{flat_map, Bool, true, false, if◌then◌else◌}
 use Rattle.std.proofs.lemmas.List.{flat_map_more, length-take-le}
 use Rattle.ae_edge.specs.Devices.{Adds, AddsFront, IsFront}
-use Rattle.ae_edge.proofs.Told.{adds_none, adds_then, front_none}
+use Rattle.ae_edge.proofs.Interface.{adds_none, adds_then, front_none}
 use Rattle.wire_messages.specs.declared.requests.Request.{Request}
 use Rattle.wire_spelling.specs.Spelling.{SpellsRequest, request_frame, reply_frame}
 use Rattle.wire_frames.specs.Decoding.{has_kind}

@@ -1,3 +1,4 @@
 pub mod ServeAll
 pub mod Serving
 pub mod Turns
+pub mod Laws

@@ -12,10 +12,7 @@ use Rattle.server_core.specs.Serve.{State, serve}
 use Rattle.serve_command.specs.ServeAll.{ServeAll, reply_frames, state_after}
 use Rattle.serve_command.specs.declared.commands.Served.{Served}
 use Rattle.serve_command.specs.declared.commands.Served.TheVariants as served
-
--- the input has at most 1,073,741,824 bytes
-abbrev pub most_input_bytes : ℕ
-most_input_bytes = 1073741824
+pub use Rattle.ae_base.specs.Limits.{most_stream_bytes}
 
 -- ---- how far it came
 
@@ -62,17 +59,17 @@ AnswersOpen taken old new = (end : End) × IsOpen end × AnswersAll taken end ol
 -- A frame that is refused ends it at once, a fault and want of memory too; else the input is taken to its end, or to one byte
 -- past the limit, when all requests within the limit are answered.
 abbrev pub Ends : Served → List ℕ → Option (List ℕ) → Option (List ℕ) → Option (List ℕ) → Type 0
-Ends served.Done taken left old new = (length taken ≤ most_input_bytes) × IsAtEnd left × AnswersAll taken Whole old new
+Ends served.Done taken left old new = (length taken ≤ most_stream_bytes) × IsAtEnd left × AnswersAll taken Whole old new
 Ends (served.BadFrame place) taken left old new =
-    (length taken ≤ most_input_bytes) × (AnswersAll taken (Refused place) old new ⊎ (IsAtEnd left × AnswersAll taken (Rest place) old new))
-Ends served.TooLong taken left old new = (length taken ≡ most_input_bytes + 1) × AnswersOpen (take most_input_bytes taken) old new
-Ends served.ReadFault taken left old new = (length taken ≤ most_input_bytes) × AnswersOpen taken old new
-Ends served.WriteFault taken left old new = (length taken ≤ most_input_bytes) × BreaksOff taken old new
-Ends served.OutOfMemory taken left old new = (length taken ≤ most_input_bytes) × (AnswersFirst taken old new ⊎ BreaksOff taken old new)
+    (length taken ≤ most_stream_bytes) × (AnswersAll taken (Refused place) old new ⊎ (IsAtEnd left × AnswersAll taken (Rest place) old new))
+Ends served.TooLong taken left old new = (length taken ≡ most_stream_bytes + 1) × AnswersOpen (take most_stream_bytes taken) old new
+Ends served.ReadFault taken left old new = (length taken ≤ most_stream_bytes) × AnswersOpen taken old new
+Ends served.WriteFault taken left old new = (length taken ≤ most_stream_bytes) × BreaksOff taken old new
+Ends served.OutOfMemory taken left old new = (length taken ≤ most_stream_bytes) × (AnswersFirst taken old new ⊎ BreaksOff taken old new)
 
 -- so much was taken of the input, and it ended so; whichever of its requests were answered, transactions took effect one after
 -- another, each whole at its COMMIT
-pub record Serves (ended : Served) (left left_after out out_after : Option (List ℕ)) : Type 0 where
+pub record ServesStream (ended : Served) (left left_after out out_after : Option (List ℕ)) : Type 0 where
   pub taken : List ℕ
   pub lost : Removes taken left left_after
   pub ends : Ends ended taken left_after out out_after
@@ -83,10 +80,10 @@ pub record Serves (ended : Served) (left left_after out out_after : Option (List
 -- Of an input whose bytes within the limit end so, and have these frames of replies, all were put; of a fault or want of
 -- memory, a front.
 abbrev pub IsServed : Served → List ℕ → End → List ℕ → Option (List ℕ) → Option (List ℕ) → Type 0
-IsServed served.Done bytes end frames old new = (length bytes ≤ most_input_bytes) × (end ≡ Whole) × Adds frames old new
+IsServed served.Done bytes end frames old new = (length bytes ≤ most_stream_bytes) × (end ≡ Whole) × Adds frames old new
 IsServed (served.BadFrame place) bytes end frames old new =
-    ((end ≡ Refused place) ⊎ ((length bytes ≤ most_input_bytes) × (end ≡ Rest place))) × Adds frames old new
-IsServed served.TooLong bytes end frames old new = (most_input_bytes < length bytes) × IsOpen end × Adds frames old new
+    ((end ≡ Refused place) ⊎ ((length bytes ≤ most_stream_bytes) × (end ≡ Rest place))) × Adds frames old new
+IsServed served.TooLong bytes end frames old new = (most_stream_bytes < length bytes) × IsOpen end × Adds frames old new
 IsServed served.ReadFault bytes end frames old new = AddsFront frames old new
 IsServed served.WriteFault bytes end frames old new = AddsFront frames old new
 IsServed served.OutOfMemory bytes end frames old new = AddsFront frames old new

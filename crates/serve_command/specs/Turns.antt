@@ -100,7 +100,4 @@ CountsCame came.OutOfMemory old new = new ≡ old
 abbrev pub EndsAt : Served → Feeding → Type 0
 EndsAt served.Done feed = feed.held ≡ []
 EndsAt (served.BadFrame place) feed = (place ≡ feed.at) × (0 < length feed.held)
-EndsAt served.ReadFault feed = ⊥
-EndsAt served.WriteFault feed = ⊥
-EndsAt served.OutOfMemory feed = ⊥
-EndsAt served.TooLong feed = ⊥
+EndsAt other feed = ⊥

@@ -35,7 +35,7 @@ fn put_replies<W: Sink>(alloc: Global, replies: &[Reply<'_>], out: &mut W) -> Pu
     }
 }
 
-/// Serves a request, and puts the frames of its replies.
+/// ServesStream a request, and puts the frames of its replies.
 pub(crate) fn answer<W: Sink>(
     alloc: Global,
     request: &Request<'_>,

@@ -7,11 +7,12 @@ ghost use Rattle.server_core.specs.Serve.{State, empty_state};
 ghost use Rattle.wire_frames.specs.Frames.{End};
 ghost use Rattle.wire_frames.specs.declared.decoding.Way.TheVariants.{ToServer};
 ghost use Rattle.serve_command.specs.ServeAll.{ServeAll};
-ghost use Rattle.serve_command.specs.Serving.{IsServed, Serves, most_input_bytes};
+ghost use Rattle.serve_command.specs.Serving.{IsServed, ServesStream, most_stream_bytes};
 ghost use Rattle.serve_command.specs.Turns.{Comes, CountsCame, EndsAt, Stands};
 
 use crate::turns::{Came, answer_held};
 use ae_base::blobs::Blob;
+use ae_base::limits::MOST_STREAM_BYTES;
 use ae_edge::sinks::Sink;
 use ae_edge::sources::{Source, Taken};
 use frame_feed::FrameFeed;
@@ -19,9 +20,6 @@ use server_core::laws::requests_are_serial;
 use server_core::server::Server;
 use std::alloc::Global;
 use wire_frames::{Way, frames_are_read_back, one_reading, streams_are_read_once};
-
-/// The most bytes that the input has.
-pub const MOST_INPUT_BYTES: usize = 1_073_741_824;
 
 /// The most bytes that one call asks the input for.
 const MOST_PIECE_BYTES: usize = 65_536;
@@ -81,12 +79,12 @@ fn serve_pieces<S: Source, W: Sink>(
 ) -> Served
     requires unfed { feed.old ≡ unfed ToServer }
     requires empty { server.old ≡ empty_state }
-    ensures content { Serves result (S.left input.old) (S.left input.new) (W.held out.old) (W.held out.new) }
+    ensures content { ServesStream result (S.left input.old) (S.left input.new) (W.held out.old) (W.held out.new) }
     ensures read { result ≡ Served.ReadFault → Rose (S.faults input.old) (S.faults input.new) }
     ensures write { result ≡ Served.WriteFault → Rose (W.faults out.old) (W.faults out.new) }
 {
     requests_are_serial();
-    let mut left = MOST_INPUT_BYTES;
+    let mut left = MOST_STREAM_BYTES;
     'pieces: loop {
         match input.take(alloc, left.min(MOST_PIECE_BYTES).max(1)) {
             Taken::Bytes(piece) => {
@@ -114,10 +112,10 @@ fn serve_pieces<S: Source, W: Sink>(
 /// are answered, before a byte past it is asked for.
 pub fn serve_stream<S: Source, W: Sink>(alloc: Global, input: &mut S, out: &mut W) -> Served
     // What was taken of the input, and what was put for it, by how it ended; and that transactions took effect one after another.
-    ensures content { Serves result (S.left input.old) (S.left input.new) (W.held out.old) (W.held out.new) }
+    ensures content { ServesStream result (S.left input.old) (S.left input.new) (W.held out.old) (W.held out.new) }
     // Where the input tells its bytes: by how those within the limit end, and the frames of their replies. So whole frames within
     // the limit end with `Done` and all frames, unless memory or a device fails.
-    ensures exact { (bytes frames : List ℕ) (end : End) (after : State) → S.left input.old ≡ Some bytes → ServeAll (take most_input_bytes bytes) end frames after
+    ensures exact { (bytes frames : List ℕ) (end : End) (after : State) → S.left input.old ≡ Some bytes → ServeAll (take most_stream_bytes bytes) end frames after
         → IsServed result bytes end frames (W.held out.old) (W.held out.new) }
     // The faults of the outside come only where a count rose.
     ensures read { result ≡ Served.ReadFault → Rose (S.faults input.old) (S.faults input.new) }

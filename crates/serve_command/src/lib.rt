@@ -4,4 +4,5 @@
 
 mod answers;
 pub mod commands;
+pub mod laws;
 mod turns;

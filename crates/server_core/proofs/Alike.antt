@@ -17,20 +17,20 @@ use Rattle.blind_laws.specs.Renaming.{AreCells, PairsCells}
 use Rattle.catalog.specs.Catalogs.{Catalog}
 use Rattle.catalog.specs.Laws.{DefinitionsKeepCatalogs}
 use Rattle.cell_codec.specs.Cells.{is_length_of}
-use Rattle.enc_types.proofs.Merging.{enc_eq-Decides}
+use Rattle.enc_types.proofs.Interface.{enc_eq-Decides}
 use Rattle.enc_types.specs.Laws.{TypingsAreOfColumns}
 use Rattle.enc_types.specs.Typing.{enc_eq}
-use Rattle.operators.proofs.Collected.{came_before}
-use Rattle.operators.proofs.Pairs.{both_then}
+use Rattle.operators.proofs.Interface.{came_before}
+use Rattle.operators.proofs.Interface.{both_then}
 use Rattle.engine.specs.BoundOn.{IsBoundOn}
 use Rattle.transactions.specs.Correspond.{SessionsCorrespond, AsksCorrespond}
 use Rattle.transactions.specs.Counted.{execution}
 use Rattle.transactions.specs.Stores.{transact, world_of}
 use Rattle.transactions.specs.WellKept.{MayAsk}
-use Rattle.transactions.proofs.Alike.{transact_alike}
-use Rattle.transactions.proofs.Asking as asking
-use Rattle.transactions.proofs.Keeping.{transact_keeps}
-use Rattle.transactions.proofs.Seen.{seen_alike}
+use Rattle.transactions.proofs.Interface.{transact_alike}
+use Rattle.transactions.proofs.Interface as asking
+use Rattle.transactions.proofs.Interface.{transact_keeps}
+use Rattle.transactions.proofs.Interface.{seen_alike}
 use Rattle.engine.specs.Correspond.{IsWithinClass, ArePairsWithin, AnswersCorrespond, class_of_result}
 use Rattle.engine.specs.Laws.{StepKeepsWorlds, TypedStatementsAreAdmitted}
 use Rattle.engine.specs.Step.{Answer}

@@ -4,7 +4,7 @@ use Rattle.std.specs.List.{All}
 use Rattle.std.proofs.lemmas.List.{length-map}
 use Rattle.std.proofs.lemmas.List.Elements.{All-nil, All-cons, All-head, All-tail, All-map}
 use Rattle.ae_base.specs.Types.{IsType}
-use Rattle.ae_base.specs.declared.batches.KeyMeta.{KeyMeta}
+use Rattle.ae_base.specs.declared.keys.KeyMeta.{KeyMeta}
 use Rattle.ae_base.specs.declared.types.Enc.{Enc}
 use Rattle.catalog.specs.Catalogs.{Catalog}
 use Rattle.catalog.specs.Laws.{KeysAreTold}

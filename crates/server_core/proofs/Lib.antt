@@ -1,6 +1,7 @@
-pub mod Alike
-pub mod Beginning
+mod Alike
+mod Beginning
 mod Headers
+pub mod Interface
 mod Listing
 mod Moving
 mod Passing
@@ -12,6 +13,6 @@ mod Steps
 mod Suiting
 mod Told
 mod Typings
-pub mod Understanding
+mod Understanding
 mod Used
 mod Versions

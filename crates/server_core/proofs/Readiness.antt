@@ -30,15 +30,15 @@ use Rattle.resolve.specs.Bind.{type_of}
 use Rattle.wire_parts.specs.AtomBounds.{IsSendable}
 use Rattle.wire_messages.specs.declared.params.SentParam.{SentParam}
 use Rattle.engine.specs.Worlds.{World}
-use Rattle.engine.proofs.Kept.{has_master}
+use Rattle.engine.proofs.Interface.{has_master}
 use Rattle.transactions.specs.Answers.{Transacts}
 use Rattle.transactions.specs.Counted.{execution, step_of}
 use Rattle.transactions.specs.Forgotten.{IsUndone}
 use Rattle.transactions.specs.Laws.{TransactionsKeepStores}
 use Rattle.transactions.specs.Stores as stores
 use Rattle.transactions.specs.Stores.{Transacted, transact, world_of}
-use Rattle.transactions.proofs.Asking.{may_ask, rows_by_step}
-use Rattle.transactions.proofs.Seen.{seen_well}
+use Rattle.transactions.proofs.Interface.{may_ask, rows_by_step}
+use Rattle.transactions.proofs.Interface.{seen_well}
 use Rattle.server_core.proofs.Suiting.{are_suited}
 use Rattle.server_core.specs.Calls.{meant_of}
 use Rattle.server_core.specs.Describing.{Meant}

@@ -9,7 +9,7 @@ ghost use Rattle.wire_messages.specs.KeyLists.{keys_used};
 ghost use Rattle.server_core.specs.Describing.{told};
 ghost use Rattle.server_core.specs.Describing as spec;
 
-use ae_base::batches::KeyMeta;
+use ae_base::keys::KeyMeta;
 use ae_base::lists::Seq;
 use ae_base::types::{Enc, KeyId};
 use catalog::catalogs::Catalog;

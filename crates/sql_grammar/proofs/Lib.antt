@@ -1,13 +1,14 @@
-pub mod Agreement
-pub mod Chosen
-pub mod Conditions
-pub mod Counting
-pub mod Definitions
-pub mod Depths
-pub mod Going
-pub mod Operands
-pub mod Pieces
-pub mod Sets
-pub mod Statements
-pub mod Whole
-pub mod Words
+mod Agreement
+mod Chosen
+mod Conditions
+mod Counting
+mod Definitions
+mod Depths
+mod Going
+pub mod Interface
+mod Operands
+mod Pieces
+mod Sets
+mod Statements
+mod Whole
+mod Words

@@ -260,10 +260,8 @@ type_of (word, Some n) =
     if reads_as (codes "VARBINARY") word then binary_type n else None
 
 abbrev pub is_text : Ty → Bool
-is_text ty.Int = false
-is_text ty.BigInt = false
 is_text (ty.NVarChar most) = true
-is_text (ty.VarBinary most) = false
+is_text other = false
 
 -- a text that is the one
 abbrev pub lexeme_is_text : List ℕ → Lexeme → Bool

@@ -24,21 +24,11 @@ pub data Terminal : Type 0 where
 
 abbrev pub is_keyword : Keyword → Lexeme → Bool
 is_keyword k (lexeme.Keyword l) = sameb the_keyword.the_type k l
-is_keyword k (lexeme.Ident name) = false
-is_keyword k (lexeme.Param name) = false
-is_keyword k (lexeme.Number n) = false
-is_keyword k (lexeme.Binary bytes) = false
-is_keyword k (lexeme.Text characters) = false
-is_keyword k (lexeme.Symbol s) = false
+is_keyword k other = false
 
 abbrev pub is_symbol : Symbol → Lexeme → Bool
 is_symbol s (lexeme.Symbol r) = sameb the_symbol.the_type s r
-is_symbol s (lexeme.Keyword k) = false
-is_symbol s (lexeme.Ident name) = false
-is_symbol s (lexeme.Param name) = false
-is_symbol s (lexeme.Number n) = false
-is_symbol s (lexeme.Binary bytes) = false
-is_symbol s (lexeme.Text characters) = false
+is_symbol s other = false
 
 abbrev pub is_ident : Lexeme → Bool
 is_ident (lexeme.Ident name) = true

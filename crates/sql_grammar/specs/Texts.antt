@@ -18,6 +18,7 @@ use Rattle.sql_tree.specs.Statements.{Items, Statement}
 use Rattle.sql_tree.specs.Statements as tree
 use Rattle.sql_grammar.specs.Readers.{is_symbol}
 use Rattle.sql_grammar.specs.Parse.{statement}
+use Rattle.ae_base.specs.Limits.{most_statement_bytes}
 
 -- all the tokens are read
 abbrev pub whole : Statement × List Token → Option Statement
@@ -40,11 +41,7 @@ opens_too_deep depth (t ∷ ts) =
 abbrev pub is_long : Lexeme → Bool
 is_long (lexeme.Text characters) = not (is_within (datum.Text characters) (ty.NVarChar 4000))
 is_long (lexeme.Binary bytes) = not (is_within (datum.Bin bytes) (ty.VarBinary 8000))
-is_long (lexeme.Keyword k) = false
-is_long (lexeme.Ident name) = false
-is_long (lexeme.Param name) = false
-is_long (lexeme.Number n) = false
-is_long (lexeme.Symbol s) = false
+is_long other = false
 
 abbrev pub has_long : List Token → Bool
 has_long tokens = list_any (λ t. is_long t.lexeme) tokens
@@ -69,12 +66,7 @@ passes_a_limit (tree.Insert table columns rows) = nat_lt 1000 (length rows)
 passes_a_limit (tree.Select query) = nat_lt 512 (items_of query.items) || nat_lt 8 (suc (length query.joins))
 passes_a_limit (tree.CreateMaster word path) = not (is_key_length (length (encode_utf8_all path)))
 passes_a_limit (tree.CreateKey word master wrapped) = not (is_key_length (length wrapped))
-passes_a_limit (tree.DropTable word) = false
-passes_a_limit (tree.DropMaster word) = false
-passes_a_limit (tree.DropKey word) = false
-passes_a_limit (tree.Update table assignments asked) = false
-passes_a_limit (tree.Delete table asked) = false
-passes_a_limit (tree.Control control) = false
+passes_a_limit other = false
 
 abbrev pub parsed_tree : List Token → Option Statement → Result Statement SqlFault
 parsed_tree tokens None = Err fault.Syntax
@@ -91,4 +83,4 @@ parsed_tokens (Some tokens) = parsed_narrow tokens (first_wide 92233720368547758
 -- the statement of a text in UTF-8, or the first of: a text over 65,536 bytes; no token list; a number too wide;
 -- too many open parentheses; no tree; a limit passed
 unfoldable pub parsed : List ℕ → Result Statement SqlFault
-parsed text = if nat_lt 65536 (length text) then Err fault.TooLong else parsed_tokens (tokens_of text)
+parsed text = if nat_lt most_statement_bytes (length text) then Err fault.TooLong else parsed_tokens (tokens_of text)

@@ -1,3 +1,5 @@
+//! The grammar and its readers, as laws.
+
 ghost use Rattle.sql_grammar.specs.Laws.{TreesAreOne, TreeIsTheGrammars};
 
 /// The statement that is read of a list of tokens is the one that the grammar gives it, and nothing

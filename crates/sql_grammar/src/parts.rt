@@ -1,3 +1,5 @@
+//! The parts of CREATE TABLE between commas.
+
 use sql_tree::statements::{ColumnSpec, UniqueSpec};
 
 /// A part of a table's definition.

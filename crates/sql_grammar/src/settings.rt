@@ -1,3 +1,5 @@
+//! The settings of keys.
+
 use ae_base::names::Name;
 use ae_base::texts::Txt;
 

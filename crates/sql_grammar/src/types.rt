@@ -1,3 +1,5 @@
+//! The types that words spell.
+
 ghost use Rattle.std.specs.Prelude.{◌≡◌, None, Some};
 ghost use Rattle.std.specs.Str.{chars};
 ghost use Rattle.sql_grammar.specs.Making as make;

@@ -7,7 +7,7 @@ use Rattle.sql_tree.specs.Statements.{Statement}
 use Rattle.sql_grammar.specs.Readers.{Reading, next_among, choice_by}
 use Rattle.sql_grammar.specs.Readers as terminal
 use Rattle.sql_grammar.specs.Parse.{create, drop, insert, update, delete, select, begin, commit, rollback, control, body}
-use Rattle.sql_conditions.proofs.Alike.{here, away}
+use Rattle.sql_expressions.proofs.Interface.{here, away}
 
 abbrev is_next : Keyword → List Token → Bool
 is_next k = next_among (terminal.Word k ∷ [])

@@ -12,7 +12,7 @@ use Rattle.sql_tree.specs.Statements.{Statement, statement_of}
 use Rattle.sql_tree.specs.Tokens.{tokens_of, first_wide}
 use Rattle.sql_grammar.specs.Parse.{statement}
 use Rattle.sql_grammar.specs.Texts.{tree_of, opens_too_deep, has_long, passes_a_limit, parsed_narrow, parsed_tokens, parsed}
-use Rattle.sql_conditions.specs.Reads.{Fails}
+use Rattle.sql_expressions.specs.Reads.{Fails}
 
 pub parsed_long : (text : List ℕ) → 65536 < length text → parsed text ≡ Err fault.TooLong
 unfolding parsed

@@ -1,40 +1,18 @@
+//! Statements past a limit.
+
 ghost use Rattle.std.specs.Prelude.{◌≡◌, ◌==◌, length, nat_lt};
 ghost use Rattle.std.specs.List.{list_any};
 ghost use Rattle.sql_tree.specs.Statements.{items_of, statement_of};
 ghost use Rattle.ae_base.specs.declared.values.Datum.TheVariants as datum;
 ghost use Rattle.sql_grammar.specs.Texts as spec;
 
+use ae_base::limits::{
+    MOST_BINARY_BYTES, MOST_ITEMS, MOST_JOINED_TABLES, MOST_KEY_BYTES, MOST_KEY_COLUMNS,
+    MOST_OPEN_PARENTHESES, MOST_TABLE_COLUMNS, MOST_TEXT_UNITS, MOST_UNIQUE_KEYS, MOST_VALUES_ROWS,
+};
 use ae_base::values::has_units_within;
-use sql_conditions::operands::MOST_OPEN;
 use sql_tree::lexemes::{Lexeme, Symbol, Token};
 use sql_tree::statements::{ColumnSpec, Items, Statement, UniqueSpec};
-
-/// The most columns of a table.
-const MOST_COLUMNS: usize = 64;
-
-/// The most unique keys of a table.
-const MOST_KEYS: usize = 8;
-
-/// The most columns of a unique key.
-const MOST_KEY_COLUMNS: usize = 16;
-
-/// The most rows of one VALUES.
-const MOST_ROWS: usize = 1000;
-
-/// The most items of a SELECT.
-const MOST_ITEMS: usize = 512;
-
-/// The most tables of a FROM.
-const MOST_TABLES: usize = 8;
-
-/// The most UTF-16 units of a text.
-const MOST_UNITS: u16 = 4000;
-
-/// The most bytes of a binary.
-const MOST_BINARY: usize = 8000;
-
-/// The most bytes of a key's path, and of a wrapped key.
-const MOST_KEY_BYTES: usize = 1024;
 
 /// Whether more than 64 parentheses are open at once. One that closes nothing counts for nothing.
 pub(crate) fn opens_too_deep(tokens: &[Token]) -> bool
@@ -44,7 +22,7 @@ pub(crate) fn opens_too_deep(tokens: &[Token]) -> bool
     for token in tokens {
         match token.lexeme {
             Lexeme::Symbol(Symbol::Open) => {
-                if depth >= MOST_OPEN {
+                if depth >= MOST_OPEN_PARENTHESES {
                     return true;
                 }
                 depth += 1;
@@ -67,8 +45,8 @@ fn is_long(lexeme: &Lexeme) -> bool
     ensures { result ≡ spec.is_long lexeme.now }
 {
     match lexeme {
-        Lexeme::Text(text) => !has_units_within(text.as_str(), MOST_UNITS),
-        Lexeme::Binary(bytes) => bytes.len() > MOST_BINARY,
+        Lexeme::Text(text) => !has_units_within(text.as_str(), MOST_TEXT_UNITS),
+        Lexeme::Binary(bytes) => bytes.len() > MOST_BINARY_BYTES,
         _ => false,
     }
 }
@@ -90,13 +68,13 @@ pub(crate) fn passes_a_limit(statement: &Statement) -> bool
             uniques,
             ..
         } => {
-            columns.len() > MOST_COLUMNS
+            columns.len() > MOST_TABLE_COLUMNS
                 || has_many_keys(columns.as_slice(), uniques.as_slice())
                 || has_wide_key(uniques.as_slice())
         }
-        Statement::Insert { rows, .. } => rows.len() > MOST_ROWS,
+        Statement::Insert { rows, .. } => rows.len() > MOST_VALUES_ROWS,
         Statement::Select(query) => {
-            item_count(&query.items) > MOST_ITEMS || query.joins.len() >= MOST_TABLES
+            item_count(&query.items) > MOST_ITEMS || query.joins.len() >= MOST_JOINED_TABLES
         }
         Statement::CreateMaster { path, .. } => !is_key_length(path.as_str().len()),
         Statement::CreateKey { wrapped, .. } => !is_key_length(wrapped.len()),
@@ -117,7 +95,7 @@ fn has_many_keys(columns: &[ColumnSpec], uniques: &[UniqueSpec]) -> bool
         .iter()
         .filter(|column| column.unique.is_some())
         .count();
-    uniques.len() > MOST_KEYS || words > MOST_KEYS - uniques.len()
+    uniques.len() > MOST_UNIQUE_KEYS || words > MOST_UNIQUE_KEYS - uniques.len()
 }
 
 fn has_wide_key(uniques: &[UniqueSpec]) -> bool

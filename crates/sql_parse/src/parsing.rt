@@ -1,3 +1,5 @@
+//! The statement that a text spells, or the first fault.
+
 ghost use Rattle.std.specs.Prelude.{◌≡◌, IfErr, None};
 ghost use Rattle.ae_base.specs.Results.{AnswersAs};
 ghost use Rattle.sql_tree.specs.Statements.{statement_of};
@@ -8,16 +10,14 @@ ghost use Rattle.sql_parse.specs.Faults.{IsParseFault};
 use crate::limits::{has_long, opens_too_deep, passes_a_limit};
 use crate::statements::statement;
 use ae_base::faults::SqlFault;
+use ae_base::limits::{MOST_NUMBER, MOST_STATEMENT_BYTES};
 use ae_base::lists::Seq;
 use ae_base::refusals::Refusal;
-use sql_conditions::cursor::{Cursor, MOST_NUMBER};
+use sql_expressions::cursor::Cursor;
 use sql_tree::lexemes::Token;
 use sql_tree::statements::Statement;
 use sql_tree::tokens::{TokensFault, tokens};
 use std::alloc::Global;
-
-/// The most bytes that a statement has.
-const MOST_BYTES: usize = 65536;
 
 /// The statement that a text spells. A fault is the first of: TooLong for a text over 65,536
 /// bytes; Syntax for one that is no list of tokens; NumberTooWide at the first number above
@@ -28,7 +28,7 @@ pub fn parse(alloc: Global, text: &str) -> Result<Statement, Refusal>
     ensures exact { AnswersAs statement_of result (parsed text.now) }
     ensures causes { IfErr result IsParseFault }
 {
-    if text.len() > MOST_BYTES {
+    if text.len() > MOST_STATEMENT_BYTES {
         return Err(Refusal::Fault(SqlFault::TooLong));
     }
     match tokens(alloc, text, MOST_NUMBER) {

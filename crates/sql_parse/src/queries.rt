@@ -1,3 +1,5 @@
+//! SELECT, from the tokens.
+
 ghost use Rattle.std.specs.Prelude.{◌≡◌, ◌∷◌, [], List, Option, Some, None, map};
 ghost use Rattle.sql_tree.specs.Conditions.{condition_of};
 ghost use Rattle.sql_tree.specs.Operands.{operand_of};
@@ -8,7 +10,7 @@ ghost use Rattle.sql_grammar.specs.Readers as terminal;
 ghost use Rattle.sql_grammar.specs.Readers.{both, many, optional};
 ghost use Rattle.sql_grammar.specs.Making as make;
 ghost use Rattle.sql_grammar.specs.Parse as parse;
-ghost use Rattle.sql_conditions.specs.Reads.{Gives, Reads};
+ghost use Rattle.sql_expressions.specs.Reads.{Gives, Reads};
 ghost use Rattle.std.specs.List.{list_any};
 ghost use Rattle.sql_parse.specs.Views.{tail_of};
 
@@ -16,10 +18,10 @@ use crate::statements::filter;
 use ae_base::lists::Seq;
 use ae_base::names::Name;
 use ae_base::refusals::Refusal;
-use sql_conditions::conditions::{ConditionTree, condition};
-use sql_conditions::cursor::{Cursor, syntax};
-use sql_conditions::operands::{column_ref, operand};
-use sql_conditions::reading::{Reader, listed, number_in_parens};
+use sql_expressions::conditions::{ConditionTree, condition};
+use sql_expressions::cursor::{Cursor, syntax};
+use sql_expressions::operands::{column_ref, operand};
+use sql_expressions::reading::{Reader, listed, number_in_parens};
 use sql_tree::lexemes::{Keyword, Symbol};
 use sql_tree::statements::{
     ColumnAt, Item, ItemValue, Items, Join, OrderKey, Query, SourceTable, Statement,
@@ -66,8 +68,7 @@ struct ItemReader;
 impl Reader for ItemReader {
     ghost use Rattle.sql_tree.specs.Statements as tree;
     ghost use Rattle.sql_grammar.specs.Parse as parse;
-    ghost use Rattle.sql_grammar.proofs.Going.{shortens};
-    ghost use Rattle.sql_grammar.proofs.Statements.{item_agrees};
+    ghost use Rattle.sql_parse.specs.Shortened.{item_shortens};
 
     type Part = Item;
 
@@ -83,7 +84,7 @@ impl Reader for ItemReader {
         Ok(Item { value, alias })
     }
 
-    ghost shortens = { shortens item_agrees };
+    ghost shortens = { item_shortens };
 }
 
 fn items(alloc: Global, tokens: &mut Cursor) -> Result<Items, Refusal>
@@ -137,7 +138,7 @@ fn join(alloc: Global, tokens: &mut Cursor) -> Result<Join, Refusal>
 }
 
 /// The further tables of FROM.
-#[tactic(auto, using(sql_conditions::proofs::Listing::goes_fails, sql_grammar::proofs::Going::goes_end))]
+#[tactic(auto, using(crate::proofs::Ends::goes_fails, crate::proofs::Ends::goes_end))]
 fn joins(alloc: Global, tokens: &mut Cursor) -> Result<Seq<Join>, Refusal>
     ensures { Gives (map join_of) result tokens.new
         (many (terminal.Word keyword.Inner ∷ terminal.Word keyword.Join ∷ []) parse.join tokens.old) }
@@ -155,8 +156,7 @@ struct ColumnReader;
 impl Reader for ColumnReader {
     ghost use Rattle.sql_tree.specs.declared.statements.ColumnAt as declared;
     ghost use Rattle.sql_grammar.specs.Parse as parse;
-    ghost use Rattle.sql_grammar.proofs.Going.{shortens};
-    ghost use Rattle.sql_grammar.proofs.Operands.{column_ref_agrees};
+    ghost use Rattle.sql_parse.specs.Shortened.{column_ref_shortens};
 
     type Part = ColumnAt;
 
@@ -170,7 +170,7 @@ impl Reader for ColumnReader {
         column_ref(tokens)
     }
 
-    ghost shortens = { shortens column_ref_agrees };
+    ghost shortens = { column_ref_shortens };
 }
 
 fn group(alloc: Global, tokens: &mut Cursor) -> Result<Seq<ColumnAt>, Refusal>
@@ -212,8 +212,7 @@ struct OrderKeyReader;
 impl Reader for OrderKeyReader {
     ghost use Rattle.sql_tree.specs.declared.statements.OrderKey as declared;
     ghost use Rattle.sql_grammar.specs.Parse as parse;
-    ghost use Rattle.sql_grammar.proofs.Going.{shortens};
-    ghost use Rattle.sql_grammar.proofs.Statements.{order_key_agrees};
+    ghost use Rattle.sql_parse.specs.Shortened.{order_key_shortens};
 
     type Part = OrderKey;
 
@@ -232,7 +231,7 @@ impl Reader for OrderKeyReader {
         })
     }
 
-    ghost shortens = { shortens order_key_agrees };
+    ghost shortens = { order_key_shortens };
 }
 
 fn order(alloc: Global, tokens: &mut Cursor) -> Result<Seq<OrderKey>, Refusal>

@@ -1,3 +1,5 @@
+//! INSERT, UPDATE, DELETE and transactions, from the tokens.
+
 ghost use Rattle.std.specs.Prelude.{◌≡◌, ◌∷◌, [], List, Option, Some, None, map};
 ghost use Rattle.std.specs.Option.{option_map};
 ghost use Rattle.sql_tree.specs.Conditions.{condition_of};
@@ -8,18 +10,18 @@ ghost use Rattle.sql_tree.specs.declared.lexemes.Symbol.TheVariants as symbol;
 ghost use Rattle.sql_grammar.specs.Readers as terminal;
 ghost use Rattle.sql_grammar.specs.Readers.{optional};
 ghost use Rattle.sql_grammar.specs.Parse as parse;
-ghost use Rattle.sql_conditions.specs.Reads.{Gives, Reads};
+ghost use Rattle.sql_expressions.specs.Reads.{Gives, Reads};
 ghost use Rattle.sql_grammar.specs.Texts.{tree_of};
 
 use crate::queries::select;
 use ae_base::lists::Seq;
 use ae_base::names::Name;
 use ae_base::refusals::Refusal;
-use sql_conditions::conditions::{ConditionTree, condition};
-use sql_conditions::cursor::{Cursor, syntax};
-use sql_conditions::operands::{OperandReader, operand};
-use sql_conditions::reading::{NameReader, Reader, in_parens, listed};
-use sql_definitions::definitions::{create, drop_named};
+use sql_ddl::definitions::{create, drop_named};
+use sql_expressions::conditions::{ConditionTree, condition};
+use sql_expressions::cursor::{Cursor, syntax};
+use sql_expressions::operands::{OperandReader, operand};
+use sql_expressions::reading::{NameReader, Reader, in_parens, listed};
 use sql_tree::lexemes::{Keyword, Symbol};
 use sql_tree::statements::{Assignment, Statement, TransactionControl, ValueRow};
 use std::alloc::Global;
@@ -30,8 +32,7 @@ struct RowReader;
 impl Reader for RowReader {
     ghost use Rattle.sql_tree.specs.Statements as tree;
     ghost use Rattle.sql_grammar.specs.Parse as parse;
-    ghost use Rattle.sql_grammar.proofs.Going.{shortens};
-    ghost use Rattle.sql_grammar.proofs.Statements.{row_agrees};
+    ghost use Rattle.sql_parse.specs.Shortened.{row_shortens};
 
     type Part = ValueRow;
 
@@ -48,7 +49,7 @@ impl Reader for RowReader {
         Ok(ValueRow { at, values })
     }
 
-    ghost shortens = { shortens row_agrees };
+    ghost shortens = { row_shortens };
 }
 
 /// The columns of INSERT, where they are named.
@@ -95,8 +96,7 @@ struct AssignmentReader;
 impl Reader for AssignmentReader {
     ghost use Rattle.sql_tree.specs.Statements as tree;
     ghost use Rattle.sql_grammar.specs.Parse as parse;
-    ghost use Rattle.sql_grammar.proofs.Going.{shortens};
-    ghost use Rattle.sql_grammar.proofs.Statements.{assignment_agrees};
+    ghost use Rattle.sql_parse.specs.Shortened.{assignment_shortens};
 
     type Part = Assignment;
 
@@ -113,7 +113,7 @@ impl Reader for AssignmentReader {
         Ok(Assignment { at, column, value })
     }
 
-    ghost shortens = { shortens assignment_agrees };
+    ghost shortens = { assignment_shortens };
 }
 
 fn update(alloc: Global, tokens: &mut Cursor) -> Result<Statement, Refusal>

@@ -1,5 +1,6 @@
 mod Capitals
 mod Digits
+pub mod Interface
 mod Progress
 mod Quotes
-pub mod Trees
+mod Trees

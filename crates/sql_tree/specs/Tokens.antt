@@ -172,12 +172,7 @@ tokens_of bytes = tokens_from 0 0 bytes
 -- the place of the first number above `most`
 abbrev pub wide : ℕ → Lexeme → Bool
 wide most (lexeme.Number n) = nat_lt most n
-wide most (lexeme.Keyword k) = false
-wide most (lexeme.Ident name) = false
-wide most (lexeme.Param name) = false
-wide most (lexeme.Binary bytes) = false
-wide most (lexeme.Text characters) = false
-wide most (lexeme.Symbol s) = false
+wide most other = false
 
 abbrev pub first_wide : ℕ → List Token → Option ℕ
 first_wide most [] = None

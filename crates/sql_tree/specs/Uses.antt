@@ -59,18 +59,12 @@ abbrev pub uses_in_join : ℕ → BoundJoin → Bool
 uses_in_join place join = uses_in_condition place join.on
 
 abbrev pub uses_in_statement : ℕ → BoundStatement → Bool
-uses_in_statement place (bound.CreateMaster name path) = false
-uses_in_statement place (bound.CreateKey name master wrapped) = false
-uses_in_statement place (bound.CreateTable table) = false
-uses_in_statement place (bound.DropTable name) = false
-uses_in_statement place (bound.DropMaster name) = false
-uses_in_statement place (bound.DropKey name) = false
 uses_in_statement place (bound.Insert insert) = list_any (uses_in_row place) insert.rows
 uses_in_statement place (bound.Update update) = list_any (uses_in_assignment place) update.assignments || uses_in_filter place update.filter
 uses_in_statement place (bound.Delete delete) = uses_in_filter place delete.filter
 uses_in_statement place (bound.Select query) =
     list_any (uses_in_item place) query.items || (list_any (uses_in_join place) query.joins || uses_in_filter place query.filter)
-uses_in_statement place (bound.Control control) = false
+uses_in_statement place other = false
 
 abbrev pub uses : ℕ → Bound → Bool
 uses place bound = uses_in_statement place bound.statement

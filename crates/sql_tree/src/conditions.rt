@@ -1,3 +1,5 @@
+//! Conditions.
+
 use crate::operands::Operand;
 
 /// How a comparison compares.

@@ -1,3 +1,5 @@
+//! The token at the front of a text.
+
 ghost use Rattle.std.specs.Prelude.{◌≡◌, ◌≤◌, ◌<◌, ◌+◌, ◌-◌, ◌*◌, ℕ, true, false, IfOk, IsTrue, MatchOption, length, drop, slice_index, take_while};
 ghost use Rattle.std.specs.List.{AllPass, list_all};
 ghost use Rattle.std.specs.Str.{IsAscii};

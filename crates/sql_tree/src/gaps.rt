@@ -1,3 +1,5 @@
+//! Blanks and comments between tokens.
+
 ghost use Rattle.std.specs.Prelude.{◌≡◌, ◌≤◌, ◌==◌, length, not, take_while};
 ghost use Rattle.sql_tree.specs.Tokens as spec;
 

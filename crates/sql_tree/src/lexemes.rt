@@ -1,3 +1,5 @@
+//! Tokens.
+
 use ae_base::blobs::Blob;
 use ae_base::names::{Name, ParamName};
 use ae_base::texts::Txt;

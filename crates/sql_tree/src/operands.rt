@@ -1,3 +1,5 @@
+//! Operands.
+
 use ae_base::names::Name;
 use ae_base::values::Value;
 

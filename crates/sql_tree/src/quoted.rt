@@ -1,3 +1,5 @@
+//! Texts and names between quotes and brackets.
+
 ghost use Rattle.std.specs.Prelude.{◌≡◌, ◌≤◌, None, Some, true, false, IfOk, IfSome, MatchOption, length};
 ghost use Rattle.std.specs.Str.{chars, is_utf8};
 ghost use Rattle.sql_tree.specs.declared.lexemes.Lexeme.TheVariants as lexeme;

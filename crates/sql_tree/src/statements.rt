@@ -1,3 +1,5 @@
+//! Statements, with names as they are written.
+
 use crate::conditions::Condition;
 use crate::operands::{ColumnRef, Operand};
 use ae_base::blobs::Blob;

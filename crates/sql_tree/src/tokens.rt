@@ -1,3 +1,5 @@
+//! The tokens of a text.
+
 ghost use Rattle.std.specs.Prelude.{◌≡◌, ◌<◌, ◌^◌, length};
 ghost use Rattle.sql_tree.specs.declared.tokens.TokensFault.TheVariants.{OutOfMemory};
 ghost use Rattle.sql_tree.specs.Reading.{Tokenizes};

@@ -1,3 +1,5 @@
+//! Indexes with several places for a key.
+
 use ae_base::atoms::{Atom, AtomOf, Row};
 use ae_base::cells::Cell;
 use ae_base::values::Datum;

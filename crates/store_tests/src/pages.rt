@@ -1,3 +1,5 @@
+//! Pages that are merged when rows are removed.
+
 use row_store::tables::Paged;
 use std::alloc::AllocError;
 

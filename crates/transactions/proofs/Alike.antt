@@ -15,8 +15,8 @@ use Rattle.engine.specs.Step as step
 use Rattle.engine.specs.Step.{Answer, Defined}
 use Rattle.engine.specs.Typed.{param_classes}
 use Rattle.engine.specs.Worlds.{World}
-use Rattle.engine.proofs.Simulating.{step_alike}
-use Rattle.engine.proofs.Tables.{contents_at, contents_set}
+use Rattle.engine.proofs.Interface.{step_alike}
+use Rattle.engine.proofs.Interface.{contents_at, contents_set}
 use Rattle.transactions.specs.Counted.{Counted, CountedOutcome, Execution, count_of, tables_of, target, is_definition, changed_by, counts_behind, is_at_last_count, counted, counted_step, raised_at, alone}
 use Rattle.transactions.specs.Stores.{Transaction, Store, Ask, Begins, Commits, RollsBack, Executes, Transacted, transaction_at, with_transaction, seen_by, is_used, noted, joined, stepped_in, conflict, why_not, placed, committed, executed_in, executed_alone, transacted}
 use Rattle.transactions.specs.declared.uses.Used.{Used}

@@ -22,7 +22,7 @@ use Rattle.engine.specs.Queries.{joined_all, found_in}
 use Rattle.engine.specs.Step as step
 use Rattle.engine.specs.Step.{Answer, Outcome, Done, outcome, columns_of, uniques_of, rows_to_insert, rows_to_update, rows_to_delete, done_by}
 use Rattle.engine.specs.Worlds.{World, place_of, rows_of, with_rows}
-use Rattle.engine.proofs.Moving.{inserted_done, updated_done, deleted_done, selected_done}
+use Rattle.engine.proofs.Interface.{inserted_done, updated_done, deleted_done, selected_done}
 use Rattle.transactions.specs.Counted.{Counted, CountedOutcome, Execution, tables_of, target, is_definition, changed_by, count_of, counts_behind, is_at_last_count, counted, counted_step}
 use Rattle.transactions.specs.Frames.{put, written, AreDoneAlike}
 

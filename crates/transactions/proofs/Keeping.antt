@@ -13,7 +13,7 @@ use Rattle.engine.specs.Step as step
 use Rattle.engine.specs.Step.{Answer, Defined}
 use Rattle.engine.specs.WellTyped.{IsWellTyped, IsTableOf, IsAnswerOf}
 use Rattle.engine.specs.Worlds.{World, HoldsRows}
-use Rattle.engine.proofs.Kept.{step_kept}
+use Rattle.engine.proofs.Interface.{step_kept}
 use Rattle.transactions.specs.Counted.{Counted, CountedOutcome, Execution, tables_of, target, is_definition, changed_by, counts_behind, is_at_last_count, counted, counted_step, raised_at, alone}
 use Rattle.transactions.specs.Stores.{Transaction, Store, Ask, Begins, Commits, RollsBack, Executes, Transacted, transaction_at, with_transaction, seen_by, stepped_in, conflict, why_not, placed, committed, executed_in, transacted}
 use Rattle.transactions.specs.WellKept.{IsTransaction, IsOpen, IsStore, IsFor, MayAsk}

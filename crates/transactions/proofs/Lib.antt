@@ -1,19 +1,20 @@
-pub mod Alike
-pub mod Apart
-pub mod Asking
-pub mod Counting
-pub mod Forgetting
-pub mod Frame
-pub mod Journaling
-pub mod Keeping
-pub mod Noting
-pub mod Padding
-pub mod Places
-pub mod Renaming
-pub mod Replay
-pub mod Seen
-pub mod Serializing
-pub mod Since
-pub mod Storing
-pub mod Taking
-pub mod Tracking
+mod Alike
+mod Apart
+mod Asking
+mod Counting
+mod Forgetting
+mod Frame
+pub mod Interface
+mod Journaling
+mod Keeping
+mod Noting
+mod Padding
+mod Places
+mod Renaming
+mod Replay
+mod Seen
+mod Serializing
+mod Since
+mod Storing
+mod Taking
+mod Tracking

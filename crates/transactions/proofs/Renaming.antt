@@ -15,7 +15,7 @@ use Rattle.engine.specs.Laws.{AreTypesMoved}
 use Rattle.engine.specs.Step as step
 use Rattle.engine.specs.Step.{Answer, Outcome}
 use Rattle.engine.specs.Worlds.{World}
-use Rattle.engine.proofs.Moving.{step_moved}
+use Rattle.engine.proofs.Interface.{step_moved}
 use Rattle.transactions.specs.Counted.{Counted, CountedOutcome, Execution, tables_of, is_definition, changed_by, counted, counted_step, raised_at, alone, execution}
 use Rattle.transactions.specs.Stores.{Transaction, Store, Executes, Transacted, transaction_at, with_transaction, noted, joined, executed_in, transacted}
 

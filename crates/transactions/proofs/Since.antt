@@ -10,7 +10,7 @@ use Rattle.ae_base.specs.declared.faults.SqlFault.{SqlFault}
 use Rattle.sql_tree.specs.Bound.{BoundStatement, Bound}
 use Rattle.sql_tree.specs.Bound as bound
 use Rattle.catalog.specs.Catalogs.{Catalog, with_master, with_key, with_table, without_master, without_key, without_table}
-use Rattle.catalog.proofs.History.{with_master-followed, with_key-followed, with_table-followed, without_master-followed, without_key-followed, without_table-followed}
+use Rattle.catalog.proofs.Interface.{with_master-followed, with_key-followed, with_table-followed, without_master-followed, without_key-followed, without_table-followed}
 use Rattle.engine.specs.Step as step
 use Rattle.engine.specs.Step.{Answer, Outcome, Done, outcome, done_by}
 use Rattle.engine.specs.Worlds.{place_of, rows_of, with_rows}

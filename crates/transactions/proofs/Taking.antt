@@ -11,7 +11,7 @@ use Rattle.ae_base.specs.declared.tables.TableDef.{TableDef}
 use Rattle.sql_tree.specs.OnTables.{table_among}
 use Rattle.catalog.specs.Catalogs.{Catalog}
 use Rattle.engine.specs.Worlds.{World, place_of, rows_of, with_rows}
-use Rattle.engine.proofs.Contents.{table_place_there}
+use Rattle.engine.proofs.Interface.{table_place_there}
 use Rattle.transactions.specs.Counted.{Counted, count_of, is_at_last_count, raised}
 use Rattle.transactions.specs.Effects.{exchanged}
 use Rattle.transactions.specs.Noted.{AreApart}

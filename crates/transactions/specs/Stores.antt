@@ -54,17 +54,8 @@ pub data Ask : Type 0 where
 
 -- what a statement asks: BEGIN, COMMIT and ROLLBACK of the transactions, each other of a world
 abbrev pub control_in : BoundStatement → Option TransactionControl
-control_in (bound.CreateMaster name path) = None
-control_in (bound.CreateKey name master wrapped) = None
-control_in (bound.CreateTable table) = None
-control_in (bound.DropTable name) = None
-control_in (bound.DropMaster name) = None
-control_in (bound.DropKey name) = None
-control_in (bound.Insert i) = None
-control_in (bound.Update u) = None
-control_in (bound.Delete d) = None
-control_in (bound.Select q) = None
 control_in (bound.Control control) = Some control
+control_in other = None
 
 abbrev pub asked : Option TransactionControl → Execution → Ask
 asked None e = Executes e

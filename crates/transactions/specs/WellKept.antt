@@ -35,10 +35,8 @@ pub record IsFor (cell : List ℕ → Bool) (world : World) (e : Execution) : Ty
 
 -- a session may ask this in a world
 abbrev pub MayAsk : (List ℕ → Bool) → World → Ask → Type 0
-MayAsk cell world Begins = Unit {0}
-MayAsk cell world Commits = Unit {0}
-MayAsk cell world RollsBack = Unit {0}
 MayAsk cell world (Executes e) = IsFor cell world e
+MayAsk cell world other = Unit {0}
 
 -- no session has a transaction, and there is one count a table
 pub record HasNoTransactions (store : Store) : Type 0 where

@@ -7,7 +7,7 @@ use Rattle.std.proofs.lemmas.List.{length-take-le}
 use Rattle.std.proofs.lemmas.List.Elements.{All-take, All-drop}
 use Rattle.ae_base.specs.Atoms.{Atom, plain_atom}
 use Rattle.ae_base.specs.declared.atoms.AtomOf.TheVariants as atom
-use Rattle.ae_base.specs.declared.batches.KeyMeta.{KeyMeta}
+use Rattle.ae_base.specs.declared.keys.KeyMeta.{KeyMeta}
 use Rattle.ae_base.specs.declared.faults.SqlFault.{SqlFault}
 use Rattle.ae_base.specs.declared.types.Enc.{Enc}
 use Rattle.ae_base.specs.declared.types.Enc.TheVariants as enc
@@ -49,12 +49,12 @@ use Rattle.wire_messages.specs.declared.replies.Reply.{Reply}
 use Rattle.wire_messages.specs.declared.replies.Reply.TheVariants.{Row, Ended}
 use Rattle.plain_meaning.specs.Reference.{why_unopened}
 use Rattle.plain_meaning.specs.Reference as plain
-use Rattle.plain_meaning.proofs.Agreement.{types_sent, whole_count}
-use Rattle.plain_meaning.proofs.Pairs.{Extends}
-use Rattle.plain_meaning.proofs.Sealed.{IsSealed, IsRndSeal}
-use Rattle.plain_meaning.proofs.Sending.{Each}
-use Rattle.plain_meaning.proofs.Talk.{AreSealed, AreOpened, OpensAt, encs_in, types_shown, unopened_later, unopened_here, rows_opened, rows_skipped}
-use Rattle.plain_meaning.proofs.Told.{IsMetaOf}
+use Rattle.plain_meaning.proofs.Interface.{types_sent, whole_count}
+use Rattle.plain_meaning.proofs.Interface.{Extends}
+use Rattle.plain_meaning.proofs.Interface.{IsSealed, IsRndSeal}
+use Rattle.plain_meaning.proofs.Interface.{Each}
+use Rattle.plain_meaning.proofs.Interface.{AreSealed, AreOpened, OpensAt, encs_in, types_shown, unopened_later, unopened_here, rows_opened, rows_skipped}
+use Rattle.plain_meaning.proofs.Interface.{IsMetaOf}
 use Rattle.twin_scripts.specs.Laws.{TwinOutcomes, IsNotDry}
 use Rattle.twin_scripts.proofs.Gathered.{exchange_wider}
 use Rattle.twin_scripts.proofs.Twinning.{Twinning, twinning_longer, rows_stand}

@@ -7,14 +7,14 @@ use Rattle.std.proofs.lemmas.List.Elements.{All-head, All-tail}
 use Rattle.ae_base.specs.Atoms.{Atom}
 use Rattle.ae_base.specs.Results.{◌>>=◌}
 use Rattle.ae_base.specs.declared.batches.Batch.{Batch}
-use Rattle.ae_base.specs.declared.batches.KeyMeta.{KeyMeta}
+use Rattle.ae_base.specs.declared.keys.KeyMeta.{KeyMeta}
 use Rattle.ae_base.specs.declared.batches.Param.{Param}
 use Rattle.ae_base.specs.declared.batches.ParamDecl.{ParamDecl}
 use Rattle.ae_base.specs.declared.faults.SqlFault.{SqlFault}
 use Rattle.ae_base.specs.declared.faults.SqlFault.TheVariants.{Moved}
 use Rattle.ae_edge.specs.Vaults.{KeyMap}
 use Rattle.aes_block.specs.Bytes.{AreBytes}
-use Rattle.blind_laws.proofs.Wider.{contents_wider}
+use Rattle.blind_laws.proofs.Interface.{contents_wider}
 use Rattle.catalog.specs.Catalogs.{Catalog}
 use Rattle.conversation.specs.Batches.{why_unfit, unless}
 use Rattle.conversation.specs.Drive.{passing, over}
@@ -29,22 +29,22 @@ use Rattle.conversation.specs.declared.outcomes.Outcome as outcomes
 use Rattle.conversation.specs.declared.outcomes.Outcome.TheVariants as outcome
 use Rattle.conversation.specs.declared.sessions.Session.{Session}
 use Rattle.conversation.specs.declared.sessions.Session.TheVariants as session
-use Rattle.conversation.proofs.Fitting.{fit_fits}
+use Rattle.conversation.proofs.Interface.{fit_fits}
 use Rattle.enc_types.specs.UsedAlone.{used_among, is_used, alone}
 use Rattle.catalog.specs.WellFormed.{IsCatalog}
 use Rattle.transactions.specs.Correspond.{CountedCorrespond, SessionsCorrespond, StoresCorrespond}
 use Rattle.transactions.specs.Counted.{Counted, Execution, execution}
 use Rattle.transactions.specs.Stores.{Transaction, Transacted, ask_of, transaction_at, world_of, transact}
 use Rattle.transactions.specs.WellKept.{IsFor}
-use Rattle.transactions.proofs.Alike.{transact_alike}
-use Rattle.transactions.proofs.Asking.{asks_alike, may_ask}
-use Rattle.transactions.proofs.Seen.{seen_well, seen_alike, set_back}
+use Rattle.transactions.proofs.Interface.{transact_alike}
+use Rattle.transactions.proofs.Interface.{asks_alike, may_ask}
+use Rattle.transactions.proofs.Interface.{seen_well, seen_alike, set_back}
 use Rattle.engine.specs.Typed.{param_classes}
 use Rattle.scalar.specs.Classes.{Class, Pairing, Entry, Listing, Correspond, RowsCorrespond, class_of}
 use Rattle.script_lang.specs.Limits.{IsWithinLimits, HasParams, HasProperParams, IsProperStep}
 use Rattle.script_lang.specs.declared.steps.Step.{Step}
 use Rattle.script_lang.specs.declared.steps.Step.TheVariants as steps_of
-use Rattle.server_core.proofs.Alike as served
+use Rattle.server_core.proofs.Interface as served
 use Rattle.server_core.specs.Correspond.{SentAtomsCorrespond, ParamsCorrespond, StatesCorrespond, ExchangeCorresponds}
 use Rattle.server_core.specs.Describing.{Meant, understood, describe, description, keys_of}
 use Rattle.server_core.specs.Params.{declaration_of, suited}
@@ -56,16 +56,16 @@ use Rattle.wire_messages.specs.declared.requests.Request.TheVariants as request
 use Rattle.plain_meaning.specs.Reference.{Came, came, declared, means}
 use Rattle.plain_meaning.specs.Reference as plain
 use Rattle.plain_meaning.specs.Steps.{number_of, turn, talk}
-use Rattle.plain_meaning.proofs.Agreement.{Laws, encs_alone, plain_atoms_of, execution_alone, is_ready, is_held, keys_told, stands_on}
-use Rattle.plain_meaning.proofs.Agreement as plainly
-use Rattle.plain_meaning.proofs.Between.{StandsFor, IsSendableParam, DescribedAs, HoldsBatch, HoldsIn, AllHold, seen_told, all_go, hold_place}
-use Rattle.plain_meaning.proofs.History.{IsTold}
-use Rattle.plain_meaning.proofs.Pairs.{Extends, Standing}
-use Rattle.plain_meaning.proofs.Sending.{Each, told_among, all_fit}
-use Rattle.plain_meaning.proofs.Talk.{AreSealed, encs_in}
-use Rattle.plain_meaning.proofs.Told.{IsMetaOf}
-use Rattle.plain_meaning.proofs.Understood.{transact_alone}
-use Rattle.plain_meaning.proofs.Used.{tys_in, atoms_in, uses_sendable}
+use Rattle.plain_meaning.proofs.Interface.{Laws, encs_alone, plain_atoms_of, execution_alone, is_ready, is_held, keys_told, stands_on}
+use Rattle.plain_meaning.proofs.Interface as plainly
+use Rattle.plain_meaning.proofs.Interface.{StandsFor, IsSendableParam, DescribedAs, HoldsBatch, HoldsIn, AllHold, seen_told, all_go, hold_place}
+use Rattle.plain_meaning.proofs.Interface.{IsTold}
+use Rattle.plain_meaning.proofs.Interface.{Extends, Standing}
+use Rattle.plain_meaning.proofs.Interface.{Each, told_among, all_fit}
+use Rattle.plain_meaning.proofs.Interface.{AreSealed, encs_in}
+use Rattle.plain_meaning.proofs.Interface.{IsMetaOf}
+use Rattle.plain_meaning.proofs.Interface.{transact_alone}
+use Rattle.plain_meaning.proofs.Interface.{tys_in, atoms_in, uses_sendable}
 use Rattle.twin_scripts.specs.Twins.{AreTwinLiterals, AllTwinParams, encs_of_description, encs_where_fit, encs_described, TwinSteps, AreTwins}
 use Rattle.twin_scripts.proofs.Between.{untold_same, declarations_same, uses_twins, twin_few, twins_fit, twins_proper, other_fits, twin_of, AreTwinPending, AreTwinSessions, AllTwinSessions, sessions_longer, twin_place, twin_set, twin_described}
 use Rattle.twin_scripts.specs.Laws.{TwinOutcomes}

@@ -5,7 +5,7 @@ use lib.Utf8.{encode}
 use Rattle.ae_base.specs.declared.atoms.AtomOf.TheVariants.{Plain}
 use Rattle.ae_base.specs.declared.types.Ty.TheVariants as ty
 use Rattle.ae_base.specs.declared.values.Datum.TheVariants.{Num}
-use Rattle.bound_checks.specs.Checks.{checked}
+use Rattle.semantic_checks.specs.Checks.{checked}
 use Rattle.conversation.specs.Sessions.{nobody}
 use Rattle.enc_types.specs.Least.{inferred, least, has_typing, clash_behind}
 use Rattle.enc_types.specs.Rules.{rules}

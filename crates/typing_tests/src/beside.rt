@@ -1,3 +1,5 @@
+//! Inference beside a search of all typings.
+
 // What is inferred, beside the search.
 
 use crate::cases::{OF_DELETES, OF_INSERTS, OF_QUERIES, OF_TABLES, OF_UPDATES, WORKED};

@@ -1,3 +1,5 @@
+//! Statements with the typing that each has.
+
 // What stands in statements over the tables t (i, c, r) and v (o, b).
 
 use crate::small::Answer::{Clash, Typed};

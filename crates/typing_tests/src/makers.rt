@@ -1,3 +1,5 @@
+//! Bound statements, made without a parser.
+
 // Bound statements of their parts, `None` where there is no memory.
 
 use crate::small::{Ask, COLUMNS, Form, Kind, PARAMS, Part, Side};

@@ -1,3 +1,5 @@
+//! A search of all typings of a small statement.
+
 // Every typing of a statement, tried one after the other.
 
 use crate::small::{Answer, Ask, COLUMNS, Kind, PARAMS, Part, Side};

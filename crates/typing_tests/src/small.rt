@@ -1,3 +1,5 @@
+//! Small columns and parameters.
+
 // Small statements, as what stands in them.
 
 use ae_base::types::Ty;

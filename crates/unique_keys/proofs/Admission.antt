@@ -12,7 +12,7 @@ use Rattle.ae_base.specs.declared.refusals.Refusal.TheVariants.{Fault, OutOfMemo
 use Rattle.operators.specs.Alike.{key_of}
 use Rattle.std.specs.Prelude.{OnOk}
 use Rattle.key_index.specs.Places.{Keyed, IndexesKeys, IndexesFront, HasMore}
-use Rattle.key_index.proofs.Counting.{front_same, indexed_more, indexed_none}
+use Rattle.key_index.proofs.Interface.{front_same, indexed_more, indexed_none}
 use Rattle.unique_keys.specs.Keys.{has_twins, first_twins, unless_twins}
 use Rattle.unique_keys.specs.Indexes.{Indexed, IndexesRows, IndexesFirst, AreDistinct, AreAdmitted, keys_of, standing_rows}
 use Rattle.unique_keys.specs.Admitting.{AreTried, HaveThem}

@@ -1,3 +1,4 @@
-pub mod Twins
-pub mod TwinsAlike
-pub mod Admission
+mod Admission
+pub mod Interface
+mod Twins
+mod TwinsAlike

@@ -7,11 +7,11 @@ use Rattle.std.proofs.lemmas.List.Elements.{All-cons, All-nil}
 use Rattle.std.proofs.lemmas.List.Folds.{list_any-append}
 use Rattle.ae_base.specs.Atoms.{Atom}
 use Rattle.operators.specs.Alike.{key_of, alike_on, are_alike}
-use Rattle.operators.proofs.Grouping.{any-map, any_same, alike_back, alike_on-keys}
-use Rattle.operators.proofs.Places.{drop_there}
+use Rattle.operators.proofs.Interface.{any-map, any_same, alike_back, alike_on-keys}
+use Rattle.operators.proofs.Interface.{drop_there}
 use Rattle.key_index.specs.Places.{Keyed, IndexesKeys}
 use Rattle.key_index.specs.Lookups.{is_known, first_known, first_alike}
-use Rattle.key_index.proofs.Counting.{known_is}
+use Rattle.key_index.proofs.Interface.{known_is}
 use Rattle.unique_keys.specs.Keys.{has_twins, first_twins}
 
 -- ---- either way round

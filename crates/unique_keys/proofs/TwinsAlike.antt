@@ -8,7 +8,7 @@ use Rattle.scalar.specs.Classes.{Class, Pairing, class_at, IsOneToOne, RowsCorre
 use Rattle.scalar.specs.Typed.{IsNotRandomized}
 use Rattle.operators.specs.Alike.{alike_on}
 use Rattle.unique_keys.specs.Keys.{has_twins, first_twins}
-use Rattle.operators.proofs.Pairs.{any_alike, alike_there}
+use Rattle.operators.proofs.Interface.{any_alike, alike_there}
 
 module _ (R : Pairing) (r : IsOneToOne R) where
   twins_alike : (classes : List Class) (key : List ℕ) (rows others : List (List Atom)) → All (λ place. IsNotRandomized (class_at classes place)) key → AllZip (RowsCorrespond R classes) rows others → has_twins key rows ≡ has_twins key others

@@ -1,3 +1,5 @@
+//! The index of one unique key.
+
 ghost use Rattle.std.specs.Prelude.{◌≡◌, ◌++◌, List, Ok, length, map, not, true, false, IfOk, OnOk};
 ghost use Rattle.ae_base.specs.Atoms.{Atom};
 ghost use Rattle.operators.specs.Alike.{key_of};

@@ -1,3 +1,5 @@
+//! New rows beside the unique keys of a table.
+
 ghost use Rattle.std.specs.Prelude.{◌≡◌, ◌<◌, ◌≤◌, ◌+◌, ◌++◌, List, length, map, suc, IfOk};
 ghost use Rattle.std.specs.List.{All};
 ghost use Rattle.ae_base.specs.Atoms.{Atom};
@@ -6,9 +8,10 @@ ghost use Rattle.unique_keys.specs.Admitting.{AreTried};
 
 use crate::index::UniqueIndex;
 use ae_base::atoms::Row;
-use ae_base::faults::{SqlFault, UniqueNumber};
+use ae_base::faults::SqlFault;
 use ae_base::refusals::Refusal;
 use ae_base::sameness::Same;
+use ae_base::uniques::UniqueNumber;
 use std::alloc::{AllocError, Global};
 
 /// The number of the unique key of a place, from 0.

@@ -1,3 +1,5 @@
+//! Why a value has no bytes, or bytes have no value.
+
 ghost use Rattle.std.specs.Prelude.{◌≡◌};
 ghost use Rattle.value_norm.specs.declared.errors.NormError.TheVariants as norm_error;
 ghost use Rattle.value_norm.specs.declared.errors.ReadError.TheVariants as read_error;

@@ -6,8 +6,10 @@ ghost use Rattle.wire_bodies.specs.Found.{GivesBody};
 ghost use Rattle.wire_reading.specs.Reading as read;
 
 use crate::found::Body;
-use ae_base::faults::{SqlFault, UniqueNumber, Versions};
+use ae_base::faults::SqlFault;
 use ae_base::names::{Name, ParamName};
+use ae_base::uniques::UniqueNumber;
+use ae_base::versions::Versions;
 use std::alloc::Global;
 use wire_reading::checks;
 use wire_reading::reading::{counts_of, name_of, param_name_of, u32_of, versions_of};

@@ -8,8 +8,8 @@ use Rattle.wire_messages.specs.declared.requests.Request.TheVariants.{Describe, 
 use Rattle.wire_spelling.specs.Spelling.{request_kind, request_body, reply_kind, reply_body, SpellsRequest, SpellsReply}
 use Rattle.wire_frames.specs.Frames.{is_request_kind, is_reply_kind}
 use Rattle.wire_reading.specs.Reading.{request_at, reply_at}
-use Rattle.wire_spelling.proofs.Lengths.{request_within, reply_within}
-use Rattle.wire_reading.proofs.MessageLaws.{request_takes, request_again, reply_takes, reply_again}
+use Rattle.wire_spelling.proofs.Interface.{request_within, reply_within}
+use Rattle.wire_reading.proofs.Interface.{request_takes, request_again, reply_takes, reply_again}
 use Rattle.wire_frames.proofs.FrameLaws.{IsDirection}
 
 request_kinds : (request : Request) → is_request_kind (request_kind request) ≡ true

@@ -6,7 +6,7 @@ use Rattle.std.proofs.lemmas.List.{take_at, take-append-drop, append-nil, nil_fr
 use Rattle.std.proofs.lemmas.Nat.{be_bytes_4, from_be_bytes-to_be_bytes_4}
 use Rattle.wire_spelling.specs.Spelling as spell
 use Rattle.wire_frames.specs.Frames.{stated, is_no_header, IsRefused}
-use Rattle.wire_reading.proofs.Takes.{AreBytes, AreBytes-drop, AreBytes-take, some_is}
+use Rattle.wire_reading.proofs.Interface.{AreBytes, AreBytes-drop, AreBytes-take, some_is}
 
 -- ---- headers
 

@@ -4,7 +4,7 @@ use Rattle.std.specs.List.{list_any}
 use Rattle.std.specs.Str.{bytes_eq}
 use Rattle.ae_base.specs.declared.types.Enc.{Enc}
 use Rattle.ae_base.specs.declared.types.Enc.TheVariants as enc
-use Rattle.ae_base.specs.declared.batches.KeyMeta.{KeyMeta}
+use Rattle.ae_base.specs.declared.keys.KeyMeta.{KeyMeta}
 
 -- the keys of some encryptions, in the order of their first use, without those that were used before
 abbrev pub keys_used : List ℕ → List Enc → List ℕ

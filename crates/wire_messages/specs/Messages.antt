@@ -1,6 +1,6 @@
 -- What replies tell.
 use Rattle.std.specs.Prelude.{ℕ, ◌≤◌, List, length, map}
-use Rattle.ae_base.specs.declared.batches.KeyMeta.{KeyMeta}
+use Rattle.ae_base.specs.declared.keys.KeyMeta.{KeyMeta}
 use Rattle.wire_messages.specs.declared.params.UsedParam.{UsedParam}
 use Rattle.wire_messages.specs.declared.columns.SentColumn.{SentColumn}
 use Rattle.wire_messages.specs.KeyLists.{AreTheKeysOf}

@@ -8,11 +8,9 @@ ghost use Rattle.wire_messages.specs.KeyLists.{AreTheKeysOf, lists_from, ids_of}
 
 use crate::columns::SentColumn;
 use crate::params::UsedParam;
+use ae_base::limits::MOST_COLUMN_KEYS;
 use ae_base::types::{Enc, KeyId};
 use wire_parts::keys::KeyPart;
-
-/// The most keys that a message lists.
-pub const MOST_KEYS: usize = 64;
 
 /// What a message says to be encrypted or not.
 pub trait Encrypted {
@@ -44,7 +42,7 @@ impl<'a> Encrypted for SentColumn<'a> {
 pub fn are_the_keys_of<T: Encrypted>(items: &[T], keys: &[KeyPart<'_>]) -> bool
     ensures { IsTrue result ↔ AreTheKeysOf (map T.enc_of items.now) keys.now }
 {
-    if keys.len() > MOST_KEYS {
+    if keys.len() > MOST_COLUMN_KEYS {
         return false;
     }
     let mut used = 0;

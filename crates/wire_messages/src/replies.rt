@@ -8,15 +8,13 @@ use crate::columns::SentColumn;
 use crate::key_lists::are_the_keys_of;
 use crate::params::{UsedParams, own_params};
 use ae_base::faults::SqlFault;
+use ae_base::limits::MOST_ANSWER_COLUMNS;
 use ae_base::lists::{Duplicate, Seq};
 use std::alloc::{AllocError, Global};
 use std::marker::Model;
 use wire_parts::atoms::AtomPart;
 use wire_parts::copies::own_parts;
 use wire_parts::keys::KeyPart;
-
-/// The most columns of an answer.
-pub const MOST_COLUMNS: usize = 512;
 
 /// A described statement: the version of the catalog, the keys of its parameters in the order of
 /// their first use, and the parameters that it uses.
@@ -134,7 +132,7 @@ impl<'a> Header<'a> {
         ensures header { IfSome result (λ h. h ≡ record { keys = keys.entry; columns = columns.entry }) }
         ensures exactly { IsSome result ↔ told.IsHeader (record { keys = keys.entry; columns = columns.entry }) }
     {
-        if columns.is_empty() || columns.len() > MOST_COLUMNS {
+        if columns.is_empty() || columns.len() > MOST_ANSWER_COLUMNS {
             return None;
         }
         if !are_the_keys_of(columns.as_slice(), keys.as_slice()) {
@@ -203,7 +201,7 @@ impl<'a> RowParts<'a> {
         ensures row { IfSome result (λ row. row ≡ atoms.entry) }
         ensures exactly { IsSome result ↔ IsFew atoms.entry }
     {
-        if atoms.is_empty() || atoms.len() > MOST_COLUMNS {
+        if atoms.is_empty() || atoms.len() > MOST_ANSWER_COLUMNS {
             return None;
         }
         Some(RowParts { atoms })

@@ -10,18 +10,10 @@ use crate::copies::ToOwn;
 use crate::parts::{BlobPart, CellPart, TxtPart};
 use ae_base::atoms::{Atom, AtomOf};
 use ae_base::cells::Cell;
+use ae_base::limits::{MOST_BINARY_BYTES, MOST_CELL_BYTES, MOST_TEXT_BYTES};
 use ae_base::values::Datum;
 use std::alloc::{AllocError, Global};
 use std::marker::Model;
-
-/// The most bytes of a text that is sent as it is.
-pub const MOST_TEXT_BYTES: usize = 12_000;
-
-/// The most bytes of a binary that is sent as it is.
-pub const MOST_BINARY_BYTES: usize = 8_000;
-
-/// The most bytes of a cell that is sent.
-pub const MOST_CELL_BYTES: usize = 16_384;
 
 /// What is sent for a value, by case.
 #[derive(Drop)]

@@ -6,8 +6,7 @@ ghost use Rattle.ae_base.specs.Keys.{IsWrappedKey};
 use crate::copies::ToOwn;
 use crate::parts::BlobPart;
 use crate::texts::{NamePart, PathPart};
-use ae_base::batches::KeyMeta;
-use ae_base::keys::WrappedKey;
+use ae_base::keys::{KeyMeta, WrappedKey};
 use ae_base::types::KeyId;
 use std::alloc::{AllocError, Global};
 use std::marker::Model;
@@ -22,7 +21,7 @@ pub struct KeyPart<'a> {
 }
 
 impl<'a> Model for KeyPart<'a> {
-    ghost use Rattle.ae_base.specs.declared.batches.KeyMeta.{KeyMeta};
+    ghost use Rattle.ae_base.specs.declared.keys.KeyMeta.{KeyMeta};
     ghost use Rattle.ae_base.specs.Keys.{IsWrappedKey};
 
     ghost Value = { KeyMeta };

@@ -8,13 +8,11 @@ ghost use Rattle.wire_parts.specs.Texts.{IsStatementText};
 
 use crate::parts::TxtPart;
 use ae_base::keys::KeyPath;
+use ae_base::limits::MOST_STATEMENT_BYTES;
 use ae_base::names::{Name, ParamName, Title, has_param_chars};
 use ae_base::texts::char_count;
 use std::alloc::{AllocError, Global};
 use std::marker::{Model, PhantomData};
-
-/// The most bytes of a statement's text.
-pub const MOST_STATEMENT_BYTES: usize = 65_536;
 
 /// A condition on texts.
 pub trait TextRule: Drop {

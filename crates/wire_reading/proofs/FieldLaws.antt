@@ -15,7 +15,7 @@ use Rattle.ae_base.specs.Versions.{IsUniqueNumber}
 use Rattle.wire_messages.specs.Conditions.{IsBytes, IsScalars, IsStatement, IsWord, IsParamWord, IsTitleText, IsPath, IsWrapped, IsKeyId}
 use Rattle.wire_spelling.specs.Spelling as spell
 use Rattle.wire_reading.specs.Reading.{byte_at, number_at, bytes_at, blob_at, characters_of, str_at, is_within, is_word, is_param_name, is_path, is_text_within, is_nonzero, name_at, param_name_at, title_at, path_at, wrapped_at, text_at, session_at, key_id_at, text_size_at, binary_size_at, unique_number_at, short_text_at, short_blob_at}
-use Rattle.wire_spelling.proofs.Lengths.{encoded_within}
+use Rattle.wire_spelling.proofs.Interface.{encoded_within}
 use Rattle.wire_reading.proofs.Takes.{AreBytes, AreBytes-take, AreBytes-drop, AreBytes-rest, Takes, Takes-then, Reads, Reads-bytes, Reads-tried, Reads-kept, bind_some, cond_some, guard_some}
 
 -- ---- numbers

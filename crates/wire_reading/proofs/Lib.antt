@@ -1,6 +1,7 @@
-pub mod FieldLaws
-pub mod MessageLaws
-pub mod PartLaws
-pub mod Takes
+mod FieldLaws
+pub mod Interface
+mod MessageLaws
+mod PartLaws
+mod Takes
 mod Tested
 mod Utf8Tests

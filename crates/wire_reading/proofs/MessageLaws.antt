@@ -9,7 +9,7 @@ use Rattle.ae_base.specs.Faults.{code_of}
 use Rattle.ae_base.specs.Sessions.{IsSession}
 use Rattle.ae_base.specs.declared.types.Enc.{Enc}
 use Rattle.ae_base.specs.declared.batches.ParamDecl.{ParamDecl}
-use Rattle.ae_base.specs.declared.batches.KeyMeta.{KeyMeta}
+use Rattle.ae_base.specs.declared.keys.KeyMeta.{KeyMeta}
 use Rattle.ae_base.specs.declared.atoms.AtomOf.{AtomOf}
 use Rattle.wire_messages.specs.KeyLists.{AreTheKeysOf, keys_used, ids_of}
 use Rattle.wire_messages.specs.Messages.{Description, IsDescription, Header, IsHeader, IsFew}

@@ -14,7 +14,7 @@ use Rattle.ae_base.specs.declared.values.Datum.TheVariants.{Num, Text, Bin}
 use Rattle.ae_base.specs.declared.atoms.AtomOf.{AtomOf}
 use Rattle.ae_base.specs.declared.atoms.AtomOf.TheVariants.{Null, Plain, Sealed}
 use Rattle.ae_base.specs.declared.batches.ParamDecl.{ParamDecl}
-use Rattle.ae_base.specs.declared.batches.KeyMeta.{KeyMeta}
+use Rattle.ae_base.specs.declared.keys.KeyMeta.{KeyMeta}
 use Rattle.ae_base.specs.declared.faults.SqlFault.{SqlFault}
 use Rattle.ae_base.specs.declared.faults.SqlFault.TheVariants as fault
 use Rattle.wire_messages.specs.KeyLists.{keys_used, ids_of}
@@ -28,6 +28,7 @@ use Rattle.wire_messages.specs.declared.replies.Reply.{Reply}
 use Rattle.wire_messages.specs.declared.replies.Reply.TheVariants.{Described, Columns, Row, Ended, Refused}
 use Rattle.wire_messages.specs.declared.requests.Request.{Request}
 use Rattle.wire_messages.specs.declared.requests.Request.TheVariants.{Describe, Execute}
+use Rattle.ae_base.specs.Limits.{most_statement_bytes}
 
 -- ---- readers
 
@@ -179,7 +180,7 @@ unfoldable pub wrapped_at : Reader (List ℕ)
 wrapped_at = kept is_wrapped (blob_at w16)
 
 unfoldable pub text_at : Reader (List ℕ)
-text_at = kept (is_text_within 65536) (str_at w32)
+text_at = kept (is_text_within most_statement_bytes) (str_at w32)
 
 unfoldable pub session_at : Reader ℕ
 session_at = kept (is_within 1 64) (number_at w16)

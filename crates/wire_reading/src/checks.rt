@@ -4,11 +4,12 @@ ghost use Rattle.std.specs.Prelude.{◌≡◌};
 ghost use Rattle.std.specs.Str.{chars};
 ghost use Rattle.wire_reading.specs.Reading as read;
 
-use ae_base::faults::{ChangeCounts, UniqueNumber, Versions};
 use ae_base::lists::Seq;
 use ae_base::params::{Named, ParamList};
 use ae_base::sessions::SessionId;
 use ae_base::types::{BinarySize, KeyId, TextSize};
+use ae_base::uniques::UniqueNumber;
+use ae_base::versions::{ChangeCounts, Versions};
 use wire_messages::columns::SentColumn;
 use wire_messages::params::UsedParams;
 use wire_messages::replies::{Description, Header, RowParts};

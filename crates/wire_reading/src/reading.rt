@@ -8,9 +8,9 @@ ghost use Rattle.wire_reading.specs.Reading as read;
 ghost use Rattle.wire_reading.specs.Reading.{Gives};
 
 use crate::checks;
-use ae_base::faults::{ChangeCounts, Versions};
 use ae_base::sessions::SessionId;
 use ae_base::types::{Enc, KeyId, Ty};
+use ae_base::versions::{ChangeCounts, Versions};
 use wire_messages::replies::Done;
 use wire_parts::atoms::AtomPart;
 use wire_parts::keys::KeyPart;

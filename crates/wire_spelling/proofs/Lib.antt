@@ -1,2 +1,3 @@
-pub mod Lengths
+pub mod Interface
+mod Lengths
 mod Mending

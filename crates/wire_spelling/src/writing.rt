@@ -6,8 +6,9 @@ ghost use Rattle.wire_messages.specs.Conditions as conditions;
 ghost use Rattle.wire_spelling.specs.Spelling as spell;
 
 use crate::fields::{Part, push_blob, push_enc, push_short, push_str, push_ty};
-use ae_base::faults::{ChangeCounts, SqlFault, Versions};
+use ae_base::faults::SqlFault;
 use ae_base::names::{Name, ParamName};
+use ae_base::versions::{ChangeCounts, Versions};
 use std::alloc::AllocError;
 use wire_messages::columns::SentColumn;
 use wire_messages::params::{Declaration, SentParam, UsedParam};

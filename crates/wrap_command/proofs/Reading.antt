@@ -4,16 +4,16 @@ use Rattle.std.proofs.lemmas.List.{append-nil}
 use Rattle.ae_edge.specs.Devices.{WhereTold}
 use Rattle.ae_edge.specs.Streams.{ReadsAll}
 use Rattle.ae_edge.specs.declared.streams.ReadAll.TheVariants as read
-use Rattle.wrap_command.specs.Wrapping.{IsRead, Takes, most_input_bytes}
+use Rattle.wrap_command.specs.Wrapping.{IsRead, Takes, most_script_bytes}
 use Rattle.wrap_command.specs.declared.commands.Wrapped.{Wrapped}
 use Rattle.wrap_command.specs.declared.commands.Wrapped.TheVariants as ended
 
 -- all of it was taken
-takes : (r : Wrapped) (bytes xs left : List ℕ) → IsRead r → ReadsAll most_input_bytes (read.Whole bytes) xs left → Takes r xs left
+takes : (r : Wrapped) (bytes xs left : List ℕ) → IsRead r → ReadsAll most_script_bytes (read.Whole bytes) xs left → Takes r xs left
 takes ended.Done bytes xs left w h = h.1
 takes ended.WriteFault bytes xs left w h = h.1
 takes ended.OutOfMemory bytes xs left w h =
-    let n : length xs ≤ most_input_bytes = h.2 in
+    let n : length xs ≤ most_script_bytes = h.2 in
     (xs, rw (h.1) (sym (append-nil xs)), omega arith)
 takes ended.ReadFault bytes xs left w h = absurd w
 takes ended.TooLong bytes xs left w h = absurd w
@@ -21,7 +21,7 @@ takes ended.BadLine bytes xs left w h = h.1
 takes ended.VaultFault bytes xs left w h = h.1
 takes ended.NoMasterKey bytes xs left w h = h.1
 
-pub takes_whole : (r : Wrapped) (bytes : List ℕ) (old new : Option (List ℕ)) → IsRead r → WhereTold (ReadsAll most_input_bytes (read.Whole bytes)) old new → WhereTold (Takes r) old new
+pub takes_whole : (r : Wrapped) (bytes : List ℕ) (old new : Option (List ℕ)) → IsRead r → WhereTold (ReadsAll most_script_bytes (read.Whole bytes)) old new → WhereTold (Takes r) old new
 takes_whole r bytes (Some xs) (Some left) w h = takes r bytes xs left w h
 takes_whole r bytes (Some xs) None w h = absurd h
 takes_whole r bytes None (Some left) w h = absurd h

@@ -8,10 +8,7 @@ use Rattle.ae_edge.specs.Vaults.{KeyMap, key_at}
 use Rattle.key_wrap.specs.Wrap.{wrapped}
 use Rattle.wrap_command.specs.declared.commands.Wrapped.{Wrapped}
 use Rattle.wrap_command.specs.declared.commands.Wrapped.TheVariants as ended
-
--- the input has at most 16,777,216 bytes
-abbrev pub most_input_bytes : ℕ
-most_input_bytes = 16777216
+pub use Rattle.ae_base.specs.Limits.{most_script_bytes}
 
 -- ---- the input
 
@@ -48,12 +45,12 @@ abbrev pub wrapped_line : List ℕ → List ℕ → List ℕ
 wrapped_line master key = encode_lower (wrapped master key) ++ 10 ∷ []
 
 -- what is told of the vault and of the output
-pub record Lent : Type 0 where
+pub record WrapDevices : Type 0 where
   pub keys : Option KeyMap
   pub out : Option (List ℕ)
 
 -- the input is a key, the vault has a master key at the path, and P holds of the line and of the output before and after
-abbrev pub PutsWrapped : (List ℕ → Option (List ℕ) → Option (List ℕ) → Type 0) → List ℕ → List ℕ → Lent → Lent → Type 0
+abbrev pub PutsWrapped : (List ℕ → Option (List ℕ) → Option (List ℕ) → Type 0) → List ℕ → List ℕ → WrapDevices → WrapDevices → Type 0
 PutsWrapped P path bytes old new = (key master : List ℕ) × SpellsKey bytes key × IfSome old.keys (λ keys. key_at keys path ≡ Some master) × P (wrapped_line master key) old.out new.out
 
 -- all of a line was put, or a front of it
@@ -68,13 +65,13 @@ Puts ended.VaultFault line old new = ⊥
 Puts ended.NoMasterKey line old new = ⊥
 
 -- how it ended, with its cause, and what stands at the output: the line, a front of it, or nothing more
-abbrev pub Wraps : Wrapped → List ℕ → List ℕ → Lent → Lent → Type 0
+abbrev pub Wraps : Wrapped → List ℕ → List ℕ → WrapDevices → WrapDevices → Type 0
 Wraps ended.Done path bytes old new = PutsWrapped Adds path bytes old new
 Wraps ended.WriteFault path bytes old new = PutsWrapped AddsFront path bytes old new
 Wraps ended.OutOfMemory path bytes old new = PutsWrapped AddsFront path bytes old new ⊎ (new.out ≡ old.out)
 Wraps ended.ReadFault path bytes old new = new.out ≡ old.out
-Wraps ended.TooLong path bytes old new = (most_input_bytes < length bytes) × (new.out ≡ old.out)
-Wraps ended.BadLine path bytes old new = (length bytes ≤ most_input_bytes) × ((key : List ℕ) → ¬ SpellsKey bytes key) × (new.out ≡ old.out)
+Wraps ended.TooLong path bytes old new = (most_script_bytes < length bytes) × (new.out ≡ old.out)
+Wraps ended.BadLine path bytes old new = (length bytes ≤ most_script_bytes) × ((key : List ℕ) → ¬ SpellsKey bytes key) × (new.out ≡ old.out)
 Wraps ended.VaultFault path bytes old new = ((key : List ℕ) × SpellsKey bytes key) × (new.out ≡ old.out)
 Wraps ended.NoMasterKey path bytes old new = ((key : List ℕ) × SpellsKey bytes key) × IfSome old.keys (λ keys. key_at keys path ≡ None) × (new.out ≡ old.out)
 
@@ -82,20 +79,15 @@ Wraps ended.NoMasterKey path bytes old new = ((key : List ℕ) × SpellsKey byte
 abbrev pub Takes : Wrapped → List ℕ → List ℕ → Type 0
 Takes ended.Done bytes left = left ≡ []
 Takes ended.WriteFault bytes left = left ≡ []
-Takes ended.OutOfMemory bytes left = HasTaken (λ n. n ≤ most_input_bytes + 1) bytes left
-Takes ended.ReadFault bytes left = HasTaken (λ n. n ≤ most_input_bytes) bytes left
-Takes ended.TooLong bytes left = HasTaken (λ n. n ≡ most_input_bytes + 1) bytes left
+Takes ended.OutOfMemory bytes left = HasTaken (λ n. n ≤ most_script_bytes + 1) bytes left
+Takes ended.ReadFault bytes left = HasTaken (λ n. n ≤ most_script_bytes) bytes left
+Takes ended.TooLong bytes left = HasTaken (λ n. n ≡ most_script_bytes + 1) bytes left
 Takes ended.BadLine bytes left = left ≡ []
 Takes ended.VaultFault bytes left = left ≡ []
 Takes ended.NoMasterKey bytes left = left ≡ []
 
 -- the input was read whole
 abbrev pub IsRead : Wrapped → Type 0
-IsRead ended.Done = Unit {0}
-IsRead ended.WriteFault = Unit {0}
-IsRead ended.OutOfMemory = Unit {0}
 IsRead ended.ReadFault = ⊥
 IsRead ended.TooLong = ⊥
-IsRead ended.BadLine = Unit {0}
-IsRead ended.VaultFault = Unit {0}
-IsRead ended.NoMasterKey = Unit {0}
+IsRead other = Unit {0}

@@ -2,9 +2,10 @@
 
 ghost use Rattle.std.specs.Prelude.{◌≡◌, ◌≤◌, ℕ, List, IfSome, length};
 ghost use Rattle.ae_edge.specs.Devices.{Rose, WhereTold};
-ghost use Rattle.wrap_command.specs.Wrapping.{IsRead, Puts, Takes, Wraps, most_input_bytes, wrapped_line};
+ghost use Rattle.wrap_command.specs.Wrapping.{IsRead, Puts, Takes, Wraps, most_script_bytes, wrapped_line};
 
 use crate::lines::key_in;
+use ae_base::limits::MOST_SCRIPT_BYTES;
 use ae_base::texts::Txt;
 use ae_edge::sinks::Sink;
 use ae_edge::sources::Source;
@@ -12,9 +13,6 @@ use ae_edge::streams::{PutAll, ReadAll, put_all, read_all};
 use ae_edge::vaults::{MasterKey, Vault};
 use aes_block::Aes256;
 use std::alloc::Global;
-
-/// The most bytes that the input has.
-pub const MOST_INPUT_BYTES: usize = 16_777_216;
 
 /// How the command ended.
 #[derive(Clone, Copy, PartialEq, Eq, Debug)]
@@ -60,7 +58,7 @@ fn put_line<W: Sink>(out: &mut W, line: &[u8]) -> Wrapped
 
 /// Wraps the key that the input spells.
 fn wrap_input<V: Vault, W: Sink>(path: &Txt, input: &[u8], vault: &mut V, out: &mut W) -> Wrapped
-    requires { length input.now ≤ most_input_bytes }
+    requires { length input.now ≤ most_script_bytes }
     ensures content { Wraps result path.now input.now (record { keys = V.keys vault.old; out = W.held out.old }) (record { keys = V.keys vault.new; out = W.held out.new }) }
     ensures read { IsRead result }
     ensures vault { result ≡ Wrapped.VaultFault → Rose (V.faults vault.old) (V.faults vault.new) }
@@ -96,7 +94,7 @@ pub fn wrap<S: Source, V: Vault, W: Sink>(
     ensures vault { result ≡ Wrapped.VaultFault → Rose (V.faults vault.old) (V.faults vault.new) }
     ensures write { result ≡ Wrapped.WriteFault → Rose (W.faults out.old) (W.faults out.new) }
 {
-    match read_all(input, alloc, MOST_INPUT_BYTES) {
+    match read_all(input, alloc, MOST_SCRIPT_BYTES) {
         ReadAll::Whole(bytes) => wrap_input(path, bytes.as_slice(), vault, out),
         ReadAll::TooLong => Wrapped::TooLong,
         ReadAll::ReadFault => Wrapped::ReadFault,

@@ -1,3 +1,5 @@
+//! A source of random bytes over a generator of std's kind.
+
 ghost use Rattle.std.specs.Prelude.{◌≡◌, ◌≤◌, None, List, ℕ, []};
 ghost use Rattle.ae_edge.specs.Devices.{Rose};
 

@@ -1,3 +1,5 @@
+//! A vault over the key files of a folder.
+
 ghost use Rattle.std.specs.Prelude.{◌≡◌, ◌≤◌, ◌+◌, ◌++◌, IfOk, IfSome, None, codes, length, string_bytes, string_len, []};
 ghost use Rattle.std.specs.String.{string_capacity};
 ghost use Rattle.ae_edge.specs.Devices.{Rose};

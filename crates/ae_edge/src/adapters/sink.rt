@@ -1,3 +1,5 @@
+//! A sink over a writer.
+
 ghost use Rattle.std.specs.Prelude.{◌≡◌, ◌≤◌, None, []};
 ghost use Rattle.ae_edge.specs.Devices.{Rose};
 ghost use Rattle.ae_edge.specs.Sinks.{CountsPut, IsPut, PutsKnown};

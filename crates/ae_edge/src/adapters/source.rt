@@ -1,3 +1,5 @@
+//! A source over a reader.
+
 ghost use Rattle.std.specs.Prelude.{◌≡◌, ◌≤◌, None, []};
 ghost use Rattle.ae_edge.specs.Devices.{Rose};
 ghost use Rattle.ae_edge.specs.Sources.{CountsTake, IsPiece, TakesKnown};

@@ -1,3 +1,5 @@
+//! A source of bytes in memory.
+
 ghost use Rattle.std.specs.Prelude.{◌≡◌, ◌≤◌, ◌↔◌, Some, []};
 ghost use Rattle.ae_edge.specs.Devices.{Rose};
 ghost use Rattle.ae_edge.specs.Memory.{IsListed, MemTakes, fresh};

@@ -1,6 +1,6 @@
 -- As its script is checked, or it wasn't read.
 use Rattle.std.proofs.Common.{refl, inl}
-use Rattle.ae_edge.proofs.Whole.{some_bytes, too_many_bytes, whole_bytes}
+use Rattle.ae_edge.proofs.Interface.{some_bytes, too_many_bytes, whole_bytes}
 use Rattle.check_command.proofs.Reading.{takes_whole, not_read}
 use Rattle.check_command.specs.declared.steps.Checked.TheVariants as ended
 use Rattle.check_command.proofs.commands.check.Goals as goal

@@ -1,6 +1,6 @@
 -- The places so far stand behind what the batch came to.
 use Rattle.std.proofs.Common.{◌≡◌, ◌++◌, flat_map, string_bytes, take}
-use Rattle.run_words.specs.Printing.{printed_outcome}
+use Rattle.outcome_text.specs.Printing.{printed_outcome}
 use Rattle.check_command.specs.Check.{because}
 use Rattle.check_command.proofs.lines.text_with.Given as goal
 

@@ -1,6 +1,6 @@
 -- The rules up to the last that have a typing, and one more.
 use Rattle.std.proofs.Common.{Some, ap, sym, ◌∙◌}
-use Rattle.enc_types.proofs.Clashes.{none_typed}
+use Rattle.enc_types.proofs.Interface.{none_typed}
 use Rattle.inference.proofs.Inferring.{some_rules, clash_found, is_clash}
 use Rattle.inference.proofs.infer.clash_of.Goals as goal
 

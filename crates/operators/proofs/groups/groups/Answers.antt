@@ -2,7 +2,7 @@
 use Rattle.std.proofs.Common.{◌<◌, length, map, take}
 use Rattle.std.specs.List.{All}
 use Rattle.row_store.specs.Paged.{flat}
-use Rattle.row_store.proofs.Flat.{All_page}
+use Rattle.row_store.proofs.Interface.{All_page}
 use Rattle.sql_tree.specs.declared.bound.PlaceAt.{PlaceAt}
 use Rattle.operators.specs.Groups.{group_of}
 use Rattle.operators.proofs.Grouping.{places_of, pages_more, page_few}

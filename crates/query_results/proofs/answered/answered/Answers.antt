@@ -5,7 +5,7 @@ use Rattle.sql_tree.specs.Bound.{query_of}
 use Rattle.operators.specs.Found.{found_by}
 use Rattle.query_results.specs.Results.{answered, distinct_if}
 use Rattle.query_results.proofs.Answering.{shown_of, answered_so}
-use Rattle.operators.proofs.Collected.{if_ok}
+use Rattle.operators.proofs.Interface.{if_ok}
 use Rattle.query_results.proofs.answered.answered.Goals as goal
 
 pub returns : goal.returns

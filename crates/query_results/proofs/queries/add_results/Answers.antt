@@ -7,7 +7,7 @@ use Rattle.sql_tree.specs.Placed.{IsPlacedValue}
 use Rattle.operators.specs.Found.{found_by}
 use Rattle.operators.specs.declared.found.Found as code
 use Rattle.query_results.specs.Results.{found_of}
-use Rattle.operators.proofs.Walking.{all_there}
+use Rattle.operators.proofs.Interface.{all_there}
 use Rattle.query_results.proofs.Resulting.{added_more, added_fault, added_full, added_all}
 use Rattle.query_results.proofs.queries.add_results.Goals as goal
 
@@ -15,8 +15,8 @@ pub found_of-requires : goal.found_of-requires
 found_of-requires g c =
     all_there (λ (row : List Atom). All (λ (item : BoundItem). IsPlacedValue (length row) (length c.args.params.now) item.value) (map item_of c.args.query.now.items)) c.args.rows.now c.loop-row.row-index c.row-item.result c.requires c.loop-row-test.true c.row-item.is
 
-pub returns-then-len-ge-MOST_RESULTS : goal.returns-then-len-ge-MOST_RESULTS
-returns-then-len-ge-MOST_RESULTS g c =
+pub returns-then-len-ge-MOST_ANSWER_ROWS : goal.returns-then-len-ge-MOST_ANSWER_ROWS
+returns-then-len-ge-MOST_ANSWER_ROWS g c =
     let q = query_of c.args.query.now in
     let le : 1000000 ≤ length c.loop-row.found = omega arith in
     added_full (found_by q.order_by) (found_of q c.args.params.now 0) c.args.rows.now c.args.found.now c.loop-row.row-index c.row-item.result c.loop-row-test.true c.row-item.is c.loop-row.found c.loop-row.invariant le

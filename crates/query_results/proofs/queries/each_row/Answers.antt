@@ -6,7 +6,7 @@ use Rattle.sql_tree.specs.Bound.{query_of, item_of}
 use Rattle.operators.specs.Events.{scanned, fault_in}
 use Rattle.operators.specs.Found.{found_by}
 use Rattle.query_results.specs.Results.{found_of, results, all_found, answer_of}
-use Rattle.operators.proofs.Collected.{fault_handed}
+use Rattle.operators.proofs.Interface.{fault_handed}
 use Rattle.query_results.proofs.Finding.{wide_parted, row_fault, row_found}
 use Rattle.query_results.proofs.Resulting.{placed_items, or_found}
 use Rattle.query_results.proofs.queries.each_row.Goals as goal

@@ -2,7 +2,7 @@
 use Rattle.std.proofs.Common.{length}
 use Rattle.sql_tree.specs.Bound.{BoundItem, item_of}
 use Rattle.sql_tree.specs.Placed.{IsPlacedValue}
-use Rattle.operators.proofs.Places.{All_there}
+use Rattle.operators.proofs.Interface.{All_there}
 use Rattle.query_results.proofs.queries.items_of.Goals as goal
 
 pub item_of-requires : goal.item_of-requires

@@ -2,7 +2,7 @@
 use Rattle.std.proofs.Common.{◌≡◌, drop, map}
 use Rattle.sql_tree.specs.Bound.{item_of}
 use Rattle.query_results.specs.Results as queries
-use Rattle.operators.proofs.Collected.{collected}
+use Rattle.operators.proofs.Interface.{collected}
 use Rattle.query_results.proofs.queries.items_of.Given as goal
 
 abbrev pub invariant-loop-item : goal.invariant-loop-item

@@ -1,7 +1,7 @@
 -- The rows of one more page.
 use Rattle.std.proofs.Common.{◌≤◌, List, length, map, arith}
 use Rattle.std.specs.List.{All}
-use Rattle.row_store.proofs.Flat.{All_page}
+use Rattle.row_store.proofs.Interface.{All_page}
 use Rattle.ae_base.specs.Atoms.{Atom}
 use Rattle.sql_tree.specs.Bound.{BoundItem, query_of, item_of}
 use Rattle.sql_tree.specs.Placed.{IsPlacedValue}

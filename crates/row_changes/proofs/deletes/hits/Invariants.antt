@@ -4,7 +4,7 @@ use Rattle.std.specs.Option.{option_map}
 use Rattle.ae_base.specs.Results.{each}
 use Rattle.sql_tree.specs.Conditions.{condition_of}
 use Rattle.row_changes.specs.Changes.{all_tested, row_to_delete}
-use Rattle.operators.proofs.Collected.{collected}
+use Rattle.operators.proofs.Interface.{collected}
 use Rattle.row_changes.proofs.deletes.hits.Given as goal
 
 abbrev pub invariant-loop-row : goal.invariant-loop-row

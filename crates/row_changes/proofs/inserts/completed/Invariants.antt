@@ -1,7 +1,7 @@
 -- The row so far, with the columns that are left, is the whole.
 use Rattle.std.proofs.Common.{◌≡◌, drop}
 use Rattle.row_changes.specs.Rows.{completed}
-use Rattle.operators.proofs.Collected.{collected}
+use Rattle.operators.proofs.Interface.{collected}
 use Rattle.row_changes.proofs.inserts.completed.Given as goal
 
 abbrev pub invariant-loop-place : goal.invariant-loop-place

@@ -6,7 +6,7 @@ use Rattle.sql_tree.specs.Operands.{operand_of}
 use Rattle.sql_tree.specs.Bound.{BoundRow, row_of}
 use Rattle.sql_tree.specs.Placed.{IsPlaced}
 use Rattle.row_changes.specs.Rows.{new_row, new_rows}
-use Rattle.operators.proofs.Places.{All_there}
+use Rattle.operators.proofs.Interface.{All_there}
 use Rattle.row_changes.proofs.Values.{new_rows_more}
 use Rattle.row_changes.proofs.inserts.new_rows.Goals as goal
 

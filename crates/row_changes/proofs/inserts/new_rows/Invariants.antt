@@ -2,7 +2,7 @@
 use Rattle.std.proofs.Common.{◌≡◌, ◌+◌, ◌≤◌, length, map, drop}
 use Rattle.sql_tree.specs.Bound.{row_of}
 use Rattle.row_changes.specs.Rows.{new_rows}
-use Rattle.operators.proofs.Collected.{collected}
+use Rattle.operators.proofs.Interface.{collected}
 use Rattle.row_changes.proofs.inserts.new_rows.Given as goal
 
 abbrev pub invariant-loop-row : goal.invariant-loop-row

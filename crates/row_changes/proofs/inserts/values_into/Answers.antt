@@ -3,7 +3,7 @@ use Rattle.std.proofs.Common.{◌<◌, length, map, arith}
 use Rattle.sql_tree.specs.Operands.{operand_of}
 use Rattle.sql_tree.specs.Placed.{IsPlaced}
 use Rattle.row_changes.specs.Rows.{values_into}
-use Rattle.operators.proofs.Places.{All_there}
+use Rattle.operators.proofs.Interface.{All_there}
 use Rattle.row_changes.proofs.Values.{values_more}
 use Rattle.row_changes.proofs.inserts.values_into.Goals as goal
 

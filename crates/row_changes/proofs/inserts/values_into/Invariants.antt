@@ -2,7 +2,7 @@
 use Rattle.std.proofs.Common.{◌≡◌, drop, map}
 use Rattle.sql_tree.specs.Operands.{operand_of}
 use Rattle.row_changes.specs.Rows.{values_into}
-use Rattle.operators.proofs.Collected.{collected}
+use Rattle.operators.proofs.Interface.{collected}
 use Rattle.row_changes.proofs.inserts.values_into.Given as goal
 
 abbrev pub invariant-loop-i : goal.invariant-loop-i

@@ -2,7 +2,7 @@
 use Rattle.std.proofs.Common.{◌<◌, length}
 use Rattle.sql_tree.specs.Bound.{BoundAssignment, assignment_of}
 use Rattle.sql_tree.specs.Placed.{IsPlaced}
-use Rattle.operators.proofs.Places.{All_there}
+use Rattle.operators.proofs.Interface.{All_there}
 use Rattle.row_changes.proofs.updates.assigned.Goals as goal
 
 pub value_into-requires-clause-place : goal.value_into-requires-clause-place

@@ -2,7 +2,7 @@
 use Rattle.std.proofs.Common.{◌≡◌, drop, map}
 use Rattle.sql_tree.specs.Bound.{assignment_of}
 use Rattle.row_changes.specs.Changes.{assigned}
-use Rattle.operators.proofs.Collected.{collected}
+use Rattle.operators.proofs.Interface.{collected}
 use Rattle.row_changes.proofs.updates.assigned.Given as goal
 
 abbrev pub invariant-loop-assignment : goal.invariant-loop-assignment

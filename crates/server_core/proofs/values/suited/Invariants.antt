@@ -1,7 +1,7 @@
 -- The values so far, with those that are left, are the whole; and those so far are short.
 use Rattle.std.proofs.Common.{◌≡◌, drop}
 use Rattle.std.specs.List.{All}
-use Rattle.operators.proofs.Collected.{collected}
+use Rattle.operators.proofs.Interface.{collected}
 use Rattle.wire_parts.specs.AtomBounds.{IsSendable}
 use Rattle.server_core.specs.Params.{suited}
 use Rattle.server_core.proofs.values.suited.Given as goal

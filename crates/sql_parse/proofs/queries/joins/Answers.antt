@@ -3,9 +3,9 @@ use Rattle.sql_tree.specs.Statements.{join_of}
 use Rattle.sql_tree.specs.declared.lexemes.Keyword.TheVariants as keyword
 use Rattle.sql_grammar.specs.Readers as terminal
 use Rattle.sql_grammar.specs.Parse.{join}
-use Rattle.sql_grammar.proofs.Going.{shortens, goes_end}
-use Rattle.sql_grammar.proofs.Statements.{join_agrees}
-use Rattle.sql_conditions.proofs.Listing.{goes_push}
+use Rattle.sql_grammar.proofs.Interface.{shortens, goes_end}
+use Rattle.sql_grammar.proofs.Interface.{join_agrees}
+use Rattle.sql_expressions.proofs.Interface.{goes_push}
 use Rattle.sql_parse.proofs.queries.joins.Goals as goal
 
 pub joins-smaller : goal.joins-smaller

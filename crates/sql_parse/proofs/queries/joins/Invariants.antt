@@ -3,7 +3,7 @@ use Rattle.sql_tree.specs.Statements.{join_of}
 use Rattle.sql_tree.specs.declared.lexemes.Keyword.TheVariants as keyword
 use Rattle.sql_grammar.specs.Readers as terminal
 use Rattle.sql_grammar.specs.Parse.{join}
-use Rattle.sql_grammar.proofs.Going.{Goes}
+use Rattle.sql_grammar.proofs.Interface.{Goes}
 use Rattle.sql_parse.proofs.queries.joins.Given as goal
 
 abbrev pub invariant-joins : goal.invariant-joins

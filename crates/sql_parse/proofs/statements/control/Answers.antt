@@ -1,7 +1,7 @@
 use Rattle.std.proofs.Common.{sym}
 use Rattle.sql_tree.specs.Statements.{statement_of}
 use Rattle.sql_grammar.specs.Parse as parse
-use Rattle.sql_conditions.proofs.Alike.{same_gives}
+use Rattle.sql_expressions.proofs.Interface.{same_gives}
 use Rattle.sql_parse.proofs.Chosen.{is_begin, is_commit, is_rollback}
 use Rattle.sql_parse.proofs.statements.control.Goals as goal
 

@@ -1,7 +1,7 @@
 -- One index more.
 use Rattle.std.proofs.Common.{◌≡◌, [], map, ap, sym, ◌∙◌, refl}
 use Rattle.unique_keys.specs.Indexes.{Indexed, IndexesRows}
-use Rattle.key_index.proofs.Counting.{indexed_none}
+use Rattle.key_index.proofs.Interface.{indexed_none}
 use Rattle.unique_keys.proofs.Admission.{fresh_keys, all_push}
 use Rattle.unique_keys.proofs.keys.fresh.Goals as goal
 

@@ -5,7 +5,7 @@ use Rattle.wire_frames.specs.Frames.{is_request_kind, is_reply_kind}
 use Rattle.wire_reading.specs.Reading.{request_at, reply_at}
 use Rattle.wire_frames.proofs.Directions.{to_server, to_driver}
 use Rattle.wire_frames.proofs.FrameLaws.{one_front, front_is_whole}
-use Rattle.wire_spelling.proofs.Lengths.{request_within, reply_within}
+use Rattle.wire_spelling.proofs.Interface.{request_within, reply_within}
 use Rattle.wire_frames.proofs.laws.one_reading.Goals as goal
 
 pub returns-clause-requests_end : goal.returns-clause-requests_end

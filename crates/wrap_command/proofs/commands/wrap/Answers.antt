@@ -1,6 +1,6 @@
 -- As its input is wrapped, or it wasn't read.
 use Rattle.std.proofs.Common.{refl, inr}
-use Rattle.ae_edge.proofs.Whole.{some_bytes, too_many_bytes, whole_bytes}
+use Rattle.ae_edge.proofs.Interface.{some_bytes, too_many_bytes, whole_bytes}
 use Rattle.wrap_command.proofs.Reading.{takes_whole, not_read}
 use Rattle.wrap_command.specs.declared.commands.Wrapped.TheVariants as ended
 use Rattle.wrap_command.proofs.commands.wrap.Goals as goal

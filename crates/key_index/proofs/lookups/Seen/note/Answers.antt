@@ -1,7 +1,7 @@
 -- The keys are looked through as they are seen.
 use Rattle.std.proofs.Common.{not, ap, sym, ◌∙◌}
 use Rattle.operators.specs.Alike.{are_alike}
-use Rattle.operators.proofs.Grouping.{any-map}
+use Rattle.operators.proofs.Interface.{any-map}
 use Rattle.key_index.proofs.lookups.Seen.note.Goals as goal
 
 pub returns-clause-fresh : goal.returns-clause-fresh

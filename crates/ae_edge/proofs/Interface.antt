@@ -1,0 +1,9 @@
+-- What crates above may cite of the proofs of this one. The rest is free to change.
+
+-- One call after another, where contents are told; and how what is told grows.
+pub use Rattle.ae_edge.proofs.Told.{adds_front_none, adds_front_then, adds_none, adds_then}
+pub use Rattle.ae_edge.proofs.Told.{adds_then_front, front_behind, front_none, front_of, front_same}
+pub use Rattle.ae_edge.proofs.Told.{front_then, removes_none, removes_then, rose_before, told_map}
+pub use Rattle.ae_edge.proofs.Told.{told_same, told_then}
+-- What a source had that was read to its end, or to more than the limit.
+pub use Rattle.ae_edge.proofs.Whole.{some_bytes, too_many_bytes, whole_bytes}

@@ -1,4 +1,0 @@
-pub mod ClashTrees
-pub mod RenamedChecks
-pub mod Smallest
-pub mod UsedTrees

@@ -1,8 +1,0 @@
--- The smallest so far is kept.
-use Rattle.std.proofs.Common.{◌≡◌, drop}
-use Rattle.bound_checks.specs.Checks.{least, least_from}
-use Rattle.bound_checks.proofs.checks.least.Given as goal
-
-abbrev pub invariant-loop-at : goal.invariant-loop-at
-invariant-loop-at l =
-    least_from l.found (drop l.at-index l.places) ≡ least l.places

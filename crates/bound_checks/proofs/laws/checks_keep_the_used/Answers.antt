@@ -1,5 +1,0 @@
-use Rattle.bound_checks.proofs.RenamedChecks.{checks_keep_the_used}
-use Rattle.bound_checks.proofs.laws.checks_keep_the_used.Goals as goal
-
-pub returns : goal.returns
-returns c = λ f params bound h. checks_keep_the_used f params bound h

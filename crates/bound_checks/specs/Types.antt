@@ -1,6 +1,0 @@
--- The types of the code, without where they lie in memory.
-use Rattle.bound_checks.specs.declared.kinds.Types as code
-use Rattle.bound_checks.specs.Clashes.{Types}
-
-abbrev pub types_seen : code.Types → Types
-types_seen t = record { columns = t.columns.now; params = t.params.now }

@@ -1,0 +1,5 @@
+mod ClashTrees
+pub mod Interface
+mod RenamedChecks
+mod Smallest
+mod UsedTrees

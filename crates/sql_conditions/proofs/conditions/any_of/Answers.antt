@@ -1,6 +1,0 @@
-use Rattle.std.proofs.Common.{sym}
-use Rattle.sql_conditions.proofs.Joined.{any_joined}
-use Rattle.sql_conditions.proofs.conditions.any_of.Goals as goal
-
-pub returns : goal.returns
-returns c = any_joined c.args.first c.args.more c.in_ok-before.field-0 c.in_ok-before.ensures (sym c.if-is_empty.ensures)

@@ -1,0 +1,6 @@
+use Rattle.std.proofs.Common.{sym}
+use Rattle.sql_expressions.proofs.Joined.{any_joined}
+use Rattle.sql_expressions.proofs.conditions.any_of.Goals as goal
+
+pub returns : goal.returns
+returns c = any_joined c.args.first c.args.more c.in_ok-before.field-0 c.in_ok-before.ensures (sym c.if-is_empty.ensures)

@@ -1,5 +1,0 @@
-use Rattle.stream_laws.proofs.Streams.{streams_served_alike}
-use Rattle.stream_laws.proofs.laws.streams_are_served_alike.Goals as goal
-
-pub returns : goal.returns
-returns c = streams_served_alike c.served_alike.ensures

@@ -1,0 +1,12 @@
+-- What crates above may cite of the proofs of this one. The rest is free to change.
+
+-- From states that correspond, a session comes to answers and states that do.
+pub use Rattle.transactions.proofs.Alike.{transact_alike, zip_at, zip_set}
+-- What a statement asks, for all that is said of requests: crates above cite these lemmas.
+pub use Rattle.transactions.proofs.Asking.{asks_alike, asks_renamed, may_ask, rows_by_step}
+pub use Rattle.transactions.proofs.Asking.{same_execution}
+-- A state that can stand stays one.
+pub use Rattle.transactions.proofs.Keeping.{all_at, all_set, transact_keeps}
+-- The world that a session sees.
+pub use Rattle.transactions.proofs.Seen.{IsOwnCatalog, IsSlotOf, seen_alike, seen_well, set_back}
+pub use Rattle.transactions.proofs.Seen.{shared_by, slot_of}
