@@ -7,6 +7,13 @@ mkdir keys
 # shellcheck disable=SC2046
 printf '%02x' $(seq 0 31) >keys/main.key
 
+# What 1,000 rows come to: 10 groups and one count are shown, and each of 1,005 steps asks twice.
+"$top/ae" gen 1000 >script
+printf 'steps 1005\nerrors 0\nrows 11\nrequests 2010\n' >summary
+for _ in 1 2; do
+    "$top/ae" run --summary <script | cmp - summary
+done
+
 "$top/ae" gen "$n" >script
 small=$(seconds 0 run --summary)
 "$top/ae" gen $((4 * n)) >script

@@ -37,7 +37,7 @@ def frames_of(data):
 def recorded(program, top):
     """The scripts of the repository with their frames: requests and replies."""
     found = []
-    scripts = glob.glob(f"{top}/crates/rows/data/*.sql")
+    scripts = glob.glob(f"{top}/crates/script_tests/data/*.sql")
     for path in sorted(scripts):
         script = read(path)
         if os.path.exists("tap.bin"):
