@@ -109,5 +109,5 @@ detail_of fault.InTransaction = []
 detail_of fault.NoTransaction = []
 
 -- the printed line, in UTF-8 and without its end: error, the code, the name and the detail
-abbrev pub printed : SqlFault → List ℕ
-printed f = codes "error " ++ decimal (code_of f) ++ codes " " ++ name_of f ++ detail_of f
+abbrev pub fault_line : SqlFault → List ℕ
+fault_line f = codes "error " ++ decimal (code_of f) ++ codes " " ++ name_of f ++ detail_of f

@@ -147,9 +147,9 @@ impl SqlFault {
 
 impl fmt::Display for SqlFault {
     ghost use Rattle.std.specs.Prelude.{Some};
-    ghost use Rattle.ae_base.specs.Faults.{printed};
+    ghost use Rattle.ae_base.specs.Faults.{fault_line};
 
-    ghost output = { λ f. Some (printed f) };
+    ghost output = { λ f. Some (fault_line f) };
 
     fn fmt<W: fmt::Write>(&self, f: &mut fmt::Formatter<W>) -> fmt::Result {
         write!(f, "error {} {}", self.code(), self.name())?;

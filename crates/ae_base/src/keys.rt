@@ -1,100 +1,40 @@
 //! What is known of keys without opening them: paths, wrapped keys, and what a client is told.
 
-ghost use Rattle.std.specs.Prelude.{◌≡◌, IfSome, IsSome, ◌↔◌, IsTrue, encode_utf8_all};
+ghost use Rattle.std.specs.Prelude.{◌≡◌, IfSome, IsSome, ◌↔◌};
 ghost use Rattle.std.specs.Cmp.Lexicographic.{nat_list_eq_equiv};
 ghost use Rattle.std.specs.Cmp.{partial_equiv_from_equiv};
-ghost use Rattle.std.specs.Str.{bytes_eq, chars, all_scalars};
+ghost use Rattle.std.specs.Str.{bytes_eq};
 ghost use Rattle.ae_base.specs.Keys.{IsKeyPath, IsWrappedKey};
 
 use crate::blobs::Blob;
 use crate::limits::MOST_KEY_BYTES;
 use crate::lists::Duplicate;
 use crate::names::Name;
-use crate::texts::Txt;
+use crate::ruled::{Ruled, TextRule};
+use crate::texts::byte_count;
 use crate::types::KeyId;
 use std::alloc::AllocError;
 use std::marker::Model;
 
-/// The path of a master key: 1 to 1,024 bytes of UTF-8.
+/// The rule of the paths of master keys.
 #[derive(Drop)]
-pub struct KeyPath {
-    text: Txt,
+pub struct KeyPathRule;
+
+impl TextRule for KeyPathRule {
+    ghost Asks = { IsKeyPath };
+
+    fn is_met(text: &str) -> bool {
+        let count = byte_count(text);
+        count != 0 && count <= KeyPath::MOST_BYTES
+    }
 }
 
-impl Model for KeyPath {
-    ghost use Rattle.std.specs.Prelude.{List, ℕ};
-    ghost use Rattle.ae_base.specs.Keys.{IsKeyPath};
+/// The path of a master key: 1 to 1,024 bytes of UTF-8.
+pub type KeyPath = Ruled<KeyPathRule>;
 
-    ghost Value = { List ℕ };
-
-    ghost view = { λ p. p.text };
-
-    ghost invariant = { λ p. IsKeyPath p.text };
-}
-
-impl KeyPath {
+impl Ruled<KeyPathRule> {
     /// The most bytes of a path.
     pub const MOST_BYTES: usize = MOST_KEY_BYTES;
-
-    /// The path that a text is, where it is one. It takes no memory.
-    pub fn from_txt(text: Txt) -> Option<KeyPath>
-        ensures path { IfSome result (λ path. path ≡ text) }
-        ensures exactly { IsSome result ↔ IsKeyPath text }
-    {
-        let count = text.as_str().len();
-        if count == 0 || count > KeyPath::MOST_BYTES {
-            return None;
-        }
-        Some(KeyPath { text })
-    }
-
-    /// The path as a text, by value. It takes no memory.
-    pub fn into_txt(self) -> Txt
-        ensures text { result ≡ self }
-        ensures path { IsKeyPath self }
-    {
-        self.text
-    }
-
-    /// The path as a text.
-    pub fn as_txt(&self) -> &Txt
-        ensures text { result.now ≡ self.now }
-        ensures path { IsKeyPath self.now }
-    {
-        &self.text
-    }
-
-    /// The path as a borrowed text, in UTF-8.
-    pub fn as_str(&self) -> &str
-        ensures bytes { result.now ≡ encode_utf8_all self.now }
-        ensures characters { chars result.now ≡ self.now }
-        ensures scalars { IsTrue (all_scalars self.now) }
-        ensures path { IsKeyPath self.now }
-    {
-        self.text.as_str()
-    }
-}
-
-impl PartialEq for KeyPath {
-    ghost eq = { bytes_eq };
-
-    ghost laws = { partial_equiv_from_equiv nat_list_eq_equiv };
-
-    fn eq(&self, other: &KeyPath) -> bool {
-        self.text == other.text
-    }
-}
-
-impl Eq for KeyPath {
-    ghost laws = { nat_list_eq_equiv };
-}
-
-impl Duplicate for KeyPath {
-    fn copy(&self) -> Result<KeyPath, AllocError> {
-        Ok(KeyPath {
-            text: self.text.copy()?,
-        })
-    }
 }
 
 /// A column encryption key as its master key wraps it: 1 to 1,024 bytes.

@@ -13,6 +13,7 @@ pub mod lists;
 pub mod names;
 pub mod params;
 pub mod refusals;
+pub mod ruled;
 pub mod sameness;
 pub mod sessions;
 pub mod tables;

@@ -52,7 +52,8 @@ impl<P: Named> ParamList<P> {
     /// memory.
     pub fn from_seq(items: Seq<P>) -> Option<ParamList<P>>
         ensures items { IfSome result (λ list. list ≡ items) }
-        ensures exactly { IsSome result ↔ ((length items ≤ 128) × IsTrue (all_differ (map P.called items))) }
+        ensures exactly { IsSome result
+            ↔ ((length items ≤ 128) × IsTrue (all_differ (map P.called items))) }
     {
         if items.len() > MOST_PARAMS || !all_differ(items.as_slice()) {
             return None;
@@ -89,8 +90,10 @@ impl<P: Named> ParamList<P> {
     /// Puts a parameter at the end where it is admitted, and says whether it did. Else, and for want
     /// of memory, nothing changes.
     pub fn push(&mut self, item: P) -> Result<bool, AllocError>
-        ensures admits { IfOk result (λ taken. taken ≡ admits (map P.called self.old) (P.called item)) }
-        ensures items { IfOk result (λ taken. self.new ≡ (if taken then self.old ++ item ∷ [] else self.old)) }
+        ensures admits { IfOk result
+            (λ taken. taken ≡ admits (map P.called self.old) (P.called item)) }
+        ensures items { IfOk result
+            (λ taken. self.new ≡ (if taken then self.old ++ item ∷ [] else self.old)) }
         ensures kept { OnErr result (self.new ≡ self.old) }
     {
         if !self.admits(&item) {

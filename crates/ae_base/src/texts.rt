@@ -70,6 +70,13 @@ pub fn char_count(text: &str) -> usize
     text.chars().count()
 }
 
+/// How many bytes a borrowed text has.
+pub fn byte_count(text: &str) -> usize
+    ensures { result ≡ length (encode_utf8_all (chars text.now)) }
+{
+    text.len()
+}
+
 impl PartialEq for Txt {
     ghost eq = { bytes_eq };
 

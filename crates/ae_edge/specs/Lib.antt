@@ -1,5 +1,6 @@
 pub mod Devices
 pub mod Draws
+pub mod Files
 pub mod KeyFiles
 pub mod Memory
 pub mod Sinks

@@ -2,6 +2,7 @@
 //! what they hold.
 
 pub mod entropy;
+pub mod file;
 pub mod folder;
 mod interrupts;
 pub mod key_files;

@@ -1,6 +1,6 @@
 -- The inverse cipher undoes the cipher, and the cipher the inverse cipher.
 use Rattle.std.proofs.Common.{◌≡◌, ℕ, zero, suc, ◌+◌, ◌-◌, List, length, refl, ap, ◌∙◌, arith}
-use Rattle.aes_block.specs.Aes.{IsBlock, IsKey, add_round_key, cipher, decrypted, encrypted, expanded_key, inv_cipher, inv_mix_columns, inv_rounds, inv_shift_rows, inv_sub_bytes, mix_columns, rounds, shift_rows, sub_bytes}
+use Rattle.aes_block.specs.Aes.{IsBlock, IsKey, add_round_key, cipher, decryption, encryption, expanded_key, inv_cipher, inv_mix_columns, inv_rounds, inv_shift_rows, inv_sub_bytes, mix_columns, rounds, shift_rows, sub_bytes}
 use Rattle.aes_block.proofs.Blocks.{AreWords, IsBlock-add_round_key, IsBlock-inv_mix_columns, IsBlock-inv_shift_rows, IsBlock-inv_sub_bytes, IsBlock-mix_columns, IsBlock-shift_rows, IsBlock-sub_bytes, add_round_key-twice, inv_mix_columns-mix_columns, inv_shift_rows-shift_rows, inv_sub_bytes-sub_bytes, mix_columns-inv_mix_columns, shift_rows-inv_shift_rows, sub_bytes-inv_sub_bytes}
 use Rattle.aes_block.proofs.KeyBytes.{AreWords-key_words}
 
@@ -105,22 +105,22 @@ module _ (words : List (List ℕ)) (keys : AreWords words) where
 
 -- ---- under every key
 
-pub decrypted-encrypted : (key block : List ℕ) → IsKey key → IsBlock block → decrypted key (encrypted key block) ≡ block
-unfolding encrypted decrypted
+pub decrypted-encrypted : (key block : List ℕ) → IsKey key → IsBlock block → decryption key (encryption key block) ≡ block
+unfolding encryption decryption
 decrypted-encrypted key block is_key is = inv_cipher-cipher (expanded_key key) (AreWords-key_words key 52 is_key.1) block is
 
-pub encrypted-decrypted : (key block : List ℕ) → IsKey key → IsBlock block → encrypted key (decrypted key block) ≡ block
-unfolding encrypted decrypted
+pub encrypted-decrypted : (key block : List ℕ) → IsKey key → IsBlock block → encryption key (decryption key block) ≡ block
+unfolding encryption decryption
 encrypted-decrypted key block is_key is = cipher-inv_cipher (expanded_key key) (AreWords-key_words key 52 is_key.1) block is
 
-pub IsBlock-encrypted : (key block : List ℕ) → IsKey key → IsBlock block → IsBlock (encrypted key block)
-unfolding encrypted
+pub IsBlock-encrypted : (key block : List ℕ) → IsKey key → IsBlock block → IsBlock (encryption key block)
+unfolding encryption
 IsBlock-encrypted key block is_key is = IsBlock-cipher (expanded_key key) (AreWords-key_words key 52 is_key.1) block is
 
-pub IsBlock-decrypted : (key block : List ℕ) → IsKey key → IsBlock block → IsBlock (decrypted key block)
-unfolding decrypted
+pub IsBlock-decrypted : (key block : List ℕ) → IsKey key → IsBlock block → IsBlock (decryption key block)
+unfolding decryption
 IsBlock-decrypted key block is_key is = IsBlock-inv_cipher (expanded_key key) (AreWords-key_words key 52 is_key.1) block is
 
-pub length-decrypted : (key block : List ℕ) → length (decrypted key block) ≡ 16
-unfolding decrypted inv_cipher add_round_key
+pub length-decrypted : (key block : List ℕ) → length (decryption key block) ≡ 16
+unfolding decryption inv_cipher add_round_key
 length-decrypted key block = refl

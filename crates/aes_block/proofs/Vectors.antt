@@ -4,7 +4,7 @@ use Rattle.std.specs.List.{range_with_len}
 use Rattle.aes_block.specs.Field.{times_x, partial_product, product, power}
 use Rattle.aes_block.proofs.Blocks.{AreBytes-tested}
 use Rattle.aes_block.proofs.Inversion.{decrypted-encrypted}
-use Rattle.aes_block.specs.Aes.{IsBlock, IsKey, affine, sub_byte, sub_bytes, shift_rows, mix_columns, add_round_key, changed_word, key_words, rounds, cipher, encrypted, inv_affine, inv_sub_byte, decrypted}
+use Rattle.aes_block.specs.Aes.{IsBlock, IsKey, affine, sub_byte, sub_bytes, shift_rows, mix_columns, add_round_key, changed_word, key_words, rounds, cipher, encryption, inv_affine, inv_sub_byte, decryption}
 
 -- {57} • {83} = {c1} (4.2)
 pub product-example : product 0x57 0x83 ≡ 0xc1
@@ -35,8 +35,8 @@ the_ciphertext =
     ∷ 0xea ∷ 0xfc ∷ 0x49 ∷ 0x90 ∷ 0x4b ∷ 0x49 ∷ 0x60 ∷ 0x89 ∷ []
 
 -- the example of AES-256
-pub encrypted-example : encrypted the_key the_block ≡ the_ciphertext
-unfolding times_x partial_product product power affine sub_byte sub_bytes shift_rows mix_columns add_round_key changed_word key_words rounds cipher encrypted
+pub encrypted-example : encryption the_key the_block ≡ the_ciphertext
+unfolding times_x partial_product product power affine sub_byte sub_bytes shift_rows mix_columns add_round_key changed_word key_words rounds cipher encryption
 encrypted-example = refl
 
 is_key : IsKey the_key
@@ -45,5 +45,5 @@ is_key = (refl, AreBytes-tested the_key 32 refl refl)
 is_block : IsBlock the_block
 is_block = (refl, AreBytes-tested the_block 16 refl refl)
 
-pub decrypted-example : decrypted the_key the_ciphertext ≡ the_block
+pub decrypted-example : decryption the_key the_ciphertext ≡ the_block
 decrypted-example = rw (← encrypted-example) (decrypted-encrypted the_key the_block is_key is_block)

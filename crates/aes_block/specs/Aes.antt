@@ -137,8 +137,8 @@ unfoldable pub cipher : List (List ℕ) → List ℕ → List ℕ
 cipher words block = add_round_key words 14 (shift_rows (sub_bytes (rounds words block 13)))
 
 -- the block encrypted under the key
-unfoldable pub encrypted : List ℕ → List ℕ → List ℕ
-encrypted key block = cipher (expanded_key key) block
+unfoldable pub encryption : List ℕ → List ℕ → List ℕ
+encryption key block = cipher (expanded_key key) block
 
 -- the inverse of the affine map: bit i becomes the sum of bits i+2, i+5, i+7 and of bit i of 0x05
 unfoldable pub inv_affine : ℕ → ℕ
@@ -174,5 +174,5 @@ unfoldable pub inv_cipher : List (List ℕ) → List ℕ → List ℕ
 inv_cipher words block = add_round_key words 0 (inv_sub_bytes (inv_shift_rows (inv_rounds words block 13)))
 
 -- the block decrypted under the key
-unfoldable pub decrypted : List ℕ → List ℕ → List ℕ
-decrypted key block = inv_cipher (expanded_key key) block
+unfoldable pub decryption : List ℕ → List ℕ → List ℕ
+decryption key block = inv_cipher (expanded_key key) block

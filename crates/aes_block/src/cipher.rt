@@ -3,7 +3,7 @@
 // The block cipher under a key.
 
 ghost use Rattle.std.specs.Prelude.{◌≡◌, ℕ, List, map};
-ghost use Rattle.aes_block.specs.Aes.{IsBlock, decrypted, encrypted};
+ghost use Rattle.aes_block.specs.Aes.{IsBlock, decryption, encryption};
 
 use crate::key::{inv_key_words, key_columns};
 use crate::rounds::{cipher, equivalent_cipher};
@@ -58,24 +58,24 @@ impl Aes256 {
 
     /// The block encrypted under the key (section 5.1).
     pub fn encrypt(&self, block: &[u8; 16]) -> [u8; 16]
-        ensures { result ≡ encrypted self.now block.now }
+        ensures { result ≡ encryption self.now block.now }
     {
         cipher(&self.words, block)
     }
 
     /// The block decrypted under the key (section 5.3): the one block that encrypts to `block`.
     pub fn decrypt(&self, block: &[u8; 16]) -> [u8; 16]
-        ensures value { result ≡ decrypted self.now block.now }
-        ensures undoes { encrypted self.now result ≡ block.now }
-        ensures only { (b : List ℕ) → IsBlock b → encrypted self.now b ≡ block.now → b ≡ result }
+        ensures value { result ≡ decryption self.now block.now }
+        ensures undoes { encryption self.now result ≡ block.now }
+        ensures only { (b : List ℕ) → IsBlock b → encryption self.now b ≡ block.now → b ≡ result }
     {
         equivalent_cipher(&self.inverse_words, block)
     }
 
     /// Eight blocks, each decrypted under the key.
     pub fn decrypt8(&self, blocks: &[[u8; 16]; 8]) -> [[u8; 16]; 8]
-        ensures value { result ≡ map (decrypted self.now) blocks.now }
-        ensures undoes { map (encrypted self.now) result ≡ blocks.now }
+        ensures value { result ≡ map (decryption self.now) blocks.now }
+        ensures undoes { map (encryption self.now) result ≡ blocks.now }
     {
         let mut decrypted = [[0; 16]; 8];
         for i in 0..8 {

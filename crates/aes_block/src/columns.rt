@@ -52,7 +52,8 @@ pub(crate) fn mixed_column(a: u32, b: u32, c: u32, d: u32, key: u32) -> u32
 /// The same of InvSubBytes and InvMixColumns.
 pub(crate) fn inv_mixed_column(a: u32, b: u32, c: u32, d: u32, key: u32) -> u32
     ensures { word_of result
-        ≡ word_sum (word_product inv_mix_polynomial (map inv_sub_byte (diagonal a b c d))) (word_of key) }
+        ≡ word_sum (word_product inv_mix_polynomial (map inv_sub_byte (diagonal a b c d)))
+        (word_of key) }
 {
     INV_MIXED[0][row_0(a)]
         ^ INV_MIXED[1][row_1(b)]

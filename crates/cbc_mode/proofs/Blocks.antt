@@ -3,7 +3,7 @@ use Rattle.std.proofs.Common.{◌≡◌, ℕ, zero, suc, ◌-◌, ◌*◌, ◌/�
 use Rattle.std.proofs.lemmas.List.{length-append, length-drop, length-replicate, length-take-le, take-append-drop, take_all, take-append-le, drop-append-le, drop-drop, take_at, drop_at, nil_from_length}
 use Rattle.std.specs.List.{concat, AllByRecursion}
 use Rattle.std.specs.Simd.{first_chunks}
-use Rattle.cbc_mode.specs.Cbc.{blocks_of, padded}
+use Rattle.cbc_mode.specs.Cbc.{blocks_of, with_padding}
 
 -- the chunks of a list that goes on by a part chunk
 first_chunks-append : (n k : ℕ) (xs ys : List ℕ) → k * n ≤ length xs
@@ -40,7 +40,7 @@ first_chunks-long n (suc k) xs le =
     (length-take-le n xs (omega arith), first_chunks-long n k (drop n xs) (omega (arith, length-drop n xs)))
 
 -- the last block of padded bytes is what is left of the bytes, padded
-pub blocks_of-padded : (bytes : List ℕ) → blocks_of (padded bytes) ≡ blocks_of bytes ++ padded (drop (length bytes / 16 * 16) bytes) ∷ []
+pub blocks_of-padded : (bytes : List ℕ) → blocks_of (with_padding bytes) ≡ blocks_of bytes ++ with_padding (drop (length bytes / 16 * 16) bytes) ∷ []
 blocks_of-padded bytes =
     let count = 16 - length bytes % 16 in
     let whole = length bytes / 16 in

@@ -4,14 +4,14 @@ use Rattle.std.proofs.lemmas.Bool.Decides.{nat_tests}
 use Rattle.std.specs.List.{concat}
 use Rattle.std.specs.Option.{ok_or}
 use Rattle.cbc_mode.specs.declared.CbcFault.TheVariants.{BadLength, NotPadded}
-use Rattle.cbc_mode.specs.Cbc.{unpadded, unchained, blocks_of, is_whole_blocks, decrypted_cbc}
+use Rattle.cbc_mode.specs.Cbc.{without_padding, cbc_decryption, blocks_of, is_whole_blocks, decrypted_cbc}
 
 pub decrypted_cbc-bad : (key iv bytes : List ℕ) → is_whole_blocks bytes ≡ false → decrypted_cbc key iv bytes ≡ Err BadLength
 unfolding decrypted_cbc
 decrypted_cbc-bad key iv bytes test = rw test refl
 
-pub decrypted_cbc-whole : (key iv bytes padded_bytes : List ℕ) → is_whole_blocks bytes ≡ true → padded_bytes ≡ concat (unchained key iv (blocks_of bytes))
-    → decrypted_cbc key iv bytes ≡ ok_or (unpadded padded_bytes) NotPadded
+pub decrypted_cbc-whole : (key iv bytes padded_bytes : List ℕ) → is_whole_blocks bytes ≡ true → padded_bytes ≡ concat (cbc_decryption key iv (blocks_of bytes))
+    → decrypted_cbc key iv bytes ≡ ok_or (without_padding padded_bytes) NotPadded
 unfolding decrypted_cbc
 decrypted_cbc-whole key iv bytes padded_bytes test e = rw (test, e) refl
 
@@ -37,10 +37,10 @@ from_ok true (Some y) x e = (refl, cc)
 -- what is known of a ciphertext that decrypts
 pub record IsDecrypted (key iv bytes plain : List ℕ) : Type 0 where
   pub whole : IsWhole bytes
-  pub padding : unpadded (concat (unchained key iv (blocks_of bytes))) ≡ Some plain
+  pub padding : without_padding (concat (cbc_decryption key iv (blocks_of bytes))) ≡ Some plain
 
 pub decrypted_cbc-IsDecrypted : (key iv bytes plain : List ℕ) → decrypted_cbc key iv bytes ≡ Ok plain → IsDecrypted key iv bytes plain
 unfolding decrypted_cbc
 decrypted_cbc-IsDecrypted key iv bytes plain e =
-    let parts = from_ok (is_whole_blocks bytes) (unpadded (concat (unchained key iv (blocks_of bytes)))) plain e in
+    let parts = from_ok (is_whole_blocks bytes) (without_padding (concat (cbc_decryption key iv (blocks_of bytes)))) plain e in
     record { whole = from_whole_test bytes parts.0; padding = parts.1 }

@@ -5,7 +5,7 @@ use Rattle.std.proofs.lemmas.Bool.Decides.{nat_tests}
 use Rattle.std.specs.List.{list_all, concat}
 use Rattle.std.proofs.lemmas.Option.{cond_some}
 use Rattle.std.proofs.lemmas.Bool.{and_parts, leb-true}
-use Rattle.cbc_mode.specs.Cbc.{padded, unpadded, chained, blocks_of, cbc}
+use Rattle.cbc_mode.specs.Cbc.{with_padding, without_padding, cbc_encryption, blocks_of, cbc}
 
 -- bytes without the last `count`, where these are padding
 abbrev unpadded_by : List ℕ → ℕ → Option (List ℕ)
@@ -27,7 +27,7 @@ all-replicate (suc n) value =
     let head : value == value ≡ true = grind (arith, nat_tests) in
     rw (head, rest) refl
 
-padded-unpadded_by : (bytes plain : List ℕ) (count : ℕ) → length bytes % 16 ≡ 0 → 0 < length bytes → unpadded_by bytes count ≡ Some plain → padded plain ≡ bytes
+padded-unpadded_by : (bytes plain : List ℕ) (count : ℕ) → length bytes % 16 ≡ 0 → 0 < length bytes → unpadded_by bytes count ≡ Some plain → with_padding plain ≡ bytes
 padded-unpadded_by bytes plain count whole there e =
     let kept = length bytes - count in
     let test = cond_some (nat_le 1 count && nat_le count 16 && list_all (λ byte. byte == count) (drop kept bytes)) (take kept bytes) plain e in
@@ -43,7 +43,7 @@ padded-unpadded_by bytes plain count whole there e =
     ap (λ (n : ℕ). replicate n n) number ∙ ap (λ (n : ℕ). replicate n count) (sym back_long) ∙ sym back in
     ap (λ (xs : List ℕ). plain ++ xs) tail ∙ ap (λ (xs : List ℕ). xs ++ drop kept bytes) (sym test.1) ∙ take-append-drop kept bytes
 
-pub padded-unpadded : (bytes plain : List ℕ) → length bytes % 16 ≡ 0 → 0 < length bytes → unpadded bytes ≡ Some plain → padded plain ≡ bytes
+pub padded-unpadded : (bytes plain : List ℕ) → length bytes % 16 ≡ 0 → 0 < length bytes → without_padding bytes ≡ Some plain → with_padding plain ≡ bytes
 padded-unpadded bytes plain whole there e = padded-unpadded_by bytes plain (get_or bytes (length bytes - 1) 0) whole there e
 
 unpadded_by-padding : (bytes : List ℕ) (count : ℕ) → 1 ≤ count → count ≤ 16 → unpadded_by (bytes ++ replicate count count) count ≡ Some bytes
@@ -57,7 +57,7 @@ unpadded_by-padding bytes count least most =
     let all = all-replicate count count in
     rw (kept, front, back, low, high, all) refl
 
-pub unpadded-padded : (bytes : List ℕ) → unpadded (padded bytes) ≡ Some bytes
+pub unpadded-padded : (bytes : List ℕ) → without_padding (with_padding bytes) ≡ Some bytes
 unpadded-padded bytes =
     let count = 16 - length bytes % 16 in
     let pad = replicate count count in
@@ -67,8 +67,8 @@ unpadded-padded bytes =
     ap (λ (n : ℕ). unpadded_by (bytes ++ pad) n) last ∙ unpadded_by-padding bytes count (omega arith) (omega arith)
 
 -- bytes whose padded form has that ciphertext
-pub cbc-unpadded : (key iv bytes padded_bytes plain : List ℕ) → length padded_bytes % 16 ≡ 0 → 0 < length padded_bytes → unpadded padded_bytes ≡ Some plain
-    → concat (chained key iv (blocks_of padded_bytes)) ≡ bytes → cbc key iv plain ≡ bytes
+pub cbc-unpadded : (key iv bytes padded_bytes plain : List ℕ) → length padded_bytes % 16 ≡ 0 → 0 < length padded_bytes → without_padding padded_bytes ≡ Some plain
+    → concat (cbc_encryption key iv (blocks_of padded_bytes)) ≡ bytes → cbc key iv plain ≡ bytes
 unfolding cbc
 cbc-unpadded key iv bytes padded_bytes plain whole there e chain =
-    ap (λ (xs : List ℕ). concat (chained key iv (blocks_of xs))) (padded-unpadded padded_bytes plain whole there e) ∙ chain
+    ap (λ (xs : List ℕ). concat (cbc_encryption key iv (blocks_of xs))) (padded-unpadded padded_bytes plain whole there e) ∙ chain

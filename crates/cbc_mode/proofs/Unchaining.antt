@@ -7,16 +7,16 @@ use Rattle.std.proofs.lemmas.List.Elements.{All-append, All-from_recursion, All-
 use Rattle.std.specs.List.{concat, flat_map, AllByRecursion}
 use Rattle.std.specs.Simd.{first_chunks}
 use Rattle.std.specs.Simd.Lanes.{zip2}
-use Rattle.aes_block.specs.Aes.{encrypted, decrypted}
-use Rattle.aes_block.specs.Bytes.{xored}
+use Rattle.aes_block.specs.Aes.{encryption, decryption}
+use Rattle.aes_block.specs.Bytes.{bytes_xor}
 use Rattle.aes_block.proofs.Interface.{length-decrypted}
 use Rattle.aes_block.proofs.Interface.{length-xored, xored-xored}
-use Rattle.cbc_mode.specs.Cbc.{chained, unchained, blocks_of, AreUndone, Unchains}
+use Rattle.cbc_mode.specs.Cbc.{cbc_encryption, cbc_decryption, blocks_of, AreUndone, Unchains}
 use Rattle.cbc_mode.proofs.Blocks.{length-concat, concat-blocks_of, blocks_of-concat, blocks_of-long}
 
 -- lane by lane is byte by byte
-pub zip2-xored : (xs ys : List ℕ) → zip2 bit_xor xs ys ≡ xored xs ys
-unfolding xored
+pub zip2-xored : (xs ys : List ℕ) → zip2 bit_xor xs ys ≡ bytes_xor xs ys
+unfolding bytes_xor
 zip2-xored [] ys = refl
 zip2-xored (x ∷ xs) [] = refl
 zip2-xored (x ∷ xs) (y ∷ ys) = ap (λ (zs : List ℕ). bit_xor x y ∷ zs) (zip2-xored xs ys)
@@ -24,43 +24,43 @@ zip2-xored (x ∷ xs) (y ∷ ys) = ap (λ (zs : List ℕ). bit_xor x y ∷ zs) (
 -- ---- eight blocks at a time
 
 -- what was decrypted, block by block
-pub AreUndone-from : (key : List ℕ) (blocks decrypted_blocks : List (List ℕ)) → decrypted_blocks ≡ map (decrypted key) blocks
-    → map (encrypted key) decrypted_blocks ≡ blocks → AreUndone key blocks
+pub AreUndone-from : (key : List ℕ) (blocks decrypted_blocks : List (List ℕ)) → decrypted_blocks ≡ map (decryption key) blocks
+    → map (encryption key) decrypted_blocks ≡ blocks → AreUndone key blocks
 AreUndone-from key blocks decrypted_blocks value undoes = λ i d low.
-    let back : map (encrypted key) (map (decrypted key) blocks) ≡ blocks = ap (map (encrypted key)) (sym value) ∙ undoes in
-    let there : i < length (map (decrypted key) blocks) = subst (λ (n : ℕ). i < n) (sym (length-map blocks (decrypted key))) low in
-    ap (λ (b : List ℕ). encrypted key b) (sym (get_or-map (decrypted key) blocks i d [] low))
-    ∙ sym (get_or-map (encrypted key) (map (decrypted key) blocks) i [] d there)
+    let back : map (encryption key) (map (decryption key) blocks) ≡ blocks = ap (map (encryption key)) (sym value) ∙ undoes in
+    let there : i < length (map (decryption key) blocks) = subst (λ (n : ℕ). i < n) (sym (length-map blocks (decryption key))) low in
+    ap (λ (b : List ℕ). encryption key b) (sym (get_or-map (decryption key) blocks i d [] low))
+    ∙ sym (get_or-map (encryption key) (map (decryption key) blocks) i [] d there)
     ∙ ap (λ (bs : List (List ℕ)). get_or bs i d) back
 
 -- the first i of the blocks are unchained, and the next is added to this block
 pub record IsUnchainedBelow (key previous : List ℕ) (blocks : List (List ℕ)) (i : ℕ) (added : List ℕ) (plain : List (List ℕ)) : Type 0 where
   pub long : length plain ≡ length blocks
-  pub so_far : unchained key previous blocks ≡ take i plain ++ unchained key added (drop i blocks)
+  pub so_far : cbc_decryption key previous blocks ≡ take i plain ++ cbc_decryption key added (drop i blocks)
 
 pub IsUnchainedBelow-more : (key previous : List ℕ) (blocks decrypted_blocks : List (List ℕ)) (i : ℕ) (added : List ℕ) (plain : List (List ℕ)) (own block : List ℕ)
-    → IsUnchainedBelow key previous blocks i added plain → i < length blocks → decrypted_blocks ≡ map (decrypted key) blocks
-    → own ≡ xored (get_or decrypted_blocks i []) added → block ≡ get_or blocks i []
+    → IsUnchainedBelow key previous blocks i added plain → i < length blocks → decrypted_blocks ≡ map (decryption key) blocks
+    → own ≡ bytes_xor (get_or decrypted_blocks i []) added → block ≡ get_or blocks i []
     → IsUnchainedBelow key previous blocks (i + 1) block (set plain i own)
 IsUnchainedBelow-more key previous blocks decrypted_blocks i added plain own block below low value mixed read =
     let long = below.long in
-    let rest : List (List ℕ) = unchained key (get_or blocks i []) (drop (i + 1) blocks) in
-    let is : own ≡ xored (decrypted key (get_or blocks i [])) added =
-    mixed ∙ ap (λ (bs : List (List ℕ)). xored (get_or bs i []) added) value ∙ ap (λ (b : List ℕ). xored b added) (get_or-map (decrypted key) blocks i [] [] low) in
+    let rest : List (List ℕ) = cbc_decryption key (get_or blocks i []) (drop (i + 1) blocks) in
+    let is : own ≡ bytes_xor (decryption key (get_or blocks i [])) added =
+    mixed ∙ ap (λ (bs : List (List ℕ)). bytes_xor (get_or bs i []) added) value ∙ ap (λ (b : List ℕ). bytes_xor b added) (get_or-map (decryption key) blocks i [] [] low) in
     record {
       long = length-set plain i own ∙ long;
-      so_far = below.so_far ∙ ap (λ (left : List (List ℕ)). take i plain ++ unchained key added left) (drop_more blocks i [] low)
+      so_far = below.so_far ∙ ap (λ (left : List (List ℕ)). take i plain ++ cbc_decryption key added left) (drop_more blocks i [] low)
           ∙ ap (λ (b : List ℕ). take i plain ++ b ∷ rest) (sym is)
           ∙ sym (append_assoc (take i plain) (own ∷ []) rest)
           ∙ ap (λ (done : List (List ℕ)). done ++ rest) (sym (take_more_set plain i own (omega arith)))
-          ∙ ap (λ (b : List ℕ). take (i + 1) (set plain i own) ++ unchained key b (drop (i + 1) blocks)) (sym read);
+          ∙ ap (λ (b : List ℕ). take (i + 1) (set plain i own) ++ cbc_decryption key b (drop (i + 1) blocks)) (sym read);
     }
 
 pub IsUnchainedBelow-all : (key previous : List ℕ) (blocks : List (List ℕ)) (i : ℕ) (added : List ℕ) (plain : List (List ℕ))
-    → IsUnchainedBelow key previous blocks i added plain → length blocks ≤ i → plain ≡ unchained key previous blocks
+    → IsUnchainedBelow key previous blocks i added plain → length blocks ≤ i → plain ≡ cbc_decryption key previous blocks
 IsUnchainedBelow-all key previous blocks i added plain below le =
     let long = below.long in
-    sym (below.so_far ∙ ap (λ (left : List (List ℕ)). take i plain ++ unchained key added left) (drop_all i blocks le)
+    sym (below.so_far ∙ ap (λ (left : List (List ℕ)). take i plain ++ cbc_decryption key added left) (drop_all i blocks le)
     ∙ append-nil (take i plain) ∙ take_all i plain (omega arith))
 
 -- ---- one part of the blocks after another
@@ -71,25 +71,25 @@ Unchains-none key previous bytes = λ more. refl
 pub Unchains-then : (key : List ℕ) (xs ys : List (List ℕ)) (p q r old mid new : List ℕ)
     → Unchains key p xs q old mid → Unchains key q ys r mid new → Unchains key p (xs ++ ys) r old new
 Unchains-then key xs ys p q r old mid new first second = λ more.
-    ap (λ (bs : List (List ℕ)). old ++ concat (unchained key p bs)) (append_assoc xs ys more) ∙ first (ys ++ more) ∙ second more
+    ap (λ (bs : List (List ℕ)). old ++ concat (cbc_decryption key p bs)) (append_assoc xs ys more) ∙ first (ys ++ more) ∙ second more
 
 unchained-append : (key previous : List ℕ) (block : List ℕ) (blocks more : List (List ℕ))
-    → unchained key previous ((block ∷ blocks) ++ more)
-    ≡ unchained key previous (block ∷ blocks) ++ unchained key (get_or (block ∷ blocks) (length blocks) []) more
+    → cbc_decryption key previous ((block ∷ blocks) ++ more)
+    ≡ cbc_decryption key previous (block ∷ blocks) ++ cbc_decryption key (get_or (block ∷ blocks) (length blocks) []) more
 unchained-append key previous block [] more = refl
 unchained-append key previous block (next ∷ blocks) more =
-    ap (λ (bs : List (List ℕ)). xored (decrypted key block) previous ∷ bs) (unchained-append key block next blocks more)
+    ap (λ (bs : List (List ℕ)). bytes_xor (decryption key block) previous ∷ bs) (unchained-append key block next blocks more)
 
 -- some blocks, whose plaintext was put at the end
 pub Unchains-some : (key previous : List ℕ) (blocks : List (List ℕ)) (n : ℕ) (old : List ℕ) → length blocks ≡ suc n
-    → Unchains key previous blocks (get_or blocks n []) old (old ++ concat (unchained key previous blocks))
+    → Unchains key previous blocks (get_or blocks n []) old (old ++ concat (cbc_decryption key previous blocks))
 Unchains-some key previous [] n old long = λ more. absurd (omega (arith, long))
 Unchains-some key previous (block ∷ blocks) n old long = λ more.
     let last : length blocks ≡ n = omega (arith, long) in
     rw (← last) (
     ap (λ (bs : List (List ℕ)). old ++ concat bs) (unchained-append key previous block blocks more)
-    ∙ ap (λ (bytes : List ℕ). old ++ bytes) (concat-append (unchained key previous (block ∷ blocks)) (unchained key (get_or (block ∷ blocks) (length blocks) []) more))
-    ∙ sym (append_assoc old (concat (unchained key previous (block ∷ blocks))) (concat (unchained key (get_or (block ∷ blocks) (length blocks) []) more))))
+    ∙ ap (λ (bytes : List ℕ). old ++ bytes) (concat-append (cbc_decryption key previous (block ∷ blocks)) (cbc_decryption key (get_or (block ∷ blocks) (length blocks) []) more))
+    ∙ sym (append_assoc old (concat (cbc_decryption key previous (block ∷ blocks))) (concat (cbc_decryption key (get_or (block ∷ blocks) (length blocks) []) more))))
 
 -- the blocks so far, which are undone
 pub record IsAppended (key iv : List ℕ) (blocks : List (List ℕ)) (last old new : List ℕ) : Type 0 where
@@ -99,24 +99,24 @@ pub record IsAppended (key iv : List ℕ) (blocks : List (List ℕ)) (last old n
 pub IsAppended-none : (key iv old : List ℕ) → IsAppended key iv [] iv old old
 IsAppended-none key iv old = record {
   ahead = Unchains-none key iv old;
-  undone = All-nil (λ block. encrypted key (decrypted key block) ≡ block);
+  undone = All-nil (λ block. encryption key (decryption key block) ≡ block);
 }
 
 pub IsAppended-then : (key : List ℕ) (xs ys : List (List ℕ)) (p q r old mid new : List ℕ)
     → IsAppended key p xs q old mid → IsAppended key q ys r mid new → IsAppended key p (xs ++ ys) r old new
 IsAppended-then key xs ys p q r old mid new first second = record {
   ahead = Unchains-then key xs ys p q r old mid new first.ahead second.ahead;
-  undone = All-append (λ block. encrypted key (decrypted key block) ≡ block) xs ys first.undone second.undone;
+  undone = All-append (λ block. encryption key (decryption key block) ≡ block) xs ys first.undone second.undone;
 }
 
 -- a loop over eights
 pub IsAppended-eight : (key iv : List ℕ) (eights : List (List (List ℕ))) (i : ℕ) (previous old now bytes last : List ℕ) (eight plain : List (List ℕ))
     → IsAppended key iv (flat_map (λ blocks. blocks) (take i eights)) previous old now → i < length eights → eight ≡ get_or eights i []
-    → length eight ≡ 8 → last ≡ get_or eight 7 [] → plain ≡ unchained key previous eight → bytes ≡ flat_map (λ block. block) plain → AreUndone key eight
+    → length eight ≡ 8 → last ≡ get_or eight 7 [] → plain ≡ cbc_decryption key previous eight → bytes ≡ flat_map (λ block. block) plain → AreUndone key eight
     → IsAppended key iv (flat_map (λ blocks. blocks) (take (i + 1) eights)) last old (now ++ bytes)
 IsAppended-eight key iv eights i previous old now bytes last eight plain so_far low read long ends value flat undone =
     let blocks : List (List ℕ) → List (List ℕ) = λ b. b in
-    let whole : bytes ≡ concat (unchained key previous eight) = flat ∙ sym (concat_is plain) ∙ ap concat value in
+    let whole : bytes ≡ concat (cbc_decryption key previous eight) = flat ∙ sym (concat_is plain) ∙ ap concat value in
     let one : IsAppended key previous eight last now (now ++ bytes) =
     rw (whole, ends) (record { ahead = Unchains-some key previous eight 7 now long; undone = undone }) in
     let joined : flat_map (λ (b : List (List ℕ)). b) (take (i + 1) eights) ≡ flat_map (λ (b : List (List ℕ)). b) (take i eights) ++ eight =
@@ -127,16 +127,16 @@ IsAppended-eight key iv eights i previous old now bytes last eight plain so_far 
 -- a loop over blocks
 pub IsAppended-block : (key iv : List ℕ) (blocks : List (List ℕ)) (i : ℕ) (previous old now bytes block decrypted_block : List ℕ)
     → IsAppended key iv (take i blocks) previous old now → i < length blocks → block ≡ get_or blocks i []
-    → decrypted_block ≡ decrypted key block → encrypted key decrypted_block ≡ block → bytes ≡ xored decrypted_block previous
+    → decrypted_block ≡ decryption key block → encryption key decrypted_block ≡ block → bytes ≡ bytes_xor decrypted_block previous
     → IsAppended key iv (take (i + 1) blocks) block old (now ++ bytes)
 IsAppended-block key iv blocks i previous old now bytes block decrypted_block so_far low read value undoes mixed =
-    let back : encrypted key (decrypted key block) ≡ block = ap (encrypted key) (sym value) ∙ undoes in
-    let whole : bytes ≡ concat (unchained key previous (block ∷ [])) =
-    mixed ∙ ap (λ (b : List ℕ). xored b previous) value ∙ sym (append-nil (xored (decrypted key block) previous)) in
+    let back : encryption key (decryption key block) ≡ block = ap (encryption key) (sym value) ∙ undoes in
+    let whole : bytes ≡ concat (cbc_decryption key previous (block ∷ [])) =
+    mixed ∙ ap (λ (b : List ℕ). bytes_xor b previous) value ∙ sym (append-nil (bytes_xor (decryption key block) previous)) in
     let one : IsAppended key previous (block ∷ []) block now (now ++ bytes) =
     rw whole (record {
       ahead = Unchains-some key previous (block ∷ []) 0 now refl;
-      undone = All-from_recursion (λ b. encrypted key (decrypted key b) ≡ b) (block ∷ []) (back, tt);
+      undone = All-from_recursion (λ b. encryption key (decryption key b) ≡ b) (block ∷ []) (back, tt);
     }) in
     let joined : take (i + 1) blocks ≡ take i blocks ++ block ∷ [] = take_more blocks i [] low ∙ ap (λ (b : List ℕ). take i blocks ++ b ∷ []) (sym read) in
     subst (λ (bs : List (List ℕ)). IsAppended key iv bs block old (now ++ bytes)) (sym joined)
@@ -167,32 +167,32 @@ flat_map-first_chunks {X} n (suc k) xs =
 
 -- chaining again what unchaining gives
 pub chained-unchained : (key previous : List ℕ) (blocks : List (List ℕ)) → length previous ≡ 16 → AllByRecursion (λ block. length block ≡ 16) blocks
-    → AllByRecursion (λ block. encrypted key (decrypted key block) ≡ block) blocks → chained key previous (unchained key previous blocks) ≡ blocks
+    → AllByRecursion (λ block. encryption key (decryption key block) ≡ block) blocks → cbc_encryption key previous (cbc_decryption key previous blocks) ≡ blocks
 chained-unchained key previous [] long all undone = refl
 chained-unchained key previous (block ∷ blocks) long all undone =
-    let mixed = xored-xored (decrypted key block) previous (length-decrypted key block ∙ sym long) in
-    let head : encrypted key (xored (xored (decrypted key block) previous) previous) ≡ block = ap (λ (x : List ℕ). encrypted key x) mixed ∙ undone.0 in
-    ap (λ (c : List ℕ). c ∷ chained key c (unchained key block blocks)) head
+    let mixed = xored-xored (decryption key block) previous (length-decrypted key block ∙ sym long) in
+    let head : encryption key (bytes_xor (bytes_xor (decryption key block) previous) previous) ≡ block = ap (λ (x : List ℕ). encryption key x) mixed ∙ undone.0 in
+    ap (λ (c : List ℕ). c ∷ cbc_encryption key c (cbc_decryption key block blocks)) head
     ∙ ap (λ (cs : List (List ℕ)). block ∷ cs) (chained-unchained key block blocks all.0 all.1 undone.1)
 
 unchained-long : (key previous : List ℕ) (blocks : List (List ℕ)) → length previous ≡ 16 → AllByRecursion (λ block. length block ≡ 16) blocks
-    → AllByRecursion (λ block. encrypted key (decrypted key block) ≡ block) blocks → AllByRecursion (λ block. length block ≡ 16) (unchained key previous blocks)
+    → AllByRecursion (λ block. encryption key (decryption key block) ≡ block) blocks → AllByRecursion (λ block. length block ≡ 16) (cbc_decryption key previous blocks)
 unchained-long key previous [] long all undone = tt
 unchained-long key previous (block ∷ blocks) long all undone =
-    (length-xored (decrypted key block) previous (length-decrypted key block ∙ sym long) ∙ length-decrypted key block, unchained-long key block blocks all.0 all.1 undone.1)
+    (length-xored (decryption key block) previous (length-decrypted key block ∙ sym long) ∙ length-decrypted key block, unchained-long key block blocks all.0 all.1 undone.1)
 
-length-unchained : (key previous : List ℕ) (blocks : List (List ℕ)) → length (unchained key previous blocks) ≡ length blocks
+length-unchained : (key previous : List ℕ) (blocks : List (List ℕ)) → length (cbc_decryption key previous blocks) ≡ length blocks
 length-unchained key previous [] = refl
 length-unchained key previous (block ∷ blocks) = ap (λ (n : ℕ). suc n) (length-unchained key block blocks)
 
 -- what decrypting whole blocks comes to
 pub record IsUnchained (key iv bytes plaintext : List ℕ) : Type 0 where
-  pub value : plaintext ≡ concat (unchained key iv (blocks_of bytes))
-  pub undoes : concat (chained key iv (blocks_of plaintext)) ≡ bytes
+  pub value : plaintext ≡ concat (cbc_decryption key iv (blocks_of bytes))
+  pub undoes : concat (cbc_encryption key iv (blocks_of plaintext)) ≡ bytes
   pub len : length plaintext ≡ length bytes
 
-pub IsUnchained-undone : (key iv bytes : List ℕ) → length iv ≡ 16 → length bytes % 16 ≡ 0 → AllByRecursion (λ block. encrypted key (decrypted key block) ≡ block) (blocks_of bytes)
-    → IsUnchained key iv bytes (concat (unchained key iv (blocks_of bytes)))
+pub IsUnchained-undone : (key iv bytes : List ℕ) → length iv ≡ 16 → length bytes % 16 ≡ 0 → AllByRecursion (λ block. encryption key (decryption key block) ≡ block) (blocks_of bytes)
+    → IsUnchained key iv bytes (concat (cbc_decryption key iv (blocks_of bytes)))
 IsUnchained-undone key iv bytes iv_long whole undone =
     let blocks = blocks_of bytes in
     let all = blocks_of-long bytes in
@@ -200,18 +200,18 @@ IsUnchained-undone key iv bytes iv_long whole undone =
     let whole_blocks = concat-blocks_of bytes whole in
     record {
       value = refl;
-      undoes = ap (λ (bs : List (List ℕ)). concat (chained key iv bs)) (blocks_of-concat (unchained key iv blocks) long)
+      undoes = ap (λ (bs : List (List ℕ)). concat (cbc_encryption key iv bs)) (blocks_of-concat (cbc_decryption key iv blocks) long)
           ∙ ap concat (chained-unchained key iv blocks iv_long all undone) ∙ whole_blocks;
-      len = length-concat 16 (unchained key iv blocks) long ∙ ap (λ (n : ℕ). n * 16) (length-unchained key iv blocks)
+      len = length-concat 16 (cbc_decryption key iv blocks) long ∙ ap (λ (n : ℕ). n * 16) (length-unchained key iv blocks)
           ∙ sym (length-concat 16 blocks all) ∙ ap length whole_blocks;
     }
 
 pub IsUnchained-all : (key iv bytes : List ℕ) (blocks : List (List ℕ)) (last plaintext : List ℕ) → length iv ≡ 16 → length bytes % 16 ≡ 0 → blocks ≡ blocks_of bytes
     → IsAppended key iv blocks last [] plaintext → IsUnchained key iv bytes plaintext
 IsUnchained-all key iv bytes blocks last plaintext iv_long whole cut all =
-    let P : List ℕ → Type 0 = λ block. encrypted key (decrypted key block) ≡ block in
-    let value : plaintext ≡ concat (unchained key iv (blocks_of bytes)) =
-    sym (append-nil plaintext) ∙ sym (all.ahead []) ∙ ap (λ (bs : List (List ℕ)). concat (unchained key iv bs)) (append-nil blocks ∙ cut) in
+    let P : List ℕ → Type 0 = λ block. encryption key (decryption key block) ≡ block in
+    let value : plaintext ≡ concat (cbc_decryption key iv (blocks_of bytes)) =
+    sym (append-nil plaintext) ∙ sym (all.ahead []) ∙ ap (λ (bs : List (List ℕ)). concat (cbc_decryption key iv bs)) (append-nil blocks ∙ cut) in
     subst (λ (p : List ℕ). IsUnchained key iv bytes p) (sym value)
     (IsUnchained-undone key iv bytes iv_long whole (recursion_from_All P (blocks_of bytes) (subst (λ (bs : List (List ℕ)). AreUndone key bs) cut all.undone)))
 

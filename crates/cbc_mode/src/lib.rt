@@ -4,8 +4,8 @@
 ghost use Rattle.std.specs.Prelude.{◌≡◌, ◌==◌, ℕ, ◌+◌, ◌-◌, ◌*◌, ◌/◌, ◌%◌, ◌<◌, ◌≤◌, ◌↔◌, List, length, take, None, Some, Ok, IfOk, IsErrOf, MatchOption};
 ghost use Rattle.std.specs.List.{concat, flat_map, list_all};
 ghost use Rattle.aes_block.specs.Aes.{IsBlock, IsKey};
-ghost use Rattle.aes_block.specs.Bytes.{AreBytes, xored};
-ghost use Rattle.cbc_mode.specs.Cbc.{padded, unpadded, unchained, blocks_of, chained, cbc, decrypted_cbc, is_whole_blocks, AreUndone, DecryptsTo, IsBadLength, Unchains};
+ghost use Rattle.aes_block.specs.Bytes.{AreBytes, bytes_xor};
+ghost use Rattle.cbc_mode.specs.Cbc.{with_padding, without_padding, cbc_decryption, blocks_of, cbc_encryption, cbc, decrypted_cbc, is_whole_blocks, AreUndone, DecryptsTo, IsBadLength, Unchains};
 
 use aes_block::Aes256;
 use std::alloc::{AllocError, Global};
@@ -39,7 +39,7 @@ impl From<AllocError> for CbcFault {
 // A last block: fewer than 16 bytes, and their padding.
 fn padded_block(rest: &[u8]) -> [u8; 16]
     requires { length rest.now < 16 }
-    ensures { result ≡ padded rest.now }
+    ensures { result ≡ with_padding rest.now }
 {
     let mut block = [(16 - rest.len()) as u8; 16];
     block[..rest.len()].copy_from_slice(rest);
@@ -73,14 +73,14 @@ pub fn encrypt(
 
 // The exclusive or of two blocks, all bytes at once.
 fn sum(a: &[u8; 16], b: &[u8; 16]) -> [u8; 16]
-    ensures { result ≡ xored a.now b.now }
+    ensures { result ≡ bytes_xor a.now b.now }
 {
     (u8x16::from_array(*a) ^ u8x16::from_array(*b)).to_array()
 }
 
 // Eight blocks decrypted, each added to the block before it, the first to `previous`.
 fn unchained8(key: &Aes256, previous: &[u8; 16], blocks: &[[u8; 16]; 8]) -> [[u8; 16]; 8]
-    ensures value { result ≡ unchained key.now previous.now blocks.now }
+    ensures value { result ≡ cbc_decryption key.now previous.now blocks.now }
     ensures undone { AreUndone key.now blocks.now }
 {
     let decrypted = key.decrypt8(blocks);
@@ -143,9 +143,11 @@ fn decrypt_blocks(
 ) -> Result<Vec<u8>, AllocError>
     requires { length bytes.now % 16 ≡ 0 }
     ensures value { IfOk result
-        (λ plaintext. plaintext.items ≡ concat (unchained key.now iv.now (blocks_of bytes.now))) }
+        (λ plaintext. plaintext.items
+        ≡ concat (cbc_decryption key.now iv.now (blocks_of bytes.now))) }
     ensures undoes { IfOk result
-        (λ plaintext. concat (chained key.now iv.now (blocks_of plaintext.items)) ≡ bytes.now) }
+        (λ plaintext. concat (cbc_encryption key.now iv.now (blocks_of plaintext.items))
+        ≡ bytes.now) }
     ensures len { IfOk result (λ plaintext. length plaintext.items ≡ length bytes.now) }
 {
     let (blocks, _) = bytes.as_chunks::<16>();
@@ -166,8 +168,8 @@ fn are_all(bytes: &[u8], value: u8) -> bool
 // How many bytes stand before the padding, where the bytes end in padding.
 fn unpadded_len(bytes: &[u8]) -> Option<usize>
     requires { 16 ≤ length bytes.now }
-    ensures { MatchOption result (unpadded bytes.now ≡ None)
-        (λ len. unpadded bytes.now ≡ Some (take len bytes.now)) }
+    ensures { MatchOption result (without_padding bytes.now ≡ None)
+        (λ len. without_padding bytes.now ≡ Some (take len bytes.now)) }
 {
     let count = bytes[bytes.len() - 1];
     if count < 1 || count > 16 {

@@ -3,12 +3,12 @@ use Rattle.std.proofs.Common.{◌≡◌, ℕ, ◌+◌, ◌∙◌, List, ◌∷�
 use Rattle.std.proofs.lemmas.List.{append_assoc, length-append, take_at, drop_at, drop-drop}
 use Rattle.cbc_mode.specs.Cbc.{cbc}
 use Rattle.hmac_kdf.specs.Keys.{Keys}
-use Rattle.cell_codec.specs.Cells.{version, tag_of, sealed, tag_in, iv_in, ciphertext_in}
+use Rattle.cell_codec.specs.Cells.{version, tag_of, cell_of, tag_in, iv_in, ciphertext_in}
 
 pub sealed-parts : (keys : Keys) (iv bytes ciphertext tag cell : List ℕ)
     → ciphertext ≡ cbc keys.enc_key iv bytes → tag ≡ tag_of keys iv ciphertext
-    → cell ≡ version ∷ tag ++ iv ++ ciphertext → cell ≡ sealed keys iv bytes
-unfolding sealed
+    → cell ≡ version ∷ tag ++ iv ++ ciphertext → cell ≡ cell_of keys iv bytes
+unfolding cell_of
 sealed-parts keys iv bytes ciphertext tag cell made authentic whole =
     whole ∙ ap (λ t. version ∷ t ++ iv ++ ciphertext) authentic ∙ ap (λ c. version ∷ tag_of keys iv c ++ iv ++ c) made
 

@@ -8,7 +8,7 @@ use Rattle.aes_block.specs.Bytes.{AreBytes}
 use Rattle.cbc_mode.specs.Cbc.{cbc, decrypted_cbc}
 use Rattle.hmac_kdf.specs.Keys.{Keys}
 use Rattle.value_norm.specs.Norm.{most_bytes}
-use Rattle.cell_codec.specs.Cells.{version, tag_of, tag_in, iv_in, ciphertext_in, is_cell_length, is_authentic, sealed, iv_of, unsealed, IsShape}
+use Rattle.cell_codec.specs.Cells.{version, tag_of, tag_in, iv_in, ciphertext_in, is_cell_length, is_authentic, cell_of, iv_of, content_of, IsShape}
 use Rattle.cell_codec.specs.Laws.{SealedIsReadBack, SealedDetIsReadBack, SealedIsCell, SealedHasShape, IsCellOf}
 use Rattle.cell_codec.proofs.Codes.{hmac-IsKey, iv_of-IsBlock}
 use Rattle.cell_codec.proofs.Forms.{is_cell_length-blocks, blocks-bound}
@@ -26,14 +26,14 @@ unfolding tag_of
 tag_of-IsKey keys iv ciphertext = hmac-IsKey _ _
 
 module _ (keys : Keys) (iv bytes : List ℕ) (is_iv : IsBlock iv) (chained : IsChained keys.enc_key iv bytes) where
-  length-sealed : length (sealed keys iv bytes) ≡ 49 + (length bytes / 16 + 1) * 16
-  unfolding sealed
+  length-sealed : length (cell_of keys iv bytes) ≡ 49 + (length bytes / 16 + 1) * 16
+  unfolding cell_of
   length-sealed =
       let ciphertext : List ℕ = cbc keys.enc_key iv bytes in
       length-parts (tag_of keys iv ciphertext) iv ciphertext (tag_of-IsKey keys iv ciphertext).0 is_iv.0 ∙ ap (λ n. 49 + n) chained.long
 
-  pub sealed-IsCellOf : IsCellOf (sealed keys iv bytes) bytes
-  unfolding sealed
+  pub sealed-IsCellOf : IsCellOf (cell_of keys iv bytes) bytes
+  unfolding cell_of
   sealed-IsCellOf = record {
     long = length-sealed;
     bytes_alone =
@@ -45,8 +45,8 @@ module _ (keys : Keys) (iv bytes : List ℕ) (is_iv : IsBlock iv) (chained : IsC
         chained.bytes_alone;
   }
 
-  pub sealed-IsShape : (ty : Ty) → length bytes ≤ most_bytes ty → IsShape (sealed keys iv bytes) ty
-  unfolding sealed
+  pub sealed-IsShape : (ty : Ty) → length bytes ≤ most_bytes ty → IsShape (cell_of keys iv bytes) ty
+  unfolding cell_of
   sealed-IsShape ty below = record {
     version_byte = refl;
     blocks = length bytes / 16 + 1;
@@ -55,8 +55,8 @@ module _ (keys : Keys) (iv bytes : List ℕ) (is_iv : IsBlock iv) (chained : IsC
     long = omega (arith, length-sealed);
   }
 
-  pub unsealed-sealed : unsealed keys (sealed keys iv bytes) ≡ Ok bytes
-  unfolding sealed
+  pub unsealed-sealed : content_of keys (cell_of keys iv bytes) ≡ Ok bytes
+  unfolding cell_of
   unsealed-sealed =
       let ciphertext : List ℕ = cbc keys.enc_key iv bytes in
       let tag : List ℕ = tag_of keys iv ciphertext in

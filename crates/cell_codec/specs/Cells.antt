@@ -25,8 +25,8 @@ unfoldable pub tag_of : Keys → List ℕ → List ℕ → List ℕ
 tag_of keys iv ciphertext = hmac keys.mac_key (version ∷ iv ++ ciphertext ++ version_length ∷ [])
 
 -- the cell of bytes under an initialization vector: the version byte, the MAC, the vector and the ciphertext
-unfoldable pub sealed : Keys → List ℕ → List ℕ → List ℕ
-sealed keys iv bytes =
+unfoldable pub cell_of : Keys → List ℕ → List ℕ → List ℕ
+cell_of keys iv bytes =
     let ciphertext = cbc keys.enc_key iv bytes in
     version ∷ tag_of keys iv ciphertext ++ iv ++ ciphertext
 
@@ -36,7 +36,7 @@ iv_of keys bytes = take 16 (hmac keys.iv_key bytes)
 
 -- the deterministic cell of bytes
 abbrev pub sealed_det : Keys → List ℕ → List ℕ
-sealed_det keys bytes = sealed keys (iv_of keys bytes) bytes
+sealed_det keys bytes = cell_of keys (iv_of keys bytes) bytes
 
 -- the parts of a cell behind its version byte
 abbrev pub tag_in : List ℕ → List ℕ
@@ -64,8 +64,8 @@ opened (Err cbc_fault.NotPadded) = Err fault.BadPadding
 opened (Err cbc_fault.OutOfMemory) = Err fault.OutOfMemory
 
 -- what a cell holds, or the first of its faults
-unfoldable pub unsealed : Keys → List ℕ → Result (List ℕ) CellFault
-unsealed keys cell =
+unfoldable pub content_of : Keys → List ℕ → Result (List ℕ) CellFault
+content_of keys cell =
     if not (slice_index cell 0 == version) then Err fault.BadVersion
     else if not (is_cell_length (length cell)) then Err fault.BadLength
     else if not (is_authentic keys cell) then Err fault.BadTag

@@ -1,7 +1,7 @@
 //! Values sealed into cells.
 
 ghost use Rattle.std.specs.Prelude.{◌≡◌, ◌∷◌, ◌++◌, ◌+◌, ◌*◌, ◌/◌, ◌≤◌, IfOk, length};
-ghost use Rattle.cell_codec.specs.Cells.{version, sealed, sealed_det, iv_of};
+ghost use Rattle.cell_codec.specs.Cells.{version, cell_of, sealed_det, iv_of};
 
 use crate::tags::tag_of;
 use crate::{BLOCK_LENGTH, HEAD_LENGTH, VERSION};
@@ -38,7 +38,7 @@ pub fn seal_rnd(
     bytes: &[u8],
 ) -> Result<Cell, AllocError>
     requires { length bytes.now ≤ MOST_BYTES }
-    ensures value { IfOk result (λ cell. cell ≡ sealed keys.now iv.now bytes.now) }
+    ensures value { IfOk result (λ cell. cell ≡ cell_of keys.now iv.now bytes.now) }
     ensures len { IfOk result (λ cell. length cell ≡ 49 + (length bytes.now / 16 + 1) * 16) }
 {
     let ciphertext = cbc_mode::encrypt(alloc, keys.cipher(), iv, bytes)?;

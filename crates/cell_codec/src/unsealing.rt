@@ -1,7 +1,7 @@
 //! Cells opened.
 
 ghost use Rattle.std.specs.Prelude.{◌≡◌, IsTrue, IfSome, is_some, length, slice_index};
-ghost use Rattle.cell_codec.specs.Cells.{unsealed, UnsealsTo, is_authentic, is_cell_length};
+ghost use Rattle.cell_codec.specs.Cells.{content_of, UnsealsTo, is_authentic, is_cell_length};
 ghost use Rattle.cell_codec.specs.Cells.{tag_in, iv_in, ciphertext_in};
 
 use crate::VERSION;
@@ -16,7 +16,7 @@ use std::alloc::Global;
 /// The bytes that a cell holds, or the first fault that applies, in the order of `CellFault`.
 /// Only where the tag is right is the padding refused, or does memory run out.
 pub fn unseal(alloc: Global, keys: &CellKeys, cell: &Cell) -> Result<Vec<u8>, CellFault>
-    ensures exact { UnsealsTo result (unsealed keys.now cell.now) }
+    ensures exact { UnsealsTo result (content_of keys.now cell.now) }
     ensures padding_after_tag { result ≡ Err CellFault.BadPadding
         → IsTrue (is_authentic keys.now cell.now) }
     ensures memory_after_tag { result ≡ Err CellFault.OutOfMemory
@@ -27,7 +27,7 @@ pub fn unseal(alloc: Global, keys: &CellKeys, cell: &Cell) -> Result<Vec<u8>, Ce
 
 /// The same of a cell whose bytes are borrowed, so that it needn't be copied to be opened.
 pub fn unseal_bytes(alloc: Global, keys: &CellKeys, cell: &[u8]) -> Result<Vec<u8>, CellFault>
-    ensures exact { UnsealsTo result (unsealed keys.now cell.now) }
+    ensures exact { UnsealsTo result (content_of keys.now cell.now) }
     ensures padding_after_tag { result ≡ Err CellFault.BadPadding
         → IsTrue (is_authentic keys.now cell.now) }
     ensures memory_after_tag { result ≡ Err CellFault.OutOfMemory

@@ -5,10 +5,12 @@
 use crate::devices::{KEY, has_read, has_taken, is_drawn, is_key};
 use ae_base::texts::Txt;
 use ae_edge::adapters::entropy::RngEntropy;
+use ae_edge::adapters::file::{FileSink, FileSource};
 use ae_edge::adapters::folder::FolderVault;
 use ae_edge::adapters::sink::StdSink;
 use ae_edge::adapters::source::StdSource;
 use ae_edge::entropies::{Draw, Entropy};
+use ae_edge::sinks::{Put, Sink};
 use ae_edge::sources::{Source, Taken};
 use ae_edge::streams::{PutAll, put_all, read_all};
 use ae_edge::vaults::{MasterKey, Vault};
@@ -230,4 +232,12 @@ fn finds_the_keys_of_a_folder(rt: HostRuntime) -> Result<(), Fail> {
     }
     fs::remove_dir_all(&rt, folder.as_str())?;
     Ok(())
+}
+
+#[test]
+fn a_file_that_cannot_be_opened_fails(rt: HostRuntime) {
+    let mut source = FileSource::new(&rt, "no such folder/replies.bin");
+    assert!(rt; matches!(source.take(rt.alloc(), 9), Taken::Failed));
+    let mut sink = FileSink::new(&rt, "no such folder/tap.bin");
+    assert!(rt; matches!(sink.put(b"frames"), Put::Failed));
 }

@@ -7,7 +7,7 @@ use Rattle.wire_frames.specs.Frames.{Placed, End, Whole, Refused, Rest, EndsSo, 
 use Rattle.wire_frames.specs.Laws.{IsReadOnce}
 use Rattle.wire_frames.specs.declared.decoding.Way.{Way}
 use Rattle.frame_feed.specs.Calls.{Call, Fed, Given, Shown, Lead, given_by, messages_of}
-use Rattle.frame_feed.specs.Feeding.{Feeding, SpellsMessage, fed, refused, rest_of}
+use Rattle.frame_feed.specs.Feeding.{Feeding, SpellsMessage, with_piece, refused, rest_of}
 use Rattle.frame_feed.specs.Steps.{Steps}
 use Rattle.frame_feed.specs.declared.feeds.Next.{Next}
 use Rattle.frame_feed.specs.declared.feeds.Next.TheVariants as next
@@ -63,7 +63,7 @@ pub record StandsBad (place : ℕ) (f : Feeding) : Type 0 where
   pub bad : IsRefused (has_kind f.way) (SpellsMessage f.way) f.held
 
 bad_fed_at : (place : ℕ) (way : Way) (at : ℕ) (held : List ℕ) (failed : Bool) (piece : List ℕ)
-    → StandsBad place (record { way = way; at = at; held = held; failed = failed }) → StandsBad place (fed (record { way = way; at = at; held = held; failed = failed }) piece)
+    → StandsBad place (record { way = way; at = at; held = held; failed = failed }) → StandsBad place (with_piece (record { way = way; at = at; held = held; failed = failed }) piece)
 bad_fed_at place way at held true piece b = record { there = b.there; bad = b.bad }
 bad_fed_at place way at held false piece b = record { there = b.there; bad = refused_more (has_kind way) (SpellsMessage way) held piece b.bad }
 
@@ -84,7 +84,7 @@ module _ (once : (way : Way) → IsReadOnce (has_kind way) (SpellsMessage way)) 
 
   bad_leads : (place : ℕ) (calls : List Call) (old now : Feeding) → StandsBad place old → Lead calls old now → StandsBad place now × (messages_of calls ≡ [])
   bad_leads place [] old now b lead = (subst (λ (f : Feeding). StandsBad place f) (sym lead) b, refl)
-  bad_leads place (Fed piece ∷ calls) old now b lead = bad_leads place calls (fed old piece) now (bad_fed_at place old.way old.at old.held old.failed piece b) lead
+  bad_leads place (Fed piece ∷ calls) old now b lead = bad_leads place calls (with_piece old piece) now (bad_fed_at place old.way old.at old.held old.failed piece b) lead
   bad_leads place (Given answer ∷ calls) old now b lead =
       let g = bad_given place answer old lead.0 b lead.1 in
       let more = bad_leads place calls lead.0 now g.0 lead.2 in

@@ -6,7 +6,7 @@ use Rattle.wire_frames.specs.Decoding.{has_kind}
 use Rattle.wire_frames.specs.Frames.{Placed, End, EndsSo, ReadsAs, IsRefused}
 use Rattle.wire_frames.specs.declared.decoding.Way.{Way}
 use Rattle.frame_feed.specs.Calls.{Call, Fed, Given, Shown, Lead, bytes_of, given_by, messages_of, TellsEnd, ToldAfter, Frames}
-use Rattle.frame_feed.specs.Feeding.{Feeding, SpellsMessage, unfed, fed, behind, refused, rest_of}
+use Rattle.frame_feed.specs.Feeding.{Feeding, SpellsMessage, empty_feed, with_piece, behind, refused, rest_of}
 use Rattle.frame_feed.specs.Steps.{Steps}
 use Rattle.frame_feed.specs.declared.feeds.Next.{Next}
 use Rattle.frame_feed.specs.declared.feeds.Next.TheVariants as next
@@ -23,13 +23,13 @@ pub record Has (bytes : List ℕ) (ms : List (Placed Message)) (f : Feeding) : T
   pub none : f.failed ≡ false → more ≡ []
   pub refused : f.failed ≡ true → IsRefused (has_kind f.way) (SpellsMessage f.way) f.held
 
-start : (way : Way) → Has [] [] (unfed way)
+start : (way : Way) → Has [] [] (empty_feed way)
 start way = record { more = []; comes = (refl, refl); none = λ e. refl; refused = λ e. absurd (both_ways false e refl) }
 
 -- ---- a piece
 
 has_fed_at : (way : Way) (at : ℕ) (held : List ℕ) (failed : Bool) (bytes : List ℕ) (ms : List (Placed Message)) (piece : List ℕ)
-    → Has bytes ms (record { way = way; at = at; held = held; failed = failed }) → Has (bytes ++ piece) ms (fed (record { way = way; at = at; held = held; failed = failed }) piece)
+    → Has bytes ms (record { way = way; at = at; held = held; failed = failed }) → Has (bytes ++ piece) ms (with_piece (record { way = way; at = at; held = held; failed = failed }) piece)
 has_fed_at way at held true bytes ms piece h = record {
   more = h.more ++ piece;
   comes =
@@ -48,7 +48,7 @@ has_fed_at way at held false bytes ms piece h = record {
   refused = λ e. absurd (both_ways false e refl);
 }
 
-has_fed : (f : Feeding) (bytes : List ℕ) (ms : List (Placed Message)) (piece : List ℕ) → Has bytes ms f → Has (bytes ++ piece) ms (fed f piece)
+has_fed : (f : Feeding) (bytes : List ℕ) (ms : List (Placed Message)) (piece : List ℕ) → Has bytes ms f → Has (bytes ++ piece) ms (with_piece f piece)
 has_fed f bytes ms piece h = has_fed_at f.way f.at f.held f.failed bytes ms piece h
 
 -- ---- what was given
@@ -94,7 +94,7 @@ has_called [] bytes ms old new h lead short =
 has_called (Fed piece ∷ calls) bytes ms old new h lead short =
     let regroup = append_assoc bytes piece (bytes_of calls) in
     subst (λ (l : List ℕ). Has l (ms ++ messages_of calls) new) regroup
-    (has_called calls (bytes ++ piece) ms (fed old piece) new (has_fed old bytes ms piece h) lead (subst (λ (l : List ℕ). length l < 2 ^ 64) (sym regroup) short))
+    (has_called calls (bytes ++ piece) ms (with_piece old piece) new (has_fed old bytes ms piece h) lead (subst (λ (l : List ℕ). length l < 2 ^ 64) (sym regroup) short))
 has_called (Given answer ∷ calls) bytes ms old new h lead short =
     subst (λ (l : List (Placed Message)). Has (bytes ++ bytes_of calls) l new) (append_assoc ms (given_by answer) (messages_of calls))
     (has_called calls bytes (ms ++ given_by answer) lead.0 new (has_given answer old lead.0 bytes ms h (omega (arith, short, length-append bytes (bytes_of calls))) lead.1) lead.2 short)
@@ -108,7 +108,7 @@ steps_way next.OutOfMemory old new s = ap (λ (f : Feeding). f.way) s.1
 
 lead_way : (calls : List Call) (old new : Feeding) → Lead calls old new → new.way ≡ old.way
 lead_way [] old new lead = ap (λ (f : Feeding). f.way) lead
-lead_way (Fed piece ∷ calls) old new lead = lead_way calls (fed old piece) new lead
+lead_way (Fed piece ∷ calls) old new lead = lead_way calls (with_piece old piece) new lead
 lead_way (Given answer ∷ calls) old new lead = lead_way calls lead.0 new lead.2 ∙ steps_way answer old lead.0 lead.1
 lead_way (Shown answer ∷ calls) old new lead = lead_way calls old new lead.1
 
@@ -130,8 +130,8 @@ reads_so next.OutOfMemory now after bytes ms end h s t = absurd t
 
 pub frames_given : (way : Way) (calls : List Call) (end : End) → length (bytes_of calls) < 2 ^ 64 → ToldAfter way calls end → Frames way (bytes_of calls) (messages_of calls) end
 frames_given way calls end short t =
-    let h = has_called calls [] [] (unfed way) t.now (start way) t.lead short in
-    subst (λ (w : Way). ReadsAs (has_kind w) (SpellsMessage w) 0 (bytes_of calls) (messages_of calls) end) (lead_way calls (unfed way) t.now t.lead)
+    let h = has_called calls [] [] (empty_feed way) t.now (start way) t.lead short in
+    subst (λ (w : Way). ReadsAs (has_kind w) (SpellsMessage w) 0 (bytes_of calls) (messages_of calls) end) (lead_way calls (empty_feed way) t.now t.lead)
     (reads_so t.answer t.now t.after (bytes_of calls) (messages_of calls) end h t.steps t.tells)
 
 -- ---- after a fault

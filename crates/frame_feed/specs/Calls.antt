@@ -3,7 +3,7 @@ use Rattle.std.specs.Prelude.{◌≡◌, ℕ, List, [], ◌∷◌, ◌++◌, Opt
 use Rattle.wire_frames.specs.Decoding.{has_kind}
 use Rattle.wire_frames.specs.Frames.{Placed, End, Whole, Refused, Rest, ReadsAs}
 use Rattle.wire_frames.specs.declared.decoding.Way.{Way}
-use Rattle.frame_feed.specs.Feeding.{Feeding, SpellsMessage, unfed, fed, rest_of}
+use Rattle.frame_feed.specs.Feeding.{Feeding, SpellsMessage, empty_feed, with_piece, rest_of}
 use Rattle.frame_feed.specs.Steps.{Steps}
 use Rattle.frame_feed.specs.Steps as giving
 use Rattle.frame_feed.specs.declared.feeds.Next.{Next}
@@ -23,7 +23,7 @@ pub data Call : Type 0 where
 -- the calls lead from one state of a feed to another
 abbrev pub Lead : List Call → Feeding → Feeding → Type 0
 Lead [] old new = new ≡ old
-Lead (Fed piece ∷ calls) old new = Lead calls (fed old piece) new
+Lead (Fed piece ∷ calls) old new = Lead calls (with_piece old piece) new
 Lead (Given answer ∷ calls) old new = (between : Feeding) × Steps answer old between × Lead calls between new
 Lead (Shown answer ∷ calls) old new = Steps answer old (giving.after answer old) × Lead calls old new
 
@@ -58,6 +58,6 @@ pub record ToldAfter (way : Way) (calls : List Call) (end : End) : Type 0 where
   pub now : Feeding
   pub after : Feeding
   pub answer : Next
-  pub lead : Lead calls (unfed way) now
+  pub lead : Lead calls (empty_feed way) now
   pub steps : Steps answer now after
   pub tells : TellsEnd answer (rest_of now) end

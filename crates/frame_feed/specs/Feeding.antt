@@ -27,12 +27,12 @@ pub record StandsWhole (used : ℕ) (f : Feeding) : Type 0 where
   pub spelled : SpellsMessage f.way message (take used f.held)
 
 -- before anything is fed
-abbrev pub unfed : Way → Feeding
-unfed way = record { way = way; at = 0; held = []; failed = false }
+abbrev pub empty_feed : Way → Feeding
+empty_feed way = record { way = way; at = 0; held = []; failed = false }
 
 -- with a piece at the end; after a fault nothing is taken
-abbrev pub fed : Feeding → List ℕ → Feeding
-fed f piece = record { way = f.way; at = f.at; held = if f.failed then f.held else f.held ++ piece; failed = f.failed }
+abbrev pub with_piece : Feeding → List ℕ → Feeding
+with_piece f piece = record { way = f.way; at = f.at; held = if f.failed then f.held else f.held ++ piece; failed = f.failed }
 
 -- behind a frame of so many bytes; a place past 2 ^ 64 - 1 is told as that
 abbrev pub behind : Feeding → ℕ → Feeding

@@ -1,7 +1,7 @@
 //! Streams of frames in pieces.
 
 ghost use Rattle.std.specs.Prelude.{◌≡◌, true, false, OnOk, OnErr, IsOk};
-ghost use Rattle.frame_feed.specs.Feeding.{StandsWhole, unfed, fed, behind, rest_of};
+ghost use Rattle.frame_feed.specs.Feeding.{StandsWhole, empty_feed, with_piece, behind, rest_of};
 ghost use Rattle.frame_feed.specs.Steps.{Steps, after};
 
 use crate::messages::{Message, decode};
@@ -31,7 +31,8 @@ impl Model for FrameFeed {
 
     ghost view = { λ f. record { way = f.way; at = f.at; held = f.held.items; failed = f.failed } };
 
-    ghost invariant = { λ f. f.failed ≡ true → IsRefused (has_kind f.way) (SpellsMessage f.way) f.held.items };
+    ghost invariant = { λ f. f.failed ≡ true
+        → IsRefused (has_kind f.way) (SpellsMessage f.way) f.held.items };
 }
 
 /// What stands next.
@@ -56,7 +57,7 @@ pub enum Next<'a> {
 impl FrameFeed {
     /// No bytes yet. It takes no memory.
     pub fn new(alloc: Global, way: Way) -> FrameFeed
-        ensures { result ≡ unfed way }
+        ensures { result ≡ empty_feed way }
     {
         FrameFeed {
             way,
@@ -69,7 +70,7 @@ impl FrameFeed {
     /// Takes the next piece of the stream. For want of memory nothing changes. Behind a frame that was
     /// refused no byte is wanted, and none is taken.
     pub fn feed(&mut self, piece: &[u8]) -> Result<(), AllocError>
-        ensures fed { OnOk result (self.new ≡ fed self.old piece.now) }
+        ensures fed { OnOk result (self.new ≡ with_piece self.old piece.now) }
         ensures kept { OnErr result (self.new ≡ self.old) }
         ensures failed { self.old.failed ≡ true → IsOk result }
     {

@@ -34,7 +34,11 @@ pub struct CellKeys {
 impl Model for CellKeys {
     ghost Value = { Keys };
 
-    ghost view = { λ keys. record { enc_key = keys.enc_key; mac_key = keys.mac_key; iv_key = keys.iv_key } };
+    ghost view = { λ keys. record {
+      enc_key = keys.enc_key;
+      mac_key = keys.mac_key;
+      iv_key = keys.iv_key;
+    } };
 
     ghost invariant = { λ keys. (keys.cipher ≡ keys.enc_key)
         × Holds keys.tag_mac keys.mac_key []

@@ -5,7 +5,7 @@ use Rattle.ae_base.specs.Results.{◌>>=◌, or_fault}
 use Rattle.ae_base.specs.declared.keys.KeyMeta.{KeyMeta}
 use Rattle.ae_edge.specs.Vaults.{KeyMap, key_at}
 use Rattle.hmac_kdf.specs.Keys.{Keys, keys_of}
-use Rattle.key_wrap.specs.Wrap.{unwrapped}
+use Rattle.key_wrap.specs.Wrap.{unwrapping_of}
 use Rattle.key_store.specs.Opening.{column_key, open_key, opened}
 use Rattle.key_store.specs.Stores.{IsOf, AreKept, AreKeptWith}
 use Rattle.key_store.specs.declared.faults.KeyFault.{KeyFault}
@@ -27,10 +27,10 @@ back u None f g key e = cc
 back u (Some master) f g key e = fault-or g (u master) key e
 
 column-opened : (map : KeyMap) (meta : KeyMeta) (key : List ℕ) → opened map meta.path meta.wrapped ≡ Some key → column_key map meta ≡ Ok key
-column-opened map meta key e = forth (λ master. unwrapped master meta.wrapped) (key_at map meta.path) (NoMasterKey meta.path) (KeyRefused meta.name) key e
+column-opened map meta key e = forth (λ master. unwrapping_of master meta.wrapped) (key_at map meta.path) (NoMasterKey meta.path) (KeyRefused meta.name) key e
 
 opened-column : (map : KeyMap) (meta : KeyMeta) (key : List ℕ) → column_key map meta ≡ Ok key → opened map meta.path meta.wrapped ≡ Some key
-opened-column map meta key e = back (λ master. unwrapped master meta.wrapped) (key_at map meta.path) (NoMasterKey meta.path) (KeyRefused meta.name) key e
+opened-column map meta key e = back (λ master. unwrapping_of master meta.wrapped) (key_at map meta.path) (NoMasterKey meta.path) (KeyRefused meta.name) key e
 
 abbrev pub origin_of : KeyMeta → Origin
 origin_of meta = record { path = meta.path; wrapped = meta.wrapped }

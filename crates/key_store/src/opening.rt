@@ -3,7 +3,7 @@
 ghost use Rattle.std.specs.Prelude.{◌≡◌, ◌≤◌, Err, IfSome};
 ghost use Rattle.ae_edge.specs.Devices.{Rose};
 ghost use Rattle.hmac_kdf.specs.Keys.{keys_of};
-ghost use Rattle.key_wrap.specs.Wrap.{unwrapped};
+ghost use Rattle.key_wrap.specs.Wrap.{unwrapping_of};
 ghost use Rattle.key_store.specs.Opening.{column_key, Opens};
 
 use crate::faults::{KeyFault, OpenFault};
@@ -57,7 +57,8 @@ pub(crate) fn open<V: Vault>(vault: &mut V, meta: &KeyMeta) -> Result<[u8; 32], 
     ensures unchanged { V.keys vault.new ≡ V.keys vault.old }
     ensures same { V.names vault.new ≡ V.names vault.old }
     ensures count { V.faults vault.old ≤ V.faults vault.new }
-    ensures failed { result ≡ Err OpenFault.VaultFault → Rose (V.faults vault.old) (V.faults vault.new) }
+    ensures failed { result ≡ Err OpenFault.VaultFault
+        → Rose (V.faults vault.old) (V.faults vault.new) }
 {
     match vault.master(meta.path.as_txt()) {
         MasterKey::Found(master) => match unwrapped(&master, meta.wrapped.as_slice()) {
@@ -70,9 +71,9 @@ pub(crate) fn open<V: Vault>(vault: &mut V, meta: &KeyMeta) -> Result<[u8; 32], 
 }
 
 /// The key that some bytes wrap, where they are 40 and unwrap.
-#[tactic(auto, unfolding(key_wrap::specs::Wrap::unwrapped))]
+#[tactic(auto, unfolding(key_wrap::specs::Wrap::unwrapping_of))]
 fn unwrapped(master: &[u8; 32], wrapped: &[u8]) -> Option<[u8; 32]>
-    ensures { result ≡ unwrapped master.now wrapped.now }
+    ensures { result ≡ unwrapping_of master.now wrapped.now }
 {
     if wrapped.len() != 40 {
         return None;

@@ -20,7 +20,8 @@ pub struct Origin {
 impl Origin {
     /// What the key of these facts comes of.
     pub fn of_meta(meta: &KeyMeta) -> Result<Origin, AllocError>
-        ensures { IfOk result (λ origin. origin ≡ record { path = meta.now.path; wrapped = meta.now.wrapped }) }
+        ensures { IfOk result
+            (λ origin. origin ≡ record { path = meta.now.path; wrapped = meta.now.wrapped }) }
     {
         Ok(Origin {
             path: meta.path.copy()?,

@@ -73,7 +73,8 @@ impl KeyStore {
         ensures unchanged { V.keys vault.new ≡ V.keys vault.old }
         ensures same { V.names vault.new ≡ V.names vault.old }
         ensures count { V.faults vault.old ≤ V.faults vault.new }
-        ensures failed { result ≡ Err OpenFault.VaultFault → Rose (V.faults vault.old) (V.faults vault.new) }
+        ensures failed { result ≡ Err OpenFault.VaultFault
+            → Rose (V.faults vault.old) (V.faults vault.new) }
     {
         let origin = Origin::of_meta(meta)?;
         if let Some(keys) = self.kept(&origin) {

@@ -4,8 +4,8 @@ use Rattle.std.proofs.lemmas.List.{length-append, length-drop, length-take-le, l
 use Rattle.std.proofs.lemmas.List.Elements.{All-cons, All-take, All-drop, All-append, All-set, All-get_or}
 use Rattle.std.specs.List.{All}
 use Rattle.std.specs.Int.{byte_at, bytes_high_first}
-use Rattle.aes_block.specs.Aes.{encrypted, decrypted, IsBlock}
-use Rattle.aes_block.specs.Bytes.{AreBytes, xored}
+use Rattle.aes_block.specs.Aes.{encryption, decryption, IsBlock}
+use Rattle.aes_block.specs.Bytes.{AreBytes, bytes_xor}
 use Rattle.aes_block.proofs.Interface.{length-xored, AreBytes-xored, xored-xored}
 use Rattle.key_wrap.specs.Wrap.{step_number, register, wrap_step, wrap_steps, wrap_rounds, unwrap_step, unwrap_steps, unwrap_rounds}
 use Rattle.key_wrap.proofs.Steps.{wrap_step-undoes, unwrap_step-wrap_step}
@@ -21,10 +21,10 @@ pub record AreRegisters (s : List (List ℕ)) : Type 0 where
 
 -- what is known of the block cipher under a key
 pub record IsCipher (kek : List ℕ) : Type 0 where
-  pub decrypts : (block : List ℕ) → IsBlock block → decrypted kek (encrypted kek block) ≡ block
-  pub encrypts : (block : List ℕ) → IsBlock block → encrypted kek (decrypted kek block) ≡ block
-  pub ciphertext : (block : List ℕ) → IsBlock block → IsBlock (encrypted kek block)
-  pub plaintext : (block : List ℕ) → IsBlock block → IsBlock (decrypted kek block)
+  pub decrypts : (block : List ℕ) → IsBlock block → decryption kek (encryption kek block) ≡ block
+  pub encrypts : (block : List ℕ) → IsBlock block → encryption kek (decryption kek block) ≡ block
+  pub ciphertext : (block : List ℕ) → IsBlock block → IsBlock (encryption kek block)
+  pub plaintext : (block : List ℕ) → IsBlock block → IsBlock (decryption kek block)
 
 byte_at-lt : (k n : ℕ) → byte_at k n < 256
 byte_at-lt zero n = omega arith
@@ -37,7 +37,7 @@ AreBytes-high_first (suc k) n = All-cons (λ (byte : ℕ). byte < 256) (byte_at 
 IsHalf-step_number : (j i : ℕ) → IsHalf (step_number j i)
 IsHalf-step_number j i = (refl, AreBytes-high_first 8 (4 * j + i))
 
-IsHalf-xored : (xs ys : List ℕ) → IsHalf xs → IsHalf ys → IsHalf (xored xs ys)
+IsHalf-xored : (xs ys : List ℕ) → IsHalf xs → IsHalf ys → IsHalf (bytes_xor xs ys)
 IsHalf-xored xs ys x y =
     let same = x.0 ∙ sym y.0 in
     (length-xored xs ys same ∙ x.0, AreBytes-xored xs ys same x.1 y.1)
@@ -67,16 +67,16 @@ wrap_step-AreRegisters : (kek : List ℕ) (j i : ℕ) (s : List (List ℕ)) → 
 unfolding wrap_step
 wrap_step-AreRegisters kek j i s cipher r lt =
     let b = cipher.ciphertext (register s 0 ++ register s i) (IsBlock-halves (register s 0) (register s i) (half_at s 0 r (omega arith)) (half_at s i r lt)) in
-    let e = encrypted kek (register s 0 ++ register s i) in
-    AreRegisters-set s i (xored (take 8 e) (step_number j i)) (drop 8 e) r (IsHalf-xored (take 8 e) (step_number j i) (IsHalf-take e b) (IsHalf-step_number j i)) (IsHalf-drop e b)
+    let e = encryption kek (register s 0 ++ register s i) in
+    AreRegisters-set s i (bytes_xor (take 8 e) (step_number j i)) (drop 8 e) r (IsHalf-xored (take 8 e) (step_number j i) (IsHalf-take e b) (IsHalf-step_number j i)) (IsHalf-drop e b)
 
 unwrap_step-AreRegisters : (kek : List ℕ) (j i : ℕ) (s : List (List ℕ)) → IsCipher kek → AreRegisters s → i < 5 → AreRegisters (unwrap_step kek j i s)
 unfolding unwrap_step
 unwrap_step-AreRegisters kek j i s cipher r lt =
-    let check = xored (register s 0) (step_number j i) in
+    let check = bytes_xor (register s 0) (step_number j i) in
     let c = IsHalf-xored (register s 0) (step_number j i) (half_at s 0 r (omega arith)) (IsHalf-step_number j i) in
     let b = cipher.plaintext (check ++ register s i) (IsBlock-halves check (register s i) c (half_at s i r lt)) in
-    let d = decrypted kek (check ++ register s i) in
+    let d = decryption kek (check ++ register s i) in
     AreRegisters-set s i (take 8 d) (drop 8 d) r (IsHalf-take d b) (IsHalf-drop d b)
 
 step_unwrapped : (kek : List ℕ) (j i : ℕ) (s : List (List ℕ)) → IsCipher kek → AreRegisters s → 1 ≤ i → i < 5 → unwrap_step kek j i (wrap_step kek j i s) ≡ s
@@ -91,11 +91,11 @@ unfolding unwrap_step
 step_wrapped kek j i s cipher r there lt =
     let t = step_number j i in
     let first = half_at s 0 r (omega arith) in
-    let check = xored (register s 0) t in
+    let check = bytes_xor (register s 0) t in
     let c = IsHalf-xored (register s 0) t first (IsHalf-step_number j i) in
     let block = IsBlock-halves check (register s i) c (half_at s i r lt) in
     let five = r.five in
-    wrap_step-undoes kek j i s t check (check ++ register s i) (decrypted kek (check ++ register s i)) _ _ there (omega arith) refl
+    wrap_step-undoes kek j i s t check (check ++ register s i) (decryption kek (check ++ register s i)) _ _ there (omega arith) refl
     (xored-xored (register s 0) t first.0) c.0 refl (cipher.encrypts (check ++ register s i) block) refl refl
 
 wrap_steps-AreRegisters : (kek : List ℕ) (j n : ℕ) (s : List (List ℕ)) → IsCipher kek → AreRegisters s → n < 5 → AreRegisters (wrap_steps kek j n s)

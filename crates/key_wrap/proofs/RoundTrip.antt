@@ -11,7 +11,7 @@ use Rattle.std.proofs.lemmas.Option.{cond_some}
 use Rattle.std.proofs.lemmas.Bool.{and_parts}
 use Rattle.aes_block.specs.Aes.{IsKey}
 use Rattle.aes_block.specs.Bytes.{AreBytes}
-use Rattle.key_wrap.specs.Wrap.{initial_value, register, wrap_rounds, wrapped, unwrap_rounds, unwrapped_registers, unwrapped}
+use Rattle.key_wrap.specs.Wrap.{initial_value, register, wrap_rounds, wrapping_of, unwrap_rounds, unwrapped_registers, unwrapping_of}
 use Rattle.key_wrap.proofs.Rounds.{concat-first_chunks, first_chunks-concat, unwrapped-some, wrapped-again}
 use Rattle.key_wrap.proofs.Registers.{IsHalf, AreRegisters, IsCipher, wrap_rounds-AreRegisters, unwrap_rounds-AreRegisters, rounds_unwrapped, rounds_wrapped}
 
@@ -44,12 +44,12 @@ AreBytes-concat (half ∷ s) all = All-append (λ (byte : ℕ). byte < 256) half
 
 -- what is known of a wrapped key
 pub record IsWrapped (kek key : List ℕ) : Type 0 where
-  pub unwraps : unwrapped kek (wrapped kek key) ≡ Some key
-  pub len : length (wrapped kek key) ≡ 40
-  pub are_bytes : AreBytes (wrapped kek key)
+  pub unwraps : unwrapping_of kek (wrapping_of kek key) ≡ Some key
+  pub len : length (wrapping_of kek key) ≡ 40
+  pub are_bytes : AreBytes (wrapping_of kek key)
 
 pub wrapped-IsWrapped : (kek key : List ℕ) → IsCipher kek → IsKey key → IsWrapped kek key
-unfolding wrapped unwrapped_registers
+unfolding wrapping_of unwrapped_registers
 wrapped-IsWrapped kek key cipher k =
     let start = initial_value ∷ first_chunks 8 4 key in
     let r = key-AreRegisters key k in
@@ -76,8 +76,8 @@ record IsUnwrapped (kek bytes key : List ℕ) : Type 0 where
   first : register (unwrapped_registers kek bytes) 0 ≡ initial_value
   rest : concat (drop 1 (unwrapped_registers kek bytes)) ≡ key
 
-unwrapped-IsUnwrapped : (kek bytes key : List ℕ) → unwrapped kek bytes ≡ Some key → IsUnwrapped kek bytes key
-unfolding unwrapped
+unwrapped-IsUnwrapped : (kek bytes key : List ℕ) → unwrapping_of kek bytes ≡ Some key → IsUnwrapped kek bytes key
+unfolding unwrapping_of
 unwrapped-IsUnwrapped kek bytes key e =
     let registers = unwrapped_registers kek bytes in
     let parts = cond_some (length bytes == 40 && bytes_eq (register registers 0) initial_value) (concat (drop 1 registers)) key e in
@@ -87,10 +87,10 @@ unwrapped-IsUnwrapped kek bytes key e =
 
 -- what is known of that key
 pub record IsWrappedAgain (kek bytes key : List ℕ) : Type 0 where
-  pub wraps : wrapped kek key ≡ bytes
+  pub wraps : wrapping_of kek key ≡ bytes
   pub is_key : IsKey key
 
-pub unwrapped-IsWrappedAgain : (kek bytes key : List ℕ) → IsCipher kek → AreBytes bytes → unwrapped kek bytes ≡ Some key → IsWrappedAgain kek bytes key
+pub unwrapped-IsWrappedAgain : (kek bytes key : List ℕ) → IsCipher kek → AreBytes bytes → unwrapping_of kek bytes ≡ Some key → IsWrappedAgain kek bytes key
 unfolding unwrapped_registers
 unwrapped-IsWrappedAgain kek bytes key cipher all e =
     let u = unwrapped-IsUnwrapped kek bytes key e in

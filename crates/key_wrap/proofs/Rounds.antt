@@ -6,11 +6,11 @@ use Rattle.std.proofs.lemmas.List.{length-drop, take-append-drop, take_at, drop_
 use Rattle.std.specs.List.{concat, flat_map, AllByRecursion}
 use Rattle.std.specs.Str.{bytes_eq}
 use Rattle.std.specs.Simd.{first_chunks}
-use Rattle.key_wrap.specs.Wrap.{initial_value, register, wrap_rounds, wrapped, unwrapped, unwrapped_registers}
+use Rattle.key_wrap.specs.Wrap.{initial_value, register, wrap_rounds, wrapping_of, unwrapping_of, unwrapped_registers}
 
 pub wrapped-from_rounds : (kek key bytes : List ℕ) (start registers : List (List ℕ)) (j : ℕ) → start ≡ initial_value ∷ first_chunks 8 4 key
-    → registers ≡ wrap_rounds kek j start → j ≡ 6 → bytes ≡ flat_map (λ (x : List ℕ). x) registers → bytes ≡ wrapped kek key
-unfolding wrapped
+    → registers ≡ wrap_rounds kek j start → j ≡ 6 → bytes ≡ flat_map (λ (x : List ℕ). x) registers → bytes ≡ wrapping_of kek key
+unfolding wrapping_of
 wrapped-from_rounds kek key bytes start registers j begin rounds six flat =
     flat ∙ sym (concat_is registers)
     ∙ ap concat (rounds ∙ ap (λ (n : ℕ). wrap_rounds kek n start) six ∙ ap (λ (s : List (List ℕ)). wrap_rounds kek 6 s) begin)
@@ -37,23 +37,23 @@ four_left (a ∷ b ∷ c ∷ d ∷ []) e = absurd (omega arith)
 four_left (a ∷ b ∷ c ∷ d ∷ f ∷ []) e = refl
 four_left (a ∷ b ∷ c ∷ d ∷ f ∷ g ∷ s) e = absurd (omega arith)
 
-pub unwrapped-none : (kek bytes : List ℕ) → length bytes ≡ 40 → bytes_eq (register (unwrapped_registers kek bytes) 0) initial_value ≡ false → unwrapped kek bytes ≡ None
-unfolding unwrapped
+pub unwrapped-none : (kek bytes : List ℕ) → length bytes ≡ 40 → bytes_eq (register (unwrapped_registers kek bytes) 0) initial_value ≡ false → unwrapping_of kek bytes ≡ None
+unfolding unwrapping_of
 unwrapped-none kek bytes long test =
     let even : length bytes == 40 ≡ true = grind (arith, nat_tests) in
     rw (even, test) refl
 
 pub unwrapped-some : (kek bytes : List ℕ) → length bytes ≡ 40 → bytes_eq (register (unwrapped_registers kek bytes) 0) initial_value ≡ true
-    → unwrapped kek bytes ≡ Some (concat (drop 1 (unwrapped_registers kek bytes)))
-unfolding unwrapped
+    → unwrapping_of kek bytes ≡ Some (concat (drop 1 (unwrapped_registers kek bytes)))
+unfolding unwrapping_of
 unwrapped-some kek bytes long test =
     let even : length bytes == 40 ≡ true = grind (arith, nat_tests) in
     rw (even, test) refl
 
 -- wrapping the key in registers whose A is the initial value
 pub wrapped-again : (kek key bytes : List ℕ) (s : List (List ℕ)) → length s ≡ 5 → register s 0 ≡ initial_value → first_chunks 8 4 key ≡ drop 1 s
-    → wrap_rounds kek 6 s ≡ first_chunks 8 5 bytes → length bytes ≡ 40 → wrapped kek key ≡ bytes
-unfolding wrapped
+    → wrap_rounds kek 6 s ≡ first_chunks 8 5 bytes → length bytes ≡ 40 → wrapping_of kek key ≡ bytes
+unfolding wrapping_of
 wrapped-again kek key bytes s five first rest rounds long =
     let whole : initial_value ∷ first_chunks 8 4 key ≡ s =
     ap (λ (r : List (List ℕ)). initial_value ∷ r) rest ∙ ap (λ (a : List ℕ). a ∷ drop 1 s) (sym first) ∙ sym (drop_more s 0 [] (omega arith)) in

@@ -7,7 +7,7 @@ ghost use Rattle.std.specs.List.{concat};
 ghost use Rattle.std.specs.Simd.{first_chunks};
 ghost use Rattle.aes_block.specs.Aes.{IsKey};
 ghost use Rattle.aes_block.specs.Bytes.{AreBytes};
-ghost use Rattle.key_wrap.specs.Wrap.{initial_value, register, step_number, unwrap_step, unwrap_steps, unwrapped, unwrapped_registers, wrap_rounds, wrap_step, wrap_steps, wrapped};
+ghost use Rattle.key_wrap.specs.Wrap.{initial_value, register, step_number, unwrap_step, unwrap_steps, unwrapping_of, unwrapped_registers, wrap_rounds, wrap_step, wrap_steps, wrapping_of};
 
 use aes_block::{Aes256, xor};
 
@@ -85,7 +85,7 @@ fn wrap_round(kek: &Aes256, j: usize, registers: &mut [[u8; 8]; 5])
 
 /// The key wrapped under `kek`, the key encryption key (section 2.2.1).
 pub fn wrap(kek: &Aes256, key: &[u8; 32]) -> [u8; 40]
-    ensures { result ≡ wrapped kek.now key.now }
+    ensures { result ≡ wrapping_of kek.now key.now }
 {
     let mut registers = registers_of(key);
     for j in 0..6 {
@@ -138,8 +138,8 @@ fn unwrapped_registers(kek: &Aes256, bytes: &[u8; 40]) -> [[u8; 8]; 5]
 /// The key that `bytes` wrap under `kek`, the key encryption key (section 2.2.2): `None` exactly where the register A
 /// does not end as the initial value.
 pub fn unwrap(kek: &Aes256, bytes: &[u8; 40]) -> Option<[u8; 32]>
-    ensures exact { result ≡ unwrapped kek.now bytes.now }
-    ensures undoes { IfSome result (λ key. wrapped kek.now key ≡ bytes.now) }
+    ensures exact { result ≡ unwrapping_of kek.now bytes.now }
+    ensures undoes { IfSome result (λ key. wrapping_of kek.now key ≡ bytes.now) }
     ensures refused { IsNone result
         ↔ (register (unwrapped_registers kek.now bytes.now) 0 ≢ initial_value) }
 {
@@ -154,13 +154,13 @@ pub fn unwrap(kek: &Aes256, bytes: &[u8; 40]) -> Option<[u8; 32]>
 /// Wrapping and unwrapping undo each other, under every key encryption key.
 pub fn each_undoes_the_other()
     ensures unwraps { (kek key : List ℕ) → IsKey kek → IsKey key
-        → unwrapped kek (wrapped kek key) ≡ Some key }
+        → unwrapping_of kek (wrapping_of kek key) ≡ Some key }
     ensures wraps { (kek bytes key : List ℕ) → IsKey kek → AreBytes bytes
-        → unwrapped kek bytes ≡ Some key → wrapped kek key ≡ bytes }
+        → unwrapping_of kek bytes ≡ Some key → wrapping_of kek key ≡ bytes }
     ensures key { (kek bytes key : List ℕ) → IsKey kek → AreBytes bytes
-        → unwrapped kek bytes ≡ Some key → IsKey key }
-    ensures bytes { (kek key : List ℕ) → IsKey kek → IsKey key → AreBytes (wrapped kek key) }
-    ensures len { (kek key : List ℕ) → IsKey kek → IsKey key → length (wrapped kek key) ≡ 40 }
+        → unwrapping_of kek bytes ≡ Some key → IsKey key }
+    ensures bytes { (kek key : List ℕ) → IsKey kek → IsKey key → AreBytes (wrapping_of kek key) }
+    ensures len { (kek key : List ℕ) → IsKey kek → IsKey key → length (wrapping_of kek key) ≡ 40 }
 {
     aes_block::each_undoes_the_other();
 }

@@ -51,7 +51,7 @@ fn name(alloc: Global, bytes: &[u8]) -> Body<Name>
     ensures { GivesBody result (read.whole read.name_at bytes.now) }
 {
     match name_of(bytes) {
-        Some((name, [])) => match name.to_name(alloc) {
+        Some((name, [])) => match name.to_ruled(alloc) {
             Ok(name) => Body::One(name),
             Err(_) => Body::OutOfMemory,
         },
@@ -63,7 +63,7 @@ fn param_name(alloc: Global, bytes: &[u8]) -> Body<ParamName>
     ensures { GivesBody result (read.whole read.param_name_at bytes.now) }
 {
     match param_name_of(bytes) {
-        Some((name, [])) => match name.to_param_name(alloc) {
+        Some((name, [])) => match name.to_ruled(alloc) {
             Ok(name) => Body::One(name),
             Err(_) => Body::OutOfMemory,
         },
@@ -107,7 +107,7 @@ fn conflict(alloc: Global, bytes: &[u8]) -> Body<SqlFault>
 {
     match name_of(bytes) {
         Some((table, rest)) => match counts_of(rest) {
-            Some((counts, [])) => match table.to_name(alloc) {
+            Some((counts, [])) => match table.to_ruled(alloc) {
                 Ok(table) => Body::One(SqlFault::Conflict { table, counts }),
                 Err(_) => Body::OutOfMemory,
             },

@@ -70,7 +70,8 @@ pub fn many_of<'a, P: ReadPart<'a>>(alloc: Global, bytes: &'a [u8]) -> Found<'a,
 
 /// At most 128 parameters, whose names differ.
 fn params_of<'a, P: ReadPart<'a> + Named>(alloc: Global, bytes: &'a [u8]) -> Found<'a, ParamList<P>>
-    ensures { GivesFound result (read.kept (read.are_params P.called) (read.few_at P.reading) bytes.now) }
+    ensures { GivesFound result
+        (read.kept (read.are_params P.called) (read.few_at P.reading) bytes.now) }
 {
     match few_of(alloc, bytes) {
         Found::One(parts, rest) => match checks::params(parts) {

@@ -1,3 +1,4 @@
 mod Directions
 mod FrameLaws
+mod Readings
 mod StreamLaws

@@ -1,5 +1,5 @@
 -- Laws of the spellings.
-use Rattle.std.specs.Prelude.{◌≡◌, ℕ, ◌+◌, List, [], ◌∷◌, ◌++◌, length, flat_map, Bool}
+use Rattle.std.specs.Prelude.{◌≡◌, ◌<◌, ℕ, ◌+◌, List, [], ◌∷◌, ◌++◌, length, flat_map, Bool}
 use Rattle.std.specs.List.{All}
 use Rattle.wire_frames.specs.Frames.{Placed, End, Whole, ReadsAs}
 
@@ -18,6 +18,12 @@ abbrev pub IsReadOnce : {M : Type 0} → (ℕ → Bool) → (M → List ℕ → 
 IsReadOnce {M} is_kind Spells =
     (at : ℕ) (bytes : List ℕ) (ms ns : List (Placed M)) (end other : End)
     → ReadsAs is_kind Spells at bytes ms end → ReadsAs is_kind Spells at bytes ns other → (ms ≡ ns) × (end ≡ other)
+
+-- bytes are a list of messages with their places, and have an end
+abbrev pub HasReading : {M : Type 0} → (ℕ → Bool) → (M → List ℕ → Type 0) → Type 0
+HasReading {M} is_kind Spells =
+    (at : ℕ) (bytes : List ℕ) → All (λ byte. byte < 256) bytes
+    → (ms : List (Placed M)) × (end : End) × ReadsAs is_kind Spells at bytes ms end
 
 -- messages one after another, each with its place
 abbrev pub placed_from : {M : Type 0} → (M → List ℕ) → ℕ → List M → List (Placed M)

@@ -61,7 +61,9 @@ fn used_after(keys: &[KeyPart<'_>], used: usize, enc: Enc) -> Option<usize>
     requires { used ≤ length keys.now }
     ensures { MatchOption result
         ((encs : List Enc) → lists_from (ids_of keys.now) used (enc ∷ encs) ≡ false)
-        (λ count. (count ≤ length keys.now) × ((encs : List Enc) → lists_from (ids_of keys.now) used (enc ∷ encs) ≡ lists_from (ids_of keys.now) count encs)) }
+        (λ count. (count ≤ length keys.now)
+        × ((encs : List Enc) → lists_from (ids_of keys.now) used (enc ∷ encs)
+        ≡ lists_from (ids_of keys.now) count encs)) }
 {
     match enc {
         Enc::Plain => Some(used),
@@ -73,7 +75,9 @@ fn used_after_key(keys: &[KeyPart<'_>], used: usize, key: KeyId) -> Option<usize
     requires { used ≤ length keys.now }
     ensures { MatchOption result
         ((encs : List Enc) → lists_from (ids_of keys.now) used (enc.Det key ∷ encs) ≡ false)
-        (λ count. (count ≤ length keys.now) × ((encs : List Enc) → lists_from (ids_of keys.now) used (enc.Det key ∷ encs) ≡ lists_from (ids_of keys.now) count encs)) }
+        (λ count. (count ≤ length keys.now)
+        × ((encs : List Enc) → lists_from (ids_of keys.now) used (enc.Det key ∷ encs)
+        ≡ lists_from (ids_of keys.now) count encs)) }
 {
     if has_key(&keys[..used], key) {
         return Some(used);

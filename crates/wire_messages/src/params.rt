@@ -73,7 +73,7 @@ impl<'a> Declaration<'a> {
         ensures { IfOk result (λ copy. copy ≡ self.now) }
     {
         Ok(ParamDecl {
-            name: self.name.to_param_name(alloc)?,
+            name: self.name.to_ruled(alloc)?,
             ty: self.ty,
         })
     }

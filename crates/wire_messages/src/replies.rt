@@ -32,7 +32,8 @@ impl<'a> Model for Description<'a> {
 
     ghost view = { λ d. record { version = d.version; keys = d.keys; params = d.params } };
 
-    ghost invariant = { λ d. told.IsDescription (record { version = d.version; keys = d.keys; params = d.params }) };
+    ghost invariant = { λ d. told.IsDescription
+        (record { version = d.version; keys = d.keys; params = d.params }) };
 }
 
 impl<'a> Description<'a> {
@@ -43,8 +44,11 @@ impl<'a> Description<'a> {
         keys: Seq<KeyPart<'a>>,
         params: UsedParams<'a>,
     ) -> Option<Description<'a>>
-        ensures description { IfSome result (λ d. d ≡ record { version = version; keys = keys.entry; params = params.entry }) }
-        ensures exactly { IsSome result ↔ told.IsDescription (record { version = version; keys = keys.entry; params = params.entry }) }
+        ensures description { IfSome result
+            (λ d. d ≡ record { version = version; keys = keys.entry; params = params.entry }) }
+        ensures exactly { IsSome result
+            ↔ told.IsDescription
+            (record { version = version; keys = keys.entry; params = params.entry }) }
     {
         if !are_the_keys_of(params.as_slice(), keys.as_slice()) {
             return None;
@@ -129,8 +133,10 @@ impl<'a> Header<'a> {
     /// The header, where there are 1 to 512 columns and the keys are theirs in the order of their
     /// first use, at most 64. It takes no memory.
     pub fn new(keys: Seq<KeyPart<'a>>, columns: Seq<SentColumn<'a>>) -> Option<Header<'a>>
-        ensures header { IfSome result (λ h. h ≡ record { keys = keys.entry; columns = columns.entry }) }
-        ensures exactly { IsSome result ↔ told.IsHeader (record { keys = keys.entry; columns = columns.entry }) }
+        ensures header { IfSome result
+            (λ h. h ≡ record { keys = keys.entry; columns = columns.entry }) }
+        ensures exactly { IsSome result
+            ↔ told.IsHeader (record { keys = keys.entry; columns = columns.entry }) }
     {
         if columns.is_empty() || columns.len() > MOST_ANSWER_COLUMNS {
             return None;

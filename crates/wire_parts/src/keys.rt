@@ -39,7 +39,13 @@ impl<'a> KeyPart<'a> {
         path: PathPart<'a>,
         wrapped: BlobPart<'a>,
     ) -> Option<KeyPart<'a>>
-        ensures key { IfSome result (λ key. key ≡ record { id = id; name = name.entry; path = path.entry; wrapped = wrapped.entry }) }
+        ensures key { IfSome result
+            (λ key. key ≡ record {
+              id = id;
+              name = name.entry;
+              path = path.entry;
+              wrapped = wrapped.entry;
+            }) }
         ensures exactly { IsSome result ↔ IsWrappedKey wrapped.entry }
     {
         let count = wrapped.as_slice().len();
@@ -111,8 +117,8 @@ impl<'a> KeyPart<'a> {
     pub fn to_meta(&self, alloc: Global) -> Result<KeyMeta, AllocError>
         ensures { IfOk result (λ copy. copy ≡ self.now) }
     {
-        let name = self.name.to_name(alloc)?;
-        let path = self.path.to_path(alloc)?;
+        let name = self.name.to_ruled(alloc)?;
+        let path = self.path.to_ruled(alloc)?;
         match WrappedKey::from_blob(self.wrapped.to_blob(alloc)?) {
             Some(wrapped) => Ok(KeyMeta {
                 id: self.id,

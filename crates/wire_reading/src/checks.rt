@@ -117,7 +117,9 @@ pub fn key<'a>(
     path: PathPart<'a>,
     wrapped: &'a [u8],
 ) -> Option<KeyPart<'a>>
-    ensures { result ≡ read.made_when read.is_wrapped (λ w. read.key_of (((id, name.entry), path.entry), w)) wrapped.now }
+    ensures { result
+        ≡ read.made_when read.is_wrapped (λ w. read.key_of (((id, name.entry), path.entry), w))
+        wrapped.now }
 {
     KeyPart::new(id, name, path, BlobPart::lent(wrapped))
 }
@@ -133,13 +135,16 @@ pub fn description<'a>(
     keys: Seq<KeyPart<'a>>,
     params: UsedParams<'a>,
 ) -> Option<Description<'a>>
-    ensures { result ≡ read.when read.is_description (record { version = version; keys = keys.entry; params = params.entry }) }
+    ensures { result
+        ≡ read.when read.is_description
+        (record { version = version; keys = keys.entry; params = params.entry }) }
 {
     Description::new(version, keys, params)
 }
 
 pub fn header<'a>(keys: Seq<KeyPart<'a>>, columns: Seq<SentColumn<'a>>) -> Option<Header<'a>>
-    ensures { result ≡ read.when read.is_header (record { keys = keys.entry; columns = columns.entry }) }
+    ensures { result
+        ≡ read.when read.is_header (record { keys = keys.entry; columns = columns.entry }) }
 {
     Header::new(keys, columns)
 }

@@ -157,7 +157,8 @@ fn path_of(bytes: &[u8]) -> Option<(PathPart<'_>, &[u8])>
 /// The type of texts of a size.
 #[tactic(auto, unfolding(crate::specs::Reading::text_size_at))]
 fn text_type_of(bytes: &[u8]) -> Option<(Ty, &[u8])>
-    ensures { Gives (λ x. (x.0, x.1.now)) result (read.mapped Ty.NVarChar read.text_size_at bytes.now) }
+    ensures { Gives (λ x. (x.0, x.1.now)) result
+        (read.mapped Ty.NVarChar read.text_size_at bytes.now) }
 {
     let (units, rest) = u16_of(bytes)?;
     Some((Ty::NVarChar(checks::text_size(units)?), rest))
@@ -166,7 +167,8 @@ fn text_type_of(bytes: &[u8]) -> Option<(Ty, &[u8])>
 /// The type of binaries of a size.
 #[tactic(auto, unfolding(crate::specs::Reading::binary_size_at))]
 fn binary_type_of(bytes: &[u8]) -> Option<(Ty, &[u8])>
-    ensures { Gives (λ x. (x.0, x.1.now)) result (read.mapped Ty.VarBinary read.binary_size_at bytes.now) }
+    ensures { Gives (λ x. (x.0, x.1.now)) result
+        (read.mapped Ty.VarBinary read.binary_size_at bytes.now) }
 {
     let (count, rest) = u16_of(bytes)?;
     Some((Ty::VarBinary(checks::binary_size(count)?), rest))
@@ -216,7 +218,8 @@ pub fn enc_of(bytes: &[u8]) -> Option<(Enc, &[u8])>
 }
 
 fn number_atom_of(bytes: &[u8]) -> Option<(AtomPart<'_>, &[u8])>
-    ensures { Gives (λ x. (x.0, x.1.now)) result (read.mapped read.integer (read.number_at w64) bytes.now) }
+    ensures { Gives (λ x. (x.0, x.1.now)) result
+        (read.mapped read.integer (read.number_at w64) bytes.now) }
 {
     match u64_of(bytes) {
         Some((number, rest)) => Some((AtomPart::number(number.cast_signed()), rest)),
@@ -226,7 +229,8 @@ fn number_atom_of(bytes: &[u8]) -> Option<(AtomPart<'_>, &[u8])>
 
 #[tactic(auto, unfolding(crate::specs::Reading::short_text_at))]
 fn text_atom_of(bytes: &[u8]) -> Option<(AtomPart<'_>, &[u8])>
-    ensures { Gives (λ x. (x.0, x.1.now)) result (read.mapped read.text read.short_text_at bytes.now) }
+    ensures { Gives (λ x. (x.0, x.1.now)) result
+        (read.mapped read.text read.short_text_at bytes.now) }
 {
     let (text, rest) = str_of(bytes)?;
     Some((checks::text_atom(text)?, rest))
@@ -234,7 +238,8 @@ fn text_atom_of(bytes: &[u8]) -> Option<(AtomPart<'_>, &[u8])>
 
 #[tactic(auto, unfolding(crate::specs::Reading::short_blob_at))]
 fn binary_atom_of(bytes: &[u8]) -> Option<(AtomPart<'_>, &[u8])>
-    ensures { Gives (λ x. (x.0, x.1.now)) result (read.mapped read.binary (read.short_blob_at 8000) bytes.now) }
+    ensures { Gives (λ x. (x.0, x.1.now)) result
+        (read.mapped read.binary (read.short_blob_at 8000) bytes.now) }
 {
     let (binary, rest) = blob_of(bytes)?;
     Some((checks::binary_atom(binary)?, rest))
@@ -242,7 +247,8 @@ fn binary_atom_of(bytes: &[u8]) -> Option<(AtomPart<'_>, &[u8])>
 
 #[tactic(auto, unfolding(crate::specs::Reading::short_blob_at))]
 fn sealed_atom_of(bytes: &[u8]) -> Option<(AtomPart<'_>, &[u8])>
-    ensures { Gives (λ x. (x.0, x.1.now)) result (read.mapped read.sealed (read.short_blob_at 16384) bytes.now) }
+    ensures { Gives (λ x. (x.0, x.1.now)) result
+        (read.mapped read.sealed (read.short_blob_at 16384) bytes.now) }
 {
     let (cell, rest) = blob_of(bytes)?;
     Some((checks::sealed_atom(cell)?, rest))
@@ -298,7 +304,8 @@ pub fn counts_of(bytes: &[u8]) -> Option<(ChangeCounts, &[u8])>
 }
 
 fn defined_of(bytes: &[u8]) -> Option<(Done, &[u8])>
-    ensures { Gives (λ x. (x.0, x.1.now)) result (read.tried read.defined (read.number_at w64) bytes.now) }
+    ensures { Gives (λ x. (x.0, x.1.now)) result
+        (read.tried read.defined (read.number_at w64) bytes.now) }
 {
     let (number, rest) = u64_of(bytes)?;
     if number == 0 {
@@ -309,14 +316,16 @@ fn defined_of(bytes: &[u8]) -> Option<(Done, &[u8])>
 }
 
 fn changed_of(bytes: &[u8]) -> Option<(Done, &[u8])>
-    ensures { Gives (λ x. (x.0, x.1.now)) result (read.mapped Done.Changed (read.number_at w64) bytes.now) }
+    ensures { Gives (λ x. (x.0, x.1.now)) result
+        (read.mapped Done.Changed (read.number_at w64) bytes.now) }
 {
     let (number, rest) = u64_of(bytes)?;
     Some((Done::Changed(number), rest))
 }
 
 fn answered_of(bytes: &[u8]) -> Option<(Done, &[u8])>
-    ensures { Gives (λ x. (x.0, x.1.now)) result (read.mapped Done.Answered (read.number_at w64) bytes.now) }
+    ensures { Gives (λ x. (x.0, x.1.now)) result
+        (read.mapped Done.Answered (read.number_at w64) bytes.now) }
 {
     let (number, rest) = u64_of(bytes)?;
     Some((Done::Answered(number), rest))

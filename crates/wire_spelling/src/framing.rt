@@ -23,7 +23,9 @@ fn push_describe(
     text: &StatementPart<'_>,
     declarations: &DeclarationParts<'_>,
 ) -> Result<(), AllocError>
-    ensures bytes { OnOk result (out.new.items ≡ out.old.items ++ spell.request_body (Describe session text.now declarations.now)) }
+    ensures bytes { OnOk result
+        (out.new.items ≡ out.old.items
+        ++ spell.request_body (Describe session text.now declarations.now)) }
     ensures meets { OnOk result (IsRequest (Describe session text.now declarations.now)) }
 {
     out.extend_from_slice(&session.number().to_be_bytes())?;
@@ -38,7 +40,9 @@ fn push_execute(
     text: &StatementPart<'_>,
     params: &SentParams<'_>,
 ) -> Result<(), AllocError>
-    ensures bytes { OnOk result (out.new.items ≡ out.old.items ++ spell.request_body (Execute session version text.now params.now)) }
+    ensures bytes { OnOk result
+        (out.new.items ≡ out.old.items
+        ++ spell.request_body (Execute session version text.now params.now)) }
     ensures meets { OnOk result (IsRequest (Execute session version text.now params.now)) }
 {
     push_head(out, session, version)?;
@@ -49,7 +53,8 @@ fn push_execute(
 
 /// A session, and the version of the catalog at which its statement was described.
 fn push_head(out: &mut Vec<u8>, session: SessionId, version: u64) -> Result<(), AllocError>
-    ensures bytes { OnOk result (out.new.items ≡ out.old.items ++ (spell.u16 session ++ spell.u64 version)) }
+    ensures bytes { OnOk result
+        (out.new.items ≡ out.old.items ++ (spell.u16 session ++ spell.u64 version)) }
     ensures meets { OnOk result (IsSession session) }
 {
     out.extend_from_slice(&session.number().to_be_bytes())?;
@@ -58,7 +63,8 @@ fn push_head(out: &mut Vec<u8>, session: SessionId, version: u64) -> Result<(), 
 }
 
 fn push_described(out: &mut Vec<u8>, description: &Description<'_>) -> Result<(), AllocError>
-    ensures bytes { OnOk result (out.new.items ≡ out.old.items ++ spell.reply_body (Described description.now)) }
+    ensures bytes { OnOk result
+        (out.new.items ≡ out.old.items ++ spell.reply_body (Described description.now)) }
     ensures meets { OnOk result (IsReply (Described description.now)) }
 {
     out.extend_from_slice(&description.version().to_be_bytes())?;
@@ -67,7 +73,8 @@ fn push_described(out: &mut Vec<u8>, description: &Description<'_>) -> Result<()
 }
 
 fn push_columns(out: &mut Vec<u8>, header: &Header<'_>) -> Result<(), AllocError>
-    ensures bytes { OnOk result (out.new.items ≡ out.old.items ++ spell.reply_body (Columns header.now)) }
+    ensures bytes { OnOk result
+        (out.new.items ≡ out.old.items ++ spell.reply_body (Columns header.now)) }
     ensures meets { OnOk result (IsReply (Columns header.now)) }
 {
     push_few(out, header.keys())?;
@@ -138,7 +145,8 @@ fn reply_kind(reply: &Reply<'_>) -> u8
 fn mend_length(out: &mut Vec<u8>, start: usize)
     requires header { start + 6 ≤ length out.old.items }
     requires length { length out.old.items < start + 6 + 2 ^ 32 }
-    ensures { (before body : List ℕ) (kind : ℕ) → length before ≡ start → out.old.items ≡ before ++ 1 ∷ kind ∷ 0 ∷ 0 ∷ 0 ∷ 0 ∷ [] ++ body
+    ensures { (before body : List ℕ) (kind : ℕ) → length before ≡ start
+        → out.old.items ≡ before ++ 1 ∷ kind ∷ 0 ∷ 0 ∷ 0 ∷ 0 ∷ [] ++ body
         → out.new.items ≡ before ++ spell.frame kind body }
 {
     let [a, b, c, d] = ((out.len() - start - 6) as u32).to_be_bytes();

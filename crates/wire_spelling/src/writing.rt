@@ -138,8 +138,10 @@ fn push_param_name(out: &mut Vec<u8>, name: &ParamName) -> Result<(), AllocError
 }
 
 fn push_versions(out: &mut Vec<u8>, versions: Versions) -> Result<(), AllocError>
-    ensures bytes { OnOk result (out.new.items ≡ out.old.items ++ (spell.u64 versions.seen ++ spell.u64 versions.now)) }
-    ensures meets { OnOk result ((versions.seen < 2 ^ 64) × (versions.now < 2 ^ 64) × (versions.seen ≢ versions.now)) }
+    ensures bytes { OnOk result
+        (out.new.items ≡ out.old.items ++ (spell.u64 versions.seen ++ spell.u64 versions.now)) }
+    ensures meets { OnOk result ((versions.seen < 2 ^ 64) × (versions.now < 2 ^ 64)
+        × (versions.seen ≢ versions.now)) }
 {
     out.extend_from_slice(&versions.seen().to_be_bytes())?;
     out.extend_from_slice(&versions.now().to_be_bytes())?;
@@ -147,8 +149,10 @@ fn push_versions(out: &mut Vec<u8>, versions: Versions) -> Result<(), AllocError
 }
 
 fn push_counts(out: &mut Vec<u8>, counts: ChangeCounts) -> Result<(), AllocError>
-    ensures bytes { OnOk result (out.new.items ≡ out.old.items ++ (spell.u64 counts.seen ++ spell.u64 counts.now)) }
-    ensures meets { OnOk result ((counts.seen < 2 ^ 64) × (counts.now < 2 ^ 64) × (counts.seen < counts.now)) }
+    ensures bytes { OnOk result
+        (out.new.items ≡ out.old.items ++ (spell.u64 counts.seen ++ spell.u64 counts.now)) }
+    ensures meets { OnOk result ((counts.seen < 2 ^ 64) × (counts.now < 2 ^ 64)
+        × (counts.seen < counts.now)) }
 {
     out.extend_from_slice(&counts.seen().to_be_bytes())?;
     out.extend_from_slice(&counts.now().to_be_bytes())?;
@@ -166,7 +170,8 @@ fn push_conflict(out: &mut Vec<u8>, table: &Name, counts: ChangeCounts) -> Resul
 
 /// A fault: its code, and its fields.
 pub fn push_fault(out: &mut Vec<u8>, fault: &SqlFault) -> Result<(), AllocError>
-    ensures bytes { OnOk result (out.new.items ≡ out.old.items ++ code_of fault.now ∷ spell.fields fault.now) }
+    ensures bytes { OnOk result (out.new.items ≡ out.old.items ++ code_of fault.now
+        ∷ spell.fields fault.now) }
     ensures meets { OnOk result (conditions.IsFault fault.now) }
 {
     out.push(fault.code())?;

@@ -26,7 +26,11 @@ impl Model for MemSource {
 
     ghost Value = { SourceState };
 
-    ghost view = { λ s. record { left = drop s.at s.bytes.items; piece = s.piece; calls = s.calls } };
+    ghost view = { λ s. record {
+      left = drop s.at s.bytes.items;
+      piece = s.piece;
+      calls = s.calls;
+    } };
 
     ghost invariant = { λ s. (s.at ≤ vec_len s.bytes) × (1 ≤ s.piece) };
 }
@@ -35,7 +39,8 @@ impl MemSource {
     /// A source of some bytes, in pieces of at most `piece`.
     pub fn new(bytes: Vec<u8>, piece: usize, failing: Vec<u64>) -> MemSource
         requires { 1 ≤ piece }
-        ensures { result ≡ record { left = bytes.items; piece = piece; calls = fresh failing.items } }
+        ensures { result
+            ≡ record { left = bytes.items; piece = piece; calls = fresh failing.items } }
     {
         MemSource {
             bytes,

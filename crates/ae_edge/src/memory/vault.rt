@@ -59,7 +59,8 @@ impl Vault for MemVault {
         ensures found { Finds path.now result self.old.keys }
         ensures unchanged { self.new.keys ≡ self.old.keys }
         ensures count { self.old.calls.faults ≤ self.new.calls.faults }
-        ensures failed { result ≡ MasterKey.Failed → Rose self.old.calls.faults self.new.calls.faults }
+        ensures failed { result ≡ MasterKey.Failed
+            → Rose self.old.calls.faults self.new.calls.faults }
         ensures listed { (result ≡ MasterKey.Failed) ↔ IsListed self.old.calls }
         ensures state { MemFinds result self.old self.new }
     {

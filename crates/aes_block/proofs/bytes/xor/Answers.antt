@@ -1,5 +1,5 @@
 use Rattle.std.proofs.Common.{arith, ap, ◌∙◌, List, ℕ}
-use Rattle.aes_block.specs.Bytes.{xored}
+use Rattle.aes_block.specs.Bytes.{bytes_xor}
 use Rattle.aes_block.proofs.Xoring.{IsXoredBelow-more, IsXoredBelow-all, xored-xored}
 use Rattle.aes_block.proofs.bytes.xor.Goals as goal
 
@@ -11,4 +11,4 @@ returns-clause-value g c = IsXoredBelow-all _ _ _ _ c.loop-i.invariant (omega ar
 
 pub returns-clause-undoes : goal.returns-clause-undoes
 returns-clause-undoes g c =
-    ap (λ (xs : List ℕ). xored xs c.args.b.now) (IsXoredBelow-all _ _ _ _ c.loop-i.invariant (omega arith) (omega arith)) ∙ xored-xored _ _ (omega arith)
+    ap (λ (xs : List ℕ). bytes_xor xs c.args.b.now) (IsXoredBelow-all _ _ _ _ c.loop-i.invariant (omega arith) (omega arith)) ∙ xored-xored _ _ (omega arith)

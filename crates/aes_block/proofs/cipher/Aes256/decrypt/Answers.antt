@@ -1,5 +1,5 @@
 use Rattle.std.proofs.Common.{◌≡◌, sym, ap, ◌∙◌, List, ℕ}
-use Rattle.aes_block.specs.Aes.{IsKey, IsBlock, decrypted, expanded_key}
+use Rattle.aes_block.specs.Aes.{IsKey, IsBlock, decryption, expanded_key}
 use Rattle.aes_block.specs.Columns.{words_of}
 use Rattle.aes_block.specs.Equivalent.{equivalent_cipher, inv_key_words}
 use Rattle.aes_block.proofs.Blocks.{IsBlock-from_bytes}
@@ -24,4 +24,4 @@ returns-clause-undoes c =
 pub returns-clause-only : goal.returns-clause-only
 returns-clause-only c = λ b block same.
     let key : IsKey c.args.self.now = rw c.self.view_is at c.self.invariant.0 in
-    sym (decrypted-encrypted c.args.self.now b key block) ∙ ap (decrypted c.args.self.now) same ∙ sym (returns-clause-value c)
+    sym (decrypted-encrypted c.args.self.now b key block) ∙ ap (decryption c.args.self.now) same ∙ sym (returns-clause-value c)
