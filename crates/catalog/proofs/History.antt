@@ -8,7 +8,10 @@ use Rattle.std.proofs.lemmas.Bool.Decides.{nat_tests}
 use Rattle.std.proofs.lemmas.List.Elements.{All-weaker, All-contains, All-contains_itself, Contains-append_left, Contains-append_right, Contains-append_cases}
 use Rattle.ae_base.specs.declared.faults.SqlFault.TheVariants as fault
 use Rattle.ae_base.specs.declared.tables.TableDef.{TableDef}
+use Rattle.sql_tree.specs.declared.bound.BoundDefinition.{BoundDefinition}
+use Rattle.sql_tree.specs.declared.bound.BoundDefinition.TheVariants as definition
 use Rattle.catalog.specs.Catalogs.{Catalog, table_named, key_named, master_named, master_place, key_place, table_place, key_of, key_meta, meta_of, is_master_used, is_key_used, is_at_last_version, is_full_of_masters, is_full_of_keys, is_full_of_tables, with_master, with_key, with_table, without_master, without_key, without_table}
+use Rattle.catalog.specs.Definitions.{defined_by}
 use Rattle.catalog.specs.WellFormed.{IsCatalog, Follows}
 use Rattle.catalog.specs.declared.keys.ColumnKey.{ColumnKey}
 use Rattle.catalog.proofs.Found.{All-remove, accepted, dropped}
@@ -32,12 +35,12 @@ Next old new = Follows old new × (new.version ≡ old.version + 1)
 
 -- ---- each definition
 
-pub with_master-followed : (old new : Catalog) (name path : List ℕ) → with_master old name path ≡ Ok new → Next old new
+with_master-followed : (old new : Catalog) (name path : List ℕ) → with_master old name path ≡ Ok new → Next old new
 with_master-followed old new name path e =
     let a = accepted (is_some (master_named old name)) (is_full_of_masters old) (fault.Exists name) fault.Full _ new e in
     subst (Next old) a.2 (no-key old _ refl (omega arith) (All-contains_itself old.keys), refl)
 
-pub with_key-followed : (old new : Catalog) (name master wrapped : List ℕ) → with_key old name master wrapped ≡ Ok new → Next old new
+with_key-followed : (old new : Catalog) (name master wrapped : List ℕ) → with_key old name master wrapped ≡ Ok new → Next old new
 with_key-followed old new name master wrapped e =
     let key : ColumnKey = record { id = old.next_id; name = name; master = master; wrapped = wrapped } in
     let a = accepted (is_some (key_named old name)) (is_full_of_keys old) (fault.Exists name) fault.Full _ new e in
@@ -56,28 +59,36 @@ with_key-followed old new name master wrapped e =
     first next key is zero default lt = omega arith
     first next key is (suc k) default lt = absurd (omega arith)
 
-pub with_table-followed : (old new : Catalog) (table : TableDef) → with_table old table ≡ Ok new → Next old new
+with_table-followed : (old new : Catalog) (table : TableDef) → with_table old table ≡ Ok new → Next old new
 with_table-followed old new table e =
     let a = accepted (is_some (table_named old table.name)) (is_full_of_tables old) (fault.Exists table.name) fault.Full _ new e in
     subst (Next old) a.2 (no-key old _ refl (omega arith) (All-contains_itself old.keys), refl)
 
-pub without_master-followed : (old new : Catalog) (name : List ℕ) → without_master old name ≡ Ok new → Next old new
+without_master-followed : (old new : Catalog) (name : List ℕ) → without_master old name ≡ Ok new → Next old new
 without_master-followed old new name e =
     let d = dropped (master_place old name) (is_master_used old name) (is_at_last_version old) (fault.NoSuch name) (fault.KeyInUse name) fault.Full
     (λ place. record old { masters = remove old.masters place; version = old.version + 1 }) new e in
     subst (Next old) d.is (no-key old _ refl (omega arith) (All-contains_itself old.keys), refl)
 
-pub without_key-followed : (old new : Catalog) (name : List ℕ) → without_key old name ≡ Ok new → Next old new
+without_key-followed : (old new : Catalog) (name : List ℕ) → without_key old name ≡ Ok new → Next old new
 without_key-followed old new name e =
     let d = dropped (key_place old name) (is_key_used old name) (is_at_last_version old) (fault.NoSuch name) (fault.KeyInUse name) fault.Full
     (λ place. record old { keys = remove old.keys place; version = old.version + 1 }) new e in
     subst (Next old) d.is (no-key old _ refl (omega arith) (All-remove (Contains old.keys) old.keys d.place (All-contains_itself old.keys)), refl)
 
-pub without_table-followed : (old new : Catalog) (name : List ℕ) → without_table old name ≡ Ok new → Next old new
+without_table-followed : (old new : Catalog) (name : List ℕ) → without_table old name ≡ Ok new → Next old new
 without_table-followed old new name e =
     let d = dropped (table_place old name) false (is_at_last_version old) (fault.NoSuch name) fault.Full fault.Full
     (λ place. record old { tables = remove old.tables place; version = old.version + 1 }) new e in
     subst (Next old) d.is (no-key old _ refl (omega arith) (All-contains_itself old.keys), refl)
+
+pub defined_by-followed : (old new : Catalog) (d : BoundDefinition) → defined_by old d ≡ Ok new → Next old new
+defined_by-followed old new (definition.CreateMaster name path) = with_master-followed old new name path
+defined_by-followed old new (definition.CreateKey name master wrapped) = with_key-followed old new name master wrapped
+defined_by-followed old new (definition.CreateTable table) = with_table-followed old new table.def
+defined_by-followed old new (definition.DropTable name) = without_table-followed old new name
+defined_by-followed old new (definition.DropMaster name) = without_master-followed old new name
+defined_by-followed old new (definition.DropKey name) = without_key-followed old new name
 
 -- ---- one after another
 

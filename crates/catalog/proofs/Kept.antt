@@ -13,6 +13,9 @@ use Rattle.ae_base.specs.declared.tables.TableDef.{TableDef}
 use Rattle.ae_base.specs.declared.types.Enc.{Enc}
 use Rattle.ae_base.specs.declared.types.Enc.TheVariants.{Plain, Det, Rnd}
 use Rattle.catalog.specs.Catalogs.{Catalog, nothing_defined, table_named, key_named, master_named, master_place, key_place, table_place, is_under, is_table_under, is_master_used, is_key_used, is_at_last_version, is_full_of_masters, is_full_of_keys, is_full_of_tables, with_master, with_key, with_table, without_master, without_key, without_table}
+use Rattle.sql_tree.specs.declared.bound.BoundDefinition.{BoundDefinition}
+use Rattle.sql_tree.specs.declared.bound.BoundDefinition.TheVariants as definition
+use Rattle.catalog.specs.Definitions.{defined_by, IsDefinable}
 use Rattle.catalog.specs.WellFormed.{IsCatalog, IsKeyThere, AreKeysThere}
 use Rattle.catalog.specs.declared.keys.ColumnKey.{ColumnKey}
 use Rattle.catalog.specs.declared.keys.MasterKey.{MasterKey}
@@ -50,7 +53,7 @@ nothing_kept = record {
 
 -- ---- CREATE
 
-pub with_master-kept : (old new : Catalog) (name path : List ℕ) → with_master old name path ≡ Ok new → IsCatalog old → IsCatalog new
+with_master-kept : (old new : Catalog) (name path : List ℕ) → with_master old name path ≡ Ok new → IsCatalog old → IsCatalog new
 with_master-kept old new name path e w =
     let master : MasterKey = record { name = name; path = path } in
     let a = accepted (is_some (master_named old name)) (is_full_of_masters old) (fault.Exists name) fault.Full _ new e in
@@ -84,7 +87,7 @@ same-key-there old new (Rnd id) e h = subst (λ keys. IsSome (find (λ key. key.
 same-keys-there : (old new : Catalog) (tables : List TableDef) → old.keys ≡ new.keys → All (AreKeysThere old) tables → All (AreKeysThere new) tables
 same-keys-there old new tables e h = λ k d lt j c within. same-key-there old new _ e (h k d lt j c within)
 
-pub with_key-kept : (old new : Catalog) (name master wrapped : List ℕ) → IsSome (master_named old master) → with_key old name master wrapped ≡ Ok new → IsCatalog old → IsCatalog new
+with_key-kept : (old new : Catalog) (name master wrapped : List ℕ) → IsSome (master_named old master) → with_key old name master wrapped ≡ Ok new → IsCatalog old → IsCatalog new
 with_key-kept old new name master wrapped there e w =
     let key : ColumnKey = record { id = old.next_id; name = name; master = master; wrapped = wrapped } in
     let a = accepted (is_some (key_named old name)) (is_full_of_keys old) (fault.Exists name) fault.Full _ new e in
@@ -106,7 +109,7 @@ with_key-kept old new name master wrapped there e w =
       version = omega arith;
     })
 
-pub with_table-kept : (old new : Catalog) (table : TableDef) → AreKeysThere old table → with_table old table ≡ Ok new → IsCatalog old → IsCatalog new
+with_table-kept : (old new : Catalog) (table : TableDef) → AreKeysThere old table → with_table old table ≡ Ok new → IsCatalog old → IsCatalog new
 with_table-kept old new table there e w =
     let a = accepted (is_some (table_named old table.name)) (is_full_of_tables old) (fault.Exists table.name) fault.Full _ new e in
     let r = room 256 (length old.tables) old.version a.1 w.version in
@@ -129,7 +132,7 @@ with_table-kept old new table there e w =
 
 -- ---- DROP
 
-pub without_master-kept : (old new : Catalog) (name : List ℕ) → without_master old name ≡ Ok new → IsCatalog old → IsCatalog new
+without_master-kept : (old new : Catalog) (name : List ℕ) → without_master old name ≡ Ok new → IsCatalog old → IsCatalog new
 without_master-kept old new name e w =
     let d = dropped (master_place old name) (is_master_used old name) (is_at_last_version old) (fault.NoSuch name) (fault.KeyInUse name) fault.Full
     (λ place. record old { masters = remove old.masters place; version = old.version + 1 }) new e in
@@ -175,7 +178,7 @@ both-fail : (a b : Bool) → a ≡ true → (a && b) ≡ false → b ≡ false
 both-fail true b t e = e
 both-fail false b t e = cc
 
-pub without_key-kept : (old new : Catalog) (name : List ℕ) → without_key old name ≡ Ok new → IsCatalog old → IsCatalog new
+without_key-kept : (old new : Catalog) (name : List ℕ) → without_key old name ≡ Ok new → IsCatalog old → IsCatalog new
 without_key-kept old new name e w =
     let d = dropped (key_place old name) (is_key_used old name) (is_at_last_version old) (fault.NoSuch name) (fault.KeyInUse name) fault.Full
     (λ place. record old { keys = remove old.keys place; version = old.version + 1 }) new e in
@@ -204,7 +207,7 @@ without_key-kept old new name e w =
       version = omega arith;
     })
 
-pub without_table-kept : (old new : Catalog) (name : List ℕ) → without_table old name ≡ Ok new → IsCatalog old → IsCatalog new
+without_table-kept : (old new : Catalog) (name : List ℕ) → without_table old name ≡ Ok new → IsCatalog old → IsCatalog new
 without_table-kept old new name e w =
     let d = dropped (table_place old name) false (is_at_last_version old) (fault.NoSuch name) fault.Full fault.Full
     (λ place. record old { tables = remove old.tables place; version = old.version + 1 }) new e in
@@ -228,3 +231,13 @@ without_table-kept old new name e w =
       next_id = w.next_id;
       version = omega arith;
     })
+
+-- ---- any definition
+
+pub defined_by-kept : (old new : Catalog) (d : BoundDefinition) → IsDefinable old d → defined_by old d ≡ Ok new → IsCatalog old → IsCatalog new
+defined_by-kept old new (definition.CreateMaster name path) h = with_master-kept old new name path
+defined_by-kept old new (definition.CreateKey name master wrapped) h = with_key-kept old new name master wrapped h
+defined_by-kept old new (definition.CreateTable table) h = with_table-kept old new table.def h
+defined_by-kept old new (definition.DropTable name) h = without_table-kept old new name
+defined_by-kept old new (definition.DropMaster name) h = without_master-kept old new name
+defined_by-kept old new (definition.DropKey name) h = without_key-kept old new name

@@ -2,3 +2,4 @@ mod Found
 mod History
 pub mod Interface
 mod Kept
+mod Tables

@@ -1,20 +1,14 @@
 -- Laws of definitions.
 use Rattle.std.specs.Prelude.{◌≡◌, ◌<◌, ◌+◌, ℕ, List, Some, Ok, IsSome}
-use Rattle.ae_base.specs.declared.tables.TableDef.{TableDef}
-use Rattle.catalog.specs.Catalogs.{Catalog, nothing_defined, master_named, key_named, key_of, key_meta, with_master, with_key, with_table, without_master, without_key, without_table}
-use Rattle.catalog.specs.WellFormed.{IsCatalog, AreKeysThere, Follows}
+use Rattle.sql_tree.specs.declared.bound.BoundDefinition.{BoundDefinition}
+use Rattle.catalog.specs.Catalogs.{Catalog, nothing_defined, key_named, key_of, key_meta}
+use Rattle.catalog.specs.Definitions.{defined_by, IsDefinable}
+use Rattle.catalog.specs.WellFormed.{IsCatalog, Follows}
 use Rattle.catalog.specs.declared.keys.ColumnKey.{ColumnKey}
 
--- P holds of old and new where a definition leads from one to the other: a column key whose master key is there, a table
--- whose columns' keys are there, any other
-pub record OfEachDefinition (P : Catalog → Catalog → Type 0) : Type 0 where
-  pub with_master : (old new : Catalog) (name path : List ℕ) → with_master old name path ≡ Ok new → P old new
-  pub with_key : (old new : Catalog) (name master wrapped : List ℕ) → IsSome (master_named old master)
-      → with_key old name master wrapped ≡ Ok new → P old new
-  pub with_table : (old new : Catalog) (table : TableDef) → AreKeysThere old table → with_table old table ≡ Ok new → P old new
-  pub without_master : (old new : Catalog) (name : List ℕ) → without_master old name ≡ Ok new → P old new
-  pub without_key : (old new : Catalog) (name : List ℕ) → without_key old name ≡ Ok new → P old new
-  pub without_table : (old new : Catalog) (name : List ℕ) → without_table old name ≡ Ok new → P old new
+-- P holds of old and new where a definition whose keys are there leads from one to the other
+abbrev pub OfEachDefinition : (Catalog → Catalog → Type 0) → Type 0
+OfEachDefinition P = (old new : Catalog) (d : BoundDefinition) → IsDefinable old d → defined_by old d ≡ Ok new → P old new
 
 -- each definition keeps what a catalog is
 abbrev pub DefinitionsKeepCatalogs : Type 0

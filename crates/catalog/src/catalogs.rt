@@ -4,8 +4,9 @@ ghost use Rattle.std.specs.Prelude.{◌≡◌, ◌≤◌, IfOk, IsSome};
 ghost use Rattle.std.specs.List.{list_any};
 ghost use Rattle.std.specs.Option.{option_copied, option_map};
 ghost use Rattle.catalog.specs.Catalogs.{nothing_defined, master_named, key_named, table_named, master_place, key_place, table_place, key_of, key_meta, is_under, is_table_under, is_master_used, is_key_used, is_at_last_version, is_full_of_masters, is_full_of_keys, is_full_of_tables, with_master, with_key, with_table, without_master, without_key, without_table};
-ghost use Rattle.catalog.specs.Definitions.{Defines};
+ghost use Rattle.catalog.specs.Definitions.{defined_by, effect_of, Defines, IsDefinable};
 
+use crate::effects::Effect;
 use crate::keys::{ColumnKey, MasterKey};
 use ae_base::faults::SqlFault;
 use ae_base::keys::{KeyMeta, KeyPath, WrappedKey};
@@ -15,6 +16,7 @@ use ae_base::names::Name;
 use ae_base::refusals::Refusal;
 use ae_base::tables::TableDef;
 use ae_base::types::{Enc, KeyId};
+use sql_tree::bound::{BoundDefinition, BoundTable};
 use std::alloc::{AllocError, Global};
 use std::marker::Model;
 
@@ -35,7 +37,13 @@ impl Model for Catalog {
 
     ghost Value = { lists.Catalog };
 
-    ghost view = { λ c. record { masters = c.masters; keys = c.keys; tables = c.tables; next_id = c.next_id; version = c.version } };
+    ghost view = { λ c. record {
+      masters = c.masters;
+      keys = c.keys;
+      tables = c.tables;
+      next_id = c.next_id;
+      version = c.version;
+    } };
 
     ghost invariant = { λ c. 1 ≤ c.next_id };
 }
@@ -63,7 +71,8 @@ impl Catalog {
 
     /// The path of the master key of a name. It takes no memory.
     pub fn master(&self, name: &Name) -> Option<&KeyPath>
-        ensures { option_copied result ≡ option_map (λ master. master.path) (master_named self.now name.now) }
+        ensures { option_copied result
+            ≡ option_map (λ master. master.path) (master_named self.now name.now) }
     {
         match self.master_key(name) {
             None => None,
@@ -210,10 +219,50 @@ impl Catalog {
         self.tables.len() >= MOST_TABLES || self.is_at_last_version()
     }
 
+    /// Carries out a definition, or refuses it with its fault. After a fault or for want of memory,
+    /// which a fault's name may take, the catalog is as before.
+    pub fn define(&mut self, definition: BoundDefinition) -> Result<(), Refusal>
+        requires { IsDefinable self.old definition }
+        ensures { Defines result self.old self.new (defined_by self.old definition) }
+    {
+        match definition {
+            BoundDefinition::CreateMaster { name, path } => self.create_master(name, path),
+            BoundDefinition::CreateKey {
+                name,
+                master,
+                wrapped,
+            } => self.create_key(name, &master, wrapped),
+            BoundDefinition::CreateTable(table) => {
+                let BoundTable { def, keyed } = table;
+                drop(keyed);
+                self.create_table(def)
+            }
+            BoundDefinition::DropTable(name) => self.drop_table(&name),
+            BoundDefinition::DropMaster(name) => self.drop_master(&name),
+            BoundDefinition::DropKey(name) => self.drop_key(&name),
+        }
+    }
+
+    /// What a definition does to the list of tables, where it is accepted. It takes no memory.
+    pub fn effect(&self, definition: &BoundDefinition) -> Effect
+        ensures { result ≡ effect_of self.now definition.now }
+    {
+        match definition {
+            BoundDefinition::CreateTable(_) => Effect::Adds,
+            BoundDefinition::DropTable(name) => {
+                Effect::Removes(self.table_place(name).unwrap_or(0))
+            }
+            BoundDefinition::CreateMaster { .. }
+            | BoundDefinition::CreateKey { .. }
+            | BoundDefinition::DropMaster(_)
+            | BoundDefinition::DropKey(_) => Effect::Stays,
+        }
+    }
+
     /// Defines a master key, at the end of the list. `Exists` for a name that a master key has, else
     /// `Full` where no further one can be defined. After a fault or for want of memory the catalog
     /// is as before.
-    pub fn create_master(&mut self, name: Name, path: KeyPath) -> Result<(), Refusal>
+    fn create_master(&mut self, name: Name, path: KeyPath) -> Result<(), Refusal>
         ensures { Defines result self.old self.new (with_master self.old name path) }
     {
         if self.master(&name).is_some() {
@@ -230,12 +279,7 @@ impl Catalog {
     /// Defines a column key under a master key that is there, at the end of the list. It gets the
     /// next number. `Exists` for a name that a column key has, else `Full` where no further one can
     /// be defined. After a fault or for want of memory the catalog is as before.
-    pub fn create_key(
-        &mut self,
-        name: Name,
-        master: &Name,
-        wrapped: WrappedKey,
-    ) -> Result<(), Refusal>
+    fn create_key(&mut self, name: Name, master: &Name, wrapped: WrappedKey) -> Result<(), Refusal>
         requires { IsSome (master_named self.old master.now) }
         ensures { Defines result self.old self.new (with_key self.old name master.now wrapped) }
     {
@@ -259,7 +303,7 @@ impl Catalog {
     /// Defines a table, at the end of the list. `Exists` for a name that a table has, else `Full`
     /// where no further table can be defined. After a fault or for want of memory the catalog is
     /// as before.
-    pub fn create_table(&mut self, table: TableDef) -> Result<(), Refusal>
+    fn create_table(&mut self, table: TableDef) -> Result<(), Refusal>
         ensures { Defines result self.old self.new (with_table self.old table) }
     {
         if self.table(&table.name).is_some() {
@@ -276,7 +320,7 @@ impl Catalog {
     /// Takes out the master key of a name. `NoSuch` where there is none, else `KeyInUse` where a
     /// column key names it, else `Full` where the last version is used. After a fault or for want
     /// of memory, which a fault's name may take, the catalog is as before.
-    pub fn drop_master(&mut self, name: &Name) -> Result<(), Refusal>
+    fn drop_master(&mut self, name: &Name) -> Result<(), Refusal>
         ensures { Defines result self.old self.new (without_master self.old name.now) }
     {
         let Some(place) = self.master_place(name) else {
@@ -297,7 +341,7 @@ impl Catalog {
     /// none, else `KeyInUse` where a column is encrypted under it, else `Full` where the last
     /// version is used. After a fault or for want of memory, which a fault's name may take, the
     /// catalog is as before.
-    pub fn drop_key(&mut self, name: &Name) -> Result<(), Refusal>
+    fn drop_key(&mut self, name: &Name) -> Result<(), Refusal>
         ensures { Defines result self.old self.new (without_key self.old name.now) }
     {
         let Some(place) = self.key_place(name) else {
@@ -317,7 +361,7 @@ impl Catalog {
     /// Takes out the table of a name. `NoSuch` where there is none, else `Full` where the last
     /// version is used. After a fault or for want of memory, which a fault's name may take, the
     /// catalog is as before.
-    pub fn drop_table(&mut self, name: &Name) -> Result<(), Refusal>
+    fn drop_table(&mut self, name: &Name) -> Result<(), Refusal>
         ensures { Defines result self.old self.new (without_table self.old name.now) }
     {
         let Some(place) = self.table_place(name) else {

@@ -2,13 +2,12 @@
 
 ghost use Rattle.catalog.specs.Laws.{DefinitionsKeepCatalogs, DefinitionsAreFollowed, EachFollowsItself, FollowingIsTransitive, IdsAreNotReused, KeysAreTold, NamedAreNumbered};
 
-/// Each definition keeps what a catalog is: that of a column key under a master key that is there,
-/// that of a table whose columns' keys are there, and any other.
+/// Each definition whose keys are there keeps what a catalog is.
 pub fn definitions_keep_catalogs()
     ensures { DefinitionsKeepCatalogs }
 {}
 
-/// Each definition leads to a catalog that follows, of the next version; and what follows by several
+/// Each such definition leads to a catalog that follows, of the next version; and what follows by several
 /// definitions follows.
 pub fn definitions_are_followed()
     ensures each { DefinitionsAreFollowed }

@@ -2,5 +2,6 @@
 #![tactic(auto)]
 
 pub mod catalogs;
+pub mod effects;
 pub mod keys;
 pub mod laws;

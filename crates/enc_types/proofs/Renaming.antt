@@ -15,6 +15,7 @@ use Rattle.sql_tree.specs.Conditions.{Condition, Conditions}
 use Rattle.sql_tree.specs.Conditions as conditions
 use Rattle.sql_tree.specs.Bound.{BoundRow, BoundAssignment, BoundJoin, BoundItem, BoundItemValue, BoundQuery, BoundStatement, Bound}
 use Rattle.sql_tree.specs.Bound as bound
+use Rattle.sql_tree.specs.Definitions.{keyed_in}
 use Rattle.sql_tree.specs.Uses.{renamed_operand, renamed_terms, renamed_condition, renamed_conditions, renamed_filter, renamed_row, renamed_assignment, renamed_value, renamed_item, renamed_join, renamed_query, renamed_statement, renamed}
 use Rattle.enc_types.specs.Sites.{site_of_literal, site_of}
 use Rattle.enc_types.specs.Rules.{at_of, first_operator, first_rules, operand_rules, terms_rules, comparison_rules, in_rules, condition_rules, conditions_rules, filter_rules, key_rule, value_rule, value_rules, row_rules, assignment_rules, site_of_item, distinct_rules, item_rules, order_rule, rows_rules, query_rules, statement_rules, placed, in_order, rules}
@@ -176,12 +177,7 @@ module _ (f : ℕ → ℕ) where
       (orders q.order_by)
 
   statement : (s : BoundStatement) → statement_rules (renamed_statement f s) ≡ R (statement_rules s)
-  statement (bound.CreateMaster name path) = refl
-  statement (bound.CreateKey name master wrapped) = refl
-  statement (bound.CreateTable table) = keys table.keyed
-  statement (bound.DropTable name) = refl
-  statement (bound.DropMaster name) = refl
-  statement (bound.DropKey name) = refl
+  statement (bound.Definition d) = keys (keyed_in d)
   statement (bound.Insert insert) = each (renamed_row f) (row_rules insert.named) (row_rules insert.named) (λ row. values insert.named row.values) insert.rows
   statement (bound.Update update) = joined (flat_map assignment_rules update.assignments) (filter_rules update.filter) _ _ (each (renamed_assignment f) assignment_rules assignment_rules assignment update.assignments) (filter update.filter)
   statement (bound.Delete delete) = filter delete.filter

@@ -6,7 +6,7 @@ use Rattle.ae_base.specs.declared.types.Enc.{Enc}
 use Rattle.sql_tree.specs.declared.bound.ColumnSite.{ColumnSite}
 use Rattle.sql_tree.specs.Bound.{Bound}
 use Rattle.enc_types.specs.Rules.{at_of, rules}
-use Rattle.enc_types.specs.Least.{least, has_typing, clash_behind, clash, encs_from, encs_or_clash, inferred}
+use Rattle.enc_types.specs.Least.{least, has_typing, clash_behind, clash, encs_from, encs_or_clash, inferred_encs}
 use Rattle.enc_types.specs.Laws.{IsTypedAs}
 use Rattle.enc_types.specs.declared.rules.Rule.{Rule}
 use Rattle.enc_types.proofs.Merging.{has_typing-Decides, least_is_typing}
@@ -31,8 +31,8 @@ abbrev ok_of : List Enc → Result (List Enc) ℕ → List Enc
 ok_of default (Ok encs) = encs
 ok_of default (Err at) = default
 
-pub typed_as : (b : Bound) (encs : List Enc) → inferred b ≡ Ok encs → IsTypedAs b encs
-unfolding inferred
+pub typed_as : (b : Bound) (encs : List Enc) → inferred_encs b ≡ Ok encs → IsTypedAs b encs
+unfolding inferred_encs
 typed_as b encs e =
     let found = none_of (encs_from (least b.columns (rules b)) 0 b.params) encs (clash b.params b.columns (rules b)) e in
     let typed : has_typing b.params b.columns (rules b) ≡ true = typed_to_end b.params b.columns [] (rules b) (none_typed b.params b.columns) found in

@@ -4,7 +4,7 @@ use Rattle.std.specs.List.{slice_get}
 use Rattle.ae_base.specs.declared.types.Ty.{Ty}
 use Rattle.enc_types.specs.Rules.{rules}
 use Rattle.enc_types.specs.Typing.{Typing}
-use Rattle.enc_types.specs.Least.{least, clash, encs_from, encs_or_clash, inferred}
+use Rattle.enc_types.specs.Least.{least, clash, encs_from, encs_or_clash, inferred_encs}
 use Rattle.enc_types.specs.Renamed.{KeepsUsed, IsInferredAlike}
 use Rattle.enc_types.specs.UsedAlone.{used_among, place_among, is_used, alone, InferredAlone}
 use Rattle.enc_types.specs.declared.sites.Site.TheVariants.{Param}
@@ -70,7 +70,7 @@ from_start : (j : ℕ) → 0 + j ≡ j
 from_start j = omega arith
 
 pub inferred_alone : InferredAlone
-unfolding inferred
+unfolding inferred_encs
 inferred_alone b encs placed e =
     let used : ℕ → Bool = is_used b in
     let f : ℕ → ℕ = place_among used 0 in

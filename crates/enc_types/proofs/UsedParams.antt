@@ -16,6 +16,7 @@ use Rattle.sql_tree.specs.Conditions.{Condition, Conditions}
 use Rattle.sql_tree.specs.Conditions as conditions
 use Rattle.sql_tree.specs.Bound.{BoundRow, BoundAssignment, BoundJoin, BoundItem, BoundItemValue, BoundQuery, BoundStatement, Bound}
 use Rattle.sql_tree.specs.Bound as bound
+use Rattle.sql_tree.specs.Definitions.{keyed_in}
 use Rattle.sql_tree.specs.Uses.{uses_in, uses_in_terms, uses_in_condition, uses_in_conditions, uses_in_filter, uses_in_row, uses_in_assignment, uses_in_value, uses_in_item, uses_in_join, uses_in_statement, uses}
 use Rattle.enc_types.specs.Sites.{site_of_literal, site_of}
 use Rattle.enc_types.specs.Rules.{at_of, first_rules, operand_rules, terms_rules, comparison_rules, in_rules, condition_rules, conditions_rules, filter_rules, key_rule, value_rule, value_rules, row_rules, assignment_rules, site_of_item, distinct_rules, item_rules, order_rule, rows_rules, query_rules, statement_rules, placed, in_order, rules}
@@ -163,12 +164,7 @@ module _ (K : ℕ → Type 0) where
       (orders q.order_by)
 
   statement : (s : BoundStatement) → Given (λ p. uses_in_statement p s) → AllKnown K (statement_rules s)
-  statement (bound.CreateMaster name path) h = tt
-  statement (bound.CreateKey name master wrapped) h = tt
-  statement (bound.CreateTable table) h = keys table.keyed
-  statement (bound.DropTable name) h = tt
-  statement (bound.DropMaster name) h = tt
-  statement (bound.DropKey name) h = tt
+  statement (bound.Definition d) h = keys (keyed_in d)
   statement (bound.Insert insert) h = each uses_in_row (row_rules insert.named) (λ row g. values insert.named row.values g) insert.rows h
   statement (bound.Update update) h =
       let a = left (λ p. list_any (uses_in_assignment p) update.assignments) (λ p. uses_in_filter p update.filter) h in

@@ -62,12 +62,7 @@ module _ (p n : ℕ) where
   joins w so_far (j ∷ js) k h = either (uses_in_join p j) (list_any (uses_in_join p) js) (p < n) h (condition (so_far + j.source.width) j.on k.0) (joins w (so_far + j.source.width) js k.1)
 
   statement : (columns : List ColumnSite) (s : BoundStatement) → IsPlacedStatement columns n s → uses_in_statement p s ≡ true → p < n
-  statement columns (bound.CreateMaster name path) k h = absurd cc
-  statement columns (bound.CreateKey name master wrapped) k h = absurd cc
-  statement columns (bound.CreateTable table) k h = absurd cc
-  statement columns (bound.DropTable name) k h = absurd cc
-  statement columns (bound.DropMaster name) k h = absurd cc
-  statement columns (bound.DropKey name) k h = absurd cc
+  statement columns (bound.Definition d) k h = absurd cc
   statement columns (bound.Insert insert) k h =
       one_of (λ (row : BoundRow). (length row.values ≡ length insert.named) × All (IsPlaced 0 n) row.values) (uses_in_row p) (p < n)
       (λ row g u. one_of (IsPlaced 0 n) (uses_in p) (p < n) (operand 0) row.values g.1 u) insert.rows k.rows h

@@ -12,7 +12,7 @@ use Rattle.sql_tree.specs.Conditions as conditions
 use Rattle.sql_tree.specs.Bound.{BoundCondition, BoundItem, BoundQuery, BoundStatement, Bound}
 use Rattle.sql_tree.specs.Bound as bound
 use Rattle.enc_types.specs.Rules.{rules}
-use Rattle.enc_types.specs.Least.{least, has_typing, clash_behind, inferred}
+use Rattle.enc_types.specs.Least.{least, has_typing, clash_behind, inferred_encs}
 
 abbrev pub text8 : Ty
 text8 = NVarChar 8
@@ -47,40 +47,40 @@ where_is params columns condition = record {
 }
 
 -- SELECT b FROM w WHERE a = @p AND b = @p
-pub two_kinds : inferred (where_is (text8 ∷ []) w
+pub two_kinds : inferred_encs (where_is (text8 ∷ []) w
     (conditions.AllOf (conditions.Then (equal 24 (operands.Column 22 0) (operands.Param 26 0)) (conditions.Then (equal 35 (operands.Column 33 1) (operands.Param 37 0)) conditions.NoMore)))) ≡ Err 35
-unfolding inferred rules least has_typing clash_behind
+unfolding inferred_encs rules least has_typing clash_behind
 two_kinds = refl
 
 -- SELECT b FROM w WHERE a = @p
-pub forced : inferred (where_is (text8 ∷ []) w (equal 24 (operands.Column 22 0) (operands.Param 26 0))) ≡ Ok (Det 1 ∷ [])
-unfolding inferred rules least has_typing clash_behind
+pub forced : inferred_encs (where_is (text8 ∷ []) w (equal 24 (operands.Column 22 0) (operands.Param 26 0))) ≡ Ok (Det 1 ∷ [])
+unfolding inferred_encs rules least has_typing clash_behind
 forced = refl
 
 -- SELECT id FROM u WHERE @p = @q AND c = @q, and a third parameter that isn't used
-pub carried_on : inferred (where_is (text8 ∷ text8 ∷ text8 ∷ []) u
+pub carried_on : inferred_encs (where_is (text8 ∷ text8 ∷ text8 ∷ []) u
     (conditions.AllOf (conditions.Then (equal 26 (operands.Param 23 0) (operands.Param 28 1)) (conditions.Then (equal 37 (operands.Column 35 1) (operands.Param 39 1)) conditions.NoMore))))
     ≡ Ok (Det 1 ∷ Det 1 ∷ Plain ∷ [])
-unfolding inferred rules least has_typing clash_behind
+unfolding inferred_encs rules least has_typing clash_behind
 carried_on = refl
 
 -- SELECT id FROM u WHERE @p = @q: nothing forces them
-pub not_forced : inferred (where_is (text8 ∷ text8 ∷ []) u (equal 26 (operands.Param 23 0) (operands.Param 28 1))) ≡ Ok (Plain ∷ Plain ∷ [])
-unfolding inferred rules least has_typing clash_behind
+pub not_forced : inferred_encs (where_is (text8 ∷ text8 ∷ []) u (equal 26 (operands.Param 23 0) (operands.Param 28 1))) ≡ Ok (Plain ∷ Plain ∷ [])
+unfolding inferred_encs rules least has_typing clash_behind
 not_forced = refl
 
 -- SELECT id FROM u WHERE c = N'x': a literal is plain
-pub literal_side : inferred (where_is [] u (equal 25 (operands.Column 23 1) (operands.Literal 27 (value.Is (Text (codes "x")))))) ≡ Err 25
-unfolding inferred rules least has_typing clash_behind
+pub literal_side : inferred_encs (where_is [] u (equal 25 (operands.Column 23 1) (operands.Literal 27 (value.Is (Text (codes "x")))))) ≡ Err 25
+unfolding inferred_encs rules least has_typing clash_behind
 literal_side = refl
 
 -- SELECT id FROM u WHERE c = @p with a parameter of another type
-pub other_type : inferred (where_is (NVarChar 9 ∷ []) u (equal 25 (operands.Column 23 1) (operands.Param 27 0))) ≡ Err 25
-unfolding inferred rules least has_typing clash_behind
+pub other_type : inferred_encs (where_is (NVarChar 9 ∷ []) u (equal 25 (operands.Column 23 1) (operands.Param 27 0))) ≡ Err 25
+unfolding inferred_encs rules least has_typing clash_behind
 other_type = refl
 
 -- INSERT INTO u (id, c) VALUES (1, NULL)
-pub null_value : inferred (record {
+pub null_value : inferred_encs (record {
   params = [];
   columns = u;
   statement = bound.Insert (record {
@@ -89,7 +89,7 @@ pub null_value : inferred (record {
     rows = record { at = 29; values = operands.Literal 30 (value.Is (Num (pos 1))) ∷ operands.Literal 33 value.Null ∷ [] } ∷ [];
   });
 }) ≡ Ok []
-unfolding inferred rules least has_typing clash_behind
+unfolding inferred_encs rules least has_typing clash_behind
 null_value = refl
 
 -- SELECT x.id FROM x JOIN y ON x.c = y.c, the columns under one key, or under two
@@ -109,16 +109,16 @@ joined_on right = record {
   });
 }
 
-pub two_keys : inferred (joined_on (record { ty = text8; enc = Det 2 })) ≡ Err 33
-unfolding inferred rules least has_typing clash_behind
+pub two_keys : inferred_encs (joined_on (record { ty = text8; enc = Det 2 })) ≡ Err 33
+unfolding inferred_encs rules least has_typing clash_behind
 two_keys = refl
 
-pub one_key : inferred (joined_on (record { ty = text8; enc = Det 1 })) ≡ Ok []
-unfolding inferred rules least has_typing clash_behind
+pub one_key : inferred_encs (joined_on (record { ty = text8; enc = Det 1 })) ≡ Ok []
+unfolding inferred_encs rules least has_typing clash_behind
 one_key = refl
 
 -- SELECT DISTINCT b FROM w
-pub distinct_randomized : inferred (record {
+pub distinct_randomized : inferred_encs (record {
   params = [];
   columns = w;
   statement = bound.Select (record {
@@ -132,11 +132,11 @@ pub distinct_randomized : inferred (record {
     order_by = [];
   });
 }) ≡ Err 7
-unfolding inferred rules least has_typing clash_behind
+unfolding inferred_encs rules least has_typing clash_behind
 distinct_randomized = refl
 
 -- SELECT c, COUNT(*) AS n FROM u GROUP BY c
-pub grouped : inferred (record {
+pub grouped : inferred_encs (record {
   params = [];
   columns = u;
   statement = bound.Select (record {
@@ -150,5 +150,5 @@ pub grouped : inferred (record {
     order_by = [];
   });
 }) ≡ Ok []
-unfolding inferred rules least has_typing clash_behind
+unfolding inferred_encs rules least has_typing clash_behind
 grouped = refl

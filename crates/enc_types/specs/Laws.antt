@@ -8,7 +8,7 @@ use Rattle.sql_tree.specs.declared.bound.ColumnSite.{ColumnSite}
 use Rattle.sql_tree.specs.Bound.{Bound}
 use Rattle.enc_types.specs.Rules.{rules}
 use Rattle.enc_types.specs.Typing.{HasTyping, IsTyping, IsLeastTyping}
-use Rattle.enc_types.specs.Least.{least, encs_from, inferred}
+use Rattle.enc_types.specs.Least.{least, encs_from, inferred_encs}
 use Rattle.enc_types.specs.declared.rules.Rule.{Rule}
 
 abbrev pub LeastTyping : Type 0
@@ -20,7 +20,7 @@ pub record IsTypedAs (bound : Bound) (encs : List Enc) : Type 0 where
   pub given : encs ≡ encs_from (least bound.columns (rules bound)) 0 bound.params
 
 abbrev pub TypedStatements : Type 0
-TypedStatements = (bound : Bound) (encs : List Enc) → inferred bound ≡ Ok encs → IsTypedAs bound encs
+TypedStatements = (bound : Bound) (encs : List Enc) → inferred_encs bound ≡ Ok encs → IsTypedAs bound encs
 
 -- plain, or encrypted as a column is
 abbrev pub IsOfColumn : List ColumnSite → Enc → Type 0
@@ -28,4 +28,4 @@ IsOfColumn columns enc = (enc ≡ Plain) ⊎ Contains (map (λ site. site.enc) c
 
 -- what is inferred is for each parameter, and of the statement's columns
 abbrev pub TypingsAreOfColumns : Type 0
-TypingsAreOfColumns = (bound : Bound) (encs : List Enc) → inferred bound ≡ Ok encs → (length encs ≡ length bound.params) × All (IsOfColumn bound.columns) encs
+TypingsAreOfColumns = (bound : Bound) (encs : List Enc) → inferred_encs bound ≡ Ok encs → (length encs ≡ length bound.params) × All (IsOfColumn bound.columns) encs

@@ -69,5 +69,5 @@ abbrev pub inferred_over : List Ty → List ColumnSite → List Rule → Result 
 inferred_over params columns rules = encs_or_clash (encs_from (least columns rules) 0 params) (clash params columns rules)
 
 -- the same of a statement's rules
-unfoldable pub inferred : Bound → Result (List Enc) ℕ
-inferred bound = inferred_over bound.params bound.columns (rules bound)
+unfoldable pub inferred_encs : Bound → Result (List Enc) ℕ
+inferred_encs bound = inferred_over bound.params bound.columns (rules bound)

@@ -11,6 +11,7 @@ use Rattle.sql_tree.specs.Conditions.{Condition, Conditions}
 use Rattle.sql_tree.specs.Conditions as conditions
 use Rattle.sql_tree.specs.Bound.{BoundRow, BoundAssignment, BoundJoin, BoundItem, BoundItemValue, BoundQuery, BoundStatement, Bound}
 use Rattle.sql_tree.specs.Bound as bound
+use Rattle.sql_tree.specs.Definitions.{keyed_in}
 use Rattle.enc_types.specs.Sites.{site_of}
 use Rattle.enc_types.specs.declared.sites.Site.{Site}
 use Rattle.enc_types.specs.declared.sites.Site.TheVariants.{Column, Fixed}
@@ -131,12 +132,7 @@ abbrev pub query_rules : BoundQuery → List Rule
 query_rules q = rows_rules q ++ map key_rule q.group_by ++ map order_rule q.order_by
 
 abbrev pub statement_rules : BoundStatement → List Rule
-statement_rules (bound.CreateMaster name path) = []
-statement_rules (bound.CreateKey name master wrapped) = []
-statement_rules (bound.CreateTable table) = map key_rule table.keyed
-statement_rules (bound.DropTable name) = []
-statement_rules (bound.DropMaster name) = []
-statement_rules (bound.DropKey name) = []
+statement_rules (bound.Definition d) = map key_rule (keyed_in d)
 statement_rules (bound.Insert insert) = flat_map (row_rules insert.named) insert.rows
 statement_rules (bound.Update update) = flat_map assignment_rules update.assignments ++ filter_rules update.filter
 statement_rules (bound.Delete delete) = filter_rules delete.filter

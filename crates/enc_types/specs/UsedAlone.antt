@@ -4,7 +4,7 @@ use Rattle.ae_base.specs.declared.types.Enc.{Enc}
 use Rattle.sql_tree.specs.Bound.{Bound}
 use Rattle.sql_tree.specs.Placed.{IsWellPlaced}
 use Rattle.sql_tree.specs.Uses.{uses, renamed}
-use Rattle.enc_types.specs.Least.{inferred}
+use Rattle.enc_types.specs.Least.{inferred_encs}
 
 -- of some things, one for each parameter from a place on, those of the parameters that are used
 abbrev pub used_among : {A : Type 0} → (ℕ → Bool) → ℕ → List A → List A
@@ -24,4 +24,4 @@ alone bound = renamed (place_among (is_used bound) 0) (used_among (is_used bound
 
 -- the parameters that a statement uses are inferred alike where it stands over them alone
 abbrev pub InferredAlone : Type 0
-InferredAlone = (bound : Bound) (encs : List Enc) → IsWellPlaced bound → inferred bound ≡ Ok encs → inferred (alone bound) ≡ Ok (used_among (is_used bound) 0 encs)
+InferredAlone = (bound : Bound) (encs : List Enc) → IsWellPlaced bound → inferred_encs bound ≡ Ok encs → inferred_encs (alone bound) ≡ Ok (used_among (is_used bound) 0 encs)

@@ -58,7 +58,8 @@ pub(crate) fn of_condition(
 
 #[cycle(condition)]
 fn of_conditions(conditions: &[BoundCondition], rules: &mut Seq<Rule>) -> Result<(), AllocError>
-    ensures { OnOk result (rules.new ≡ rules.old ++ conditions_rules (conditions_listed conditions.now)) }
+    ensures { OnOk result
+        (rules.new ≡ rules.old ++ conditions_rules (conditions_listed conditions.now)) }
 {
     for condition in conditions {
         of_condition(condition, rules)?;
@@ -76,7 +77,8 @@ fn of_comparison(
 ) -> Result<(), AllocError>
     ensures { OnOk result (rules.new ≡ rules.old
         ++ (operand_rules (operand_of left.now)
-        ++ comparison_rules at comparison (spec.site_of (operand_of left.now)) (spec.site_of (operand_of right.now))
+        ++ comparison_rules at comparison (spec.site_of (operand_of left.now))
+        (spec.site_of (operand_of right.now))
         ++ operand_rules (operand_of right.now))) }
 {
     of_operand(left, rules)?;

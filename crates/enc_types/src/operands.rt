@@ -32,7 +32,9 @@ pub(crate) fn of_operand(operand: &BoundOperand, rules: &mut Seq<Rule>) -> Resul
 /// An operand that has to be plain, at its operator.
 #[cycle(operand)]
 fn of_plain(at: u32, operand: &BoundOperand, rules: &mut Seq<Rule>) -> Result<(), AllocError>
-    ensures { OnOk result (rules.new ≡ rules.old ++ Rule.PlainOnly (spec.site_of (operand_of operand.now)) at ∷ operand_rules (operand_of operand.now)) }
+    ensures { OnOk result
+        (rules.new ≡ rules.old ++ Rule.PlainOnly (spec.site_of (operand_of operand.now)) at
+        ∷ operand_rules (operand_of operand.now)) }
 {
     rules.push(Rule::PlainOnly {
         x: site_of(operand),
@@ -57,7 +59,8 @@ fn of_first(
     terms: &[Term<usize, usize>],
     rules: &mut Seq<Rule>,
 ) -> Result<(), AllocError>
-    ensures { OnOk result (rules.new ≡ rules.old ++ first_rules (operand_of first.now) (terms_listed terms.now)) }
+    ensures { OnOk result
+        (rules.new ≡ rules.old ++ first_rules (operand_of first.now) (terms_listed terms.now)) }
 {
     rules.push(Rule::PlainOnly {
         x: site_of(first),

@@ -76,7 +76,8 @@ pub(crate) fn of_filter(
     filter: &Option<BoundCondition>,
     rules: &mut Seq<Rule>,
 ) -> Result<(), AllocError>
-    ensures { OnOk result (rules.new ≡ rules.old ++ spec.filter_rules (option_map condition_of filter.now)) }
+    ensures { OnOk result
+        (rules.new ≡ rules.old ++ spec.filter_rules (option_map condition_of filter.now)) }
 {
     match filter {
         Some(condition) => of_condition(condition, rules),
@@ -118,7 +119,8 @@ fn of_distinct(
     items: &[BoundItem],
     rules: &mut Seq<Rule>,
 ) -> Result<(), AllocError>
-    ensures { OnOk result (rules.new ≡ rules.old ++ spec.distinct_rules distinct (map item_of items.now)) }
+    ensures { OnOk result
+        (rules.new ≡ rules.old ++ spec.distinct_rules distinct (map item_of items.now)) }
 {
     match distinct {
         Some(at) => of_distinct_items(at, items, rules),
@@ -127,7 +129,9 @@ fn of_distinct(
 }
 
 fn of_distinct_items(at: u32, items: &[BoundItem], rules: &mut Seq<Rule>) -> Result<(), AllocError>
-    ensures { OnOk result (rules.new ≡ rules.old ++ map (λ item. Rule.NotRnd (spec.site_of_item item.value) at) (map item_of items.now)) }
+    ensures { OnOk result
+        (rules.new ≡ rules.old ++ map (λ item. Rule.NotRnd (spec.site_of_item item.value) at)
+        (map item_of items.now)) }
 {
     for item in items {
         rules.push(Rule::NotRnd {

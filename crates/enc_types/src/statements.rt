@@ -37,25 +37,23 @@ fn in_order(rules: Seq<Rule>) -> Result<Seq<Rule>, AllocError>
 
 /// Puts the rules of a statement at the end, as they stand in it.
 fn of_statement(statement: &BoundStatement, rules: &mut Seq<Rule>) -> Result<(), AllocError>
-    ensures { OnOk result (rules.new ≡ rules.old ++ spec.statement_rules (statement_of statement.now)) }
+    ensures { OnOk result
+        (rules.new ≡ rules.old ++ spec.statement_rules (statement_of statement.now)) }
 {
     match statement {
-        BoundStatement::CreateMaster { .. }
-        | BoundStatement::CreateKey { .. }
-        | BoundStatement::DropTable(_)
-        | BoundStatement::DropMaster(_)
-        | BoundStatement::DropKey(_)
-        | BoundStatement::Control(_) => Ok(()),
-        BoundStatement::CreateTable(table) => ask_each(table.keyed.as_slice(), rules),
+        BoundStatement::Definition(definition) => ask_each(definition.keyed(), rules),
         BoundStatement::Insert(insert) => of_insert(insert, rules),
         BoundStatement::Update(update) => of_update(update, rules),
         BoundStatement::Delete(delete) => of_filter(&delete.filter, rules),
         BoundStatement::Select(query) => of_query(query, rules),
+        BoundStatement::Control(_) => Ok(()),
     }
 }
 
 fn of_insert(insert: &BoundInsert, rules: &mut Seq<Rule>) -> Result<(), AllocError>
-    ensures { OnOk result (rules.new ≡ rules.old ++ flat_map (spec.row_rules insert.now.named) (insert_of insert.now).rows) }
+    ensures { OnOk result
+        (rules.new ≡ rules.old
+        ++ flat_map (spec.row_rules insert.now.named) (insert_of insert.now).rows) }
 {
     for row in insert.rows.as_slice() {
         of_values(insert.named.as_slice(), row.values.as_slice(), rules)?;
@@ -69,7 +67,8 @@ fn of_values(
     values: &[BoundOperand],
     rules: &mut Seq<Rule>,
 ) -> Result<(), AllocError>
-    ensures { OnOk result (rules.new ≡ rules.old ++ spec.value_rules named.now (map operand_of values.now)) }
+    ensures { OnOk result
+        (rules.new ≡ rules.old ++ spec.value_rules named.now (map operand_of values.now)) }
 {
     let [place, places @ ..] = named else {
         return Ok(());
@@ -110,7 +109,8 @@ impl Asks for BoundAssignment {
 
 fn of_update(update: &BoundUpdate, rules: &mut Seq<Rule>) -> Result<(), AllocError>
     ensures { OnOk result (rules.new ≡ rules.old
-        ++ (flat_map spec.assignment_rules (update_of update.now).assignments ++ spec.filter_rules (update_of update.now).filter)) }
+        ++ (flat_map spec.assignment_rules (update_of update.now).assignments
+        ++ spec.filter_rules (update_of update.now).filter)) }
 {
     ask_each(update.assignments.as_slice(), rules)?;
     of_filter(&update.filter, rules)

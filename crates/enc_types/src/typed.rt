@@ -2,7 +2,7 @@
 
 ghost use Rattle.std.specs.Prelude.{◌≡◌, Ok};
 ghost use Rattle.sql_tree.specs.Bound.{bound_of};
-ghost use Rattle.enc_types.specs.Least.{inferred};
+ghost use Rattle.enc_types.specs.Least.{inferred_encs};
 ghost use Rattle.std.proofs.Props.{props};
 
 use ae_base::lists::Seq;
@@ -14,13 +14,13 @@ use sql_tree::bound::Bound;
 pub struct Typed {
     bound: Bound,
     encs: Seq<Enc>,
-    pub ghost typed: { inferred (bound_of bound) ≡ Ok encs } by { Prim.hlevel props },
+    pub ghost typed: { inferred_encs (bound_of bound) ≡ Ok encs } by { Prim.hlevel props },
 }
 
 impl Typed {
     /// A statement with what the least typing of its rules gives to its parameters.
     pub fn new(bound: Bound, encs: Seq<Enc>) -> Typed
-        requires { inferred (bound_of bound) ≡ Ok encs }
+        requires { inferred_encs (bound_of bound) ≡ Ok encs }
         ensures bound { result.bound ≡ bound }
         ensures encs { result.encs ≡ encs }
     {

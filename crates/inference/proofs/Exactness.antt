@@ -9,7 +9,7 @@ use Rattle.sql_tree.specs.Bound.{Bound}
 use Rattle.enc_types.specs.Clash.{IsFirstClash}
 use Rattle.enc_types.specs.Rules.{at_of, rules}
 use Rattle.enc_types.specs.Typing.{HasTyping}
-use Rattle.enc_types.specs.Least.{least, has_typing, clash_behind, clash, encs_from, encs_or_clash, inferred_over, inferred}
+use Rattle.enc_types.specs.Least.{least, has_typing, clash_behind, clash, encs_from, encs_or_clash, inferred_over, inferred_encs}
 use Rattle.enc_types.specs.declared.rules.Rule.{Rule}
 use Rattle.enc_types.proofs.Interface.{has_typing-Decides}
 use Rattle.enc_types.proofs.Interface.{none_typed, untyped, no_clash, step_typed, step_untyped, push_append, first_clash}
@@ -82,11 +82,11 @@ module _ (params : List Ty) (columns : List ColumnSite) where
       go false t = subst (λ f. Clashes rules f) found (some_clash rules t)
 
 pub inferred_exactly : (bound : Bound) → IsInferredExactly bound
-unfolding inferred
+unfolding inferred_encs
 inferred_exactly bound = let e = exactly bound.params bound.columns (rules bound) in record { typed = e.0; refused = e.1 }
 
-pub refused_at_first : (bound : Bound) (at : ℕ) → inferred bound ≡ Err at → IsClashAt bound at
-unfolding inferred
+pub refused_at_first : (bound : Bound) (at : ℕ) → inferred_encs bound ≡ Err at → IsClashAt bound at
+unfolding inferred_encs
 refused_at_first bound at e =
     let c = refused_at bound.params bound.columns (rules bound) at e in
     let p : at ≡ at_of c.rule = let f = c.found_at in cc in

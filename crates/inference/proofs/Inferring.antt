@@ -7,7 +7,7 @@ use Rattle.sql_tree.specs.declared.bound.ColumnSite.{ColumnSite}
 use Rattle.sql_tree.specs.Bound.{Bound}
 use Rattle.enc_types.specs.Rules.{at_of, rules}
 use Rattle.enc_types.specs.Typing.{type_of, are_alike, enc_eq, is_plain, isnt_rnd, Typing, holds, IsLeastTyping}
-use Rattle.enc_types.specs.Least.{least, has_typing, clash, encs_from, encs_or_clash, inferred_over, inferred}
+use Rattle.enc_types.specs.Least.{least, has_typing, clash, encs_from, encs_or_clash, inferred_over, inferred_encs}
 use Rattle.enc_types.specs.Clash.{IsAmong, IsChain, IsFirstClash, IsClash}
 use Rattle.enc_types.specs.declared.sites.Site.{Site}
 use Rattle.enc_types.specs.declared.sites.Site.TheVariants.{Param}
@@ -200,6 +200,6 @@ pub some_rules : (params : List Ty) (columns : List ColumnSite) (rules : List Ru
 some_rules params columns [] h = let f : true ≡ false = sym (none_typed params columns) ∙ h in absurd cc
 some_rules params columns (rule ∷ rules) h = omega arith
 
-pub is_inferred : (bound : Bound) (encs : List Enc) → inferred_over bound.params bound.columns (rules bound) ≡ Ok encs → inferred bound ≡ Ok encs
-unfolding inferred
+pub is_inferred : (bound : Bound) (encs : List Enc) → inferred_over bound.params bound.columns (rules bound) ≡ Ok encs → inferred_encs bound ≡ Ok encs
+unfolding inferred_encs
 is_inferred bound encs h = h

@@ -21,7 +21,8 @@ pub(crate) fn chain_through(
     rule: &Rule,
 ) -> Result<Vec<Rule>, AllocError>
     ensures { IfOk result (λ chain. chain.items
-        ≡ ways.chain_through sites.now.params.now sites.now.columns.now (typing_of sites.now.columns.now reach.now) (reverse reach.now.steps.items) rule.now) }
+        ≡ ways.chain_through sites.now.params.now sites.now.columns.now
+        (typing_of sites.now.columns.now reach.now) (reverse reach.now.steps.items) rule.now) }
 {
     let steps = reach.steps.as_slice();
     match rule {
@@ -47,7 +48,9 @@ fn through(
     to: Site,
     rule: &Rule,
 ) -> Result<Vec<Rule>, AllocError>
-    ensures { IfOk result (λ chain. chain.items ≡ ways.through sites.now.params.now sites.now.columns.now (reverse steps.now) from to rule.now) }
+    ensures { IfOk result
+        (λ chain. chain.items ≡ ways.through sites.now.params.now sites.now.columns.now
+        (reverse steps.now) from to rule.now) }
 {
     let mut chain = way_to(alloc, steps, from, rule)?;
     beyond(sites.are_alike(from, to), steps, to, &mut chain)?;
@@ -56,7 +59,8 @@ fn through(
 
 /// Puts the way back from a site at the end, if the types on both sides of a rule are alike.
 fn beyond(alike: bool, steps: &[Step], to: Site, chain: &mut Vec<Rule>) -> Result<(), AllocError>
-    ensures { OnOk result (chain.new.items ≡ chain.old.items ++ ways.beyond alike (reverse steps.now) to) }
+    ensures { OnOk result
+        (chain.new.items ≡ chain.old.items ++ ways.beyond alike (reverse steps.now) to) }
 {
     if alike {
         way_back(steps, to, chain)
@@ -67,7 +71,8 @@ fn beyond(alike: bool, steps: &[Step], to: Site, chain: &mut Vec<Rule>) -> Resul
 
 /// The way from a fixed site to one of a rule, and the rule.
 fn way_to(alloc: Global, steps: &[Step], site: Site, rule: &Rule) -> Result<Vec<Rule>, AllocError>
-    ensures { IfOk result (λ chain. chain.items ≡ reverse (spec.way_back (reverse steps.now) site) ++ rule.now ∷ []) }
+    ensures { IfOk result (λ chain. chain.items ≡ reverse (spec.way_back (reverse steps.now) site)
+        ++ rule.now ∷ []) }
 {
     let mut chain = Vec::new(alloc);
     way_back(steps, site, &mut chain)?;
@@ -78,7 +83,8 @@ fn way_to(alloc: Global, steps: &[Step], site: Site, rule: &Rule) -> Result<Vec<
 
 /// Puts the rules on the way back from a site at the end.
 fn way_back(steps: &[Step], site: Site, way: &mut Vec<Rule>) -> Result<(), AllocError>
-    ensures { OnOk result (way.new.items ≡ way.old.items ++ spec.way_back (reverse steps.now) site) }
+    ensures { OnOk result
+        (way.new.items ≡ way.old.items ++ spec.way_back (reverse steps.now) site) }
 {
     let mut here = site;
     let mut left = steps.len();
@@ -92,7 +98,8 @@ fn way_back(steps: &[Step], site: Site, way: &mut Vec<Rule>) -> Result<(), Alloc
 /// The site from which a step went to this one, or this one.
 fn back_over(step: &Step, site: Site, way: &mut Vec<Rule>) -> Result<Site, AllocError>
     ensures { IfOk result (λ next. (rest : List Step)
-        → way.new.items ++ spec.way_back rest next ≡ way.old.items ++ spec.way_back (step.now ∷ rest) site) }
+        → way.new.items ++ spec.way_back rest next ≡ way.old.items
+        ++ spec.way_back (step.now ∷ rest) site) }
 {
     if step.to == site {
         way.push(step.rule)?;

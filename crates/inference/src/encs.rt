@@ -33,7 +33,9 @@ impl Encs {
     }
 
     pub(crate) fn set(&mut self, site: Site, enc: Enc) -> Result<(), AllocError>
-        ensures { OnOk result ((other : Site) → enc_in self.new.found other ≡ (if site_eq site other then enc else enc_in self.old.found other)) }
+        ensures { OnOk result ((other : Site)
+            → enc_in self.new.found other
+            ≡ (if site_eq site other then enc else enc_in self.old.found other)) }
     {
         self.found.insert(site, enc)?;
         Ok(())

@@ -67,7 +67,9 @@ fn encs_over(
 
 /// What was found of the parameters.
 fn param_encs(alloc: Global, sites: &Sites, reach: &Reach) -> Result<Seq<Enc>, AllocError>
-    ensures { IfOk result (λ encs. encs ≡ least_spec.encs_from (typing_of sites.now.columns.now reach.now) 0 sites.now.params.now) }
+    ensures { IfOk result
+        (λ encs. encs ≡ least_spec.encs_from (typing_of sites.now.columns.now reach.now) 0
+        sites.now.params.now) }
 {
     let mut encs = Seq::new(alloc);
     for place in 0..sites.params.len() {
@@ -79,8 +81,12 @@ fn param_encs(alloc: Global, sites: &Sites, reach: &Reach) -> Result<Seq<Enc>, A
 /// The first clash of rules that have no typing.
 fn clash_of(alloc: Global, sites: &Sites, rules: &[Rule]) -> Result<EncryptionClash, AllocError>
     requires { least_spec.has_typing sites.now.params.now sites.now.columns.now rules.now ≡ false }
-    ensures first { IfOk result (λ clash. least_spec.clash sites.now.params.now sites.now.columns.now rules.now ≡ Some clash.at) }
-    ensures chained { IfOk result (λ clash. IsClash sites.now.params.now sites.now.columns.now rules.now clash.at clash.chain) }
+    ensures first { IfOk result
+        (λ clash. least_spec.clash sites.now.params.now sites.now.columns.now rules.now
+        ≡ Some clash.at) }
+    ensures chained { IfOk result
+        (λ clash. IsClash sites.now.params.now sites.now.columns.now rules.now clash.at
+        clash.chain) }
 {
     let last = last_typed(alloc, sites, rules, 0, rules.len())?;
     let chain = chain_of(alloc, sites, &rules[..last + 1])?;
@@ -113,8 +119,10 @@ fn last_typed(
 ) -> Result<usize, AllocError>
     requires order { low < high }
     requires within { high ≤ length rules.now }
-    requires typed { least_spec.has_typing sites.now.params.now sites.now.columns.now (take low rules.now) ≡ true }
-    requires untyped { least_spec.has_typing sites.now.params.now sites.now.columns.now (take high rules.now) ≡ false }
+    requires typed { least_spec.has_typing sites.now.params.now sites.now.columns.now
+        (take low rules.now) ≡ true }
+    requires untyped { least_spec.has_typing sites.now.params.now sites.now.columns.now
+        (take high rules.now) ≡ false }
     ensures { IfOk result (IsLastTyped sites.now.params.now sites.now.columns.now rules.now) }
 {
     if high - low == 1 {
@@ -129,7 +137,9 @@ fn last_typed(
 }
 
 fn has_typing(alloc: Global, sites: &Sites, rules: &[Rule]) -> Result<bool, AllocError>
-    ensures { IfOk result (λ typed. typed ≡ least_spec.has_typing sites.now.params.now sites.now.columns.now rules.now) }
+    ensures { IfOk result
+        (λ typed. typed ≡ least_spec.has_typing sites.now.params.now sites.now.columns.now
+        rules.now) }
 {
     let reach = Reach::over(alloc, sites, rules)?;
     match reach.broken(sites, rules) {

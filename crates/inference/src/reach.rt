@@ -31,7 +31,8 @@ pub(crate) struct Reach {
 
 impl Reach {
     fn new(alloc: Global) -> Reach
-        ensures { (params : List Ty) (columns : List ColumnSite) (rules : List Rule) → IsReached params columns rules result }
+        ensures { (params : List Ty) (columns : List ColumnSite) (rules : List Rule)
+            → IsReached params columns rules result }
     {
         Reach {
             encs: Encs::new(alloc),
@@ -41,8 +42,10 @@ impl Reach {
 
     /// All that rules force: passes over them until nothing changes.
     pub(crate) fn over(alloc: Global, sites: &Sites, rules: &[Rule]) -> Result<Reach, AllocError>
-        ensures reached { IfOk result (λ reach. IsReached sites.now.params.now sites.now.columns.now rules.now reach) }
-        ensures settled { IfOk result (λ reach. AreSettled sites.now.params.now sites.now.columns.now rules.now reach) }
+        ensures reached { IfOk result
+            (λ reach. IsReached sites.now.params.now sites.now.columns.now rules.now reach) }
+        ensures settled { IfOk result
+            (λ reach. AreSettled sites.now.params.now sites.now.columns.now rules.now reach) }
     {
         let mut reach = Reach::new(alloc);
         'passes: loop {
@@ -65,10 +68,13 @@ impl Reach {
     /// One pass over the rules. It says whether something changed.
     fn pass(&mut self, sites: &Sites, rules: &[Rule]) -> Result<bool, AllocError>
         requires { IsReached sites.now.params.now sites.now.columns.now rules.now self.old }
-        ensures reached { OnOk result (IsReached sites.now.params.now sites.now.columns.now rules.now self.new) }
+        ensures reached { OnOk result
+            (IsReached sites.now.params.now sites.now.columns.now rules.now self.new) }
         ensures fewer { IfOk result (λ changed. changed ≡ true
-            → loose (typing_of sites.now.columns.now self.new) rules.now < loose (typing_of sites.now.columns.now self.old) rules.now) }
-        ensures settled { IfOk result (λ changed. changed ≡ false → AreSettled sites.now.params.now sites.now.columns.now rules.now self.new) }
+            → loose (typing_of sites.now.columns.now self.new) rules.now
+            < loose (typing_of sites.now.columns.now self.old) rules.now) }
+        ensures settled { IfOk result (λ changed. changed ≡ false
+            → AreSettled sites.now.params.now sites.now.columns.now rules.now self.new) }
     {
         let mut changed = false;
         for rule in rules {
@@ -80,13 +86,17 @@ impl Reach {
     /// Carries what a rule carries, and says whether it did.
     fn settle(&mut self, sites: &Sites, rule: &Rule) -> Result<bool, AllocError>
         ensures reached { OnOk result ((rules : List Rule) → IsAmong rules rule.now
-            → IsReached sites.now.params.now sites.now.columns.now rules self.old → IsReached sites.now.params.now sites.now.columns.now rules self.new) }
-        ensures fewer { IfOk result (λ changed. changed ≡ true → (rules : List Rule) → IsAmong rules rule.now
             → IsReached sites.now.params.now sites.now.columns.now rules self.old
-            → loose (typing_of sites.now.columns.now self.new) rules < loose (typing_of sites.now.columns.now self.old) rules) }
+            → IsReached sites.now.params.now sites.now.columns.now rules self.new) }
+        ensures fewer { IfOk result (λ changed. changed ≡ true → (rules : List Rule)
+            → IsAmong rules rule.now
+            → IsReached sites.now.params.now sites.now.columns.now rules self.old
+            → loose (typing_of sites.now.columns.now self.new) rules
+            < loose (typing_of sites.now.columns.now self.old) rules) }
         ensures same { IfOk result (λ changed. changed ≡ false → self.new ≡ self.old) }
         ensures settled { IfOk result (λ changed. changed ≡ false
-            → is_settled sites.now.params.now sites.now.columns.now (typing_of sites.now.columns.now self.old) rule.now ≡ true) }
+            → is_settled sites.now.params.now sites.now.columns.now
+            (typing_of sites.now.columns.now self.old) rule.now ≡ true) }
     {
         match self.direction(sites, rule) {
             Some((from, to)) => {
@@ -106,8 +116,10 @@ impl Reach {
     fn direction(&self, sites: &Sites, rule: &Rule) -> Option<(Site, Site)>
         ensures carries { IfSome result (λ ends. Carries rule.now ends.0 ends.1) }
         ensures goes { MatchOption result
-            (is_settled sites.now.params.now sites.now.columns.now (typing_of sites.now.columns.now self.now) rule.now ≡ true)
-            (λ ends. goes sites.now.params.now sites.now.columns.now (typing_of sites.now.columns.now self.now) ends.0 ends.1 ≡ true) }
+            (is_settled sites.now.params.now sites.now.columns.now
+            (typing_of sites.now.columns.now self.now) rule.now ≡ true)
+            (λ ends. goes sites.now.params.now sites.now.columns.now
+            (typing_of sites.now.columns.now self.now) ends.0 ends.1 ≡ true) }
     {
         match rule {
             Rule::Same { x, y, .. } if self.goes(sites, *x, *y) => Some((*x, *y)),
@@ -118,7 +130,8 @@ impl Reach {
     }
 
     fn goes(&self, sites: &Sites, from: Site, to: Site) -> bool
-        ensures { result ≡ goes sites.now.params.now sites.now.columns.now (typing_of sites.now.columns.now self.now) from to }
+        ensures { result ≡ goes sites.now.params.now sites.now.columns.now
+            (typing_of sites.now.columns.now self.now) from to }
     {
         !is_plain(self.enc_of(sites, from))
             && is_open(to)
@@ -129,7 +142,8 @@ impl Reach {
     fn go(&mut self, sites: &Sites, step: Step) -> Result<(), AllocError>
         ensures steps { OnOk result (self.new.steps.items ≡ self.old.steps.items ++ step ∷ []) }
         ensures found { OnOk result ((site : Site) → enc_in self.new.encs.found site
-            ≡ (if site_eq step.to site then typing_of sites.now.columns.now self.old step.from else enc_in self.old.encs.found site)) }
+            ≡ (if site_eq step.to site then typing_of sites.now.columns.now self.old step.from
+            else enc_in self.old.encs.found site)) }
     {
         let enc = self.enc_of(sites, step.from);
         self.encs.set(step.to, enc)?;
@@ -139,7 +153,8 @@ impl Reach {
 
     /// Whether a rule holds under what was found.
     fn meets(&self, sites: &Sites, rule: &Rule) -> bool
-        ensures { result ≡ holds sites.now.params.now sites.now.columns.now (typing_of sites.now.columns.now self.now) rule.now }
+        ensures { result ≡ holds sites.now.params.now sites.now.columns.now
+            (typing_of sites.now.columns.now self.now) rule.now }
     {
         match rule {
             Rule::Same { x, y, .. } => self.same(sites, *x, *y),
@@ -149,7 +164,8 @@ impl Reach {
     }
 
     fn same(&self, sites: &Sites, x: Site, y: Site) -> bool
-        ensures { result ≡ holds sites.now.params.now sites.now.columns.now (typing_of sites.now.columns.now self.now) (Rule.Same x y 0) }
+        ensures { result ≡ holds sites.now.params.now sites.now.columns.now
+            (typing_of sites.now.columns.now self.now) (Rule.Same x y 0) }
     {
         same_enc(self.enc_of(sites, x), self.enc_of(sites, y))
             && (is_plain(self.enc_of(sites, x)) || sites.are_alike(x, y))
@@ -158,8 +174,10 @@ impl Reach {
     /// The first rule that doesn't hold under what was found.
     pub(crate) fn broken(&self, sites: &Sites, rules: &[Rule]) -> Option<Rule>
         ensures broken { MatchOption result
-            (list_all (holds sites.now.params.now sites.now.columns.now (typing_of sites.now.columns.now self.now)) rules.now ≡ true)
-            (λ rule. holds sites.now.params.now sites.now.columns.now (typing_of sites.now.columns.now self.now) rule ≡ false) }
+            (list_all (holds sites.now.params.now sites.now.columns.now
+            (typing_of sites.now.columns.now self.now)) rules.now ≡ true)
+            (λ rule. holds sites.now.params.now sites.now.columns.now
+            (typing_of sites.now.columns.now self.now) rule ≡ false) }
         ensures among { IfSome result (IsAmong rules.now) }
     {
         for rule in rules {

@@ -52,7 +52,8 @@ impl<'a> Sites<'a> {
 
     /// Whether two sites have one declared type, or one of them has none.
     pub(crate) fn are_alike(&self, x: Site, y: Site) -> bool
-        ensures { result ≡ spec.are_alike (spec.type_of self.now.params.now self.now.columns.now x) (spec.type_of self.now.params.now self.now.columns.now y) }
+        ensures { result ≡ spec.are_alike (spec.type_of self.now.params.now self.now.columns.now x)
+            (spec.type_of self.now.params.now self.now.columns.now y) }
     {
         match (self.type_of(x), self.type_of(y)) {
             (Some(s), Some(t)) => same_type(s, t),

@@ -1,9 +1,9 @@
 -- What each bound statement is.
 use Rattle.std.proofs.Common.{◌≡◌, refl, Bool, true, false, ◌||◌, Ok}
 use Rattle.ae_base.specs.Results.{◌>>=◌}
-use Rattle.semantic_checks.specs.Checks.{checked}
+use Rattle.semantic_checks.specs.Checks.{check_of}
 use Rattle.semantic_checks.proofs.Interface.{smallest_first}
-use Rattle.resolve.specs.Bind.{named, bind}
+use Rattle.resolve.specs.Bind.{resolution, bind}
 use Rattle.resolve.specs.Laws.{IsBoundOver, BoundStatementsAre}
 use Rattle.resolve.proofs.Parts.{one_part, first_part}
 use Rattle.resolve.proofs.PlacedStatements.{named_placed_well}
@@ -16,8 +16,8 @@ no_left false b e = refl
 pub bound_statements_are : BoundStatementsAre
 unfolding bind
 bound_statements_are catalog statement declarations b e =
-    first_part (named catalog statement declarations) (λ made. checked made >>= λ fine. Ok made) b (IsBoundOver catalog declarations b) e
-    (λ made en e1. one_part (checked made) (λ fine. made) b (IsBoundOver catalog declarations) e1
+    first_part (resolution catalog statement declarations) (λ made. check_of made >>= λ fine. Ok made) b (IsBoundOver catalog declarations b) e
+    (λ made en e1. one_part (check_of made) (λ fine. made) b (IsBoundOver catalog declarations) e1
     (λ fine ef.
     let passed = smallest_first.fine made ef in
     let on = stands_on catalog statement declarations made en in
@@ -25,6 +25,6 @@ bound_statements_are catalog statement declarations b e =
       params = on.params;
       placed = named_placed_well catalog statement declarations made en passed.0 (no_left _ _ passed.2);
       tables = on.tables;
-      master = on.master;
+      definable = on.definable;
       keys = on.keys;
     }))

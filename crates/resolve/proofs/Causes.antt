@@ -9,6 +9,8 @@ use Rattle.ae_base.specs.declared.faults.SqlFault.{SqlFault}
 use Rattle.ae_base.specs.declared.faults.SqlFault.TheVariants as fault
 use Rattle.ae_base.specs.declared.refusals.Refusal.{Refusal}
 use Rattle.ae_base.specs.declared.refusals.Refusal.TheVariants.{Fault, OutOfMemory}
+use Rattle.sql_tree.specs.declared.statements.Definition.{Definition}
+use Rattle.sql_tree.specs.declared.statements.Definition.TheVariants as written
 use Rattle.sql_tree.specs.declared.operands.ColumnRef.{ColumnRef}
 use Rattle.sql_tree.specs.declared.statements.ColumnSpec.{ColumnSpec}
 use Rattle.sql_tree.specs.declared.statements.Encryption.{Encryption}
@@ -20,13 +22,13 @@ use Rattle.sql_tree.specs.Conditions.{Condition, Conditions}
 use Rattle.sql_tree.specs.Conditions as conditions
 use Rattle.sql_tree.specs.Statements as tree
 use Rattle.sql_tree.specs.Bound as bound
-use Rattle.semantic_checks.specs.Checks.{least, none_at, is_too_long, checked}
+use Rattle.semantic_checks.specs.Checks.{least, none_at, is_too_long, check_of}
 use Rattle.semantic_checks.specs.Clashes.{clashes}
-use Rattle.semantic_checks.specs.Grouping.{ungrouped}
+use Rattle.semantic_checks.specs.Grouping.{ungrouped_places}
 use Rattle.catalog.specs.Catalogs.{Catalog, table_named, key_named, master_named}
-use Rattle.resolve.specs.Bind.{named, bind}
-use Rattle.resolve.specs.Changes.{places_for, listed_place, bind_row, bind_assignment, assigned, table_scope, bind_insert, bind_update, bind_delete}
-use Rattle.resolve.specs.Definitions.{key_path, is_key_path, wrapped_key, is_wrapped_key, master_for, enc_for, new_name, column_behind, bind_column, bind_key_column, bind_unique, bind_table}
+use Rattle.resolve.specs.Bind.{resolution, bind}
+use Rattle.resolve.specs.Changes.{places_for, listed_place, bind_row, bind_assignment, nth_assignment, table_scope, bind_insert, bind_update, bind_delete}
+use Rattle.resolve.specs.Definitions.{key_path, is_key_path, wrapped_key, is_wrapped_key, master_for, enc_for, new_name, column_behind, bind_column, bind_key_column, bind_unique, bind_table, bind_definition}
 use Rattle.resolve.specs.Faults.{IsStatementFault, IsBindFault}
 use Rattle.resolve.specs.Names.{short, bind_operand, bind_terms, bind_operands, bind_condition, bind_conditions, bind_filter}
 use Rattle.resolve.specs.Queries.{bind_value, bind_item, bind_items, bind_join, bind_joins, bind_column_at, bind_key, bind_order, bind_over, bind_query}
@@ -172,7 +174,7 @@ definition_blames catalog before column =
     (λ new. alone (enc_for catalog column.encryption) _ (encryption_blames catalog column.encryption))
 
 unique_blames : (columns : List ColumnDef) (unique : UniqueSpec) → Blames (bind_unique columns unique)
-unique_blames columns unique = each_from_blames (bind_key_column columns unique.columns) (λ i named. alone (named_place columns _ named.name) _ (named_blames columns _ named.name)) 0 unique.columns
+unique_blames columns unique = each_from_blames (bind_key_column columns unique.columns) (λ i resolution. alone (named_place columns _ resolution.name) _ (named_blames columns _ resolution.name)) 0 unique.columns
 
 definitions_blame : (catalog : Catalog) (table : List ℕ) (columns : List ColumnSpec) (uniques : List UniqueSpec) → Blames (bind_table catalog table columns uniques)
 definitions_blame catalog table columns uniques =
@@ -190,7 +192,7 @@ row_blames ds row = alone (bind_operands _ ds row.values) _ (operands_blame _ ds
 
 insert_blames : (ds : List ParamDecl) (def : TableDef) (table : List ℕ) (names : Option (List (List ℕ))) (rows : List tree.ValueRow) → Blames (bind_insert ds def table names rows)
 insert_blames ds def table names rows =
-    both (places_for def.columns names) _ (places_blame def.columns names) (λ named. alone (each (bind_row ds) rows) _ (each_blames (bind_row ds) (row_blames ds) rows))
+    both (places_for def.columns names) _ (places_blame def.columns names) (λ resolution. alone (each (bind_row ds) rows) _ (each_blames (bind_row ds) (row_blames ds) rows))
 
 assignment_blames : (ds : List ParamDecl) (def : TableDef) (scope : Scope) (before : List tree.Assignment) (a : tree.Assignment) → Blames (bind_assignment ds def scope before a)
 assignment_blames ds def scope before a =
@@ -198,7 +200,7 @@ assignment_blames ds def scope before a =
 
 update_blames : (ds : List ParamDecl) (def : TableDef) (table : List ℕ) (all : List tree.Assignment) (filter : Option (Condition ColumnRef (List ℕ))) → Blames (bind_update ds def table all filter)
 update_blames ds def table all filter =
-    both (each_from (assigned ds def (table_scope table def) all) 0 all) _ (each_from_blames (assigned ds def (table_scope table def) all) (λ i a. assignment_blames ds def (table_scope table def) _ a) 0 all)
+    both (each_from (nth_assignment ds def (table_scope table def) all) 0 all) _ (each_from_blames (nth_assignment ds def (table_scope table def) all) (λ i a. assignment_blames ds def (table_scope table def) _ a) 0 all)
     (λ assignments. alone (bind_filter (table_scope table def) ds filter) _ (filter_blames (table_scope table def) ds filter))
 
 delete_blames : (ds : List ParamDecl) (def : TableDef) (table : List ℕ) (filter : Option (Condition ColumnRef (List ℕ))) → Blames (bind_delete ds def table filter)
@@ -249,15 +251,18 @@ query_blames scope ds sources query =
 
 -- ---- the whole statement
 
-named_blame : (catalog : Catalog) (statement : tree.Statement) (ds : List ParamDecl) → Blames (named catalog statement ds)
-named_blame catalog (tree.CreateMaster name path) ds = alone (key_path path) _ (only_if (is_key_path path) path fault.TooLong too_long)
-named_blame catalog (tree.CreateKey name master wrapped) ds =
+defined_blames : (catalog : Catalog) (d : Definition) → Blames (bind_definition catalog d)
+defined_blames catalog (written.CreateMaster name path) = alone (key_path path) _ (only_if (is_key_path path) path fault.TooLong too_long)
+defined_blames catalog (written.CreateKey name master wrapped) =
     both (wrapped_key wrapped) _ (only_if (is_wrapped_key wrapped) wrapped fault.TooLong too_long)
     (λ w. alone (master_for catalog master) _ (alone (or_fault (fault.NoKey master) (master_named catalog master)) _ (looked_up (fault.NoKey master) _ (no_key master))))
-named_blame catalog (tree.CreateTable table columns uniques) ds = alone (bind_table catalog table columns uniques) _ (definitions_blame catalog table columns uniques)
-named_blame catalog (tree.DropTable name) ds = tt
-named_blame catalog (tree.DropMaster name) ds = tt
-named_blame catalog (tree.DropKey name) ds = tt
+defined_blames catalog (written.CreateTable table columns uniques) = alone (bind_table catalog table columns uniques) _ (definitions_blame catalog table columns uniques)
+defined_blames catalog (written.DropTable name) = tt
+defined_blames catalog (written.DropMaster name) = tt
+defined_blames catalog (written.DropKey name) = tt
+
+named_blame : (catalog : Catalog) (statement : tree.Statement) (ds : List ParamDecl) → Blames (resolution catalog statement ds)
+named_blame catalog (tree.Definition d) ds = alone (bind_definition catalog d) _ (defined_blames catalog d)
 named_blame catalog (tree.Insert table columns rows) ds =
     both (table_for catalog table) _ (table_blames catalog table) (λ def. alone (bind_insert ds def table columns rows) _ (insert_blames ds def table columns rows))
 named_blame catalog (tree.Update table assignments filter) ds =
@@ -272,17 +277,17 @@ at_places : (f : ℕ → SqlFault) (found : Option ℕ) → ((at : ℕ) → IsSt
 at_places f None is = tt
 at_places f (Some at) is = is at
 
-checks_blame : (made : bound.Bound) → Blames (checked made)
-unfolding checked
+checks_blame : (made : bound.Bound) → Blames (check_of made)
+unfolding check_of
 checks_blame made =
     both (none_at fault.TypeClash (least (clashes made))) _ (at_places fault.TypeClash (least (clashes made)) type_clash)
-    (λ kinds. both (none_at fault.NotGrouped (least (ungrouped made))) _ (at_places fault.NotGrouped (least (ungrouped made)) not_grouped)
+    (λ kinds. both (none_at fault.NotGrouped (least (ungrouped_places made))) _ (at_places fault.NotGrouped (least (ungrouped_places made)) not_grouped)
     (λ grouped. unless (is_too_long made) (Ok tt) fault.TooLong too_long tt))
 
 bind_blames : (catalog : Catalog) (statement : tree.Statement) (ds : List ParamDecl) → Blames (bind catalog statement ds)
 unfolding bind
 bind_blames catalog statement ds =
-    both (named catalog statement ds) _ (named_blame catalog statement ds) (λ made. alone (checked made) _ (checks_blame made))
+    both (resolution catalog statement ds) _ (named_blame catalog statement ds) (λ made. alone (check_of made) _ (checks_blame made))
 
 -- what a call answers is such a fault
 pub bind_causes : {B : Type 0} (view : B → bound.Bound) (result : Result B (Refusal SqlFault)) (catalog : Catalog) (statement : tree.Statement) (ds : List ParamDecl)

@@ -21,10 +21,10 @@ use Rattle.resolve.specs.Walks.{each_from}
 use Rattle.resolve.specs.Scopes.{Scope, ScopeColumn, nothing_in_scope, scope_of, with_source, param_place, column_place, named_place}
 use Rattle.resolve.specs.Names.{short, bind_operand, bind_terms, bind_operands, bind_condition, bind_conditions, bind_filter}
 use Rattle.resolve.specs.Tables.{Joined, Sources, all_sources, table_for, sources_for}
-use Rattle.resolve.specs.Queries.{starred, title_of, bind_value, bind_item, bind_items, bind_join, bind_joins, bind_column_at, bind_key, bind_query}
-use Rattle.resolve.specs.Changes.{table_scope, places_for, bind_row, bind_insert, column_of, bind_assignment, assigned, bind_update, bind_delete}
-use Rattle.resolve.specs.Definitions.{key_path, wrapped_key, master_for, bind_table}
-use Rattle.resolve.specs.Bind.{bound_over, named}
+use Rattle.resolve.specs.Queries.{star_items, title_of, bind_value, bind_item, bind_items, bind_join, bind_joins, bind_column_at, bind_key, bind_query}
+use Rattle.resolve.specs.Changes.{table_scope, places_for, bind_row, bind_insert, column_of, bind_assignment, nth_assignment, bind_update, bind_delete}
+use Rattle.resolve.specs.Definitions.{bind_definition}
+use Rattle.resolve.specs.Bind.{bound_over, resolution}
 use Rattle.resolve.specs.Laws.{Keeps, NamesKeepTheUsed}
 use Rattle.resolve.proofs.Parts.{one_part, two_parts, first_part, one_ok, two_ok}
 use Rattle.resolve.proofs.QueryParts.{made, ordered, grouped, filtered, joined, in_parts}
@@ -163,11 +163,11 @@ update_kept : (ds es : List ParamDecl) (f : ℕ → ℕ) (def : TableDef) (table
     → bind_update ds def table all filter ≡ Ok b → Keeps ds es f (λ p. list_any (uses_in_assignment p) b.assignments || uses_in_filter p b.filter)
     → bind_update es def table all filter ≡ Ok (record { table = b.table; assignments = map (renamed_assignment f) b.assignments; filter = renamed_filter f b.filter })
 update_kept ds es f def table all filter b e =
-    two_parts (each_from (assigned ds def (table_scope table def) all) 0 all) (bind_filter (table_scope table def) ds filter) (λ a c. record { table = table; assignments = a; filter = c }) b
+    two_parts (each_from (nth_assignment ds def (table_scope table def) all) 0 all) (bind_filter (table_scope table def) ds filter) (λ a c. record { table = table; assignments = a; filter = c }) b
     (λ z. Keeps ds es f (λ p. list_any (uses_in_assignment p) z.assignments || uses_in_filter p z.filter)
     → bind_update es def table all filter ≡ Ok (record { table = z.table; assignments = map (renamed_assignment f) z.assignments; filter = renamed_filter f z.filter })) e
-    (λ a c ea ec k. two_ok (each_from (assigned es def (table_scope table def) all) 0 all) (bind_filter (table_scope table def) es filter) (λ a c. record { table = table; assignments = a; filter = c }) (map (renamed_assignment f) a) (renamed_filter f c)
-    (each_from_kept ds es f (assigned ds def (table_scope table def) all) (assigned es def (table_scope table def) all) uses_in_assignment (renamed_assignment f) (λ i x y. assignment_kept ds es f def (table_scope table def) _ x y) all 0 a ea
+    (λ a c ea ec k. two_ok (each_from (nth_assignment es def (table_scope table def) all) 0 all) (bind_filter (table_scope table def) es filter) (λ a c. record { table = table; assignments = a; filter = c }) (map (renamed_assignment f) a) (renamed_filter f c)
+    (each_from_kept ds es f (nth_assignment ds def (table_scope table def) all) (nth_assignment es def (table_scope table def) all) uses_in_assignment (renamed_assignment f) (λ i x y. assignment_kept ds es f def (table_scope table def) _ x y) all 0 a ea
     (left (λ p. list_any (uses_in_assignment p) a) (λ p. uses_in_filter p c) k))
     (filter_kept (table_scope table def) ds es f filter c ec (right (λ p. list_any (uses_in_assignment p) a) (λ p. uses_in_filter p c) k)))
 
@@ -194,13 +194,13 @@ item_kept s ds es f o b e =
     one_part (bind_value s ds o.value) (λ v. record { title = title_of o; value = v }) b (λ z. Keeps ds es f (λ p. uses_in_item p z) → bind_item s es o ≡ Ok (renamed_item f z)) e
     (λ v ev k. one_ok (bind_value s es o.value) (renamed_value f v) (λ y. Ok (record { title = title_of o; value = y })) _ (value_kept s ds es f o.value v ev k) refl)
 
-starred_kept : (f : ℕ → ℕ) (at : ℕ) (cs : List ScopeColumn) (i : ℕ) → map (renamed_item f) (starred at i cs) ≡ starred at i cs
+starred_kept : (f : ℕ → ℕ) (at : ℕ) (cs : List ScopeColumn) (i : ℕ) → map (renamed_item f) (star_items at i cs) ≡ star_items at i cs
 starred_kept f at [] i = refl
 starred_kept f at (c ∷ cs) i = ap (λ z. record { title = c.column.name; value = bound.Value (operands.Column at i) } ∷ z) (starred_kept f at cs (i + 1))
 
 items_kept : (s : Scope) (ds es : List ParamDecl) (f : ℕ → ℕ) (o : tree.Items) (b : List bound.BoundItem) → bind_items s ds o ≡ Ok b → Keeps ds es f (λ p. list_any (uses_in_item p) b)
     → bind_items s es o ≡ Ok (map (renamed_item f) b)
-items_kept s ds es f (tree.Star at) b e k = let i : starred at 0 s.columns ≡ b = cc in subst (λ z. bind_items s es (tree.Star at) ≡ Ok (map (renamed_item f) z)) i (ap Ok (sym (starred_kept f at s.columns 0)))
+items_kept s ds es f (tree.Star at) b e k = let i : star_items at 0 s.columns ≡ b = cc in subst (λ z. bind_items s es (tree.Star at) ≡ Ok (map (renamed_item f) z)) i (ap Ok (sym (starred_kept f at s.columns 0)))
 items_kept s ds es f (tree.Listed items) b e k = each_kept ds es f (bind_item s ds) (bind_item s es) uses_in_item (renamed_item f) (λ x y. item_kept s ds es f x y) items b e k
 
 join_kept : (s : Scope) (ds es : List ParamDecl) (f : ℕ → ℕ) (o : Joined) (b : bound.BoundJoin) → bind_join s ds o ≡ Ok b → Keeps ds es f (λ p. uses_in_join p b) → bind_join s es o ≡ Ok (renamed_join f b)
@@ -250,19 +250,11 @@ query_kept ds es f sources q b e =
 
 abbrev Whole : Catalog → tree.Statement → List ParamDecl → List ParamDecl → (ℕ → ℕ) → bound.Bound → Type 0
 Whole catalog statement ds es f b =
-    Keeps ds es f (λ p. uses_in_statement p b.statement) → named catalog statement es ≡ Ok (bound_over es b.columns (renamed_statement f b.statement))
+    Keeps ds es f (λ p. uses_in_statement p b.statement) → resolution catalog statement es ≡ Ok (bound_over es b.columns (renamed_statement f b.statement))
 
-named_kept : (catalog : Catalog) (statement : tree.Statement) (ds es : List ParamDecl) (f : ℕ → ℕ) (b : bound.Bound) → named catalog statement ds ≡ Ok b → Whole catalog statement ds es f b
-named_kept catalog (tree.CreateMaster name path) ds es f b e =
-    one_part (key_path path) _ b (Whole catalog (tree.CreateMaster name path) ds es f) e (λ p ep k. one_ok (key_path path) p _ _ ep refl)
-named_kept catalog (tree.CreateKey name master wrapped) ds es f b e =
-    two_parts (wrapped_key wrapped) (master_for catalog master) _ b (Whole catalog (tree.CreateKey name master wrapped) ds es f) e
-    (λ w m ew em k. two_ok (wrapped_key wrapped) (master_for catalog master) _ w m ew em)
-named_kept catalog (tree.CreateTable table columns uniques) ds es f b e =
-    one_part (bind_table catalog table columns uniques) _ b (Whole catalog (tree.CreateTable table columns uniques) ds es f) e (λ p ep k. one_ok (bind_table catalog table columns uniques) p _ _ ep refl)
-named_kept catalog (tree.DropTable name) ds es f b e = let i : bound_over ds [] (bound.DropTable name) ≡ b = cc in subst (Whole catalog (tree.DropTable name) ds es f) i (λ k. refl)
-named_kept catalog (tree.DropMaster name) ds es f b e = let i : bound_over ds [] (bound.DropMaster name) ≡ b = cc in subst (Whole catalog (tree.DropMaster name) ds es f) i (λ k. refl)
-named_kept catalog (tree.DropKey name) ds es f b e = let i : bound_over ds [] (bound.DropKey name) ≡ b = cc in subst (Whole catalog (tree.DropKey name) ds es f) i (λ k. refl)
+named_kept : (catalog : Catalog) (statement : tree.Statement) (ds es : List ParamDecl) (f : ℕ → ℕ) (b : bound.Bound) → resolution catalog statement ds ≡ Ok b → Whole catalog statement ds es f b
+named_kept catalog (tree.Definition d) ds es f b e =
+    one_part (bind_definition catalog d) _ b (Whole catalog (tree.Definition d) ds es f) e (λ made em k. one_ok (bind_definition catalog d) made _ _ em refl)
 named_kept catalog (tree.Insert table names rows) ds es f b e =
     first_part (table_for catalog table) _ b (Whole catalog (tree.Insert table names rows) ds es f b) e (λ def ed e1.
     one_part (bind_insert ds def table names rows) _ b (Whole catalog (tree.Insert table names rows) ds es f) e1

@@ -12,10 +12,10 @@ use Rattle.sql_tree.specs.Bound.{Bound}
 use Rattle.sql_tree.specs.Uses.{uses, renamed}
 use Rattle.enc_types.specs.UsedAlone.{used_among, place_among, is_used}
 use Rattle.enc_types.proofs.Interface.{found_among, inferred_alone}
-use Rattle.semantic_checks.specs.Checks.{checked}
+use Rattle.semantic_checks.specs.Checks.{check_of}
 use Rattle.semantic_checks.proofs.Interface.{checks_keep_the_used}
 use Rattle.catalog.specs.Catalogs.{Catalog}
-use Rattle.resolve.specs.Bind.{type_of, named, bind}
+use Rattle.resolve.specs.Bind.{type_of, resolution, bind}
 use Rattle.resolve.specs.Laws.{Keeps, BindKeepsTheUsed, PreparedAlone}
 use Rattle.resolve.proofs.Parts.{one_part, first_part}
 use Rattle.resolve.proofs.Kept.{names_keep_the_used}
@@ -29,18 +29,18 @@ after_names : {A B : Type 0} (x : Result A SqlFault) (b : B) (r : B → B) → (
 after_names (Ok fine) b r = refl
 after_names (Err f) b r = refl
 
-bind_kept : (catalog : Catalog) (statement : Statement) (ds es : List ParamDecl) (f : ℕ → ℕ) (b : Bound) → named catalog statement ds ≡ Ok b → Keeps ds es f (λ place. uses place b)
+bind_kept : (catalog : Catalog) (statement : Statement) (ds es : List ParamDecl) (f : ℕ → ℕ) (b : Bound) → resolution catalog statement ds ≡ Ok b → Keeps ds es f (λ place. uses place b)
     → bind catalog statement es ≡ (bind catalog statement ds >>= λ made. Ok (renamed f (map type_of es) made))
 unfolding bind
 bind_kept catalog statement ds es f b e k =
     let r : Bound → Bound = renamed f (map type_of es) in
-    let over : named catalog statement es ≡ Ok (r b) = names_keep_the_used.kept catalog statement ds es f b e k in
+    let over : resolution catalog statement es ≡ Ok (r b) = names_keep_the_used.kept catalog statement ds es f b e k in
     let types = (stands_on catalog statement ds b e).params in
-    let same : checked (r b) ≡ checked b = checks_keep_the_used f (map type_of es) b (λ p u. k.typed p u ∙ ap (λ z. slice_get z p) (sym types)) in
-    ap (λ z. z >>= λ made. checked made >>= λ fine. Ok made) over
+    let same : check_of (r b) ≡ check_of b = checks_keep_the_used f (map type_of es) b (λ p u. k.typed p u ∙ ap (λ z. slice_get z p) (sym types)) in
+    ap (λ z. z >>= λ made. check_of made >>= λ fine. Ok made) over
     ∙ ap (λ z. z >>= λ fine. Ok (r b)) same
-    ∙ after_names (checked b) b r
-    ∙ ap (λ z. (z >>= λ made. checked made >>= λ fine. Ok made) >>= λ made. Ok (r made)) (sym e)
+    ∙ after_names (check_of b) b r
+    ∙ ap (λ z. (z >>= λ made. check_of made >>= λ fine. Ok made) >>= λ made. Ok (r made)) (sym e)
 
 pub bind_keeps_the_used : BindKeepsTheUsed
 bind_keeps_the_used = record { kept = λ catalog statement ds es f b e k. bind_kept catalog statement ds es f b e k }
@@ -113,11 +113,11 @@ module _ (used : ℕ → Bool) where
         ap (λ z. slice_get z (place_among used 0 place)) (map_among type_of 0 ds) ∙ found_among used (map type_of ds) 0 place (ap used start ∙ u);
   }
 
-bound_names : (catalog : Catalog) (statement : Statement) (ds : List ParamDecl) (b : Bound) → bind catalog statement ds ≡ Ok b → named catalog statement ds ≡ Ok b
+bound_names : (catalog : Catalog) (statement : Statement) (ds : List ParamDecl) (b : Bound) → bind catalog statement ds ≡ Ok b → resolution catalog statement ds ≡ Ok b
 unfolding bind
 bound_names catalog statement ds b e =
-    first_part (named catalog statement ds) (λ made. checked made >>= λ fine. Ok made) b (named catalog statement ds ≡ Ok b) e
-    (λ made en e1. one_part (checked made) (λ fine. made) b (λ z. named catalog statement ds ≡ Ok z) e1 (λ fine ef. en))
+    first_part (resolution catalog statement ds) (λ made. check_of made >>= λ fine. Ok made) b (resolution catalog statement ds ≡ Ok b) e
+    (λ made en e1. one_part (check_of made) (λ fine. made) b (λ z. resolution catalog statement ds ≡ Ok z) e1 (λ fine ef. en))
 
 pub prepared_alone : PreparedAlone
 prepared_alone catalog statement ds b encs e i =

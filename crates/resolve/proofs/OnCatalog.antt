@@ -18,12 +18,17 @@ use Rattle.sql_tree.specs.declared.statements.Encryption.{Encryption}
 use Rattle.sql_tree.specs.declared.statements.SourceTable.{SourceTable}
 use Rattle.sql_tree.specs.declared.statements.UniqueSpec.{UniqueSpec}
 use Rattle.sql_tree.specs.declared.bound.BoundTable.{BoundTable}
+use Rattle.sql_tree.specs.declared.bound.BoundDefinition.{BoundDefinition}
+use Rattle.sql_tree.specs.declared.bound.BoundDefinition.TheVariants as definition
+use Rattle.sql_tree.specs.declared.statements.Definition.{Definition}
+use Rattle.sql_tree.specs.declared.statements.Definition.TheVariants as written
 use Rattle.sql_tree.specs.declared.bound.ColumnSite.{ColumnSite}
 use Rattle.sql_tree.specs.Statements as tree
 use Rattle.sql_tree.specs.Bound as bound
 use Rattle.sql_tree.specs.OnTables.{table_among, columns_in, sites_among, AreColumnsOn, IsSourceOn, sources_of, IsStatementOn, IsOnTables}
 use Rattle.sql_tree.specs.Placed.{site_of}
 use Rattle.catalog.specs.Catalogs.{Catalog, master_named, key_named, table_named, key_of}
+use Rattle.catalog.specs.Definitions.{IsDefinable, MayDefine}
 use Rattle.catalog.specs.WellFormed.{IsKeyThere, AreKeysThere, IsCatalog}
 use Rattle.catalog.specs.declared.keys.ColumnKey.{ColumnKey}
 use Rattle.resolve.specs.Walks.{each_from}
@@ -32,9 +37,9 @@ use Rattle.resolve.specs.Scopes as scopes
 use Rattle.resolve.specs.Names.{bind_condition, bind_filter}
 use Rattle.resolve.specs.Tables.{Joined, Sources, all_sources, visible, table_for, source_for, joined_from, sources_for}
 use Rattle.resolve.specs.Queries.{bind_items, bind_join, bind_joins, bind_column_at, bind_key, bind_query}
-use Rattle.resolve.specs.Changes.{places_for, bind_row, bind_insert, assigned, table_scope, bind_update, bind_delete}
-use Rattle.resolve.specs.Definitions.{key_path, wrapped_key, master_for, enc_of, enc_for, name_of, new_name, bind_column, bind_unique, word_keys, table_of, bind_table}
-use Rattle.resolve.specs.Bind.{type_of, bound_over, table_sites, named}
+use Rattle.resolve.specs.Changes.{places_for, bind_row, bind_insert, nth_assignment, table_scope, bind_update, bind_delete}
+use Rattle.resolve.specs.Definitions.{key_path, wrapped_key, master_for, enc_of, enc_for, name_of, new_name, bind_column, bind_unique, word_keys, table_of, bind_table, bind_definition, table_sites, new_sites}
+use Rattle.resolve.specs.Bind.{type_of, bound_over, resolution}
 use Rattle.resolve.proofs.Parts.{one_part, two_parts, first_part}
 use Rattle.resolve.proofs.QueryParts.{made, ordered, grouped, filtered, joined, in_parts}
 use Rattle.resolve.proofs.Places.{found}
@@ -162,19 +167,19 @@ column_there catalog all i column def e =
     two_parts (new_name (map name_of (take i all)) column.name) (enc_for catalog column.encryption) (λ new enc. record { name = column.name; ty = column.ty; enc = enc; not_null = column.not_null }) def
     (λ (z : ColumnDef). IsKeyThere catalog z.enc) e (λ new enc en ee. enc_there catalog column.encryption enc ee)
 
-made_there : (catalog : Catalog) (table : List ℕ) (columns : List ColumnSpec) (uniques : List UniqueSpec) (b : BoundTable) → bind_table catalog table columns uniques ≡ Ok b → AreThere catalog (table_sites b.def)
+made_there : (catalog : Catalog) (table : List ℕ) (columns : List ColumnSpec) (uniques : List UniqueSpec) (b : BoundTable) → bind_table catalog table columns uniques ≡ Ok b → AreKeysThere catalog b.def
 made_there catalog table columns uniques b e =
-    let Q : BoundTable → Type 0 = λ z. AreThere catalog (table_sites z.def) in
+    let Q : BoundTable → Type 0 = λ z. AreKeysThere catalog z.def in
     first_part (each_from (bind_column catalog columns) 0 columns) (λ defs. each (bind_unique defs) uniques >>= λ lists. Ok (table_of table defs (word_keys 0 columns) lists)) b (Q b) e
     (λ defs ed e1. one_part (each (bind_unique defs) uniques) (λ lists. table_of table defs (word_keys 0 columns) lists) b Q e1
-    (λ lists el. All-map (λ site. IsKeyThere catalog site.enc) site_of defs (each_from_placed (λ (def : ColumnDef). IsKeyThere catalog def.enc) (bind_column catalog columns) (column_there catalog columns) columns 0 defs ed)))
+    (λ lists el. each_from_placed (λ (def : ColumnDef). IsKeyThere catalog def.enc) (bind_column catalog columns) (column_there catalog columns) columns 0 defs ed))
 
 -- ---- statements
 
 pub record StandsOn (catalog : Catalog) (ds : List ParamDecl) (b : bound.Bound) : Type 0 where
   pub params : b.params ≡ map type_of ds
   pub tables : IsOnTables catalog.tables b
-  pub master : (name master wrapped : List ℕ) → b.statement ≡ bound.CreateKey name master wrapped → IsSome (master_named catalog master)
+  pub definable : MayDefine catalog b.statement
   pub keys : IsCatalog catalog → AreThere catalog b.columns
 
 no_columns : (catalog : Catalog) → AreThere catalog []
@@ -185,50 +190,52 @@ master_found catalog master m e =
     first_part (or_fault (fault.NoKey master) (master_named catalog master)) (λ key. Ok tt) m (IsSome (master_named catalog master)) e
     (λ key ek e1. subst IsSome (sym (found (fault.NoKey master) (master_named catalog master) key ek)) refl)
 
-changed : (catalog : Catalog) (ds : List ParamDecl) (table : List ℕ) (def : TableDef) (s : bound.BoundStatement) → table_for catalog table ≡ Ok def
-    → (AreColumnsOn catalog.tables table (table_sites def) → IsStatementOn catalog.tables (table_sites def) s) → ((name master wrapped : List ℕ) → s ≡ bound.CreateKey name master wrapped → ⊥)
-    → StandsOn catalog ds (bound_over ds (table_sites def) s)
-changed catalog ds table def s e on isnt =
-    let t = table_is catalog table def e in
-    record { params = refl; tables = on (columns_on catalog table def t); master = λ name master wrapped h. absurd (isnt name master wrapped h); keys = λ c. table_there catalog table def c t }
+definable : (catalog : Catalog) (d : Definition) (made : BoundDefinition) → bind_definition catalog d ≡ Ok made → IsDefinable catalog made
+definable catalog (written.CreateMaster name path) made e = one_part (key_path path) (λ p. definition.CreateMaster name p) made (IsDefinable catalog) e (λ p ep. tt)
+definable catalog (written.CreateKey name master wrapped) made e =
+    two_parts (wrapped_key wrapped) (master_for catalog master) (λ w m. definition.CreateKey name master w) made (IsDefinable catalog) e (λ w m ew em. master_found catalog master m em)
+definable catalog (written.CreateTable table columns uniques) made e =
+    one_part (bind_table catalog table columns uniques) definition.CreateTable made (IsDefinable catalog) e (made_there catalog table columns uniques)
+definable catalog (written.DropTable name) made e = let i : definition.DropTable name ≡ made = cc in subst (IsDefinable catalog) i tt
+definable catalog (written.DropMaster name) made e = let i : definition.DropMaster name ≡ made = cc in subst (IsDefinable catalog) i tt
+definable catalog (written.DropKey name) made e = let i : definition.DropKey name ≡ made = cc in subst (IsDefinable catalog) i tt
 
-pub stands_on : (catalog : Catalog) (statement : tree.Statement) (ds : List ParamDecl) (b : bound.Bound) → named catalog statement ds ≡ Ok b → StandsOn catalog ds b
-stands_on catalog (tree.CreateMaster name path) ds b e =
-    one_part (key_path path) (λ p. bound_over ds [] (bound.CreateMaster name p)) b (StandsOn catalog ds) e
-    (λ p ep. record { params = refl; tables = tt; master = λ n m w h. absurd cc; keys = λ c. no_columns catalog })
-stands_on catalog (tree.CreateKey name master wrapped) ds b e =
-    two_parts (wrapped_key wrapped) (master_for catalog master) (λ w m. bound_over ds [] (bound.CreateKey name master w)) b (StandsOn catalog ds) e
-    (λ w m ew em. record {
-      params = refl;
-      tables = tt;
-      master = λ n other v h. let i : master ≡ other = cc in subst (λ z. IsSome (master_named catalog z)) i (master_found catalog master m em);
-      keys = λ c. no_columns catalog;
-    })
-stands_on catalog (tree.CreateTable table columns uniques) ds b e =
-    one_part (bind_table catalog table columns uniques) (λ made. bound_over ds (table_sites made.def) (bound.CreateTable made)) b (StandsOn catalog ds) e
-    (λ made em. record { params = refl; tables = tt; master = λ n m w h. absurd cc; keys = λ c. made_there catalog table columns uniques made em })
-stands_on catalog (tree.DropTable name) ds b e =
-    let i : bound_over ds [] (bound.DropTable name) ≡ b = cc in subst (StandsOn catalog ds) i (record { params = refl; tables = tt; master = λ n m w h. absurd cc; keys = λ c. no_columns catalog })
-stands_on catalog (tree.DropMaster name) ds b e =
-    let i : bound_over ds [] (bound.DropMaster name) ≡ b = cc in subst (StandsOn catalog ds) i (record { params = refl; tables = tt; master = λ n m w h. absurd cc; keys = λ c. no_columns catalog })
-stands_on catalog (tree.DropKey name) ds b e =
-    let i : bound_over ds [] (bound.DropKey name) ≡ b = cc in subst (StandsOn catalog ds) i (record { params = refl; tables = tt; master = λ n m w h. absurd cc; keys = λ c. no_columns catalog })
+new_there : (catalog : Catalog) (made : BoundDefinition) → IsDefinable catalog made → AreThere catalog (new_sites made)
+new_there catalog (definition.CreateMaster name path) h = no_columns catalog
+new_there catalog (definition.CreateKey name master wrapped) h = no_columns catalog
+new_there catalog (definition.CreateTable table) h = def_there catalog table.def h
+new_there catalog (definition.DropTable name) h = no_columns catalog
+new_there catalog (definition.DropMaster name) h = no_columns catalog
+new_there catalog (definition.DropKey name) h = no_columns catalog
+
+changed : (catalog : Catalog) (ds : List ParamDecl) (table : List ℕ) (def : TableDef) (s : bound.BoundStatement) → table_for catalog table ≡ Ok def
+    → (AreColumnsOn catalog.tables table (table_sites def) → IsStatementOn catalog.tables (table_sites def) s) → MayDefine catalog s → StandsOn catalog ds (bound_over ds (table_sites def) s)
+changed catalog ds table def s e on may =
+    let t = table_is catalog table def e in
+    record { params = refl; tables = on (columns_on catalog table def t); definable = may; keys = λ c. table_there catalog table def c t }
+
+pub stands_on : (catalog : Catalog) (statement : tree.Statement) (ds : List ParamDecl) (b : bound.Bound) → resolution catalog statement ds ≡ Ok b → StandsOn catalog ds b
+stands_on catalog (tree.Definition d) ds b e =
+    one_part (bind_definition catalog d) (λ made. bound_over ds (new_sites made) (bound.Definition made)) b (StandsOn catalog ds) e
+    (λ made em.
+    let may = definable catalog d made em in
+    record { params = refl; tables = tt; definable = may; keys = λ c. new_there catalog made may })
 stands_on catalog (tree.Insert table names rows) ds b e =
     first_part (table_for catalog table) (λ def. bind_insert ds def table names rows >>= λ insert. Ok (bound_over ds (table_sites def) (bound.Insert insert))) b (StandsOn catalog ds b) e
     (λ def ed e1. one_part (bind_insert ds def table names rows) (λ insert. bound_over ds (table_sites def) (bound.Insert insert)) b (StandsOn catalog ds) e1
     (λ insert ei. two_parts (places_for def.columns names) (each (bind_row ds) rows) (λ n rs. record { table = table; named = n; rows = rs }) insert (λ z. StandsOn catalog ds (bound_over ds (table_sites def) (bound.Insert z))) ei
-    (λ n rs en er. changed catalog ds table def (bound.Insert (record { table = table; named = n; rows = rs })) ed (λ h. h) (λ n m w h. cc))))
+    (λ n rs en er. changed catalog ds table def (bound.Insert (record { table = table; named = n; rows = rs })) ed (λ h. h) tt)))
 stands_on catalog (tree.Update table all filter) ds b e =
     first_part (table_for catalog table) (λ def. bind_update ds def table all filter >>= λ update. Ok (bound_over ds (table_sites def) (bound.Update update))) b (StandsOn catalog ds b) e
     (λ def ed e1. one_part (bind_update ds def table all filter) (λ update. bound_over ds (table_sites def) (bound.Update update)) b (StandsOn catalog ds) e1
-    (λ update eu. two_parts (each_from (assigned ds def (table_scope table def) all) 0 all) (bind_filter (table_scope table def) ds filter) (λ a c. record { table = table; assignments = a; filter = c }) update
+    (λ update eu. two_parts (each_from (nth_assignment ds def (table_scope table def) all) 0 all) (bind_filter (table_scope table def) ds filter) (λ a c. record { table = table; assignments = a; filter = c }) update
     (λ z. StandsOn catalog ds (bound_over ds (table_sites def) (bound.Update z))) eu
-    (λ a c ea ec. changed catalog ds table def (bound.Update (record { table = table; assignments = a; filter = c })) ed (λ h. h) (λ n m w h. cc))))
+    (λ a c ea ec. changed catalog ds table def (bound.Update (record { table = table; assignments = a; filter = c })) ed (λ h. h) tt)))
 stands_on catalog (tree.Delete table filter) ds b e =
     first_part (table_for catalog table) (λ def. bind_delete ds def table filter >>= λ delete. Ok (bound_over ds (table_sites def) (bound.Delete delete))) b (StandsOn catalog ds b) e
     (λ def ed e1. one_part (bind_delete ds def table filter) (λ delete. bound_over ds (table_sites def) (bound.Delete delete)) b (StandsOn catalog ds) e1
     (λ delete eu. one_part (bind_filter (table_scope table def) ds filter) (λ c. record { table = table; filter = c }) delete (λ z. StandsOn catalog ds (bound_over ds (table_sites def) (bound.Delete z))) eu
-    (λ c ec. changed catalog ds table def (bound.Delete (record { table = table; filter = c })) ed (λ h. h) (λ n m w h. cc))))
+    (λ c ec. changed catalog ds table def (bound.Delete (record { table = table; filter = c })) ed (λ h. h) tt)))
 stands_on catalog (tree.Select q) ds b e =
     first_part (sources_for catalog q) (λ sources. bind_query ds sources q >>= λ query. Ok (bound_over ds (sites_of (all_sources sources)) (bound.Select query))) b (StandsOn catalog ds b) e
     (λ sources es e1. one_part (bind_query ds sources q) (λ query. bound_over ds (sites_of (all_sources sources)) (bound.Select query)) b (StandsOn catalog ds) e1
@@ -239,8 +246,8 @@ stands_on catalog (tree.Select q) ds b e =
       params = refl;
       tables = subst (λ z. All (IsSourceOn catalog.tables) z × (sites_of (all_sources sources) ≡ flat_map (λ source. sites_among catalog.tables source.table) z)) (sym same)
           (sources_on catalog (all_sources sources) h, sites_on catalog (all_sources sources) h);
-      master = λ n m w h. absurd cc;
+      definable = tt;
       keys = λ c. sites_there catalog (all_sources sources) c h;
     }))
 stands_on catalog (tree.Control control) ds b e =
-    let i : bound_over ds [] (bound.Control control) ≡ b = cc in subst (StandsOn catalog ds) i (record { params = refl; tables = tt; master = λ n m w h. absurd cc; keys = λ c. no_columns catalog })
+    let i : bound_over ds [] (bound.Control control) ≡ b = cc in subst (StandsOn catalog ds) i (record { params = refl; tables = tt; definable = tt; keys = λ c. no_columns catalog })

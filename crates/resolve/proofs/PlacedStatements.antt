@@ -20,10 +20,15 @@ use Rattle.sql_tree.specs.declared.statements.UniqueSpec.{UniqueSpec}
 use Rattle.sql_tree.specs.declared.bound.PlaceAt.{PlaceAt}
 use Rattle.sql_tree.specs.declared.bound.BoundOrderKey.{BoundOrderKey}
 use Rattle.sql_tree.specs.declared.bound.BoundTable.{BoundTable}
+use Rattle.sql_tree.specs.declared.bound.BoundDefinition.{BoundDefinition}
+use Rattle.sql_tree.specs.declared.bound.BoundDefinition.TheVariants as definition
+use Rattle.sql_tree.specs.Definitions.{uniques_in}
+use Rattle.sql_tree.specs.declared.statements.Definition.{Definition}
+use Rattle.sql_tree.specs.declared.statements.Definition.TheVariants as written
 use Rattle.sql_tree.specs.Conditions.{Condition}
 use Rattle.sql_tree.specs.Statements as tree
 use Rattle.sql_tree.specs.Bound as bound
-use Rattle.sql_tree.specs.Placed.{IsPlaced, IsPlacedCondition, IsPlacedFilter, IsPlacedValue, ArePlacedJoins, IsPlacedInsert, IsPlacedQuery, IsPlacedTable, IsPlacedStatement, IsWellPlaced, site_of}
+use Rattle.sql_tree.specs.Placed.{IsPlaced, IsPlacedCondition, IsPlacedFilter, IsPlacedValue, ArePlacedJoins, IsPlacedInsert, IsPlacedQuery, IsPlacedTable, IsPlacedDefinition, IsPlacedStatement, IsWellPlaced, site_of}
 use Rattle.semantic_checks.specs.Clashes.{Types, operand_clashes, paired_clashes, row_clashes, clashes}
 use Rattle.semantic_checks.specs.Checks.{is_long_statement}
 use Rattle.catalog.specs.Catalogs.{Catalog}
@@ -31,10 +36,10 @@ use Rattle.resolve.specs.Walks.{each_from}
 use Rattle.resolve.specs.Scopes.{Source, Scope, ScopeColumn, nothing_in_scope, with_source, with_sources, scope_of, bound_source, sites_of, named_place, column_place}
 use Rattle.resolve.specs.Names.{bind_operand, bind_operands, bind_condition, bind_filter}
 use Rattle.resolve.specs.Tables.{Joined, Sources, all_sources, table_for, sources_for}
-use Rattle.resolve.specs.Queries.{starred, title_of, bind_value, bind_item, bind_items, bind_join, bind_joins, bind_column_at, bind_key, bind_query}
-use Rattle.resolve.specs.Changes.{table_scope, all_places, places_for, listed_place, bind_row, bind_insert, column_of, bind_assignment, assigned, bind_update, bind_delete}
-use Rattle.resolve.specs.Definitions.{key_path, wrapped_key, master_for, bind_column, word_keys, bind_key_column, bind_unique, listed_name, place_of_key, alone, places_of_list, table_of, bind_table}
-use Rattle.resolve.specs.Bind.{type_of, bound_over, table_sites, named}
+use Rattle.resolve.specs.Queries.{star_items, title_of, bind_value, bind_item, bind_items, bind_join, bind_joins, bind_column_at, bind_key, bind_query}
+use Rattle.resolve.specs.Changes.{table_scope, all_places, places_for, listed_place, bind_row, bind_insert, column_of, bind_assignment, nth_assignment, bind_update, bind_delete}
+use Rattle.resolve.specs.Definitions.{key_path, wrapped_key, master_for, bind_column, word_keys, bind_key_column, bind_unique, listed_name, place_of_key, alone, places_of_list, table_of, bind_table, bind_definition, table_sites, new_sites}
+use Rattle.resolve.specs.Bind.{type_of, bound_over, resolution}
 use Rattle.resolve.proofs.Parts.{one_part, two_parts, first_part}
 use Rattle.resolve.proofs.QueryParts.{made, ordered, grouped, filtered, joined, in_parts}
 use Rattle.resolve.proofs.Places.{place-within, column-within, operand_placed, operands_placed, condition_placed, filter_placed, each_placed}
@@ -66,9 +71,9 @@ assignment_placed ds def s before o b e =
 
 -- ---- queries
 
-starred_placed : (at : ℕ) (n params : ℕ) (cs : List ScopeColumn) (i : ℕ) → i + length cs ≤ n → All (λ item. IsPlacedValue n params item.value) (starred at i cs)
+starred_placed : (at : ℕ) (n params : ℕ) (cs : List ScopeColumn) (i : ℕ) → i + length cs ≤ n → All (λ item. IsPlacedValue n params item.value) (star_items at i cs)
 starred_placed at n params [] i le = All-nil (λ item. IsPlacedValue n params item.value)
-starred_placed at n params (c ∷ cs) i le = All-cons (λ item. IsPlacedValue n params item.value) _ (starred at (i + 1) cs) (omega (arith, le)) (starred_placed at n params cs (i + 1) (omega (arith, le)))
+starred_placed at n params (c ∷ cs) i le = All-cons (λ item. IsPlacedValue n params item.value) _ (star_items at (i + 1) cs) (omega (arith, le)) (starred_placed at n params cs (i + 1) (omega (arith, le)))
 
 value_placed : (s : Scope) (ds : List ParamDecl) (o : tree.ItemValue) (b : bound.BoundItemValue) → bind_value s ds o ≡ Ok b → IsPlacedValue (length s.columns) (length ds) b
 value_placed s ds (tree.Value x) b e = one_part (bind_operand s ds x) bound.Value b (IsPlacedValue (length s.columns) (length ds)) e (λ a ea. operand_placed s ds x a ea)
@@ -79,7 +84,7 @@ item_placed s ds o b e = one_part (bind_value s ds o.value) (λ v. record { titl
 
 pub items_placed : (s : Scope) (ds : List ParamDecl) (o : tree.Items) (b : List bound.BoundItem) → bind_items s ds o ≡ Ok b → All (λ item. IsPlacedValue (length s.columns) (length ds) item.value) b
 items_placed s ds (tree.Star at) b e =
-    let i : starred at 0 s.columns ≡ b = cc in subst (All (λ item. IsPlacedValue (length s.columns) (length ds) item.value)) i (starred_placed at (length s.columns) (length ds) s.columns 0 (omega arith))
+    let i : star_items at 0 s.columns ≡ b = cc in subst (All (λ item. IsPlacedValue (length s.columns) (length ds) item.value)) i (starred_placed at (length s.columns) (length ds) s.columns 0 (omega arith))
 items_placed s ds (tree.Listed items) b e = each_placed (λ item. IsPlacedValue (length s.columns) (length ds) item.value) (bind_item s ds) (λ x y. item_placed s ds x y) items b e
 
 with-length : (s : Scope) (x : Source) → length (with_source s x).columns ≡ length s.columns + length x.def.columns
@@ -237,10 +242,10 @@ update_placed : (ds : List ParamDecl) (def : TableDef) (table : List ℕ) (all :
 update_placed ds def table all filter b e =
     let s = table_scope table def in
     let n : length s.columns ≡ length def.columns = length-map def.columns _ in
-    two_parts (each_from (assigned ds def s all) 0 all) (bind_filter s ds filter) (λ a c. record { table = table; assignments = a; filter = c }) b
+    two_parts (each_from (nth_assignment ds def s all) 0 all) (bind_filter s ds filter) (λ a c. record { table = table; assignments = a; filter = c }) b
     (λ z. All (λ a. (a.place < length def.columns) × IsPlaced (length def.columns) (length ds) a.value) z.assignments × IsPlacedFilter (length def.columns) (length ds) z.filter) e
     (λ a c ea ec. (
-      each_from_placed (λ (a : bound.BoundAssignment). (a.place < length def.columns) × IsPlaced (length def.columns) (length ds) a.value) (assigned ds def s all)
+      each_from_placed (λ (a : bound.BoundAssignment). (a.place < length def.columns) × IsPlaced (length def.columns) (length ds) a.value) (nth_assignment ds def s all)
           (λ i x y h. subst (λ k. (y.place < length def.columns) × IsPlaced k (length ds) y.value) n (assignment_placed ds def s (take i all) x y h)) all 0 a ea,
       subst (λ k. IsPlacedFilter k (length ds) c) n (filter_placed s ds filter c ec),
     ))
@@ -286,16 +291,24 @@ PlacedIfFine z = clashes z ≡ [] → is_long_statement z.statement ≡ false �
 placed_over : (ds : List ParamDecl) (def : TableDef) (s : bound.BoundStatement) → IsPlacedStatement (table_sites def) (length ds) s → IsWellPlaced (bound_over ds (table_sites def) s)
 placed_over ds def s h = subst (λ k. IsPlacedStatement (table_sites def) k s) (sym (length-map ds type_of)) h
 
-pub named_placed_well : (catalog : Catalog) (statement : tree.Statement) (ds : List ParamDecl) (b : bound.Bound) → named catalog statement ds ≡ Ok b → PlacedIfFine b
-named_placed_well catalog (tree.CreateMaster name path) ds b e = one_part (key_path path) (λ p. bound_over ds [] (bound.CreateMaster name p)) b PlacedIfFine e (λ p ep c l. path_is path p ep)
-named_placed_well catalog (tree.CreateKey name master wrapped) ds b e =
-    two_parts (wrapped_key wrapped) (master_for catalog master) (λ w m. bound_over ds [] (bound.CreateKey name master w)) b PlacedIfFine e (λ w m ew em c l. wrapped_is wrapped w ew)
-named_placed_well catalog (tree.CreateTable table columns uniques) ds b e =
-    one_part (bind_table catalog table columns uniques) (λ made. bound_over ds (table_sites made.def) (bound.CreateTable made)) b PlacedIfFine e
-    (λ made em c l. table_placed catalog table columns uniques made em (ltb-false 8 (length made.def.uniques) l))
-named_placed_well catalog (tree.DropTable name) ds b e = let i : bound_over ds [] (bound.DropTable name) ≡ b = cc in subst PlacedIfFine i (λ c l. tt)
-named_placed_well catalog (tree.DropMaster name) ds b e = let i : bound_over ds [] (bound.DropMaster name) ≡ b = cc in subst PlacedIfFine i (λ c l. tt)
-named_placed_well catalog (tree.DropKey name) ds b e = let i : bound_over ds [] (bound.DropKey name) ≡ b = cc in subst PlacedIfFine i (λ c l. tt)
+-- of a new table that has few unique keys
+abbrev WellPlaced : BoundDefinition → Type 0
+WellPlaced made = length (uniques_in made) ≤ 8 → IsPlacedDefinition (new_sites made) made
+
+definition_placed : (catalog : Catalog) (d : Definition) (made : BoundDefinition) → bind_definition catalog d ≡ Ok made → length (uniques_in made) ≤ 8 → IsPlacedDefinition (new_sites made) made
+definition_placed catalog (written.CreateMaster name path) made e =
+    one_part (key_path path) (λ p. definition.CreateMaster name p) made WellPlaced e (λ p ep few. path_is path p ep)
+definition_placed catalog (written.CreateKey name master wrapped) made e =
+    two_parts (wrapped_key wrapped) (master_for catalog master) (λ w m. definition.CreateKey name master w) made WellPlaced e (λ w m ew em few. wrapped_is wrapped w ew)
+definition_placed catalog (written.CreateTable table columns uniques) made e =
+    one_part (bind_table catalog table columns uniques) definition.CreateTable made WellPlaced e (table_placed catalog table columns uniques)
+definition_placed catalog (written.DropTable name) made e = let i : definition.DropTable name ≡ made = cc in subst WellPlaced i (λ few. tt)
+definition_placed catalog (written.DropMaster name) made e = let i : definition.DropMaster name ≡ made = cc in subst WellPlaced i (λ few. tt)
+definition_placed catalog (written.DropKey name) made e = let i : definition.DropKey name ≡ made = cc in subst WellPlaced i (λ few. tt)
+
+pub named_placed_well : (catalog : Catalog) (statement : tree.Statement) (ds : List ParamDecl) (b : bound.Bound) → resolution catalog statement ds ≡ Ok b → PlacedIfFine b
+named_placed_well catalog (tree.Definition d) ds b e =
+    one_part (bind_definition catalog d) (λ made. bound_over ds (new_sites made) (bound.Definition made)) b PlacedIfFine e (λ made em c l. definition_placed catalog d made em (ltb-false 8 (length (uniques_in made)) l))
 named_placed_well catalog (tree.Insert table names rows) ds b e =
     first_part (table_for catalog table) (λ def. bind_insert ds def table names rows >>= λ insert. Ok (bound_over ds (table_sites def) (bound.Insert insert))) b (PlacedIfFine b) e
     (λ def ed e1. one_part (bind_insert ds def table names rows) (λ insert. bound_over ds (table_sites def) (bound.Insert insert)) b PlacedIfFine e1

@@ -50,12 +50,12 @@ bind_assignment declarations def scope before assignment =
     bind_operand scope declarations assignment.value >>= λ value.
     Ok (record { at = assignment.at; place = place; value = value })
 
-abbrev pub assigned : List ParamDecl → TableDef → Scope → List Assignment → ℕ → Assignment → Result BoundAssignment SqlFault
-assigned declarations def scope all i assignment = bind_assignment declarations def scope (take i all) assignment
+abbrev pub nth_assignment : List ParamDecl → TableDef → Scope → List Assignment → ℕ → Assignment → Result BoundAssignment SqlFault
+nth_assignment declarations def scope all i assignment = bind_assignment declarations def scope (take i all) assignment
 
 abbrev pub bind_update : List ParamDecl → TableDef → List ℕ → List Assignment → Option (Condition ColumnRef (List ℕ)) → Result BoundUpdate SqlFault
 bind_update declarations def table assignments filter =
-    each_from (assigned declarations def (table_scope table def) assignments) 0 assignments >>= λ bound.
+    each_from (nth_assignment declarations def (table_scope table def) assignments) 0 assignments >>= λ bound.
     bind_filter (table_scope table def) declarations filter >>= λ condition.
     Ok (record { table = table; assignments = bound; filter = condition })
 

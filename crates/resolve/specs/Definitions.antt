@@ -4,18 +4,25 @@ use Rattle.std.specs.List.{list_any, flat_map}
 use Rattle.std.specs.Str.{bytes_eq}
 use Rattle.ae_base.specs.Results.{◌>>=◌, each, or_fault}
 use Rattle.ae_base.specs.declared.tables.ColumnDef.{ColumnDef}
+use Rattle.ae_base.specs.declared.tables.TableDef.{TableDef}
 use Rattle.ae_base.specs.declared.types.Enc.{Enc}
 use Rattle.ae_base.specs.declared.types.Enc.TheVariants.{Plain, Det, Rnd}
 use Rattle.ae_base.specs.declared.faults.SqlFault.{SqlFault}
 use Rattle.ae_base.specs.declared.faults.SqlFault.TheVariants as fault
 use Rattle.sql_tree.specs.declared.statements.EncryptionKind.{EncryptionKind}
 use Rattle.sql_tree.specs.declared.statements.EncryptionKind.TheVariants.{Deterministic, Randomized}
+use Rattle.sql_tree.specs.declared.statements.Definition.{Definition}
+use Rattle.sql_tree.specs.declared.statements.Definition.TheVariants as written
 use Rattle.sql_tree.specs.declared.statements.Encryption.{Encryption}
 use Rattle.sql_tree.specs.declared.statements.ColumnSpec.{ColumnSpec}
 use Rattle.sql_tree.specs.declared.statements.NameAt.{NameAt}
 use Rattle.sql_tree.specs.declared.statements.UniqueSpec.{UniqueSpec}
 use Rattle.sql_tree.specs.declared.bound.PlaceAt.{PlaceAt}
 use Rattle.sql_tree.specs.declared.bound.BoundTable.{BoundTable}
+use Rattle.sql_tree.specs.declared.bound.BoundDefinition.{BoundDefinition}
+use Rattle.sql_tree.specs.declared.bound.BoundDefinition.TheVariants as definition
+use Rattle.sql_tree.specs.declared.bound.ColumnSite.{ColumnSite}
+use Rattle.sql_tree.specs.Placed.{site_of}
 use Rattle.catalog.specs.Catalogs.{Catalog, key_named, master_named}
 use Rattle.resolve.specs.Walks.{each_from}
 use Rattle.resolve.specs.Scopes.{named_place}
@@ -109,3 +116,23 @@ bind_table catalog table columns uniques =
     each_from (bind_column catalog columns) 0 columns >>= λ defs.
     each (bind_unique defs) uniques >>= λ lists.
     Ok (table_of table defs (word_keys 0 columns) lists)
+
+-- ---- a definition with its names found; of a master key the path alone is tested
+
+abbrev pub bind_definition : Catalog → Definition → Result BoundDefinition SqlFault
+bind_definition catalog (written.CreateMaster name path) = key_path path >>= λ p. Ok (definition.CreateMaster name p)
+bind_definition catalog (written.CreateKey name master wrapped) =
+    wrapped_key wrapped >>= λ w. master_for catalog master >>= λ there. Ok (definition.CreateKey name master w)
+bind_definition catalog (written.CreateTable table columns uniques) =
+    bind_table catalog table columns uniques >>= λ made. Ok (definition.CreateTable made)
+bind_definition catalog (written.DropTable name) = Ok (definition.DropTable name)
+bind_definition catalog (written.DropMaster name) = Ok (definition.DropMaster name)
+bind_definition catalog (written.DropKey name) = Ok (definition.DropKey name)
+
+abbrev pub table_sites : TableDef → List ColumnSite
+table_sites def = map site_of def.columns
+
+-- the columns of a new table
+abbrev pub new_sites : BoundDefinition → List ColumnSite
+new_sites (definition.CreateTable made) = table_sites made.def
+new_sites other = []

@@ -1,20 +1,21 @@
 -- What each bound statement is; and one that is bound over all declarations is bound alike over others that have those it uses.
-use Rattle.std.specs.Prelude.{◌≡◌, ℕ, List, map, Bool, true, Ok, IsSome}
+use Rattle.std.specs.Prelude.{◌≡◌, ℕ, List, map, Bool, true, Ok}
 use Rattle.std.specs.List.{All, slice_get}
 use Rattle.ae_base.specs.Results.{◌>>=◌}
 use Rattle.ae_base.specs.declared.batches.ParamDecl.{ParamDecl}
 use Rattle.ae_base.specs.declared.types.Enc.{Enc}
 use Rattle.sql_tree.specs.Statements.{Statement}
-use Rattle.sql_tree.specs.Bound.{Bound, CreateKey}
+use Rattle.sql_tree.specs.Bound.{Bound}
 use Rattle.sql_tree.specs.OnTables.{IsOnTables}
 use Rattle.sql_tree.specs.Placed.{IsWellPlaced}
 use Rattle.sql_tree.specs.Uses.{uses, renamed, renamed_statement}
-use Rattle.enc_types.specs.Least.{inferred}
+use Rattle.enc_types.specs.Least.{inferred_encs}
 use Rattle.enc_types.specs.UsedAlone.{used_among, is_used, alone}
-use Rattle.catalog.specs.Catalogs.{Catalog, master_named}
+use Rattle.catalog.specs.Catalogs.{Catalog}
+use Rattle.catalog.specs.Definitions.{MayDefine}
 use Rattle.catalog.specs.WellFormed.{IsKeyThere, IsCatalog}
 use Rattle.resolve.specs.Scopes.{param_place}
-use Rattle.resolve.specs.Bind.{bound_over, type_of, named, bind}
+use Rattle.resolve.specs.Bind.{bound_over, type_of, resolution, bind}
 
 -- a bound statement has the declared types, its places lie within them and its columns, and its tables and keys are those of
 -- the catalog
@@ -22,7 +23,7 @@ pub record IsBoundOver (catalog : Catalog) (declarations : List ParamDecl) (b : 
   pub params : b.params ≡ map type_of declarations
   pub placed : IsWellPlaced b
   pub tables : IsOnTables catalog.tables b
-  pub master : (name master wrapped : List ℕ) → b.statement ≡ CreateKey name master wrapped → IsSome (master_named catalog master)
+  pub definable : MayDefine catalog b.statement
   pub keys : IsCatalog catalog → All (λ site. IsKeyThere catalog site.enc) b.columns
 
 abbrev pub BoundStatementsAre : Type 0
@@ -36,21 +37,21 @@ pub record Keeps (declarations others : List ParamDecl) (f : ℕ → ℕ) (used 
 -- over those it is the same statement, its parameters where f puts them
 pub record NamesKeepTheUsed : Type 0 where
   pub kept : (catalog : Catalog) (statement : Statement) (declarations others : List ParamDecl) (f : ℕ → ℕ) (bound : Bound)
-      → named catalog statement declarations ≡ Ok bound → Keeps declarations others f (λ place. uses place bound)
-      → named catalog statement others ≡ Ok (bound_over others bound.columns (renamed_statement f bound.statement))
+      → resolution catalog statement declarations ≡ Ok bound → Keeps declarations others f (λ place. uses place bound)
+      → resolution catalog statement others ≡ Ok (bound_over others bound.columns (renamed_statement f bound.statement))
 
 -- and the whole statement is, or the same fault of its kinds, its groups or its length is answered
 pub record BindKeepsTheUsed : Type 0 where
   pub kept : (catalog : Catalog) (statement : Statement) (declarations others : List ParamDecl) (f : ℕ → ℕ) (bound : Bound)
-      → named catalog statement declarations ≡ Ok bound → Keeps declarations others f (λ place. uses place bound)
+      → resolution catalog statement declarations ≡ Ok bound → Keeps declarations others f (λ place. uses place bound)
       → bind catalog statement others ≡ (bind catalog statement declarations >>= λ made. Ok (renamed f (map type_of others) made))
 
 -- a statement that is described over all declarations is, over those that it uses alone, the same with its parameters there,
 -- and these are inferred alike
 pub record IsPreparedAlone (catalog : Catalog) (statement : Statement) (declarations : List ParamDecl) (b : Bound) (encs : List Enc) : Type 0 where
   pub is_bound : bind catalog statement (used_among (is_used b) 0 declarations) ≡ Ok (alone b)
-  pub is_inferred : inferred (alone b) ≡ Ok (used_among (is_used b) 0 encs)
+  pub is_inferred : inferred_encs (alone b) ≡ Ok (used_among (is_used b) 0 encs)
 
 abbrev pub PreparedAlone : Type 0
-PreparedAlone = (catalog : Catalog) (statement : Statement) (declarations : List ParamDecl) (b : Bound) (encs : List Enc) → bind catalog statement declarations ≡ Ok b → inferred b ≡ Ok encs
+PreparedAlone = (catalog : Catalog) (statement : Statement) (declarations : List ParamDecl) (b : Bound) (encs : List Enc) → bind catalog statement declarations ≡ Ok b → inferred_encs b ≡ Ok encs
     → IsPreparedAlone catalog statement declarations b encs

@@ -1,7 +1,6 @@
 pub mod Bind
 pub mod Changes
 pub mod Definitions
-pub mod Dropped
 pub mod Faults
 pub mod Laws
 pub mod Names

@@ -19,9 +19,9 @@ use Rattle.resolve.specs.Tables.{Joined, Sources, all_sources}
 use Rattle.resolve.specs.Names.{bind_operand, bind_condition, bind_filter}
 
 -- * is each column in scope, at its place
-abbrev pub starred : ℕ → ℕ → List ScopeColumn → List BoundItem
-starred at i [] = []
-starred at i (c ∷ cs) = record { title = c.column.name; value = bound.Value (operands.Column at i) } ∷ starred at (i + 1) cs
+abbrev pub star_items : ℕ → ℕ → List ScopeColumn → List BoundItem
+star_items at i [] = []
+star_items at i (c ∷ cs) = record { title = c.column.name; value = bound.Value (operands.Column at i) } ∷ star_items at (i + 1) cs
 
 abbrev pub operand_title : Operand ColumnRef (List ℕ) → List ℕ
 operand_title (operands.Column at ref) = ref.name
@@ -43,7 +43,7 @@ abbrev pub bind_item : Scope → List ParamDecl → Item → Result BoundItem Sq
 bind_item scope declarations item = bind_value scope declarations item.value >>= λ value. Ok (record { title = title_of item; value = value })
 
 abbrev pub bind_items : Scope → List ParamDecl → Items → Result (List BoundItem) SqlFault
-bind_items scope declarations (tree.Star at) = Ok (starred at 0 scope.columns)
+bind_items scope declarations (tree.Star at) = Ok (star_items at 0 scope.columns)
 bind_items scope declarations (tree.Listed items) = each (bind_item scope declarations) items
 
 abbrev pub bind_join : Scope → List ParamDecl → Joined → Result BoundJoin SqlFault

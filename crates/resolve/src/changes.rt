@@ -10,7 +10,7 @@ ghost use Rattle.sql_tree.specs.Bound as bound;
 ghost use Rattle.sql_tree.specs.Statements as tree;
 ghost use Rattle.resolve.specs.Walks.{each_from};
 ghost use Rattle.resolve.specs.Scopes.{named_place};
-ghost use Rattle.resolve.specs.Changes.{all_places, assigned, bind_assignment, bind_delete, bind_insert, bind_row, bind_update, column_of, listed_place, places_for, table_scope};
+ghost use Rattle.resolve.specs.Changes.{all_places, nth_assignment, bind_assignment, bind_delete, bind_insert, bind_row, bind_update, column_of, listed_place, places_for, table_scope};
 ghost use Rattle.resolve.specs.Seen.{scope_seen};
 
 use crate::conditions::bind_filter;
@@ -110,7 +110,8 @@ fn bind_rows(
     declarations: &[ParamDecl],
     rows: &[ValueRow],
 ) -> Result<Seq<BoundRow>, Refusal>
-    ensures { AnswersAs (map bound.row_of) result (each (bind_row declarations.now) (map tree.row_of rows.now)) }
+    ensures { AnswersAs (map bound.row_of) result
+        (each (bind_row declarations.now) (map tree.row_of rows.now)) }
 {
     let mut list = Seq::new(alloc);
     for row in rows {
@@ -127,7 +128,8 @@ pub(crate) fn bind_insert(
     names: &Option<Seq<Name>>,
     rows: &[ValueRow],
 ) -> Result<BoundInsert, Refusal>
-    ensures { AnswersAs bound.insert_of result (bind_insert declarations.now def.now table.now names.now (map tree.row_of rows.now)) }
+    ensures { AnswersAs bound.insert_of result
+        (bind_insert declarations.now def.now table.now names.now (map tree.row_of rows.now)) }
 {
     let named = places_for(alloc, def.columns.as_slice(), names)?;
     let rows = bind_rows(alloc, declarations, rows)?;
@@ -146,7 +148,9 @@ fn bind_assignment(
     before: &[Assignment],
     assignment: &Assignment,
 ) -> Result<BoundAssignment, Refusal>
-    ensures { AnswersAs bound.assignment_of result (bind_assignment declarations.now def.now (scope_seen scope.now) (map tree.assignment_of before.now) (tree.assignment_of assignment.now)) }
+    ensures { AnswersAs bound.assignment_of result
+        (bind_assignment declarations.now def.now (scope_seen scope.now)
+        (map tree.assignment_of before.now) (tree.assignment_of assignment.now)) }
 {
     let column = &assignment.column;
     let place = new_place(def.columns.as_slice(), column, is_set(before, column))?;
@@ -158,7 +162,8 @@ fn bind_assignment(
 }
 
 fn is_set(assignments: &[Assignment], name: &Name) -> bool
-    ensures { result ≡ list_any (bytes_eq name.now) (map column_of (map tree.assignment_of assignments.now)) }
+    ensures { result
+        ≡ list_any (bytes_eq name.now) (map column_of (map tree.assignment_of assignments.now)) }
 {
     for assignment in assignments {
         if *name == assignment.column {
@@ -175,7 +180,9 @@ fn bind_assignments(
     scope: &Scope<'_>,
     assignments: &[Assignment],
 ) -> Result<Seq<BoundAssignment>, Refusal>
-    ensures { AnswersAs (map bound.assignment_of) result (each_from (assigned declarations.now def.now (scope_seen scope.now) (map tree.assignment_of assignments.now)) 0 (map tree.assignment_of assignments.now)) }
+    ensures { AnswersAs (map bound.assignment_of) result
+        (each_from (nth_assignment declarations.now def.now (scope_seen scope.now)
+        (map tree.assignment_of assignments.now)) 0 (map tree.assignment_of assignments.now)) }
 {
     let mut list = Seq::new(alloc);
     for (i, assignment) in assignments.iter().enumerate() {
@@ -193,7 +200,9 @@ pub(crate) fn bind_update(
     assignments: &[Assignment],
     filter: &Option<Condition<ColumnRef, ParamName>>,
 ) -> Result<BoundUpdate, Refusal>
-    ensures { AnswersAs bound.update_of result (bind_update declarations.now def.now table.now (map tree.assignment_of assignments.now) (option_map condition_of filter.now)) }
+    ensures { AnswersAs bound.update_of result
+        (bind_update declarations.now def.now table.now (map tree.assignment_of assignments.now)
+        (option_map condition_of filter.now)) }
 {
     let scope = table_scope(alloc, table, def)?;
     let name = table.copy()?;
@@ -212,7 +221,8 @@ pub(crate) fn bind_delete(
     table: &Name,
     filter: &Option<Condition<ColumnRef, ParamName>>,
 ) -> Result<BoundDelete, Refusal>
-    ensures { AnswersAs bound.delete_of result (bind_delete declarations.now def.now table.now (option_map condition_of filter.now)) }
+    ensures { AnswersAs bound.delete_of result
+        (bind_delete declarations.now def.now table.now (option_map condition_of filter.now)) }
 {
     let scope = table_scope(alloc, table, def)?;
     let name = table.copy()?;

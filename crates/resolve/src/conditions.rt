@@ -30,7 +30,9 @@ fn compare(
     left: &Operand<ColumnRef, ParamName>,
     right: &Operand<ColumnRef, ParamName>,
 ) -> Result<BoundCondition, Refusal>
-    ensures { AnswersAs condition_of result (bind_condition (scope_seen scope.now) declarations.now (Compare at comparison (operand_of left.now) (operand_of right.now))) }
+    ensures { AnswersAs condition_of result
+        (bind_condition (scope_seen scope.now) declarations.now
+        (Compare at comparison (operand_of left.now) (operand_of right.now))) }
 {
     let left = bind_operand(alloc, scope, declarations, left)?;
     match bind_operand(alloc, scope, declarations, right) {
@@ -56,7 +58,9 @@ fn is_in(
     operand: &Operand<ColumnRef, ParamName>,
     list: &[Operand<ColumnRef, ParamName>],
 ) -> Result<BoundCondition, Refusal>
-    ensures { AnswersAs condition_of result (bind_condition (scope_seen scope.now) declarations.now (In at negated (operand_of operand.now) (map operand_of list.now))) }
+    ensures { AnswersAs condition_of result
+        (bind_condition (scope_seen scope.now) declarations.now
+        (In at negated (operand_of operand.now) (map operand_of list.now))) }
 {
     let operand = bind_operand(alloc, scope, declarations, operand)?;
     match bind_operands(alloc, scope, declarations, list) {
@@ -81,7 +85,8 @@ pub(crate) fn bind_condition(
     declarations: &[ParamDecl],
     condition: &Condition<ColumnRef, ParamName>,
 ) -> Result<BoundCondition, Refusal>
-    ensures { AnswersAs condition_of result (bind_condition (scope_seen scope.now) declarations.now (condition_of condition.now)) }
+    ensures { AnswersAs condition_of result
+        (bind_condition (scope_seen scope.now) declarations.now (condition_of condition.now)) }
 {
     match condition {
         Condition::Compare {
@@ -126,7 +131,9 @@ fn bind_conditions(
     declarations: &[ParamDecl],
     conditions: &[Condition<ColumnRef, ParamName>],
 ) -> Result<Seq<BoundCondition>, Refusal>
-    ensures { AnswersAs conditions_listed result (bind_conditions (scope_seen scope.now) declarations.now (conditions_listed conditions.now)) }
+    ensures { AnswersAs conditions_listed result
+        (bind_conditions (scope_seen scope.now) declarations.now
+        (conditions_listed conditions.now)) }
 {
     let mut bound = Seq::new(alloc);
     for condition in conditions {
@@ -141,7 +148,8 @@ pub(crate) fn bind_filter(
     declarations: &[ParamDecl],
     filter: &Option<Condition<ColumnRef, ParamName>>,
 ) -> Result<Option<BoundCondition>, Refusal>
-    ensures { AnswersAs (option_map condition_of) result (bind_filter (scope_seen scope.now) declarations.now (option_map condition_of filter.now)) }
+    ensures { AnswersAs (option_map condition_of) result
+        (bind_filter (scope_seen scope.now) declarations.now (option_map condition_of filter.now)) }
 {
     match filter {
         Some(condition) => Ok(Some(bind_condition(alloc, scope, declarations, condition)?)),

@@ -5,7 +5,7 @@ ghost use Rattle.std.specs.List.{flat_map, list_any};
 ghost use Rattle.std.specs.Str.{bytes_eq};
 ghost use Rattle.ae_base.specs.Results.{each, Answers};
 ghost use Rattle.resolve.specs.Walks.{each_from};
-ghost use Rattle.resolve.specs.Definitions.{alone, bind_column, column_behind, key_column_behind, bind_key_column, bind_table, bind_unique, enc_for, enc_of, key_path, listed_name, master_for, name_of, new_name, place_of_key, places_of_list, word_keys, wrapped_key};
+ghost use Rattle.resolve.specs.Definitions.{alone, bind_column, bind_definition, column_behind, key_column_behind, bind_key_column, bind_table, bind_unique, enc_for, enc_of, key_path, listed_name, master_for, name_of, new_name, place_of_key, places_of_list, word_keys, wrapped_key};
 
 use crate::scopes::new_place;
 use ae_base::blobs::Blob;
@@ -18,11 +18,13 @@ use ae_base::tables::{ColumnDef, TableDef, UniqueKey};
 use ae_base::texts::Txt;
 use ae_base::types::{Enc, KeyId};
 use catalog::catalogs::Catalog;
-use sql_tree::bound::{BoundTable, PlaceAt};
-use sql_tree::statements::{ColumnSpec, Encryption, EncryptionKind, NameAt, UniqueSpec};
+use sql_tree::bound::{BoundDefinition, BoundTable, PlaceAt};
+use sql_tree::statements::{
+    ColumnSpec, Definition, Encryption, EncryptionKind, NameAt, UniqueSpec,
+};
 use std::alloc::{AllocError, Global};
 
-pub(crate) fn key_path(path: &Txt) -> Result<KeyPath, Refusal>
+fn key_path(path: &Txt) -> Result<KeyPath, Refusal>
     ensures { Answers result (key_path path.now) }
 {
     match KeyPath::from_txt(path.copy()?) {
@@ -31,7 +33,7 @@ pub(crate) fn key_path(path: &Txt) -> Result<KeyPath, Refusal>
     }
 }
 
-pub(crate) fn wrapped_key(bytes: &Blob) -> Result<WrappedKey, Refusal>
+fn wrapped_key(bytes: &Blob) -> Result<WrappedKey, Refusal>
     ensures { Answers result (wrapped_key bytes.now) }
 {
     match WrappedKey::from_blob(bytes.copy()?) {
@@ -41,7 +43,7 @@ pub(crate) fn wrapped_key(bytes: &Blob) -> Result<WrappedKey, Refusal>
 }
 
 /// Whether a master key of the name is there.
-pub(crate) fn master_for(catalog: &Catalog, name: &Name) -> Result<(), Refusal>
+fn master_for(catalog: &Catalog, name: &Name) -> Result<(), Refusal>
     ensures { Answers result (master_for catalog.now name.now) }
 {
     match catalog.master(name) {
@@ -216,7 +218,8 @@ fn uniques_of(
     words: &[PlaceAt],
     lists: &[Seq<PlaceAt>],
 ) -> Result<Seq<UniqueKey>, AllocError>
-    ensures { IfOk result (λ uniques. uniques ≡ map alone words.now ++ map places_of_list lists.now) }
+    ensures { IfOk result
+        (λ uniques. uniques ≡ map alone words.now ++ map places_of_list lists.now) }
 {
     let mut uniques = each_alone(alloc, words)?;
     for keys in lists {
@@ -246,7 +249,7 @@ fn add_all(keyed: &mut Seq<PlaceAt>, keys: &[PlaceAt]) -> Result<(), AllocError>
 }
 
 /// The table that CREATE TABLE defines.
-pub(crate) fn bind_table(
+fn bind_table(
     alloc: Global,
     catalog: &Catalog,
     table: &Name,
@@ -268,4 +271,48 @@ pub(crate) fn bind_table(
         def,
         keyed: keyed_of(words, lists.as_slice())?,
     })
+}
+
+/// A definition with its names found: the first fault, or the definition.
+pub(crate) fn bind_definition(
+    alloc: Global,
+    catalog: &Catalog,
+    definition: &Definition,
+) -> Result<BoundDefinition, Refusal>
+    ensures { Answers result (bind_definition catalog.now definition.now) }
+{
+    match definition {
+        Definition::CreateMaster { name, path } => {
+            let path = key_path(path)?;
+            let name = name.copy()?;
+            Ok(BoundDefinition::CreateMaster { name, path })
+        }
+        Definition::CreateKey {
+            name,
+            master,
+            wrapped,
+        } => {
+            let wrapped = wrapped_key(wrapped)?;
+            master_for(catalog, master)?;
+            let name = name.copy()?;
+            let master = master.copy()?;
+            Ok(BoundDefinition::CreateKey {
+                name,
+                master,
+                wrapped,
+            })
+        }
+        Definition::CreateTable {
+            table,
+            columns,
+            uniques,
+        } => {
+            let (columns, uniques) = (columns.as_slice(), uniques.as_slice());
+            let made = bind_table(alloc, catalog, table, columns, uniques)?;
+            Ok(BoundDefinition::CreateTable(made))
+        }
+        Definition::DropTable(name) => Ok(BoundDefinition::DropTable(name.copy()?)),
+        Definition::DropMaster(name) => Ok(BoundDefinition::DropMaster(name.copy()?)),
+        Definition::DropKey(name) => Ok(BoundDefinition::DropKey(name.copy()?)),
+    }
 }

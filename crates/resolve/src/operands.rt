@@ -37,7 +37,8 @@ pub(crate) fn bind_operand(
     declarations: &[ParamDecl],
     operand: &Operand<ColumnRef, ParamName>,
 ) -> Result<BoundOperand, Refusal>
-    ensures { AnswersAs operand_of result (bind_operand (scope_seen scope.now) declarations.now (operand_of operand.now)) }
+    ensures { AnswersAs operand_of result
+        (bind_operand (scope_seen scope.now) declarations.now (operand_of operand.now)) }
 {
     match operand {
         Operand::Literal { at, value } => {
@@ -91,7 +92,8 @@ fn bind_terms(
     declarations: &[ParamDecl],
     terms: &[Term<ColumnRef, ParamName>],
 ) -> Result<Seq<Term<usize, usize>>, Refusal>
-    ensures { AnswersAs terms_listed result (bind_terms (scope_seen scope.now) declarations.now (terms_listed terms.now)) }
+    ensures { AnswersAs terms_listed result
+        (bind_terms (scope_seen scope.now) declarations.now (terms_listed terms.now)) }
 {
     let mut bound = Seq::new(alloc);
     for term in terms {
@@ -107,7 +109,8 @@ fn bind_term(
     declarations: &[ParamDecl],
     term: &Term<ColumnRef, ParamName>,
 ) -> Result<Term<usize, usize>, Refusal>
-    ensures { AnswersAs (λ bound. terms_listed (bound ∷ [])) result (bind_terms (scope_seen scope.now) declarations.now (terms_listed (term.now ∷ []))) }
+    ensures { AnswersAs (λ bound. terms_listed (bound ∷ [])) result
+        (bind_terms (scope_seen scope.now) declarations.now (terms_listed (term.now ∷ []))) }
 {
     match term {
         Term::Plus { at, operand } => Ok(Term::Plus {
@@ -127,7 +130,8 @@ pub(crate) fn bind_operands(
     declarations: &[ParamDecl],
     operands: &[Operand<ColumnRef, ParamName>],
 ) -> Result<Seq<BoundOperand>, Refusal>
-    ensures { AnswersAs (map operand_of) result (bind_operands (scope_seen scope.now) declarations.now (map operand_of operands.now)) }
+    ensures { AnswersAs (map operand_of) result
+        (bind_operands (scope_seen scope.now) declarations.now (map operand_of operands.now)) }
 {
     let mut bound = Seq::new(alloc);
     for operand in operands {

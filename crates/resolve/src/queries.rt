@@ -7,7 +7,7 @@ ghost use Rattle.sql_tree.specs.Bound as bound;
 ghost use Rattle.sql_tree.specs.Statements as tree;
 ghost use Rattle.resolve.specs.Scopes.{bound_source, scope_of};
 ghost use Rattle.resolve.specs.Tables.{all_sources};
-ghost use Rattle.resolve.specs.Queries.{bind_column_at, bind_item, bind_items, bind_join, bind_joins, bind_key, bind_order, bind_over, bind_query, bind_value, operand_title, starred, title_of};
+ghost use Rattle.resolve.specs.Queries.{bind_column_at, bind_item, bind_items, bind_join, bind_joins, bind_key, bind_order, bind_over, bind_query, bind_value, operand_title, star_items, title_of};
 ghost use Rattle.resolve.specs.Seen.{column_seen, joined_seen, scope_seen, source_seen, sources_seen};
 
 use crate::conditions::{bind_condition, bind_filter};
@@ -27,7 +27,8 @@ use std::alloc::{AllocError, Global};
 
 /// The scope of all tables of a query.
 pub(crate) fn whole_scope<'a>(alloc: Global, sources: &Sources<'a>) -> Result<Scope<'a>, AllocError>
-    ensures { IfOk result (λ scope. scope_seen scope ≡ scope_of (all_sources (sources_seen sources.now))) }
+    ensures { IfOk result
+        (λ scope. scope_seen scope ≡ scope_of (all_sources (sources_seen sources.now))) }
 {
     let mut scope = Scope::nothing(alloc);
     scope.add(sources.from)?;
@@ -47,7 +48,8 @@ fn bound_source(source: &Source<'_>) -> Result<BoundSource, AllocError>
 }
 
 fn starred(alloc: Global, at: u32, scope: &Scope<'_>) -> Result<Seq<BoundItem>, AllocError>
-    ensures { IfOk result (λ items. map bound.item_of items ≡ starred at 0 (scope_seen scope.now).columns) }
+    ensures { IfOk result
+        (λ items. map bound.item_of items ≡ star_items at 0 (scope_seen scope.now).columns) }
 {
     let mut items = Seq::new(alloc);
     for (place, column) in scope.columns.as_slice().iter().enumerate() {
@@ -57,7 +59,8 @@ fn starred(alloc: Global, at: u32, scope: &Scope<'_>) -> Result<Seq<BoundItem>, 
 }
 
 fn starred_item(at: u32, place: usize, column: &ScopeColumn<'_>) -> Result<BoundItem, AllocError>
-    ensures { IfOk result (λ item. starred at place (column_seen column.now ∷ []) ≡ bound.item_of item ∷ []) }
+    ensures { IfOk result (λ item. star_items at place (column_seen column.now ∷ [])
+        ≡ bound.item_of item ∷ []) }
 {
     Ok(BoundItem {
         title: Title::from_name(column.column.name.copy()?),
@@ -97,7 +100,8 @@ fn bind_value(
     declarations: &[ParamDecl],
     value: &ItemValue,
 ) -> Result<BoundItemValue, Refusal>
-    ensures { AnswersAs bound.item_value_of result (bind_value (scope_seen scope.now) declarations.now (tree.value_of value.now)) }
+    ensures { AnswersAs bound.item_value_of result
+        (bind_value (scope_seen scope.now) declarations.now (tree.value_of value.now)) }
 {
     match value {
         ItemValue::Value(operand) => Ok(BoundItemValue::Value(bind_operand(
@@ -116,7 +120,8 @@ fn bind_item(
     declarations: &[ParamDecl],
     item: &Item,
 ) -> Result<BoundItem, Refusal>
-    ensures { AnswersAs bound.item_of result (bind_item (scope_seen scope.now) declarations.now (tree.item_of item.now)) }
+    ensures { AnswersAs bound.item_of result
+        (bind_item (scope_seen scope.now) declarations.now (tree.item_of item.now)) }
 {
     let title = title_of(alloc, item)?;
     Ok(BoundItem {
@@ -131,7 +136,8 @@ fn bind_list(
     declarations: &[ParamDecl],
     items: &[Item],
 ) -> Result<Seq<BoundItem>, Refusal>
-    ensures { AnswersAs (map bound.item_of) result (each (bind_item (scope_seen scope.now) declarations.now) (map tree.item_of items.now)) }
+    ensures { AnswersAs (map bound.item_of) result
+        (each (bind_item (scope_seen scope.now) declarations.now) (map tree.item_of items.now)) }
 {
     let mut list = Seq::new(alloc);
     for item in items {
@@ -146,7 +152,8 @@ fn bind_items(
     declarations: &[ParamDecl],
     items: &Items,
 ) -> Result<Seq<BoundItem>, Refusal>
-    ensures { AnswersAs (map bound.item_of) result (bind_items (scope_seen scope.now) declarations.now (tree.items_of items.now)) }
+    ensures { AnswersAs (map bound.item_of) result
+        (bind_items (scope_seen scope.now) declarations.now (tree.items_of items.now)) }
 {
     match items {
         Items::Star { at } => Ok(starred(alloc, *at, scope)?),
@@ -160,7 +167,8 @@ fn bind_join(
     declarations: &[ParamDecl],
     join: &Joined<'_>,
 ) -> Result<BoundJoin, Refusal>
-    ensures { AnswersAs bound.join_of result (bind_join (scope_seen scope.now) declarations.now (joined_seen join.now)) }
+    ensures { AnswersAs bound.join_of result
+        (bind_join (scope_seen scope.now) declarations.now (joined_seen join.now)) }
 {
     let source = bound_source(&join.source)?;
     Ok(BoundJoin {
@@ -175,7 +183,9 @@ fn bind_joins(
     from: Source<'_>,
     joins: &[Joined<'_>],
 ) -> Result<Seq<BoundJoin>, Refusal>
-    ensures { AnswersAs (map bound.join_of) result (bind_joins declarations.now (scope_of (source_seen from.entry ∷ [])) (map joined_seen joins.now)) }
+    ensures { AnswersAs (map bound.join_of) result
+        (bind_joins declarations.now (scope_of (source_seen from.entry ∷ []))
+        (map joined_seen joins.now)) }
 {
     let mut scope = Scope::nothing(alloc);
     scope.add(from)?;
@@ -245,7 +255,9 @@ fn bind_over(
     sources: &Sources<'_>,
     query: &Query,
 ) -> Result<BoundQuery, Refusal>
-    ensures { AnswersAs bound.query_of result (bind_over (scope_seen scope.now) declarations.now (sources_seen sources.now) (tree.query_of query.now)) }
+    ensures { AnswersAs bound.query_of result
+        (bind_over (scope_seen scope.now) declarations.now (sources_seen sources.now)
+        (tree.query_of query.now)) }
 {
     let from = bound_source(&sources.from)?;
     let items = bind_items(alloc, scope, declarations, &query.items)?;
@@ -276,7 +288,8 @@ pub(crate) fn bind_query(
     sources: &Sources<'_>,
     query: &Query,
 ) -> Result<BoundQuery, Refusal>
-    ensures { AnswersAs bound.query_of result (bind_query declarations.now (sources_seen sources.now) (tree.query_of query.now)) }
+    ensures { AnswersAs bound.query_of result
+        (bind_query declarations.now (sources_seen sources.now) (tree.query_of query.now)) }
 {
     let scope = whole_scope(alloc, sources)?;
     bind_over(alloc, &scope, declarations, sources, query)

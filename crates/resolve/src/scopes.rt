@@ -51,7 +51,8 @@ impl<'a> Scope<'a> {
 
     /// Puts the columns of a table behind those that are there.
     pub fn add(&mut self, source: Source<'a>) -> Result<(), AllocError>
-        ensures { OnOk result (scope_seen self.new ≡ with_source (scope_seen self.old) (source_seen source.entry)) }
+        ensures { OnOk result
+            (scope_seen self.new ≡ with_source (scope_seen self.old) (source_seen source.entry)) }
     {
         self.sources.push(source.visible)?;
         add_columns(
@@ -67,7 +68,8 @@ fn add_columns<'a>(
     visible: &'a Name,
     columns: &'a [ColumnDef],
 ) -> Result<(), AllocError>
-    ensures { OnOk result (map column_seen found.new ≡ map column_seen found.old ++ columns_under visible.now columns.now) }
+    ensures { OnOk result (map column_seen found.new ≡ map column_seen found.old
+        ++ columns_under visible.now columns.now) }
 {
     for column in columns {
         found.push(ScopeColumn { visible, column })?;
@@ -86,7 +88,8 @@ pub(crate) fn param_place(declarations: &[ParamDecl], name: &ParamName) -> Resul
 }
 
 fn declared(declarations: &[ParamDecl], name: &ParamName) -> Option<usize>
-    ensures { result ≡ position (λ declaration. bytes_eq declaration.name name.now) declarations.now }
+    ensures { result ≡ position (λ declaration. bytes_eq declaration.name name.now)
+        declarations.now }
 {
     declarations
         .iter()
@@ -120,7 +123,8 @@ pub(crate) fn is_source(sources: &[&Name], name: &Name) -> bool
 
 /// The place of the one column that a name means.
 fn one_place(columns: &[ScopeColumn<'_>], column: &ColumnRef) -> Result<usize, Refusal>
-    ensures { Answers result (one_place column.now.name (places_from 0 column.now (map column_seen columns.now))) }
+    ensures { Answers result
+        (one_place column.now.name (places_from 0 column.now (map column_seen columns.now))) }
 {
     let mut found = None;
     for (place, candidate) in columns.iter().enumerate() {

@@ -57,7 +57,8 @@ fn source_for<'a>(
     given: &[&Name],
     source: &'a SourceTable,
 ) -> Result<Source<'a>, Refusal>
-    ensures { AnswersAs source_seen result (source_for catalog.now (map (λ name. name.now) given.now) source.now) }
+    ensures { AnswersAs source_seen result
+        (source_for catalog.now (map (λ name. name.now) given.now) source.now) }
 {
     let def = table_for(catalog, &source.table)?;
     let visible = visible(source);
@@ -77,7 +78,8 @@ fn joined_from<'a>(
     first: &'a Name,
     joins: &'a [Join],
 ) -> Result<Seq<Joined<'a>>, Refusal>
-    ensures { AnswersAs (map joined_seen) result (joined_from catalog.now (first.now ∷ []) (map join_of joins.now)) }
+    ensures { AnswersAs (map joined_seen) result
+        (joined_from catalog.now (first.now ∷ []) (map join_of joins.now)) }
 {
     let mut given = Seq::new(alloc);
     given.push(first)?;

@@ -1,6 +1,6 @@
 //! Bound statements, with the sites of their columns.
 
-ghost use Rattle.std.specs.Prelude.{◌≡◌, ◌++◌, [], IfErr, IfOk, List, Ok, OnOk, map};
+ghost use Rattle.std.specs.Prelude.{◌≡◌, ◌++◌, IfErr, IfOk, List, OnOk, map};
 ghost use Rattle.std.specs.Option.{option_map};
 ghost use Rattle.ae_base.specs.Results.{AnswersAs};
 ghost use Rattle.sql_tree.specs.Bound as bound;
@@ -10,29 +10,27 @@ ghost use Rattle.sql_tree.specs.Placed.{site_of};
 ghost use Rattle.resolve.specs.Scopes.{sites_of};
 ghost use Rattle.resolve.specs.Tables.{all_sources};
 ghost use Rattle.ae_base.specs.declared.batches.ParamDecl.{ParamDecl};
-ghost use Rattle.resolve.specs.Bind.{bind, bound_over, named, named_master, type_of};
-ghost use Rattle.resolve.specs.Dropped.{drop_of};
+ghost use Rattle.resolve.specs.Bind.{bind, resolution, type_of};
+ghost use Rattle.resolve.specs.Definitions.{new_sites};
 ghost use Rattle.resolve.specs.Faults.{IsBindFault};
 ghost use Rattle.resolve.specs.Seen.{bound_of_placed, sources_seen};
 
 use crate::changes::{bind_delete, bind_insert, bind_update};
-use crate::definitions::{bind_table, key_path, master_for, wrapped_key};
+use crate::definitions::bind_definition;
 use crate::queries::bind_query;
 use crate::sources::{Sources, sources_for, table_for};
 use ae_base::batches::ParamDecl;
-use ae_base::blobs::Blob;
-use ae_base::lists::{Duplicate, Seq};
+use ae_base::lists::Seq;
 use ae_base::names::{Name, ParamName};
 use ae_base::refusals::Refusal;
 use ae_base::tables::ColumnDef;
-use ae_base::texts::Txt;
 use ae_base::types::Ty;
 use catalog::catalogs::Catalog;
 use semantic_checks::checks::checked;
-use sql_tree::bound::{Bound, BoundStatement, ColumnSite};
+use sql_tree::bound::{Bound, BoundDefinition, BoundStatement, ColumnSite};
 use sql_tree::conditions::Condition;
 use sql_tree::operands::ColumnRef;
-use sql_tree::statements::{Assignment, ColumnSpec, Query, Statement, UniqueSpec, ValueRow};
+use sql_tree::statements::{Assignment, Definition, Query, Statement, ValueRow};
 use std::alloc::{AllocError, Global};
 
 fn types_of(alloc: Global, declarations: &[ParamDecl]) -> Result<Seq<Ty>, AllocError>
@@ -82,89 +80,29 @@ struct Placed {
     statement: BoundStatement,
 }
 
-fn place_master(alloc: Global, name: &Name, path: &Txt) -> Result<Placed, Refusal>
-    ensures { (declarations : List ParamDecl)
-        → AnswersAs (bound_of_placed declarations) result (named_master name.now path.now declarations) }
+/// The columns of a new table; of any other definition none.
+fn new_sites(alloc: Global, made: &BoundDefinition) -> Result<Seq<ColumnSite>, AllocError>
+    ensures { IfOk result (λ sites. sites ≡ new_sites made.now) }
 {
-    let path = key_path(path)?;
-    let name = name.copy()?;
-    Ok(Placed {
-        columns: Seq::new(alloc),
-        statement: BoundStatement::CreateMaster { name, path },
-    })
-}
-
-fn place_key(
-    alloc: Global,
-    catalog: &Catalog,
-    name: &Name,
-    master: &Name,
-    wrapped: &Blob,
-) -> Result<Placed, Refusal>
-    ensures { (declarations : List ParamDecl)
-        → AnswersAs (bound_of_placed declarations) result (named catalog.now (tree.CreateKey name.now master.now wrapped.now) declarations) }
-{
-    let wrapped = wrapped_key(wrapped)?;
-    master_for(catalog, master)?;
-    let name = name.copy()?;
-    let master = master.copy()?;
-    Ok(Placed {
-        columns: Seq::new(alloc),
-        statement: BoundStatement::CreateKey {
-            name,
-            master,
-            wrapped,
-        },
-    })
-}
-
-fn place_table(
-    alloc: Global,
-    catalog: &Catalog,
-    table: &Name,
-    columns: &Seq<ColumnSpec>,
-    uniques: &Seq<UniqueSpec>,
-) -> Result<Placed, Refusal>
-    ensures { (declarations : List ParamDecl)
-        → AnswersAs (bound_of_placed declarations) result (named catalog.now (tree.CreateTable table.now columns.now uniques.now) declarations) }
-{
-    let (columns, uniques) = (columns.as_slice(), uniques.as_slice());
-    let made = bind_table(alloc, catalog, table, columns, uniques)?;
-    Ok(Placed {
-        columns: table_sites(alloc, made.def.columns.as_slice())?,
-        statement: BoundStatement::CreateTable(made),
-    })
-}
-
-/// What a DROP drops.
-#[derive(Clone, Copy)]
-enum Dropped {
-    Table,
-    Master,
-    Key,
-}
-
-impl Dropped {
-    /// The drop of a name.
-    fn named(self, name: Name) -> BoundStatement
-        ensures { bound.statement_of result ≡ drop_of self name }
-    {
-        match self {
-            Dropped::Table => BoundStatement::DropTable(name),
-            Dropped::Master => BoundStatement::DropMaster(name),
-            Dropped::Key => BoundStatement::DropKey(name),
-        }
+    match made {
+        BoundDefinition::CreateTable(table) => table_sites(alloc, table.def.columns.as_slice()),
+        _ => Ok(Seq::new(alloc)),
     }
 }
 
-fn place_drop(alloc: Global, dropped: Dropped, name: &Name) -> Result<Placed, Refusal>
+fn place_definition(
+    alloc: Global,
+    catalog: &Catalog,
+    definition: &Definition,
+) -> Result<Placed, Refusal>
     ensures { (declarations : List ParamDecl)
-        → AnswersAs (bound_of_placed declarations) result (Ok (bound_over declarations [] (drop_of dropped name.now))) }
+        → AnswersAs (bound_of_placed declarations) result
+        (resolution catalog.now (tree.Definition definition.now) declarations) }
 {
-    let name = name.copy()?;
+    let made = bind_definition(alloc, catalog, definition)?;
     Ok(Placed {
-        columns: Seq::new(alloc),
-        statement: dropped.named(name),
+        columns: new_sites(alloc, &made)?,
+        statement: BoundStatement::Definition(made),
     })
 }
 
@@ -176,7 +114,9 @@ fn place_insert(
     names: &Option<Seq<Name>>,
     rows: &Seq<ValueRow>,
 ) -> Result<Placed, Refusal>
-    ensures { AnswersAs (bound_of_placed declarations.now) result (named catalog.now (tree.Insert table.now names.now (map tree.row_of rows.now)) declarations.now) }
+    ensures { AnswersAs (bound_of_placed declarations.now) result
+        (resolution catalog.now (tree.Insert table.now names.now (map tree.row_of rows.now))
+        declarations.now) }
 {
     let def = table_for(catalog, table)?;
     let columns = table_sites(alloc, def.columns.as_slice())?;
@@ -195,7 +135,10 @@ fn place_update(
     assignments: &Seq<Assignment>,
     filter: &Option<Condition<ColumnRef, ParamName>>,
 ) -> Result<Placed, Refusal>
-    ensures { AnswersAs (bound_of_placed declarations.now) result (named catalog.now (tree.Update table.now (map tree.assignment_of assignments.now) (option_map condition_of filter.now)) declarations.now) }
+    ensures { AnswersAs (bound_of_placed declarations.now) result
+        (resolution catalog.now
+        (tree.Update table.now (map tree.assignment_of assignments.now)
+        (option_map condition_of filter.now)) declarations.now) }
 {
     let def = table_for(catalog, table)?;
     let columns = table_sites(alloc, def.columns.as_slice())?;
@@ -214,7 +157,9 @@ fn place_delete(
     table: &Name,
     filter: &Option<Condition<ColumnRef, ParamName>>,
 ) -> Result<Placed, Refusal>
-    ensures { AnswersAs (bound_of_placed declarations.now) result (named catalog.now (tree.Delete table.now (option_map condition_of filter.now)) declarations.now) }
+    ensures { AnswersAs (bound_of_placed declarations.now) result
+        (resolution catalog.now (tree.Delete table.now (option_map condition_of filter.now))
+        declarations.now) }
 {
     let def = table_for(catalog, table)?;
     let columns = table_sites(alloc, def.columns.as_slice())?;
@@ -231,7 +176,8 @@ fn place_query(
     declarations: &[ParamDecl],
     query: &Query,
 ) -> Result<Placed, Refusal>
-    ensures { AnswersAs (bound_of_placed declarations.now) result (named catalog.now (tree.Select (tree.query_of query.now)) declarations.now) }
+    ensures { AnswersAs (bound_of_placed declarations.now) result
+        (resolution catalog.now (tree.Select (tree.query_of query.now)) declarations.now) }
 {
     let sources = sources_for(alloc, catalog, query)?;
     let columns = sites_of(alloc, &sources)?;
@@ -248,23 +194,11 @@ fn place(
     statement: &Statement,
     declarations: &[ParamDecl],
 ) -> Result<Placed, Refusal>
-    ensures { AnswersAs (bound_of_placed declarations.now) result (named catalog.now (tree.statement_of statement.now) declarations.now) }
+    ensures { AnswersAs (bound_of_placed declarations.now) result
+        (resolution catalog.now (tree.statement_of statement.now) declarations.now) }
 {
     match statement {
-        Statement::CreateMaster { name, path } => place_master(alloc, name, path),
-        Statement::CreateKey {
-            name,
-            master,
-            wrapped,
-        } => place_key(alloc, catalog, name, master, wrapped),
-        Statement::CreateTable {
-            table,
-            columns,
-            uniques,
-        } => place_table(alloc, catalog, table, columns, uniques),
-        Statement::DropTable(name) => place_drop(alloc, Dropped::Table, name),
-        Statement::DropMaster(name) => place_drop(alloc, Dropped::Master, name),
-        Statement::DropKey(name) => place_drop(alloc, Dropped::Key, name),
+        Statement::Definition(definition) => place_definition(alloc, catalog, definition),
         Statement::Insert {
             table,
             columns,
@@ -293,7 +227,8 @@ fn named(
     statement: &Statement,
     declarations: &[ParamDecl],
 ) -> Result<Bound, Refusal>
-    ensures { AnswersAs bound.bound_of result (named catalog.now (tree.statement_of statement.now) declarations.now) }
+    ensures { AnswersAs bound.bound_of result
+        (resolution catalog.now (tree.statement_of statement.now) declarations.now) }
 {
     let params = types_of(alloc, declarations)?;
     let placed = place(alloc, catalog, statement, declarations)?;
@@ -312,7 +247,8 @@ fn passed(
     statement: &Statement,
     declarations: &[ParamDecl],
 ) -> Result<Bound, Refusal>
-    ensures { AnswersAs bound.bound_of result (bind catalog.now (tree.statement_of statement.now) declarations.now) }
+    ensures { AnswersAs bound.bound_of result
+        (bind catalog.now (tree.statement_of statement.now) declarations.now) }
 {
     let made = named(alloc, catalog, statement, declarations)?;
     match checked(alloc, &made) {
@@ -336,7 +272,8 @@ pub fn bind(
     statement: &Statement,
     declarations: &[ParamDecl],
 ) -> Result<Bound, Refusal>
-    ensures exact { AnswersAs bound.bound_of result (bind catalog.now (tree.statement_of statement.now) declarations.now) }
+    ensures exact { AnswersAs bound.bound_of result
+        (bind catalog.now (tree.statement_of statement.now) declarations.now) }
     ensures causes { IfErr result IsBindFault }
 {
     passed(alloc, catalog, statement, declarations)

@@ -43,7 +43,11 @@ impl Model for Reader {
 
     ghost view = { λ r. record {
       steps = r.steps;
-      begun = record { session = r.session; params = r.params; statement = option_map string_bytes r.statement };
+      begun = record {
+        session = r.session;
+        params = r.params;
+        statement = option_map string_bytes r.statement;
+      };
     } };
 
     ghost invariant = { λ r. All IsProperStep r.steps × All IsProperParam r.params };
@@ -75,7 +79,8 @@ impl Reader {
     /// what is read is left open.
     pub(crate) fn read_line(&mut self, alloc: Global, line: &[u8]) -> Result<bool, AllocError>
         requires { length line.now < 2 ^ 32 }
-        ensures { IfOk result (λ good. Takes self.old (spec.after_line self.old.begun line.now) good self.new) }
+        ensures { IfOk result
+            (λ good. Takes self.old (spec.after_line self.old.begun line.now) good self.new) }
     {
         let Ok(text) = str::from_utf8(line) else {
             return Ok(false);
@@ -125,7 +130,8 @@ impl Reader {
 
     /// Reads a line whose first word is GO.
     fn read_go(&mut self, alloc: Global, line: &[u8]) -> Result<bool, AllocError>
-        ensures { IfOk result (λ good. Takes self.old (spec.after_go self.old.begun line.now) good self.new) }
+        ensures { IfOk result
+            (λ good. Takes self.old (spec.after_go self.old.begun line.now) good self.new) }
     {
         if !is_blank_line(first_word(line).1) {
             return Ok(false);
@@ -136,7 +142,8 @@ impl Reader {
 
     /// Reads a line that begins with a colon.
     fn read_command(&mut self, alloc: Global, line: &[u8]) -> Result<bool, AllocError>
-        ensures { IfOk result (λ good. Takes self.old (spec.after_colon self.old.begun line.now) good self.new) }
+        ensures { IfOk result
+            (λ good. Takes self.old (spec.after_colon self.old.begun line.now) good self.new) }
     {
         if is_alone(line, b":describe") {
             return self.describe(alloc);
@@ -152,7 +159,8 @@ impl Reader {
 
     /// Ends the batch as half a one. It must be begun.
     fn describe(&mut self, alloc: Global) -> Result<bool, AllocError>
-        ensures { IfOk result (λ good. Takes self.old (spec.after_describe self.old.begun) good self.new) }
+        ensures { IfOk result
+            (λ good. Takes self.old (spec.after_describe self.old.begun) good self.new) }
     {
         if self.is_between() {
             return Ok(false);
@@ -167,7 +175,8 @@ impl Reader {
 
     /// Executes what is pending, between batches.
     fn execute(&mut self) -> Result<bool, AllocError>
-        ensures { IfOk result (λ good. Takes self.old (spec.after_execute self.old.begun) good self.new) }
+        ensures { IfOk result
+            (λ good. Takes self.old (spec.after_execute self.old.begun) good self.new) }
     {
         if !self.is_between() {
             return Ok(false);
@@ -192,7 +201,8 @@ impl Reader {
     /// Reads a line of a batch.
     fn read_batch_line(&mut self, alloc: Global, line: &str) -> Result<bool, AllocError>
         requires { length line.now < 2 ^ 32 }
-        ensures { IfOk result (λ good. Takes self.old (spec.after_batch_line self.old.begun line.now) good self.new) }
+        ensures { IfOk result
+            (λ good. Takes self.old (spec.after_batch_line self.old.begun line.now) good self.new) }
     {
         if self.statement.is_none() {
             return self.read_head_line(alloc, line);
@@ -205,7 +215,8 @@ impl Reader {
     /// passed over.
     fn read_head_line(&mut self, alloc: Global, line: &str) -> Result<bool, AllocError>
         requires { length line.now < 2 ^ 32 }
-        ensures { IfOk result (λ good. Takes self.old (spec.after_head_line self.old.begun line.now) good self.new) }
+        ensures { IfOk result
+            (λ good. Takes self.old (spec.after_head_line self.old.begun line.now) good self.new) }
     {
         if is_passed_over(line.as_bytes()) {
             return Ok(true);
@@ -223,14 +234,16 @@ impl Reader {
     /// Declares a parameter, unless its name is declared already or the batch has no room for it.
     fn declare(&mut self, param: Param) -> Result<bool, AllocError>
         requires { IsProperParam param }
-        ensures { IfOk result (λ good. Takes self.old (spec.with_param self.old.begun (Some param)) good self.new) }
+        ensures { IfOk result
+            (λ good. Takes self.old (spec.with_param self.old.begun (Some param)) good self.new) }
     {
         self.params.push(param)
     }
 
     /// Puts a line at the end of the statement.
     fn read_statement_line(&mut self, alloc: Global, line: &str) -> Result<(), AllocError>
-        ensures { OnOk result (Takes self.old (spec.with_statement_line self.old.begun line.now) true self.new) }
+        ensures { OnOk result
+            (Takes self.old (spec.with_statement_line self.old.begun line.now) true self.new) }
     {
         self.statement = Some(match self.statement.take() {
             Some(text) => longer(text, line)?,
@@ -251,7 +264,9 @@ fn longer(mut text: String, line: &str) -> Result<String, AllocError>
 
 /// Whether a line has blanks alone, or begins with `--` behind blanks.
 fn is_passed_over(line: &[u8]) -> bool
-    ensures { result ≡ (spec.is_blank_line line.now || bytes_eq (take 2 (spec.behind_blanks line.now)) (codes "--")) }
+    ensures { result
+        ≡ (spec.is_blank_line line.now || bytes_eq (take 2 (spec.behind_blanks line.now))
+        (codes "--")) }
 {
     is_blank_line(line) || behind_blanks(line).starts_with(b"--")
 }

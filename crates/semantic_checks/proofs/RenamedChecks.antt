@@ -22,8 +22,8 @@ use Rattle.enc_types.specs.Renamed.{renamed_rule}
 use Rattle.enc_types.proofs.Interface.{rules_renamed, place_renamed}
 use Rattle.semantic_checks.specs.declared.kinds.Kind.TheVariants.{Numbers}
 use Rattle.semantic_checks.specs.Clashes.{Types, kind_of, column_kind, operand_kind, clash_at, no_number, first_clash, operand_clashes, terms_clashes, sides_clash, listed_clash, condition_clashes, conditions_clashes, filter_clashes, value_clashes, paired_clashes, row_clashes, assignment_clashes, item_value_clashes, item_clashes, join_clashes, query_clashes, statement_clashes, clashes}
-use Rattle.semantic_checks.specs.Grouping.{value_counts, counts, groups, operand_ungrouped, value_ungrouped, item_ungrouped, operand_selects, value_selects, selects, key_unselected, query_ungrouped, statement_ungrouped, ungrouped}
-use Rattle.semantic_checks.specs.Checks.{least, none_at, is_long_statement, is_too_long, checked}
+use Rattle.semantic_checks.specs.Grouping.{value_counts, counts, groups, operand_ungrouped, value_ungrouped, item_ungrouped, operand_selects, value_selects, selects, key_unselected, query_ungrouped, statement_ungrouped, ungrouped_places}
+use Rattle.semantic_checks.specs.Checks.{least, none_at, is_long_statement, is_too_long, check_of}
 use Rattle.semantic_checks.specs.Laws.{ChecksKeepTheUsed}
 
 both : (xs ys xs' ys' : List ℕ) → xs' ≡ xs → ys' ≡ ys → xs' ++ ys' ≡ xs ++ ys
@@ -155,12 +155,7 @@ module _ (f : ℕ → ℕ) (columns : List ColumnSite) (params others : List Ty)
   item_value (bound.Count at) h = refl
 
   statement : (s : BoundStatement) → HaveTypes (λ p. uses_in_statement p s) → statement_clashes of_others (renamed_statement f s) ≡ statement_clashes of_all s
-  statement (bound.CreateMaster name path) h = refl
-  statement (bound.CreateKey name master wrapped) h = refl
-  statement (bound.CreateTable table) h = refl
-  statement (bound.DropTable name) h = refl
-  statement (bound.DropMaster name) h = refl
-  statement (bound.DropKey name) h = refl
+  statement (bound.Definition d) h = refl
   statement (bound.Insert insert) h = each uses_in_row (renamed_row f) (row_clashes of_all insert.named) (row_clashes of_others insert.named) (row insert.named) insert.rows h
   statement (bound.Update update) h =
       let a = left (λ p. list_any (uses_in_assignment p) update.assignments) (λ p. uses_in_filter p update.filter) h in
@@ -232,12 +227,7 @@ module _ (f : ℕ → ℕ) where
       ∙ ap (λ z. cond (groups q || is_some q.distinct) z []) (flat_alike (key_unselected q.items) (key_unselected (map (renamed_item f) q.items)) (unselected q.items) q.order_by))
 
   statement_alone : (s : BoundStatement) → statement_ungrouped (renamed_statement f s) ≡ statement_ungrouped s
-  statement_alone (bound.CreateMaster name path) = refl
-  statement_alone (bound.CreateKey name master wrapped) = refl
-  statement_alone (bound.CreateTable table) = refl
-  statement_alone (bound.DropTable name) = refl
-  statement_alone (bound.DropMaster name) = refl
-  statement_alone (bound.DropKey name) = refl
+  statement_alone (bound.Definition d) = refl
   statement_alone (bound.Insert insert) = refl
   statement_alone (bound.Update update) = refl
   statement_alone (bound.Delete delete) = refl
@@ -247,12 +237,7 @@ module _ (f : ℕ → ℕ) where
   -- ---- the length
 
   long : (s : BoundStatement) → is_long_statement (renamed_statement f s) ≡ is_long_statement s
-  long (bound.CreateMaster name path) = refl
-  long (bound.CreateKey name master wrapped) = refl
-  long (bound.CreateTable table) = refl
-  long (bound.DropTable name) = refl
-  long (bound.DropMaster name) = refl
-  long (bound.DropKey name) = refl
+  long (bound.Definition d) = refl
   long (bound.Insert insert) = refl
   long (bound.Update update) = refl
   long (bound.Delete delete) = refl
@@ -265,8 +250,8 @@ module _ (f : ℕ → ℕ) where
       ∙ ap (λ z. is_long_statement b.statement || nat_lt 8192 z) (ap length (rules_renamed f params b) ∙ length-map (rules b) (renamed_rule f))
 
 pub checks_keep_the_used : ChecksKeepTheUsed
-unfolding checked
+unfolding check_of
 checks_keep_the_used f params b h =
-    ap (λ z. none_at fault.TypeClash (least z) >>= λ one. none_at fault.NotGrouped (least (ungrouped (renamed f params b))) >>= λ grouped. cond (is_too_long (renamed f params b)) (Err fault.TooLong) (Ok tt)) (statement f b.columns b.params params b.statement h)
+    ap (λ z. none_at fault.TypeClash (least z) >>= λ one. none_at fault.NotGrouped (least (ungrouped_places (renamed f params b))) >>= λ grouped. cond (is_too_long (renamed f params b)) (Err fault.TooLong) (Ok tt)) (statement f b.columns b.params params b.statement h)
     ∙ ap (λ z. none_at fault.TypeClash (least (clashes b)) >>= λ one. none_at fault.NotGrouped (least z) >>= λ grouped. cond (is_too_long (renamed f params b)) (Err fault.TooLong) (Ok tt)) (statement_alone f b.statement)
-    ∙ ap (λ z. none_at fault.TypeClash (least (clashes b)) >>= λ one. none_at fault.NotGrouped (least (ungrouped b)) >>= λ grouped. cond z (Err fault.TooLong) (Ok tt)) (too_long f params b)
+    ∙ ap (λ z. none_at fault.TypeClash (least (clashes b)) >>= λ one. none_at fault.NotGrouped (least (ungrouped_places b)) >>= λ grouped. cond z (Err fault.TooLong) (Ok tt)) (too_long f params b)

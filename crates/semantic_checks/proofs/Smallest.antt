@@ -6,8 +6,8 @@ use Rattle.ae_base.specs.declared.faults.SqlFault.{SqlFault}
 use Rattle.ae_base.specs.declared.faults.SqlFault.TheVariants as fault
 use Rattle.sql_tree.specs.Bound.{Bound}
 use Rattle.semantic_checks.specs.Clashes.{clashes}
-use Rattle.semantic_checks.specs.Grouping.{ungrouped}
-use Rattle.semantic_checks.specs.Checks.{least, least_from, none_at, is_too_long, checked}
+use Rattle.semantic_checks.specs.Grouping.{ungrouped_places}
+use Rattle.semantic_checks.specs.Checks.{least, least_from, none_at, is_too_long, check_of}
 use Rattle.semantic_checks.specs.Laws.{Among, IsBelow, IsSmallest, SmallestFirst}
 
 record Below (m : ℕ) (xs : List ℕ) (at : ℕ) : Type 0 where
@@ -74,20 +74,20 @@ at-none None (Some g) long e = cc
 at-none None None true e = cc
 at-none None None false e = (refl, refl, refl)
 
-checked-over : (bound : Bound) → checked bound ≡ over (least (clashes bound)) (least (ungrouped bound)) (is_too_long bound)
-unfolding checked
+checked-over : (bound : Bound) → check_of bound ≡ over (least (clashes bound)) (least (ungrouped_places bound)) (is_too_long bound)
+unfolding check_of
 checked-over bound = refl
 
 pub smallest_first : SmallestFirst
 smallest_first = record {
-  clash = λ bound at e. smallest (clashes bound) at (at-clash (least (clashes bound)) (least (ungrouped bound)) (is_too_long bound) at (rw (← checked-over bound) e));
+  clash = λ bound at e. smallest (clashes bound) at (at-clash (least (clashes bound)) (least (ungrouped_places bound)) (is_too_long bound) at (rw (← checked-over bound) e));
   group = λ bound at e.
-      let h = at-group (least (clashes bound)) (least (ungrouped bound)) (is_too_long bound) at (rw (← checked-over bound) e) in
-      (no-least (clashes bound) h.0, smallest (ungrouped bound) at h.1);
+      let h = at-group (least (clashes bound)) (least (ungrouped_places bound)) (is_too_long bound) at (rw (← checked-over bound) e) in
+      (no-least (clashes bound) h.0, smallest (ungrouped_places bound) at h.1);
   length = λ bound e.
-      let h = at-length (least (clashes bound)) (least (ungrouped bound)) (is_too_long bound) (rw (← checked-over bound) e) in
-      (no-least (clashes bound) h.0, no-least (ungrouped bound) h.1);
+      let h = at-length (least (clashes bound)) (least (ungrouped_places bound)) (is_too_long bound) (rw (← checked-over bound) e) in
+      (no-least (clashes bound) h.0, no-least (ungrouped_places bound) h.1);
   fine = λ bound e.
-      let h = at-none (least (clashes bound)) (least (ungrouped bound)) (is_too_long bound) (rw (← checked-over bound) e) in
-      (no-least (clashes bound) h.0, no-least (ungrouped bound) h.1, h.2);
+      let h = at-none (least (clashes bound)) (least (ungrouped_places bound)) (is_too_long bound) (rw (← checked-over bound) e) in
+      (no-least (clashes bound) h.0, no-least (ungrouped_places bound) h.1, h.2);
 }

@@ -6,9 +6,10 @@ use Rattle.ae_base.specs.declared.faults.SqlFault.{SqlFault}
 use Rattle.ae_base.specs.declared.faults.SqlFault.TheVariants as fault
 use Rattle.sql_tree.specs.Bound.{BoundStatement, Bound}
 use Rattle.sql_tree.specs.Bound as bound
+use Rattle.sql_tree.specs.Definitions.{uniques_in}
 use Rattle.enc_types.specs.Rules.{rules}
 use Rattle.semantic_checks.specs.Clashes.{clashes}
-use Rattle.semantic_checks.specs.Grouping.{ungrouped}
+use Rattle.semantic_checks.specs.Grouping.{ungrouped_places}
 use Rattle.ae_base.specs.Limits.{most_rules}
 
 -- the smaller of two places
@@ -30,7 +31,7 @@ none_at fault (Some at) = Err (fault at)
 
 -- a query has 1 to 512 items, and a table at most 8 unique keys; no text that is read has no items, or more keys
 abbrev pub is_long_statement : BoundStatement → Bool
-is_long_statement (bound.CreateTable table) = nat_lt 8 (length table.def.uniques)
+is_long_statement (bound.Definition d) = nat_lt 8 (length (uniques_in d))
 is_long_statement (bound.Select query) = (length query.items == 0) || nat_lt 512 (length query.items)
 is_long_statement other = false
 
@@ -38,8 +39,8 @@ is_long_statement other = false
 abbrev pub is_too_long : Bound → Bool
 is_too_long bound = is_long_statement bound.statement || nat_lt most_rules (length (rules bound))
 
-unfoldable pub checked : Bound → Result (Unit {0}) SqlFault
-checked bound =
+unfoldable pub check_of : Bound → Result (Unit {0}) SqlFault
+check_of bound =
     none_at fault.TypeClash (least (clashes bound)) >>= λ of_one_kind.
-    none_at fault.NotGrouped (least (ungrouped bound)) >>= λ grouped.
+    none_at fault.NotGrouped (least (ungrouped_places bound)) >>= λ grouped.
     if is_too_long bound then Err fault.TooLong else Ok tt

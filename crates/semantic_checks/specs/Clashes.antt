@@ -147,12 +147,7 @@ abbrev pub query_clashes : Types → BoundQuery → List ℕ
 query_clashes types q = flat_map (item_clashes types) q.items ++ (flat_map (join_clashes types) q.joins ++ filter_clashes types q.filter)
 
 abbrev pub statement_clashes : Types → BoundStatement → List ℕ
-statement_clashes types (bound.CreateMaster name path) = []
-statement_clashes types (bound.CreateKey name master wrapped) = []
-statement_clashes types (bound.CreateTable table) = []
-statement_clashes types (bound.DropTable name) = []
-statement_clashes types (bound.DropMaster name) = []
-statement_clashes types (bound.DropKey name) = []
+statement_clashes types (bound.Definition d) = []
 statement_clashes types (bound.Insert insert) = flat_map (row_clashes types insert.named) insert.rows
 statement_clashes types (bound.Update update) = flat_map (assignment_clashes types) update.assignments ++ filter_clashes types update.filter
 statement_clashes types (bound.Delete delete) = filter_clashes types delete.filter

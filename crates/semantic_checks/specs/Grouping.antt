@@ -58,17 +58,12 @@ query_ungrouped q =
     (if groups q || is_some q.distinct then flat_map (key_unselected q.items) q.order_by else [])
 
 abbrev pub statement_ungrouped : BoundStatement → List ℕ
-statement_ungrouped (bound.CreateMaster name path) = []
-statement_ungrouped (bound.CreateKey name master wrapped) = []
-statement_ungrouped (bound.CreateTable table) = []
-statement_ungrouped (bound.DropTable name) = []
-statement_ungrouped (bound.DropMaster name) = []
-statement_ungrouped (bound.DropKey name) = []
+statement_ungrouped (bound.Definition d) = []
 statement_ungrouped (bound.Insert insert) = []
 statement_ungrouped (bound.Update update) = []
 statement_ungrouped (bound.Delete delete) = []
 statement_ungrouped (bound.Select query) = query_ungrouped query
 statement_ungrouped (bound.Control control) = []
 
-abbrev pub ungrouped : Bound → List ℕ
-ungrouped bound = statement_ungrouped bound.statement
+abbrev pub ungrouped_places : Bound → List ℕ
+ungrouped_places bound = statement_ungrouped bound.statement

@@ -6,8 +6,8 @@ ghost use Rattle.ae_base.specs.declared.faults.SqlFault.TheVariants as fault;
 ghost use Rattle.sql_tree.specs.Bound as bound;
 ghost use Rattle.enc_types.specs.Rules.{rules};
 ghost use Rattle.semantic_checks.specs.Clashes.{clashes};
-ghost use Rattle.semantic_checks.specs.Grouping.{ungrouped};
-ghost use Rattle.semantic_checks.specs.Checks.{checked, earlier, is_long_statement, least, none_at};
+ghost use Rattle.semantic_checks.specs.Grouping.{ungrouped_places};
+ghost use Rattle.semantic_checks.specs.Checks.{check_of, earlier, is_long_statement, least, none_at};
 
 use crate::clashes::statement_clashes;
 use crate::grouping::statement_ungrouped;
@@ -56,7 +56,8 @@ fn of_one_kind(alloc: Global, made: &Bound) -> Result<(), Refusal>
 }
 
 fn grouped(alloc: Global, made: &Bound) -> Result<(), Refusal>
-    ensures { Answers result (none_at fault.NotGrouped (least (ungrouped (bound.bound_of made.now)))) }
+    ensures { Answers result
+        (none_at fault.NotGrouped (least (ungrouped_places (bound.bound_of made.now)))) }
 {
     let mut found = Seq::new(alloc);
     statement_ungrouped(&mut found, &made.statement)?;
@@ -70,7 +71,7 @@ fn is_long_statement(statement: &BoundStatement) -> bool
     ensures { result ≡ is_long_statement (bound.statement_of statement.now) }
 {
     match statement {
-        BoundStatement::CreateTable(table) => table.def.uniques.len() > MOST_UNIQUE_KEYS,
+        BoundStatement::Definition(definition) => definition.uniques().len() > MOST_UNIQUE_KEYS,
         BoundStatement::Select(query) => query.items.is_empty() || query.items.len() > MOST_ITEMS,
         _ => false,
     }
@@ -84,9 +85,9 @@ fn has_many_rules(alloc: Global, made: &Bound) -> Result<bool, AllocError>
 
 /// The passes over the kinds of values, over what isn't grouped, and over the length: the fault at
 /// the smallest place of the first pass that has one.
-#[tactic(auto, unfolding(crate::specs::Checks::checked))]
+#[tactic(auto, unfolding(crate::specs::Checks::check_of))]
 pub fn checked(alloc: Global, made: &Bound) -> Result<(), Refusal>
-    ensures { Answers result (checked (bound.bound_of made.now)) }
+    ensures { Answers result (check_of (bound.bound_of made.now)) }
 {
     of_one_kind(alloc, made)?;
     grouped(alloc, made)?;

@@ -37,7 +37,8 @@ fn operand_clashes(
     types: &Types<'_>,
     operand: &BoundOperand,
 ) -> Result<(), AllocError>
-    ensures { OnOk result (found.new ≡ found.old ++ operand_clashes (types_seen types.now) (operand_of operand.now)) }
+    ensures { OnOk result
+        (found.new ≡ found.old ++ operand_clashes (types_seen types.now) (operand_of operand.now)) }
 {
     match operand {
         Operand::Literal { .. } | Operand::Param { .. } | Operand::Column { .. } => Ok(()),
@@ -64,7 +65,9 @@ fn first_clash(
     first: &BoundOperand,
     terms: &[Term<usize, usize>],
 ) -> Result<(), AllocError>
-    ensures { OnOk result (found.new ≡ found.old ++ first_clash (types_seen types.now) (operand_of first.now) (terms_listed terms.now)) }
+    ensures { OnOk result
+        (found.new ≡ found.old ++ first_clash (types_seen types.now) (operand_of first.now)
+        (terms_listed terms.now)) }
 {
     match terms {
         [] => Ok(()),
@@ -80,7 +83,8 @@ fn terms_clashes(
     types: &Types<'_>,
     terms: &[Term<usize, usize>],
 ) -> Result<(), AllocError>
-    ensures { OnOk result (found.new ≡ found.old ++ terms_clashes (types_seen types.now) (terms_listed terms.now)) }
+    ensures { OnOk result
+        (found.new ≡ found.old ++ terms_clashes (types_seen types.now) (terms_listed terms.now)) }
 {
     for term in terms {
         term_clashes(found, types, term)?;
@@ -94,7 +98,9 @@ fn term_clashes(
     types: &Types<'_>,
     term: &Term<usize, usize>,
 ) -> Result<(), AllocError>
-    ensures { OnOk result (found.new ≡ found.old ++ terms_clashes (types_seen types.now) (terms_listed (term.now ∷ []))) }
+    ensures { OnOk result
+        (found.new ≡ found.old
+        ++ terms_clashes (types_seen types.now) (terms_listed (term.now ∷ []))) }
 {
     match term {
         Term::Plus { at, operand } | Term::Minus { at, operand } => {
@@ -114,7 +120,9 @@ fn all_clashes(
     types: &Types<'_>,
     operands: &[BoundOperand],
 ) -> Result<(), AllocError>
-    ensures { OnOk result (found.new ≡ found.old ++ flat_map (operand_clashes (types_seen types.now)) (map operand_of operands.now)) }
+    ensures { OnOk result
+        (found.new ≡ found.old ++ flat_map (operand_clashes (types_seen types.now))
+        (map operand_of operands.now)) }
 {
     for operand in operands {
         operand_clashes(found, types, operand)?;
@@ -129,7 +137,9 @@ fn listed_clash(
     left: &BoundOperand,
     right: &BoundOperand,
 ) -> Result<(), AllocError>
-    ensures { OnOk result (found.new ≡ found.old ++ listed_clash (types_seen types.now) at (operand_of left.now) (operand_of right.now)) }
+    ensures { OnOk result
+        (found.new ≡ found.old ++ listed_clash (types_seen types.now) at (operand_of left.now)
+        (operand_of right.now)) }
 {
     let kind = operand_kind(types, left);
     clash_at(found, at, kind, operand_kind(types, right))?;
@@ -143,7 +153,10 @@ fn in_clashes(
     left: &BoundOperand,
     list: &[BoundOperand],
 ) -> Result<(), AllocError>
-    ensures { OnOk result (found.new ≡ found.old ++ flat_map (listed_clash (types_seen types.now) at (operand_of left.now)) (map operand_of list.now)) }
+    ensures { OnOk result
+        (found.new ≡ found.old
+        ++ flat_map (listed_clash (types_seen types.now) at (operand_of left.now))
+        (map operand_of list.now)) }
 {
     for right in list {
         listed_clash(found, types, at, left, right)?;
@@ -157,7 +170,9 @@ fn condition_clashes(
     types: &Types<'_>,
     condition: &BoundCondition,
 ) -> Result<(), AllocError>
-    ensures { OnOk result (found.new ≡ found.old ++ condition_clashes (types_seen types.now) (condition_of condition.now)) }
+    ensures { OnOk result
+        (found.new ≡ found.old
+        ++ condition_clashes (types_seen types.now) (condition_of condition.now)) }
 {
     match condition {
         Condition::Compare {
@@ -191,7 +206,9 @@ fn conditions_clashes(
     types: &Types<'_>,
     conditions: &[BoundCondition],
 ) -> Result<(), AllocError>
-    ensures { OnOk result (found.new ≡ found.old ++ conditions_clashes (types_seen types.now) (conditions_listed conditions.now)) }
+    ensures { OnOk result
+        (found.new ≡ found.old
+        ++ conditions_clashes (types_seen types.now) (conditions_listed conditions.now)) }
 {
     for condition in conditions {
         condition_clashes(found, types, condition)?;
@@ -204,7 +221,9 @@ fn filter_clashes(
     types: &Types<'_>,
     filter: &Option<BoundCondition>,
 ) -> Result<(), AllocError>
-    ensures { OnOk result (found.new ≡ found.old ++ filter_clashes (types_seen types.now) (option_map condition_of filter.now)) }
+    ensures { OnOk result
+        (found.new ≡ found.old
+        ++ filter_clashes (types_seen types.now) (option_map condition_of filter.now)) }
 {
     match filter {
         Some(condition) => condition_clashes(found, types, condition),
@@ -218,7 +237,9 @@ fn value_clashes(
     place: usize,
     value: &BoundOperand,
 ) -> Result<(), AllocError>
-    ensures { OnOk result (found.new ≡ found.old ++ value_clashes (types_seen types.now) place (operand_of value.now)) }
+    ensures { OnOk result
+        (found.new ≡ found.old
+        ++ value_clashes (types_seen types.now) place (operand_of value.now)) }
 {
     let kind = column_kind(types, place);
     clash_at(found, place_of(value), kind, operand_kind(types, value))?;
@@ -231,7 +252,9 @@ fn paired_clashes(
     named: &[usize],
     values: &[BoundOperand],
 ) -> Result<(), AllocError>
-    ensures { OnOk result (found.new ≡ found.old ++ paired_clashes (types_seen types.now) named.now (map operand_of values.now)) }
+    ensures { OnOk result
+        (found.new ≡ found.old ++ paired_clashes (types_seen types.now) named.now
+        (map operand_of values.now)) }
 {
     let mut places = named;
     let mut left = values;
@@ -252,7 +275,9 @@ fn row_clashes(
     named: &[usize],
     row: &BoundRow,
 ) -> Result<(), AllocError>
-    ensures { OnOk result (found.new ≡ found.old ++ row_clashes (types_seen types.now) named.now (bound.row_of row.now)) }
+    ensures { OnOk result
+        (found.new ≡ found.old ++ row_clashes (types_seen types.now) named.now
+        (bound.row_of row.now)) }
 {
     if row.values.len() == named.len() {
         return paired_clashes(found, types, named, row.values.as_slice());
@@ -267,7 +292,9 @@ fn rows_clashes(
     named: &[usize],
     rows: &[BoundRow],
 ) -> Result<(), AllocError>
-    ensures { OnOk result (found.new ≡ found.old ++ flat_map (row_clashes (types_seen types.now) named.now) (map bound.row_of rows.now)) }
+    ensures { OnOk result
+        (found.new ≡ found.old ++ flat_map (row_clashes (types_seen types.now) named.now)
+        (map bound.row_of rows.now)) }
 {
     for row in rows {
         row_clashes(found, types, named, row)?;
@@ -280,7 +307,9 @@ fn assignment_clashes(
     types: &Types<'_>,
     assignment: &BoundAssignment,
 ) -> Result<(), AllocError>
-    ensures { OnOk result (found.new ≡ found.old ++ assignment_clashes (types_seen types.now) (bound.assignment_of assignment.now)) }
+    ensures { OnOk result
+        (found.new ≡ found.old
+        ++ assignment_clashes (types_seen types.now) (bound.assignment_of assignment.now)) }
 {
     let value = &assignment.value;
     let kind = column_kind(types, assignment.place);
@@ -293,7 +322,9 @@ fn assignments_clashes(
     types: &Types<'_>,
     assignments: &[BoundAssignment],
 ) -> Result<(), AllocError>
-    ensures { OnOk result (found.new ≡ found.old ++ flat_map (assignment_clashes (types_seen types.now)) (map bound.assignment_of assignments.now)) }
+    ensures { OnOk result
+        (found.new ≡ found.old ++ flat_map (assignment_clashes (types_seen types.now))
+        (map bound.assignment_of assignments.now)) }
 {
     for assignment in assignments {
         assignment_clashes(found, types, assignment)?;
@@ -302,7 +333,8 @@ fn assignments_clashes(
 }
 
 fn item_clashes(found: &mut Seq<u32>, types: &Types<'_>, item: &BoundItem) -> Result<(), AllocError>
-    ensures { OnOk result (found.new ≡ found.old ++ item_clashes (types_seen types.now) (bound.item_of item.now)) }
+    ensures { OnOk result
+        (found.new ≡ found.old ++ item_clashes (types_seen types.now) (bound.item_of item.now)) }
 {
     match &item.value {
         BoundItemValue::Value(operand) => operand_clashes(found, types, operand),
@@ -315,7 +347,9 @@ fn items_clashes(
     types: &Types<'_>,
     items: &[BoundItem],
 ) -> Result<(), AllocError>
-    ensures { OnOk result (found.new ≡ found.old ++ flat_map (item_clashes (types_seen types.now)) (map bound.item_of items.now)) }
+    ensures { OnOk result
+        (found.new ≡ found.old ++ flat_map (item_clashes (types_seen types.now))
+        (map bound.item_of items.now)) }
 {
     for item in items {
         item_clashes(found, types, item)?;
@@ -328,7 +362,9 @@ fn joins_clashes(
     types: &Types<'_>,
     joins: &[BoundJoin],
 ) -> Result<(), AllocError>
-    ensures { OnOk result (found.new ≡ found.old ++ flat_map (join_clashes (types_seen types.now)) (map bound.join_of joins.now)) }
+    ensures { OnOk result
+        (found.new ≡ found.old ++ flat_map (join_clashes (types_seen types.now))
+        (map bound.join_of joins.now)) }
 {
     for join in joins {
         condition_clashes(found, types, &join.on)?;
@@ -341,7 +377,8 @@ fn query_clashes(
     types: &Types<'_>,
     query: &BoundQuery,
 ) -> Result<(), AllocError>
-    ensures { OnOk result (found.new ≡ found.old ++ query_clashes (types_seen types.now) (bound.query_of query.now)) }
+    ensures { OnOk result
+        (found.new ≡ found.old ++ query_clashes (types_seen types.now) (bound.query_of query.now)) }
 {
     items_clashes(found, types, query.items.as_slice())?;
     joins_clashes(found, types, query.joins.as_slice())?;
@@ -354,7 +391,9 @@ pub(crate) fn statement_clashes(
     types: &Types<'_>,
     statement: &BoundStatement,
 ) -> Result<(), AllocError>
-    ensures { OnOk result (found.new ≡ found.old ++ statement_clashes (types_seen types.now) (bound.statement_of statement.now)) }
+    ensures { OnOk result
+        (found.new ≡ found.old
+        ++ statement_clashes (types_seen types.now) (bound.statement_of statement.now)) }
 {
     match statement {
         BoundStatement::Insert(insert) => rows_clashes(
@@ -369,12 +408,6 @@ pub(crate) fn statement_clashes(
         }
         BoundStatement::Delete(delete) => filter_clashes(found, types, &delete.filter),
         BoundStatement::Select(query) => query_clashes(found, types, query),
-        BoundStatement::CreateMaster { .. }
-        | BoundStatement::CreateKey { .. }
-        | BoundStatement::CreateTable(_)
-        | BoundStatement::DropTable(_)
-        | BoundStatement::DropMaster(_)
-        | BoundStatement::DropKey(_)
-        | BoundStatement::Control(_) => Ok(()),
+        BoundStatement::Definition(_) | BoundStatement::Control(_) => Ok(()),
     }
 }

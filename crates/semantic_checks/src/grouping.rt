@@ -43,7 +43,8 @@ fn operand_ungrouped(
     keys: &[PlaceAt],
     operand: &BoundOperand,
 ) -> Result<(), AllocError>
-    ensures { OnOk result (found.new ≡ found.old ++ operand_ungrouped keys.now (operand_of operand.now)) }
+    ensures { OnOk result
+        (found.new ≡ found.old ++ operand_ungrouped keys.now (operand_of operand.now)) }
 {
     match operand {
         Operand::Column { column, .. } if is_key(keys, *column) => Ok(()),
@@ -56,7 +57,8 @@ fn item_ungrouped(
     keys: &[PlaceAt],
     item: &BoundItem,
 ) -> Result<(), AllocError>
-    ensures { OnOk result (found.new ≡ found.old ++ item_ungrouped keys.now (bound.item_of item.now)) }
+    ensures { OnOk result
+        (found.new ≡ found.old ++ item_ungrouped keys.now (bound.item_of item.now)) }
 {
     match &item.value {
         BoundItemValue::Value(operand) => operand_ungrouped(found, keys, operand),
@@ -69,7 +71,9 @@ fn items_ungrouped(
     keys: &[PlaceAt],
     items: &[BoundItem],
 ) -> Result<(), AllocError>
-    ensures { OnOk result (found.new ≡ found.old ++ flat_map (item_ungrouped keys.now) (map bound.item_of items.now)) }
+    ensures { OnOk result
+        (found.new ≡ found.old
+        ++ flat_map (item_ungrouped keys.now) (map bound.item_of items.now)) }
 {
     for item in items {
         item_ungrouped(found, keys, item)?;
@@ -102,7 +106,9 @@ fn keys_unselected(
     items: &[BoundItem],
     keys: &[BoundOrderKey],
 ) -> Result<(), AllocError>
-    ensures { OnOk result (found.new ≡ found.old ++ flat_map (key_unselected (map bound.item_of items.now)) keys.now) }
+    ensures { OnOk result
+        (found.new ≡ found.old ++ flat_map (key_unselected (map bound.item_of items.now))
+        keys.now) }
 {
     for key in keys {
         key_unselected(found, items, *key)?;
@@ -115,7 +121,8 @@ fn key_unselected(
     items: &[BoundItem],
     key: BoundOrderKey,
 ) -> Result<(), AllocError>
-    ensures { OnOk result (found.new ≡ found.old ++ key_unselected (map bound.item_of items.now) key) }
+    ensures { OnOk result
+        (found.new ≡ found.old ++ key_unselected (map bound.item_of items.now) key) }
 {
     if is_selected(key.place, items) {
         Ok(())
@@ -143,7 +150,8 @@ pub(crate) fn statement_ungrouped(
     found: &mut Seq<u32>,
     statement: &BoundStatement,
 ) -> Result<(), AllocError>
-    ensures { OnOk result (found.new ≡ found.old ++ statement_ungrouped (bound.statement_of statement.now)) }
+    ensures { OnOk result
+        (found.new ≡ found.old ++ statement_ungrouped (bound.statement_of statement.now)) }
 {
     match statement {
         BoundStatement::Select(query) => query_ungrouped(found, query),

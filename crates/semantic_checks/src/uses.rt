@@ -38,13 +38,7 @@ fn uses_in_statement(place: usize, statement: &BoundStatement) -> bool
                 || uses_in_joins(place, query.joins.as_slice())
                 || uses_in_filter(place, &query.filter)
         }
-        BoundStatement::CreateMaster { .. }
-        | BoundStatement::CreateKey { .. }
-        | BoundStatement::CreateTable(_)
-        | BoundStatement::DropTable(_)
-        | BoundStatement::DropMaster(_)
-        | BoundStatement::DropKey(_)
-        | BoundStatement::Control(_) => false,
+        BoundStatement::Definition(_) | BoundStatement::Control(_) => false,
     }
 }
 
@@ -69,7 +63,8 @@ fn uses_in_rows(place: usize, rows: &[BoundRow]) -> bool
 }
 
 fn uses_in_assignments(place: usize, assignments: &[BoundAssignment]) -> bool
-    ensures { result ≡ list_any (uses_in_assignment place) (map bound.assignment_of assignments.now) }
+    ensures { result
+        ≡ list_any (uses_in_assignment place) (map bound.assignment_of assignments.now) }
 {
     for assignment in assignments {
         if uses_in(place, &assignment.value) {

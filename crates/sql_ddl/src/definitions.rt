@@ -11,7 +11,7 @@ use ae_base::refusals::Refusal;
 use sql_expressions::cursor::{Cursor, syntax};
 use sql_expressions::reading::in_parens;
 use sql_tree::lexemes::Keyword;
-use sql_tree::statements::Statement;
+use sql_tree::statements::{Definition, Statement};
 use std::alloc::Global;
 
 fn create_table(alloc: Global, tokens: &mut Cursor) -> Result<Statement, Refusal>
@@ -20,11 +20,11 @@ fn create_table(alloc: Global, tokens: &mut Cursor) -> Result<Statement, Refusal
     tokens.word(Keyword::Table)?;
     let table = tokens.name()?;
     let parts = parts_in_parens(alloc, tokens)?;
-    Ok(Statement::CreateTable {
+    Ok(Statement::Definition(Definition::CreateTable {
         table,
         columns: parts.columns,
         uniques: parts.uniques,
-    })
+    }))
 }
 
 fn create_master(alloc: Global, tokens: &mut Cursor) -> Result<Statement, Refusal>
@@ -36,7 +36,7 @@ fn create_master(alloc: Global, tokens: &mut Cursor) -> Result<Statement, Refusa
     tokens.word(Keyword::With)?;
     let settings = in_parens::<MasterSettingReader>(alloc, tokens)?;
     match path_of(settings) {
-        Some(path) => Ok(Statement::CreateMaster { name, path }),
+        Some(path) => Ok(Statement::Definition(Definition::CreateMaster { name, path })),
         None => Err(syntax()),
     }
 }
@@ -51,11 +51,11 @@ fn create_key(alloc: Global, tokens: &mut Cursor) -> Result<Statement, Refusal>
     tokens.word(Keyword::Values)?;
     let settings = in_parens::<WrappedSettingReader>(alloc, tokens)?;
     match key_of(settings) {
-        Some((master, wrapped)) => Ok(Statement::CreateKey {
+        Some((master, wrapped)) => Ok(Statement::Definition(Definition::CreateKey {
             name,
             master,
             wrapped,
-        }),
+        })),
         None => Err(syntax()),
     }
 }
@@ -82,11 +82,13 @@ fn drop_key(tokens: &mut Cursor) -> Result<Statement, Refusal>
     if tokens.next_reads("MASTER") {
         tokens.reads("MASTER")?;
         tokens.word(Keyword::Key)?;
-        return Ok(Statement::DropMaster(tokens.name()?));
+        let name = tokens.name()?;
+        return Ok(Statement::Definition(Definition::DropMaster(name)));
     }
     tokens.reads("ENCRYPTION")?;
     tokens.word(Keyword::Key)?;
-    Ok(Statement::DropKey(tokens.name()?))
+    let name = tokens.name()?;
+    Ok(Statement::Definition(Definition::DropKey(name)))
 }
 
 /// DROP of a table, a master key or a column key.
@@ -96,7 +98,8 @@ pub fn drop_named(tokens: &mut Cursor) -> Result<Statement, Refusal>
     tokens.word(Keyword::Drop)?;
     if tokens.next_is(Keyword::Table) {
         tokens.word(Keyword::Table)?;
-        return Ok(Statement::DropTable(tokens.name()?));
+        let name = tokens.name()?;
+        return Ok(Statement::Definition(Definition::DropTable(name)));
     }
     drop_key(tokens)
 }

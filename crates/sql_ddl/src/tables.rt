@@ -49,8 +49,10 @@ fn column_type(tokens: &mut Cursor) -> Result<Ty, Refusal>
 
 /// The places of the words of COLLATE, where it is there.
 fn collation(tokens: &mut Cursor) -> Result<Option<(u32, u32)>, Refusal>
-    ensures { Gives (λ words. words) result tokens.new (optional (terminal.Word keyword.Collate ∷ [])
-        (both (parse.word keyword.Collate) (parse.reads (codes "LATIN1_GENERAL_BIN2"))) tokens.old) }
+    ensures { Gives (λ words. words) result tokens.new
+        (optional (terminal.Word keyword.Collate ∷ [])
+        (both (parse.word keyword.Collate) (parse.reads (codes "LATIN1_GENERAL_BIN2")))
+        tokens.old) }
 {
     if !tokens.next_is(Keyword::Collate) {
         return Ok(None);
@@ -98,7 +100,8 @@ fn nullity(tokens: &mut Cursor) -> Result<bool, Refusal>
 
 fn optional_nullity(tokens: &mut Cursor) -> Result<Option<bool>, Refusal>
     ensures { Gives (λ not_null. not_null) result tokens.new
-        (optional (terminal.Word keyword.Null ∷ terminal.Word keyword.Not ∷ []) parse.nullity tokens.old) }
+        (optional (terminal.Word keyword.Null ∷ terminal.Word keyword.Not ∷ []) parse.nullity
+        tokens.old) }
 {
     if !tokens.next_is_any(&[Keyword::Null, Keyword::Not], &[]) {
         return Ok(None);

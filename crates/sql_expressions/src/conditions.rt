@@ -173,7 +173,8 @@ fn next_tests(tokens: &Cursor) -> bool
 
 /// The test that follows an operand, or nothing.
 fn optional_test(alloc: Global, tokens: &mut Cursor) -> Result<Option<Test>, Refusal>
-    ensures { Gives (option_map test_of) result tokens.new (optional parse.test_begins parse.test tokens.old) }
+    ensures { Gives (option_map test_of) result tokens.new
+        (optional parse.test_begins parse.test tokens.old) }
 {
     if !next_tests(tokens) {
         return Ok(None);
@@ -308,7 +309,8 @@ fn negated(
     not: Option<u32>,
     condition: ConditionTree,
 ) -> Result<ConditionTree, AllocError>
-    ensures { IfOk result (λ negated. condition_of negated ≡ make.negated_by not (condition_of condition)) }
+    ensures { IfOk result
+        (λ negated. condition_of negated ≡ make.negated_by not (condition_of condition)) }
 {
     if not.is_none() {
         return Ok(condition);
@@ -378,7 +380,8 @@ fn before(first: ConditionTree, more: Seq<ConditionTree>) -> Result<Vec<Conditio
 }
 
 fn all_of(first: ConditionTree, more: Seq<ConditionTree>) -> Result<ConditionTree, AllocError>
-    ensures { IfOk result (λ all. condition_of all ≡ make.all_with (condition_of first) (map condition_of more)) }
+    ensures { IfOk result
+        (λ all. condition_of all ≡ make.all_with (condition_of first) (map condition_of more)) }
 {
     if more.is_empty() {
         return Ok(first);
@@ -395,7 +398,8 @@ fn all_from(
     first: ConditionTree,
 ) -> Result<ConditionTree, Refusal>
     ensures { Gives condition_of result tokens.new
-        (all_from (parse.operand_parens depth) (parse.inner_parens depth) (condition_of first) tokens.old) }
+        (all_from (parse.operand_parens depth) (parse.inner_parens depth) (condition_of first)
+        tokens.old) }
 {
     match and_literals(alloc, tokens, depth) {
         Ok(more) => Ok(all_of(first, more)?),
@@ -447,7 +451,8 @@ fn or_conjunctions(
 }
 
 fn any_of(first: ConditionTree, more: Seq<ConditionTree>) -> Result<ConditionTree, AllocError>
-    ensures { IfOk result (λ any. condition_of any ≡ make.any_with (condition_of first) (map condition_of more)) }
+    ensures { IfOk result
+        (λ any. condition_of any ≡ make.any_with (condition_of first) (map condition_of more)) }
 {
     if more.is_empty() {
         return Ok(first);
@@ -464,7 +469,8 @@ fn any_from(
     first: ConditionTree,
 ) -> Result<ConditionTree, Refusal>
     ensures { Gives (λ whole. make.Asks (condition_of whole)) result tokens.new
-        (any_from (parse.operand_parens depth) (parse.inner_parens depth) (condition_of first) tokens.old) }
+        (any_from (parse.operand_parens depth) (parse.inner_parens depth) (condition_of first)
+        tokens.old) }
 {
     match or_conjunctions(alloc, tokens, depth) {
         Ok(more) => Ok(any_of(first, more)?),
@@ -485,7 +491,8 @@ fn with_more(
     first: ConditionTree,
 ) -> Result<ConditionTree, Refusal>
     ensures { Gives (λ whole. make.Asks (condition_of whole)) result tokens.new
-        (parse.after_literal (parse.operand_parens depth) (parse.inner_parens depth) (make.Asks (condition_of first)) tokens.old) }
+        (parse.after_literal (parse.operand_parens depth) (parse.inner_parens depth)
+        (make.Asks (condition_of first)) tokens.old) }
 {
     let all = all_from(alloc, tokens, depth, first)?;
     any_from(alloc, tokens, depth, all)
@@ -499,7 +506,8 @@ fn after_literal(
     first: Inner,
 ) -> Result<Inner, Refusal>
     ensures { Gives inner_of result tokens.new
-        (parse.after_literal (parse.operand_parens depth) (parse.inner_parens depth) (inner_of first) tokens.old) }
+        (parse.after_literal (parse.operand_parens depth) (parse.inner_parens depth)
+        (inner_of first) tokens.old) }
 {
     match first {
         Inner::Computes(operand) => Ok(Inner::Computes(operand)),

@@ -83,7 +83,8 @@ fn is_one_sign(signs: &[Symbol], lexeme: &Lexeme) -> bool
 
 #[tactic(auto, using(crate::proofs::Chosen::any_kind))]
 fn is_any(words: &[Keyword], signs: &[Symbol], lexeme: &Lexeme) -> bool
-    ensures { result ≡ member (map terminal.Word words.now ++ map terminal.Sign signs.now) lexeme.now }
+    ensures { result ≡ member (map terminal.Word words.now ++ map terminal.Sign signs.now)
+        lexeme.now }
 {
     is_one_word(words, lexeme) || is_one_sign(signs, lexeme)
 }
@@ -138,7 +139,8 @@ impl Cursor {
 
     /// Whether one of some keywords or symbols is next.
     pub fn next_is_any(&self, words: &[Keyword], signs: &[Symbol]) -> bool
-        ensures { result ≡ next_among (map terminal.Word words.now ++ map terminal.Sign signs.now) self.now }
+        ensures { result ≡ next_among (map terminal.Word words.now ++ map terminal.Sign signs.now)
+            self.now }
     {
         match self.rest.front() {
             Some(token) => is_any(words, signs, &token.lexeme),
@@ -190,7 +192,8 @@ impl Cursor {
 
     /// The place of the next token, which is passed.
     fn place(&mut self) -> Option<u32>
-        ensures { MatchOption result (self.old ≡ []) (λ at. one at_place self.old ≡ Some (at, self.new)) }
+        ensures { MatchOption result (self.old ≡ [])
+            (λ at. one at_place self.old ≡ Some (at, self.new)) }
     {
         let token = self.next()?;
         let at = token.at;
@@ -229,7 +232,8 @@ impl Cursor {
     /// The place of a keyword, where it is next.
     #[tactic(auto, using(crate::proofs::There::no_word, crate::proofs::There::one_word))]
     pub fn optional_word(&mut self, keyword: Keyword) -> Option<u32>
-        ensures { optional (terminal.Word keyword ∷ []) (parse.word keyword) self.old ≡ Some (result, self.new) }
+        ensures { optional (terminal.Word keyword ∷ []) (parse.word keyword) self.old
+            ≡ Some (result, self.new) }
     {
         if !self.next_is(keyword) {
             return None;
@@ -240,7 +244,8 @@ impl Cursor {
     /// The place of a symbol, where it is next.
     #[tactic(auto, using(crate::proofs::There::no_sign, crate::proofs::There::one_sign))]
     pub fn optional_sign(&mut self, symbol: Symbol) -> Option<u32>
-        ensures { optional (terminal.Sign symbol ∷ []) (parse.sign symbol) self.old ≡ Some (result, self.new) }
+        ensures { optional (terminal.Sign symbol ∷ []) (parse.sign symbol) self.old
+            ≡ Some (result, self.new) }
     {
         if !self.next_is_sign(symbol) {
             return None;

@@ -134,7 +134,8 @@ fn parenthesised(alloc: Global, tokens: &mut Cursor, depth: usize) -> Result<Ope
 
 #[cycle(operand)]
 fn primary(alloc: Global, tokens: &mut Cursor, depth: usize) -> Result<OperandTree, Refusal>
-    ensures { Gives operand_of result tokens.new (parse.primary (parse.operand_parens depth) tokens.old) }
+    ensures { Gives operand_of result tokens.new
+        (parse.primary (parse.operand_parens depth) tokens.old) }
 {
     if tokens.next_is_sign(Symbol::Open) {
         return parenthesised(alloc, tokens, depth);
@@ -145,7 +146,8 @@ fn primary(alloc: Global, tokens: &mut Cursor, depth: usize) -> Result<OperandTr
 /// A primary behind a minus.
 #[cycle(operand)]
 fn minus(alloc: Global, tokens: &mut Cursor, depth: usize) -> Result<OperandTree, Refusal>
-    ensures { Gives operand_of result tokens.new (parse.minus_term (parse.operand_parens depth) tokens.old) }
+    ensures { Gives operand_of result tokens.new
+        (parse.minus_term (parse.operand_parens depth) tokens.old) }
 {
     let at = tokens.sign(Symbol::Minus)?;
     let operand = primary(alloc, tokens, depth)?;
@@ -157,7 +159,8 @@ fn minus(alloc: Global, tokens: &mut Cursor, depth: usize) -> Result<OperandTree
 
 #[cycle(operand)]
 fn term(alloc: Global, tokens: &mut Cursor, depth: usize) -> Result<OperandTree, Refusal>
-    ensures { Gives operand_of result tokens.new (parse.term (parse.operand_parens depth) tokens.old) }
+    ensures { Gives operand_of result tokens.new
+        (parse.term (parse.operand_parens depth) tokens.old) }
 {
     if tokens.next_is_sign(Symbol::Minus) {
         return minus(alloc, tokens, depth);
@@ -171,7 +174,8 @@ pub(crate) fn bare_term(
     tokens: &mut Cursor,
     depth: usize,
 ) -> Result<OperandTree, Refusal>
-    ensures { Gives operand_of result tokens.new (parse.bare_term (parse.operand_parens depth) tokens.old) }
+    ensures { Gives operand_of result tokens.new
+        (parse.bare_term (parse.operand_parens depth) tokens.old) }
 {
     if tokens.next_is_sign(Symbol::Minus) {
         return minus(alloc, tokens, depth);
@@ -186,7 +190,8 @@ fn signed(
     tokens: &mut Cursor,
     depth: usize,
 ) -> Result<Term<ColumnRef, ParamName>, Refusal>
-    ensures { Gives signed_of result tokens.new (parse.signed (parse.operand_parens depth) tokens.old) }
+    ensures { Gives signed_of result tokens.new
+        (parse.signed (parse.operand_parens depth) tokens.old) }
 {
     let (negative, at) = sign(tokens)?;
     let operand = term(alloc, tokens, depth)?;
@@ -270,7 +275,8 @@ fn sum_of(
     first: OperandTree,
     terms: Seq<Term<ColumnRef, ParamName>>,
 ) -> Result<OperandTree, AllocError>
-    ensures { IfOk result (λ sum. operand_of sum ≡ make.sum_with (operand_of first) (map signed_of terms)) }
+    ensures { IfOk result
+        (λ sum. operand_of sum ≡ make.sum_with (operand_of first) (map signed_of terms)) }
 {
     if terms.is_empty() {
         return Ok(first);

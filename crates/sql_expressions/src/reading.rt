@@ -103,7 +103,8 @@ fn behind_comma<R: Reader>(alloc: Global, tokens: &mut Cursor) -> Result<R::Part
 
 /// One or more in parentheses, with commas between.
 pub fn in_parens<R: Reader>(alloc: Global, tokens: &mut Cursor) -> Result<Seq<R::Part>, Refusal>
-    ensures { Gives (map R.view) result tokens.new (parse.in_parens (parse.listed R.reading) tokens.old) }
+    ensures { Gives (map R.view) result tokens.new
+        (parse.in_parens (parse.listed R.reading) tokens.old) }
 {
     tokens.sign(Symbol::Open)?;
     let items = listed::<R>(alloc, tokens)?;

@@ -19,6 +19,7 @@ use Rattle.sql_tree.specs.declared.statements.EncryptionKind.{EncryptionKind}
 use Rattle.sql_tree.specs.declared.statements.EncryptionKind.TheVariants as kind
 use Rattle.sql_tree.specs.declared.statements.Encryption.{Encryption}
 use Rattle.sql_tree.specs.declared.statements.ColumnSpec.{ColumnSpec}
+use Rattle.sql_tree.specs.declared.statements.Definition.TheVariants as definition
 use Rattle.sql_tree.specs.declared.statements.UniqueSpec.{UniqueSpec}
 use Rattle.sql_tree.specs.declared.statements.NameAt.{NameAt}
 use Rattle.sql_tree.specs.declared.statements.ColumnAt.{ColumnAt}
@@ -350,22 +351,22 @@ table_of parts = parts_in parts >>= with_columns
 -- ---- statements
 
 abbrev pub create_table : List ℕ × (List ColumnSpec × List UniqueSpec) → Option Statement
-create_table x = Some (tree.CreateTable x.0 x.1.0 x.1.1)
+create_table x = Some (tree.Definition (definition.CreateTable x.0 x.1.0 x.1.1))
 
 abbrev pub create_master : List ℕ × List ℕ → Option Statement
-create_master x = Some (tree.CreateMaster x.0 x.1)
+create_master x = Some (tree.Definition (definition.CreateMaster x.0 x.1))
 
 abbrev pub create_key : List ℕ × (List ℕ × List ℕ) → Option Statement
-create_key x = Some (tree.CreateKey x.0 x.1.0 x.1.1)
+create_key x = Some (tree.Definition (definition.CreateKey x.0 x.1.0 x.1.1))
 
 abbrev pub drop_table : List ℕ → Option Statement
-drop_table name = Some (tree.DropTable name)
+drop_table name = Some (tree.Definition (definition.DropTable name))
 
 abbrev pub drop_master : List ℕ → Option Statement
-drop_master name = Some (tree.DropMaster name)
+drop_master name = Some (tree.Definition (definition.DropMaster name))
 
 abbrev pub drop_key : List ℕ → Option Statement
-drop_key name = Some (tree.DropKey name)
+drop_key name = Some (tree.Definition (definition.DropKey name))
 
 abbrev pub row_of : ℕ × (List Operand × ℕ) → Option ValueRow
 row_of x = Some (record { at = x.0; values = x.1.0 })

@@ -13,6 +13,8 @@ use Rattle.sql_tree.specs.declared.lexemes.Lexeme.TheVariants as lexeme
 use Rattle.sql_tree.specs.declared.lexemes.Token.{Token}
 use Rattle.sql_tree.specs.Tokens.{tokens_of, first_wide}
 use Rattle.sql_tree.specs.declared.statements.ColumnSpec.{ColumnSpec}
+use Rattle.sql_tree.specs.declared.statements.Definition.{Definition}
+use Rattle.sql_tree.specs.declared.statements.Definition.TheVariants as definition
 use Rattle.sql_tree.specs.declared.statements.UniqueSpec.{UniqueSpec}
 use Rattle.sql_tree.specs.Statements.{Items, Statement}
 use Rattle.sql_tree.specs.Statements as tree
@@ -58,14 +60,19 @@ is_key_length bytes = nat_lt 0 bytes && nat_le bytes 1024
 abbrev pub unique_keys : List ColumnSpec → List UniqueSpec → ℕ
 unique_keys columns uniques = count_by (λ column. is_some column.unique) columns + length uniques
 
--- 64 columns of a table, 8 unique keys, 16 columns of a key, 1,000 rows, 512 items and 8 tables
-abbrev pub passes_a_limit : Statement → Bool
-passes_a_limit (tree.CreateTable table columns uniques) =
+-- 64 columns of a table, 8 unique keys, 16 columns of a key
+abbrev pub defines_too_much : Definition → Bool
+defines_too_much (definition.CreateMaster word path) = not (is_key_length (length (encode_utf8_all path)))
+defines_too_much (definition.CreateKey word master wrapped) = not (is_key_length (length wrapped))
+defines_too_much (definition.CreateTable table columns uniques) =
     nat_lt 64 (length columns) || nat_lt 8 (unique_keys columns uniques) || list_any (λ unique. nat_lt 16 (length unique.columns)) uniques
+defines_too_much other = false
+
+-- 1,000 rows, 512 items and 8 tables
+abbrev pub passes_a_limit : Statement → Bool
+passes_a_limit (tree.Definition d) = defines_too_much d
 passes_a_limit (tree.Insert table columns rows) = nat_lt 1000 (length rows)
 passes_a_limit (tree.Select query) = nat_lt 512 (items_of query.items) || nat_lt 8 (suc (length query.joins))
-passes_a_limit (tree.CreateMaster word path) = not (is_key_length (length (encode_utf8_all path)))
-passes_a_limit (tree.CreateKey word master wrapped) = not (is_key_length (length wrapped))
 passes_a_limit other = false
 
 abbrev pub parsed_tree : List Token → Option Statement → Result Statement SqlFault
@@ -82,5 +89,5 @@ parsed_tokens (Some tokens) = parsed_narrow tokens (first_wide 92233720368547758
 
 -- the statement of a text in UTF-8, or the first of: a text over 65,536 bytes; no token list; a number too wide;
 -- too many open parentheses; no tree; a limit passed
-unfoldable pub parsed : List ℕ → Result Statement SqlFault
-parsed text = if nat_lt most_statement_bytes (length text) then Err fault.TooLong else parsed_tokens (tokens_of text)
+unfoldable pub statement_in : List ℕ → Result Statement SqlFault
+statement_in text = if nat_lt most_statement_bytes (length text) then Err fault.TooLong else parsed_tokens (tokens_of text)

@@ -11,29 +11,29 @@ use Rattle.sql_tree.specs.declared.statements.Statement as code
 use Rattle.sql_tree.specs.Statements.{Statement, statement_of}
 use Rattle.sql_tree.specs.Tokens.{tokens_of, first_wide}
 use Rattle.sql_grammar.specs.Parse.{statement}
-use Rattle.sql_grammar.specs.Texts.{tree_of, opens_too_deep, has_long, passes_a_limit, parsed_narrow, parsed_tokens, parsed}
+use Rattle.sql_grammar.specs.Texts.{tree_of, opens_too_deep, has_long, passes_a_limit, parsed_narrow, parsed_tokens, statement_in}
 use Rattle.sql_expressions.specs.Reads.{Fails}
 
-pub parsed_long : (text : List ℕ) → 65536 < length text → parsed text ≡ Err fault.TooLong
-unfolding parsed
+pub parsed_long : (text : List ℕ) → 65536 < length text → statement_in text ≡ Err fault.TooLong
+unfolding statement_in
 parsed_long text h = let e : nat_lt 65536 (length text) ≡ true = grind (arith, nat_tests) in rw e refl
 
-parsed_short : (text : List ℕ) → length text ≤ 65536 → parsed text ≡ parsed_tokens (tokens_of text)
-unfolding parsed
+parsed_short : (text : List ℕ) → length text ≤ 65536 → statement_in text ≡ parsed_tokens (tokens_of text)
+unfolding statement_in
 parsed_short text h = let e : nat_lt 65536 (length text) ≡ false = grind (arith, nat_tests) in rw e refl
 
-pub parsed_none : (text : List ℕ) → length text ≤ 65536 → tokens_of text ≡ None → parsed text ≡ Err fault.Syntax
+pub parsed_none : (text : List ℕ) → length text ≤ 65536 → tokens_of text ≡ None → statement_in text ≡ Err fault.Syntax
 parsed_none text h e = parsed_short text h ∙ ap parsed_tokens e
 
 pub parsed_wide : (text : List ℕ) (tokens : List Token) (at : ℕ) → length text ≤ 65536 → tokens_of text ≡ Some tokens → first_wide 9223372036854775807 tokens ≡ Some at
-    → parsed text ≡ Err (fault.NumberTooWide at)
+    → statement_in text ≡ Err (fault.NumberTooWide at)
 parsed_wide text tokens at h e w = parsed_short text h ∙ ap parsed_tokens e ∙ ap (parsed_narrow tokens) w
 
 -- what is answered of the tokens is answered of the text
 pub parsed_answers : (text : List ℕ) (tokens : List Token) (result : Result code.Statement (Refusal SqlFault)) → length text ≤ 65536 → tokens_of text ≡ Some tokens
-    → first_wide 9223372036854775807 tokens ≡ None → AnswersAs statement_of result (parsed_narrow tokens None) → AnswersAs statement_of result (parsed text)
+    → first_wide 9223372036854775807 tokens ≡ None → AnswersAs statement_of result (parsed_narrow tokens None) → AnswersAs statement_of result (statement_in text)
 parsed_answers text tokens result h e w =
-    let same : parsed text ≡ parsed_narrow tokens None = parsed_short text h ∙ ap parsed_tokens e ∙ ap (parsed_narrow tokens) w in
+    let same : statement_in text ≡ parsed_narrow tokens None = parsed_short text h ∙ ap parsed_tokens e ∙ ap (parsed_narrow tokens) w in
     λ a. subst (AnswersAs statement_of result) (sym same) a
 
 pub parsed_deep : (tokens : List Token) → opens_too_deep 0 tokens ≡ true → parsed_narrow tokens None ≡ Err fault.TooDeep

@@ -12,7 +12,7 @@ use ae_base::limits::{
 };
 use ae_base::values::has_units_within;
 use sql_tree::lexemes::{Lexeme, Symbol, Token};
-use sql_tree::statements::{ColumnSpec, Items, Statement, UniqueSpec};
+use sql_tree::statements::{ColumnSpec, Definition, Items, Statement, UniqueSpec};
 
 /// Whether more than 64 parentheses are open at once. One that closes nothing counts for nothing.
 pub(crate) fn opens_too_deep(tokens: &[Token]) -> bool
@@ -58,12 +58,14 @@ fn is_key_length(bytes: usize) -> bool
     bytes > 0 && bytes <= MOST_KEY_BYTES
 }
 
-/// Whether a count of the statement passes its limit.
-pub(crate) fn passes_a_limit(statement: &Statement) -> bool
-    ensures { result ≡ spec.passes_a_limit (statement_of statement.now) }
+/// Whether the definition has a count, a path or a wrapped key that passes its limit.
+fn defines_too_much(definition: &Definition) -> bool
+    ensures { result ≡ spec.defines_too_much definition.now }
 {
-    match statement {
-        Statement::CreateTable {
+    match definition {
+        Definition::CreateMaster { path, .. } => !is_key_length(path.as_str().len()),
+        Definition::CreateKey { wrapped, .. } => !is_key_length(wrapped.len()),
+        Definition::CreateTable {
             columns,
             uniques,
             ..
@@ -72,18 +74,21 @@ pub(crate) fn passes_a_limit(statement: &Statement) -> bool
                 || has_many_keys(columns.as_slice(), uniques.as_slice())
                 || has_wide_key(uniques.as_slice())
         }
+        Definition::DropTable(_) | Definition::DropMaster(_) | Definition::DropKey(_) => false,
+    }
+}
+
+/// Whether a count of the statement passes its limit.
+pub(crate) fn passes_a_limit(statement: &Statement) -> bool
+    ensures { result ≡ spec.passes_a_limit (statement_of statement.now) }
+{
+    match statement {
+        Statement::Definition(definition) => defines_too_much(definition),
         Statement::Insert { rows, .. } => rows.len() > MOST_VALUES_ROWS,
         Statement::Select(query) => {
             item_count(&query.items) > MOST_ITEMS || query.joins.len() >= MOST_JOINED_TABLES
         }
-        Statement::CreateMaster { path, .. } => !is_key_length(path.as_str().len()),
-        Statement::CreateKey { wrapped, .. } => !is_key_length(wrapped.len()),
-        Statement::DropTable(_)
-        | Statement::DropMaster(_)
-        | Statement::DropKey(_)
-        | Statement::Update { .. }
-        | Statement::Delete { .. }
-        | Statement::Control(_) => false,
+        Statement::Update { .. } | Statement::Delete { .. } | Statement::Control(_) => false,
     }
 }
 

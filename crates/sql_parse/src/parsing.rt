@@ -4,7 +4,7 @@ ghost use Rattle.std.specs.Prelude.{◌≡◌, IfErr, None};
 ghost use Rattle.ae_base.specs.Results.{AnswersAs};
 ghost use Rattle.sql_tree.specs.Statements.{statement_of};
 ghost use Rattle.sql_tree.specs.Tokens.{first_wide};
-ghost use Rattle.sql_grammar.specs.Texts.{parsed, parsed_narrow};
+ghost use Rattle.sql_grammar.specs.Texts.{statement_in, parsed_narrow};
 ghost use Rattle.sql_parse.specs.Faults.{IsParseFault};
 
 use crate::limits::{has_long, opens_too_deep, passes_a_limit};
@@ -25,7 +25,7 @@ use std::alloc::Global;
 /// statement spells the tokens; TooLong for a statement past a limit.
 #[tactic(auto, using(crate::proofs::Parsed::parsed_long, crate::proofs::Parsed::parsed_none, crate::proofs::Parsed::parsed_wide, crate::proofs::Parsed::parsed_answers))]
 pub fn parse(alloc: Global, text: &str) -> Result<Statement, Refusal>
-    ensures exact { AnswersAs statement_of result (parsed text.now) }
+    ensures exact { AnswersAs statement_of result (statement_in text.now) }
     ensures causes { IfErr result IsParseFault }
 {
     if text.len() > MOST_STATEMENT_BYTES {

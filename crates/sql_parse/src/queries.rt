@@ -109,7 +109,8 @@ fn top(tokens: &mut Cursor) -> Result<u64, Refusal>
 }
 
 fn optional_top(tokens: &mut Cursor) -> Result<Option<u64>, Refusal>
-    ensures { Gives (λ top. top) result tokens.new (optional (terminal.Word keyword.Top ∷ []) parse.top tokens.old) }
+    ensures { Gives (λ top. top) result tokens.new
+        (optional (terminal.Word keyword.Top ∷ []) parse.top tokens.old) }
 {
     if !tokens.next_is(Keyword::Top) {
         return Ok(None);
@@ -141,7 +142,8 @@ fn join(alloc: Global, tokens: &mut Cursor) -> Result<Join, Refusal>
 #[tactic(auto, using(crate::proofs::Ends::goes_fails, crate::proofs::Ends::goes_end))]
 fn joins(alloc: Global, tokens: &mut Cursor) -> Result<Seq<Join>, Refusal>
     ensures { Gives (map join_of) result tokens.new
-        (many (terminal.Word keyword.Inner ∷ terminal.Word keyword.Join ∷ []) parse.join tokens.old) }
+        (many (terminal.Word keyword.Inner ∷ terminal.Word keyword.Join ∷ []) parse.join
+        tokens.old) }
 {
     let mut joins = Seq::new(alloc);
     'joins: while tokens.next_is_any(&[Keyword::Inner, Keyword::Join], &[]) {
@@ -198,7 +200,8 @@ fn direction(tokens: &mut Cursor) -> Result<bool, Refusal>
 
 fn optional_direction(tokens: &mut Cursor) -> Result<Option<bool>, Refusal>
     ensures { Gives (λ descending. descending) result tokens.new
-        (optional (terminal.Word keyword.Asc ∷ terminal.Word keyword.Desc ∷ []) parse.direction tokens.old) }
+        (optional (terminal.Word keyword.Asc ∷ terminal.Word keyword.Desc ∷ []) parse.direction
+        tokens.old) }
 {
     if !tokens.next_is_any(&[Keyword::Asc, Keyword::Desc], &[]) {
         return Ok(None);

@@ -55,7 +55,8 @@ impl Reader for RowReader {
 /// The columns of INSERT, where they are named.
 fn optional_columns(alloc: Global, tokens: &mut Cursor) -> Result<Option<Seq<Name>>, Refusal>
     ensures { Gives (λ columns. columns) result tokens.new
-        (optional (terminal.Sign symbol.Open ∷ []) (parse.in_parens (parse.listed parse.name)) tokens.old) }
+        (optional (terminal.Sign symbol.Open ∷ []) (parse.in_parens (parse.listed parse.name))
+        tokens.old) }
 {
     if !tokens.next_is_sign(Symbol::Open) {
         return Ok(None);

@@ -6,7 +6,7 @@ use Rattle.sql_tree.specs.Operands as operands
 use Rattle.sql_tree.specs.Conditions as conditions
 use Rattle.sql_tree.specs.declared.bound.ColumnSite.{ColumnSite}
 use Rattle.sql_tree.specs.declared.bound.PlaceAt.{PlaceAt}
-use Rattle.sql_tree.specs.declared.bound.BoundTable.{BoundTable}
+use Rattle.sql_tree.specs.declared.bound.BoundDefinition.{BoundDefinition}
 use Rattle.sql_tree.specs.declared.bound.BoundSource.{BoundSource}
 use Rattle.sql_tree.specs.declared.bound.BoundOrderKey.{BoundOrderKey}
 use Rattle.sql_tree.specs.declared.statements.TransactionControl.{TransactionControl}
@@ -80,12 +80,7 @@ pub record BoundQuery : Type 0 where
   pub order_by : List BoundOrderKey
 
 pub data BoundStatement : Type 0 where
-  CreateMaster : (name path : List ℕ) → BoundStatement
-  CreateKey : (name master wrapped : List ℕ) → BoundStatement
-  CreateTable : (table : BoundTable) → BoundStatement
-  DropTable : (name : List ℕ) → BoundStatement
-  DropMaster : (name : List ℕ) → BoundStatement
-  DropKey : (name : List ℕ) → BoundStatement
+  Definition : (definition : BoundDefinition) → BoundStatement
   Insert : (insert : BoundInsert) → BoundStatement
   Update : (update : BoundUpdate) → BoundStatement
   Delete : (delete : BoundDelete) → BoundStatement
@@ -137,12 +132,7 @@ query_of q = record {
 }
 
 abbrev pub statement_of : code_statement.BoundStatement → BoundStatement
-statement_of (code_statement.TheVariants.CreateMaster name path) = CreateMaster name path
-statement_of (code_statement.TheVariants.CreateKey name master wrapped) = CreateKey name master wrapped
-statement_of (code_statement.TheVariants.CreateTable table) = CreateTable table
-statement_of (code_statement.TheVariants.DropTable name) = DropTable name
-statement_of (code_statement.TheVariants.DropMaster name) = DropMaster name
-statement_of (code_statement.TheVariants.DropKey name) = DropKey name
+statement_of (code_statement.TheVariants.Definition definition) = Definition definition
 statement_of (code_statement.TheVariants.Insert insert) = Insert (insert_of insert)
 statement_of (code_statement.TheVariants.Update update) = Update (update_of update)
 statement_of (code_statement.TheVariants.Delete delete) = Delete (delete_of delete)

@@ -1,11 +1,13 @@
 pub mod Bound
 pub mod Conditions
+pub mod Definitions
 pub mod Listed
 pub mod Literals
 pub mod OnTables
 pub mod Operands
 pub mod Placed
 pub mod Reading
+pub mod Sorts
 pub mod Statements
 pub mod Tokens
 pub mod TokensWorked

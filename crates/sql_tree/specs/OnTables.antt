@@ -36,12 +36,7 @@ abbrev pub sources_of : BoundQuery → List BoundSource
 sources_of q = q.from ∷ map (λ join. join.source) q.joins
 
 abbrev pub IsStatementOn : List TableDef → List ColumnSite → BoundStatement → Type 0
-IsStatementOn tables columns (bound.CreateMaster name path) = Unit {0}
-IsStatementOn tables columns (bound.CreateKey name master wrapped) = Unit {0}
-IsStatementOn tables columns (bound.CreateTable table) = Unit {0}
-IsStatementOn tables columns (bound.DropTable name) = Unit {0}
-IsStatementOn tables columns (bound.DropMaster name) = Unit {0}
-IsStatementOn tables columns (bound.DropKey name) = Unit {0}
+IsStatementOn tables columns (bound.Definition d) = Unit {0}
 IsStatementOn tables columns (bound.Insert insert) = AreColumnsOn tables insert.table columns
 IsStatementOn tables columns (bound.Update update) = AreColumnsOn tables update.table columns
 IsStatementOn tables columns (bound.Delete delete) = AreColumnsOn tables delete.table columns

@@ -9,6 +9,8 @@ use Rattle.ae_base.specs.declared.values.Datum.TheVariants as datum
 use Rattle.ae_base.specs.declared.tables.ColumnDef.{ColumnDef}
 use Rattle.sql_tree.specs.declared.bound.ColumnSite.{ColumnSite}
 use Rattle.sql_tree.specs.declared.bound.BoundTable.{BoundTable}
+use Rattle.sql_tree.specs.declared.bound.BoundDefinition.{BoundDefinition}
+use Rattle.sql_tree.specs.declared.bound.BoundDefinition.TheVariants as definition
 use Rattle.sql_tree.specs.Operands.{Operand, Terms}
 use Rattle.sql_tree.specs.Operands as operands
 use Rattle.sql_tree.specs.Conditions.{Condition, Conditions}
@@ -89,13 +91,16 @@ pub record IsPlacedTable (columns : List ColumnSite) (table : BoundTable) : Type
   pub within : All (λ key. key.place < length columns) table.keyed
   pub few : length table.def.uniques ≤ 8
 
+abbrev pub IsPlacedDefinition : List ColumnSite → BoundDefinition → Type 0
+IsPlacedDefinition columns (definition.CreateMaster name path) = IsKeyPath path
+IsPlacedDefinition columns (definition.CreateKey name master wrapped) = IsWrappedKey wrapped
+IsPlacedDefinition columns (definition.CreateTable table) = IsPlacedTable columns table
+IsPlacedDefinition columns (definition.DropTable name) = Unit {0}
+IsPlacedDefinition columns (definition.DropMaster name) = Unit {0}
+IsPlacedDefinition columns (definition.DropKey name) = Unit {0}
+
 abbrev pub IsPlacedStatement : List ColumnSite → ℕ → BoundStatement → Type 0
-IsPlacedStatement columns params (bound.CreateMaster name path) = IsKeyPath path
-IsPlacedStatement columns params (bound.CreateKey name master wrapped) = IsWrappedKey wrapped
-IsPlacedStatement columns params (bound.CreateTable table) = IsPlacedTable columns table
-IsPlacedStatement columns params (bound.DropTable name) = Unit {0}
-IsPlacedStatement columns params (bound.DropMaster name) = Unit {0}
-IsPlacedStatement columns params (bound.DropKey name) = Unit {0}
+IsPlacedStatement columns params (bound.Definition d) = IsPlacedDefinition columns d
 IsPlacedStatement columns params (bound.Insert insert) = IsPlacedInsert (length columns) params insert
 IsPlacedStatement columns params (bound.Update update) =
     All (λ a. (a.place < length columns) × IsPlaced (length columns) params a.value) update.assignments × IsPlacedFilter (length columns) params update.filter

@@ -4,9 +4,8 @@ use Rattle.std.specs.Option.{option_map}
 use Rattle.sql_tree.specs.Operands as operands
 use Rattle.sql_tree.specs.Conditions as conditions
 use Rattle.sql_tree.specs.declared.operands.ColumnRef.{ColumnRef}
-use Rattle.sql_tree.specs.declared.statements.ColumnSpec.{ColumnSpec}
-use Rattle.sql_tree.specs.declared.statements.UniqueSpec.{UniqueSpec}
 use Rattle.sql_tree.specs.declared.statements.ColumnAt.{ColumnAt}
+use Rattle.sql_tree.specs.declared.statements.Definition as code_definition
 use Rattle.sql_tree.specs.declared.statements.OrderKey.{OrderKey}
 use Rattle.sql_tree.specs.declared.statements.SourceTable.{SourceTable}
 use Rattle.sql_tree.specs.declared.statements.TransactionControl.{TransactionControl}
@@ -65,12 +64,7 @@ pub record Query : Type 0 where
   pub order_by : List OrderKey
 
 pub data Statement : Type 0 where
-  CreateMaster : (name path : List ℕ) → Statement
-  CreateKey : (name master wrapped : List ℕ) → Statement
-  CreateTable : (table : List ℕ) (columns : List ColumnSpec) (uniques : List UniqueSpec) → Statement
-  DropTable : (name : List ℕ) → Statement
-  DropMaster : (name : List ℕ) → Statement
-  DropKey : (name : List ℕ) → Statement
+  Definition : (definition : code_definition.Definition) → Statement
   Insert : (table : List ℕ) (columns : Option (List (List ℕ))) (rows : List ValueRow) → Statement
   Update : (table : List ℕ) (assignments : List Assignment) (filter : Option (conditions.Condition ColumnRef (List ℕ))) → Statement
   Delete : (table : List ℕ) (filter : Option (conditions.Condition ColumnRef (List ℕ))) → Statement
@@ -111,12 +105,7 @@ query_of q = record {
 }
 
 abbrev pub statement_of : code.Statement → Statement
-statement_of (code.TheVariants.CreateMaster name path) = CreateMaster name path
-statement_of (code.TheVariants.CreateKey name master wrapped) = CreateKey name master wrapped
-statement_of (code.TheVariants.CreateTable table columns uniques) = CreateTable table columns uniques
-statement_of (code.TheVariants.DropTable name) = DropTable name
-statement_of (code.TheVariants.DropMaster name) = DropMaster name
-statement_of (code.TheVariants.DropKey name) = DropKey name
+statement_of (code.TheVariants.Definition definition) = Definition definition
 statement_of (code.TheVariants.Insert table columns rows) = Insert table columns (map row_of rows)
 statement_of (code.TheVariants.Update table assignments filter) = Update table (map assignment_of assignments) (option_map conditions.condition_of filter)
 statement_of (code.TheVariants.Delete table filter) = Delete table (option_map conditions.condition_of filter)

@@ -130,12 +130,7 @@ renamed_query f q = record {
 }
 
 abbrev pub renamed_statement : (ℕ → ℕ) → BoundStatement → BoundStatement
-renamed_statement f (bound.CreateMaster name path) = bound.CreateMaster name path
-renamed_statement f (bound.CreateKey name master wrapped) = bound.CreateKey name master wrapped
-renamed_statement f (bound.CreateTable table) = bound.CreateTable table
-renamed_statement f (bound.DropTable name) = bound.DropTable name
-renamed_statement f (bound.DropMaster name) = bound.DropMaster name
-renamed_statement f (bound.DropKey name) = bound.DropKey name
+renamed_statement f (bound.Definition d) = bound.Definition d
 renamed_statement f (bound.Insert insert) = bound.Insert (record { table = insert.table; named = insert.named; rows = map (renamed_row f) insert.rows })
 renamed_statement f (bound.Update update) =
     bound.Update (record { table = update.table; assignments = map (renamed_assignment f) update.assignments; filter = renamed_filter f update.filter })

@@ -9,6 +9,7 @@ mod gaps;
 pub mod lexemes;
 pub mod operands;
 mod quoted;
+pub mod sorts;
 pub mod statements;
 pub mod tokens;
 pub mod words;

@@ -63,7 +63,8 @@ pub(crate) fn text(
 ) -> Result<Front, AllocError>
     requires some { 1 ≤ opening }
     requires within { opening ≤ length bytes.now }
-    ensures { IfOk result (IsFront most bytes.now (spec.quoted_front spec.text_lexeme 39 opening bytes.now)) }
+    ensures { IfOk result
+        (IsFront most bytes.now (spec.quoted_front spec.text_lexeme 39 opening bytes.now)) }
 {
     let Some((text, len)) = quoted(alloc, &bytes[opening..], b'\'')? else {
         return Ok(Front::Nothing);
@@ -80,7 +81,8 @@ pub(crate) fn text(
 /// An identifier in brackets.
 pub(crate) fn bracketed(alloc: Global, bytes: &[u8], most: u64) -> Result<Front, AllocError>
     requires { 1 ≤ length bytes.now }
-    ensures { IfOk result (IsFront most bytes.now (spec.quoted_front spec.bracketed_lexeme 93 1 bytes.now)) }
+    ensures { IfOk result
+        (IsFront most bytes.now (spec.quoted_front spec.bracketed_lexeme 93 1 bytes.now)) }
 {
     let Some((text, len)) = quoted(alloc, &bytes[1..], b']')? else {
         return Ok(Front::Nothing);

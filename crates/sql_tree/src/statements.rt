@@ -132,9 +132,9 @@ pub enum TransactionControl {
     Rollback,
 }
 
-/// A statement, as its text has it.
+/// A CREATE or DROP of a key or a table.
 #[derive(Drop)]
-pub enum Statement {
+pub enum Definition {
     CreateMaster {
         name: Name,
         path: Txt,
@@ -152,6 +152,12 @@ pub enum Statement {
     DropTable(Name),
     DropMaster(Name),
     DropKey(Name),
+}
+
+/// A statement, as its text has it.
+#[derive(Drop)]
+pub enum Statement {
+    Definition(Definition),
     Insert {
         table: Name,
         columns: Option<Seq<Name>>,

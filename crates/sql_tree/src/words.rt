@@ -70,7 +70,8 @@ pub(crate) fn keyword_of(word: &str) -> Option<Keyword>
 /// The reserved word that a text is in a table.
 fn named_among(mut table: &[(&str, Keyword)], word: &str) -> Option<Keyword>
     requires { IsTrue (list_all (λ entry. list_all is_capital entry.0.now) table.now) }
-    ensures { result ≡ named_in (map (λ entry. (entry.0.now, entry.1)) table.entry.now) (in_capitals (chars word.now)) }
+    ensures { result ≡ named_in (map (λ entry. (entry.0.now, entry.1)) table.entry.now)
+        (in_capitals (chars word.now)) }
 {
     while let [entry, rest @ ..] = table {
         if reads_as(word, entry.0) {

@@ -10,9 +10,9 @@ use ae_base::texts::Txt;
 use ae_base::types::{Enc, KeyId};
 use ae_base::values::{Datum, Value};
 use sql_tree::bound::{
-    Bound, BoundAssignment, BoundCondition, BoundDelete, BoundInsert, BoundItem, BoundItemValue,
-    BoundJoin, BoundOperand, BoundOrderKey, BoundQuery, BoundRow, BoundSource, BoundStatement,
-    BoundTable, BoundUpdate, ColumnSite, PlaceAt,
+    Bound, BoundAssignment, BoundCondition, BoundDefinition, BoundDelete, BoundInsert, BoundItem,
+    BoundItemValue, BoundJoin, BoundOperand, BoundOrderKey, BoundQuery, BoundRow, BoundSource,
+    BoundStatement, BoundTable, BoundUpdate, ColumnSite, PlaceAt,
 };
 use sql_tree::conditions::Condition;
 use sql_tree::operands::{Operand, Term};
@@ -262,7 +262,9 @@ fn statement(alloc: Global, form: Form, parts: &[Part]) -> Option<BoundStatement
         Form::Insert => Some(BoundStatement::Insert(insert(alloc, parts)?)),
         Form::Update => Some(BoundStatement::Update(update(alloc, parts)?)),
         Form::Delete => Some(BoundStatement::Delete(delete(alloc, parts)?)),
-        Form::Create => Some(BoundStatement::CreateTable(table(alloc, parts)?)),
+        Form::Create => Some(BoundStatement::Definition(BoundDefinition::CreateTable(table(
+            alloc, parts,
+        )?))),
     }
 }
 

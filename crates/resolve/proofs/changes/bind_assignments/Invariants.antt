@@ -4,11 +4,11 @@ use Rattle.resolve.specs.Walks.{each_from}
 use Rattle.resolve.proofs.Walks.{onto}
 use Rattle.sql_tree.specs.Bound as bound
 use Rattle.sql_tree.specs.Statements as tree
-use Rattle.resolve.specs.Changes.{assigned}
+use Rattle.resolve.specs.Changes.{nth_assignment}
 use Rattle.resolve.specs.Seen.{scope_seen}
 use Rattle.resolve.proofs.changes.bind_assignments.Given as goal
 
 abbrev pub invariant-loop-i : goal.invariant-loop-i
 invariant-loop-i l =
-    each_from (assigned l.declarations l.def (scope_seen l.scope) (map tree.assignment_of l.assignments)) 0 (map tree.assignment_of l.assignments)
-    ≡ onto (map bound.assignment_of l.list) (each_from (assigned l.declarations l.def (scope_seen l.scope) (map tree.assignment_of l.assignments)) l.i (map tree.assignment_of (drop l.i l.assignments)))
+    each_from (nth_assignment l.declarations l.def (scope_seen l.scope) (map tree.assignment_of l.assignments)) 0 (map tree.assignment_of l.assignments)
+    ≡ onto (map bound.assignment_of l.list) (each_from (nth_assignment l.declarations l.def (scope_seen l.scope) (map tree.assignment_of l.assignments)) l.i (map tree.assignment_of (drop l.i l.assignments)))

@@ -1,10 +1,10 @@
 -- The items so far stand before the others.
 use Rattle.std.proofs.Common.{◌≡◌, ◌++◌, drop, map}
 use Rattle.sql_tree.specs.Bound as bound
-use Rattle.resolve.specs.Queries.{starred}
+use Rattle.resolve.specs.Queries.{star_items}
 use Rattle.resolve.specs.Seen.{column_seen, scope_seen}
 use Rattle.resolve.proofs.queries.starred.Given as goal
 
 abbrev pub invariant-loop-place : goal.invariant-loop-place
 invariant-loop-place l =
-    map bound.item_of l.items ++ starred l.at l.place (map column_seen (drop l.place l.scope.columns)) ≡ starred l.at 0 (scope_seen l.scope).columns
+    map bound.item_of l.items ++ star_items l.at l.place (map column_seen (drop l.place l.scope.columns)) ≡ star_items l.at 0 (scope_seen l.scope).columns

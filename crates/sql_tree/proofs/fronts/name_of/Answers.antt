@@ -11,5 +11,5 @@ unwrap-requires c =
 pub returns : goal.returns
 returns c =
     let same = c.in_ok-copied.ensures ∙ chars-IsAscii c.args.text.now c.requires.ascii in
-    let h = rw c.unwrap.ensures at c.from_txt.ensures.name in
+    let h = rw c.unwrap.ensures at c.from_txt.ensures.text in
     h ∙ same
