@@ -3,7 +3,7 @@
 -- The tables of a world, and worlds that stay in shape.
 pub use Rattle.engine.proofs.Contents.{table_place_there}
 -- A step leaves a well typed world, and answers what is typed as it is shown.
-pub use Rattle.engine.proofs.Kept.{has_master, step_kept}
+pub use Rattle.engine.proofs.Kept.{step_kept}
 -- A statement with its parameters at other places.
 pub use Rattle.engine.proofs.Moving.{deleted_done, inserted_done, selected_done, step_moved}
 pub use Rattle.engine.proofs.Moving.{updated_done}

@@ -2,6 +2,7 @@ mod Admitted
 mod Changed
 mod Contents
 mod Dropped
+mod Following
 mod GivingAlike
 mod Held
 pub mod Interface

@@ -6,11 +6,11 @@ use Rattle.std.proofs.lemmas.List.{append-nil, drop_all, take_all, take-append-d
 use Rattle.std.proofs.lemmas.List.Elements.{All-cons, All-nil, All-head, All-tail, filter-append}
 use Rattle.std.proofs.lemmas.Bool.Decides.{nat_tests}
 use Rattle.ae_base.specs.Atoms.{Atom}
-use Rattle.operators.specs.Alike.{are_alike}
+use Rattle.operators.specs.Alike.{are_alike, looked}
 use Rattle.operators.proofs.Interface.{drop_there}
-use Rattle.key_index.specs.Places.{Keyed, nothing, looked, places_at, HasPlaces, places_from, IndexesKeys, IndexesFront, HasMore, before}
+use Rattle.key_index.specs.Places.{Keyed, nothing, places_at, HasPlaces, places_from, IndexesKeys, IndexesFront, HasMore, before}
 use Rattle.key_index.specs.Lookups.{is_known, first_known, first_alike}
-use Rattle.key_index.proofs.Looking.{alike_same}
+use Rattle.operators.proofs.Interface.{alike_same}
 
 -- ---- places in a list
 

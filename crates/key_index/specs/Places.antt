@@ -1,7 +1,7 @@
 -- The places of rows by their keys.
 use Rattle.std.specs.Prelude.{◌≡◌, ℕ, ◌+◌, List, [], ◌∷◌, ◌++◌, length, filter, nat_lt, if◌then◌else◌}
 use Rattle.ae_base.specs.Atoms.{Atom}
-use Rattle.operators.specs.Alike.{are_alike}
+use Rattle.operators.specs.Alike.{are_alike, looked}
 
 -- keys, and for each of them a list of places
 pub record Keyed : Type 0 where
@@ -10,12 +10,6 @@ pub record Keyed : Type 0 where
 
 abbrev pub nothing : Keyed
 nothing = record { keys = []; lists = [] }
-
--- the list that stands at the place of a key
-abbrev pub looked : List Atom → List (List Atom) → List (List ℕ) → List ℕ
-looked key [] lists = []
-looked key (k ∷ keys) [] = []
-looked key (k ∷ keys) (list ∷ lists) = if are_alike key k then list else looked key keys lists
 
 -- the places of a key
 abbrev pub places_at : Keyed → List Atom → List ℕ

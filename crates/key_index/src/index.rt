@@ -26,7 +26,10 @@ impl<K: Same> Model for KeyIndex<K> {
 
     ghost Value = { Keyed };
 
-    ghost view = { λ i. record { keys = map (λ key. key.items) i.keys.keys; lists = map (λ list. list.items) i.lists.items } };
+    ghost view = { λ i. record {
+      keys = map (λ key. key.items) i.keys.keys;
+      lists = map (λ list. list.items) i.lists.items;
+    } };
 
     ghost invariant = { λ i. length i.lists.items ≡ length i.keys.keys };
 }
@@ -55,7 +58,8 @@ impl<K: Same> KeyIndex<K> {
 
     /// Takes out a place of a key. It takes no memory.
     pub fn remove(&mut self, key: &Key<K>, place: usize)
-        ensures { HasPlaces self.old self.new key.now (filter (λ p. not (p == place)) (places_at self.old key.now)) }
+        ensures { HasPlaces self.old self.new key.now
+            (filter (λ p. not (p == place)) (places_at self.old key.now)) }
     {
         if let Some(at) = self.keys.get_index_of(&key.atoms) {
             take_out(&mut self.lists[at], place);
@@ -64,7 +68,8 @@ impl<K: Same> KeyIndex<K> {
 
     /// Takes out all places from this one on, of every key. It takes no memory.
     pub fn forget_from(&mut self, place: usize)
-        ensures { (key : List Atom) → places_at self.new key ≡ filter (λ p. nat_lt p place) (places_at self.old key) }
+        ensures { (key : List Atom)
+            → places_at self.new key ≡ filter (λ p. nat_lt p place) (places_at self.old key) }
     {
         keep_before(&mut self.lists, place);
     }
@@ -72,7 +77,8 @@ impl<K: Same> KeyIndex<K> {
     /// Puts in a place behind the others of a key. Without memory all keys have the places that
     /// they had.
     pub fn insert(&mut self, alloc: Global, key: Key<K>, place: usize) -> Result<(), AllocError>
-        ensures ok { OnOk result (HasPlaces self.old self.new key (places_at self.old key ++ place ∷ [])) }
+        ensures ok { OnOk result
+            (HasPlaces self.old self.new key (places_at self.old key ++ place ∷ [])) }
         ensures err { OnErr result (self.new ≡ self.old) }
     {
         match self.keys.get_index_of(&key.atoms) {
@@ -95,7 +101,8 @@ impl<K: Same> KeyIndex<K> {
         keys: Seq<Key<K>>,
     ) -> Result<(), AllocError>
         ensures ok { OnOk result (HasMore self.old from keys self.new) }
-        ensures front { (known : List (List Atom)) → IndexesKeys known self.old → length known ≡ from
+        ensures front { (known : List (List Atom)) → IndexesKeys known self.old
+            → length known ≡ from
             → IndexesFront known self.new }
     {
         if keys.len() > usize::MAX - from {
@@ -130,14 +137,16 @@ impl<K: Same> KeyIndex<K> {
 
 /// Keeps those of each list that come before a place.
 fn keep_before(lists: &mut Vec<Vec<usize>>, place: usize)
-    ensures lists { map (λ list. list.items) lists.new.items ≡ map (filter (λ p. nat_lt p place)) (map (λ list. list.items) lists.old.items) }
+    ensures lists { map (λ list. list.items) lists.new.items
+        ≡ map (filter (λ p. nat_lt p place)) (map (λ list. list.items) lists.old.items) }
     ensures len { length lists.new.items ≡ length lists.old.items }
 {
     cut_each(lists, place);
 }
 
 fn cut_each(lists: &mut [Vec<usize>], place: usize)
-    ensures { map (λ list. list.items) lists.new ≡ map (filter (λ p. nat_lt p place)) (map (λ list. list.items) lists.old) }
+    ensures { map (λ list. list.items) lists.new
+        ≡ map (filter (λ p. nat_lt p place)) (map (λ list. list.items) lists.old) }
 {
     for list in lists.iter_mut() {
         cut_from(list, place);

@@ -56,7 +56,8 @@ pub fn first_alike<K: Same, L: Ledger>(
     lookups: &mut Steps<L>,
 ) -> Result<Option<usize>, AllocError>
     ensures place { IfOk result (λ place. place ≡ first_alike index.now keys.now) }
-    ensures lookups { IfOk result (λ place. lookups.new ≡ lookups.old + looked_up (length keys.now) place) }
+    ensures lookups { IfOk result
+        (λ place. lookups.new ≡ lookups.old + looked_up (length keys.now) place) }
 {
     let mut seen = Seen::new(alloc);
     let place = first_among(index, keys, &mut seen, lookups);
@@ -72,7 +73,8 @@ fn first_among<'a, K: Same, L: Ledger>(
 ) -> Result<Option<usize>, AllocError>
     requires none { seen.old ≡ [] }
     ensures place { IfOk result (λ place. place ≡ first_alike index.now keys.now) }
-    ensures lookups { IfOk result (λ place. lookups.new ≡ lookups.old + looked_up (length keys.now) place) }
+    ensures lookups { IfOk result
+        (λ place. lookups.new ≡ lookups.old + looked_up (length keys.now) place) }
 {
     for i in 0..keys.len() {
         let key = &keys[i];

@@ -16,7 +16,8 @@ use Rattle.sql_tree.specs.declared.bound.PlaceAt.{PlaceAt}
 use Rattle.scalar.specs.Eval.{atom_at}
 use Rattle.operators.specs.Alike.{key_of, alike_on, are_alike}
 use Rattle.operators.specs.AlikeLaws.{alike-Decides}
-use Rattle.operators.specs.Groups.{Group, grouped_row, grouped, keys_on, group_of}
+use Rattle.operators.proofs.Looking.{position-map}
+use Rattle.operators.specs.Groups.{Group, grouped_row, grouping_of, keys_on, group_of}
 use Rattle.operators.specs.declared.groups.Group as code
 
 abbrev pub places_of : List PlaceAt → List ℕ
@@ -142,7 +143,7 @@ counted_few places (group ∷ groups) row n h =
 -- than the rows so far
 pub record AreSoFar (places : List ℕ) (first : List Group) (rows : List (List Atom)) (i : ℕ) (keys : List (List Atom)) (groups : List Group) : Type 0 where
   pub keyed : keys ≡ keys_on places groups
-  pub whole : grouped places first rows ≡ grouped places groups (drop i rows)
+  pub whole : grouping_of places first rows ≡ grouping_of places groups (drop i rows)
   pub few : (most : ℕ) → All (λ (group : Group). group.count ≤ most) first → All (λ (group : Group). group.count ≤ most + i) groups
 
 pub so_far_start : (places : List ℕ) (first : List Group) (rows : List (List Atom)) (keys : List (List Atom)) → keys ≡ keys_on places first → AreSoFar places first rows 0 keys first
@@ -152,7 +153,7 @@ pub so_far_more : (places : List ℕ) (first : List Group) (rows : List (List At
     → row ≡ get_or rows i row → more ≡ keys_on places others → others ≡ grouped_row places groups row → AreSoFar places first rows (i + 1) more others
 so_far_more places first rows i row keys more groups others s lt e k g = record {
   keyed = k;
-  whole = s.whole ∙ ap (grouped places groups) (drop_more rows i row lt ∙ ap (λ r. r ∷ drop (i + 1) rows) (sym e)) ∙ ap (λ gs. grouped places gs (drop (i + 1) rows)) (sym g);
+  whole = s.whole ∙ ap (grouping_of places groups) (drop_more rows i row lt ∙ ap (λ r. r ∷ drop (i + 1) rows) (sym e)) ∙ ap (λ gs. grouping_of places gs (drop (i + 1) rows)) (sym g);
   few = λ most h.
       let one : most + i + 1 ≡ most + (i + 1) = omega arith in
       subst (All (λ (group : Group). group.count ≤ most + (i + 1))) (sym g) (subst (λ n. All (λ (group : Group). group.count ≤ n) (grouped_row places groups row)) one (counted_few places groups row (most + i) (s.few most h)));
@@ -163,31 +164,31 @@ still_few groups i n lt few h = λ k group there. let le : (get_or groups k grou
 
 -- ---- page by page
 
-grouped-append : (places : List ℕ) (groups : List Group) (rows more : List (List Atom)) → grouped places groups (rows ++ more) ≡ grouped places (grouped places groups rows) more
+grouped-append : (places : List ℕ) (groups : List Group) (rows more : List (List Atom)) → grouping_of places groups (rows ++ more) ≡ grouping_of places (grouping_of places groups rows) more
 grouped-append places groups [] more = refl
 grouped-append places groups (row ∷ rows) more = grouped-append places (grouped_row places groups row) rows more
 
-grouped_few : (places : List ℕ) (groups : List Group) (rows : List (List Atom)) (most : ℕ) → All (λ (group : Group). group.count ≤ most) groups → All (λ (group : Group). group.count ≤ most + length rows) (grouped places groups rows)
+grouped_few : (places : List ℕ) (groups : List Group) (rows : List (List Atom)) (most : ℕ) → All (λ (group : Group). group.count ≤ most) groups → All (λ (group : Group). group.count ≤ most + length rows) (grouping_of places groups rows)
 grouped_few places groups [] most h = let e : most ≡ most + 0 = omega arith in subst (λ n. All (λ (group : Group). group.count ≤ n) groups) e h
 grouped_few places groups (row ∷ rows) most h =
     let e : most + 1 + length rows ≡ most + length (row ∷ rows) = omega arith in
-    subst (λ n. All (λ (group : Group). group.count ≤ n) (grouped places (grouped_row places groups row) rows)) e (grouped_few places (grouped_row places groups row) rows (most + 1) (counted_few places groups row most h))
+    subst (λ n. All (λ (group : Group). group.count ≤ n) (grouping_of places (grouped_row places groups row) rows)) e (grouped_few places (grouped_row places groups row) rows (most + 1) (counted_few places groups row most h))
 
 -- the same over pages: the groups so far count some of the rows of the pages so far
 pub record AreByPages (places : List ℕ) (pages : List (List (List Atom))) (i : ℕ) (keys : List (List Atom)) (groups : List Group) : Type 0 where
   pub keyed : keys ≡ keys_on places groups
-  pub whole : grouped places [] (flat pages) ≡ grouped places groups (flat (drop i pages))
+  pub whole : grouping_of places [] (flat pages) ≡ grouping_of places groups (flat (drop i pages))
   pub few : All (λ (group : Group). group.count ≤ length (flat (take i pages))) groups
 
 pub pages_more : (places : List ℕ) (pages : List (List (List Atom))) (i : ℕ) (page : List (List Atom)) (keys more : List (List Atom)) (groups others : List Group) → AreByPages places pages i keys groups → i < length pages
-    → page ≡ get_or pages i page → more ≡ keys_on places others → others ≡ grouped places groups page → AreByPages places pages (i + 1) more others
+    → page ≡ get_or pages i page → more ≡ keys_on places others → others ≡ grouping_of places groups page → AreByPages places pages (i + 1) more others
 pages_more places pages i page keys more groups others s lt e k g = record {
   keyed = k;
-  whole = s.whole ∙ ap (grouped places groups) (flat_left pages i page lt e) ∙ grouped-append places groups page (flat (drop (i + 1) pages)) ∙ ap (λ gs. grouped places gs (flat (drop (i + 1) pages))) (sym g);
+  whole = s.whole ∙ ap (grouping_of places groups) (flat_left pages i page lt e) ∙ grouped-append places groups page (flat (drop (i + 1) pages)) ∙ ap (λ gs. grouping_of places gs (flat (drop (i + 1) pages))) (sym g);
   few =
       let n : length (flat (take i pages)) + length page ≡ length (flat (take (i + 1) pages)) = sym (ap length (flat_taken pages i page lt e) ∙ length-append (flat (take i pages)) page) in
       subst (All (λ (group : Group). group.count ≤ length (flat (take (i + 1) pages)))) (sym g)
-      (subst (λ n. All (λ (group : Group). group.count ≤ n) (grouped places groups page)) n (grouped_few places groups page (length (flat (take i pages))) s.few));
+      (subst (λ n. All (λ (group : Group). group.count ≤ n) (grouping_of places groups page)) n (grouped_few places groups page (length (flat (take i pages))) s.few));
 }
 
 -- a page has room left in the counts
@@ -210,10 +211,6 @@ module _ {V : Type 0} (items : V → List Atom) where
       by_test true = refl
       by_test false = map-push items ks key
 
-  position-items : (test : List Atom → Bool) (ks : List V) → position_or_len (λ k. test (items k)) ks ≡ position_or_len test (map items ks)
-  position-items test [] = refl
-  position-items test (k ∷ ks) = ap (λ n. cond (not (test (items k))) (1 + n) 0) (position-items test ks)
-
   module _ (places : List ℕ) (groups : List Group) (row : List Atom) (ks : List V) (key : V) (keyed : map items ks ≡ keys_on places groups) (own : items key ≡ key_of places row) where
     pub key_added : map items (if list_any (λ k. are_alike (items key) (items k)) ks then ks else ks ++ key ∷ []) ≡ keys_on places (grouped_row places groups row)
     key_added = with_key-items key ks ∙ ap (λ keys. with_key keys (items key)) keyed ∙ ap (with_key (keys_on places groups)) own ∙ sym (keys_grouped places groups row)
@@ -221,7 +218,7 @@ module _ {V : Type 0} (items : V → List Atom) where
     pub key_placed : (n : ℕ) → n ≡ position_or_len (λ k. are_alike (items key) (items k)) ks → IsPlaced places groups row n
     key_placed n e =
         let p : position_or_len (are_alike (key_of places row)) (keys_on places groups) ≡ n =
-        sym (e ∙ position-items (are_alike (items key)) ks ∙ ap (position_or_len (are_alike (items key))) keyed ∙ ap (λ key. position_or_len (are_alike key) (keys_on places groups)) own) in
+        sym (e ∙ position-map (are_alike (items key)) items ks ∙ ap (position_or_len (are_alike (items key))) keyed ∙ ap (λ key. position_or_len (are_alike key) (keys_on places groups)) own) in
         subst (IsPlaced places groups row) p (placed places groups row)
 
 -- ---- groups of the code

@@ -15,6 +15,11 @@ pub use Rattle.operators.proofs.Keeping.{FoundCorresponds, Founds, all_first, al
 pub use Rattle.operators.proofs.Keeping.{firsts_alike, shown_alike, sorted_alike, top_alike}
 -- How far a walk goes, where TooManyRows stands in the place of the 1,000,001st row.
 pub use Rattle.operators.proofs.Limits.{limit_ended, limit_full, limit_within, wide_limit}
+-- The list at a key's place.
+pub use Rattle.operators.proofs.Looking.{alike_same, looked_none, looked_push, looked_there}
+pub use Rattle.operators.proofs.Looking.{looked_write, map-read, map-set, position-map}
+pub use Rattle.operators.proofs.Looking.{position_none, position_past, position_some}
+pub use Rattle.operators.proofs.Looking.{position_there}
 -- Rows and events that correspond: over them scan, filter and join go alike.
 pub use Rattle.operators.proofs.Pairs.{EventsCorrespond, alike_there, any_alike, asks_alike}
 pub use Rattle.operators.proofs.Pairs.{both_before, both_then, both_within, each_alike}

@@ -10,7 +10,7 @@ use Rattle.scalar.specs.Classes.{Class, Pairing, IsOneToOne, RowsCorrespond}
 use Rattle.scalar.specs.Typed.{IsNotRandomized}
 use Rattle.scalar.proofs.Interface.{alike_alike}
 use Rattle.operators.specs.Alike.{are_alike}
-use Rattle.operators.specs.Found.{Found, first_seen, keys_cmp, put, sorted_by, topped}
+use Rattle.operators.specs.Found.{Found, first_seen, keys_cmp, put, sorted_by, top_of}
 use Rattle.operators.proofs.Pairs.{any_alike, zip_append}
 
 module _ (P : Found → Type 0) where
@@ -37,7 +37,7 @@ module _ (P : Found → Type 0) where
     all_sorted [] h = h
     all_sorted (x ∷ xs) h = all_put x (sorted_by cmp xs) (All-head P x xs h) (all_sorted xs (All-tail P x xs h))
 
-  pub all_top : (most : Option ℕ) (fs : List Found) → All P fs → All P (topped most fs)
+  pub all_top : (most : Option ℕ) (fs : List Found) → All P fs → All P (top_of most fs)
   all_top None fs h = h
   all_top (Some zero) fs h = All-nil P
   all_top (Some (suc n)) [] h = All-nil P
@@ -111,7 +111,7 @@ module _ (R : Pairing) (r : IsOneToOne R) (cs : List Class) where
     sorted_alike (f ∷ fs) [] h = absurd h
     sorted_alike (f ∷ fs) (g ∷ gs) h = put_alike f g (sorted_by by_keys fs) (sorted_by by_keys gs) h.0 (sorted_alike fs gs h.1)
 
-  pub top_alike : (most : Option ℕ) (fs gs : List Found) → Founds R cs fs gs → Founds R cs (topped most fs) (topped most gs)
+  pub top_alike : (most : Option ℕ) (fs gs : List Found) → Founds R cs fs gs → Founds R cs (top_of most fs) (top_of most gs)
   top_alike None fs gs h = h
   top_alike (Some zero) fs gs h = tt
   top_alike (Some (suc n)) [] [] h = tt

@@ -5,6 +5,7 @@ mod GroupsAlike
 pub mod Interface
 mod Keeping
 mod Limits
+mod Looking
 mod Orders
 mod Pairs
 mod Places

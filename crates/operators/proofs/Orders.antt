@@ -12,7 +12,7 @@ use Rattle.ae_base.specs.declared.atoms.AtomOf.TheVariants.{Null, Plain, Sealed}
 use Rattle.ae_base.specs.declared.values.Datum.TheVariants.{Num, Text, Bin}
 use Rattle.sql_tree.specs.declared.bound.BoundOrderKey.{BoundOrderKey}
 use Rattle.scalar.specs.Eval.{atom_at}
-use Rattle.operators.specs.Found.{Found, keys_of, found_by, atom_cmp, turned, keys_cmp, ordered}
+use Rattle.operators.specs.Found.{Found, keys_of, found_by, atom_cmp, in_direction, keys_cmp, in_order}
 use Rattle.operators.specs.declared.found.Found as code
 use Rattle.operators.proofs.Sorting.{before, stable_sort, sorted_by-map}
 
@@ -82,7 +82,7 @@ atoms_total = subst IsTotalOrder (λ i a b. parts_are a b i) parts_total
 
 -- ---- rows
 
-turned_total : (descending : Bool) → IsTotalOrder (λ a b. turned descending (atom_cmp a b))
+turned_total : (descending : Bool) → IsTotalOrder (λ a b. in_direction descending (atom_cmp a b))
 turned_total true = subst IsTotalOrder (λ i a b. atoms_total.antisymm b a i) (back_total atoms_total)
 turned_total false = atoms_total
 
@@ -102,5 +102,5 @@ pub found_total : {K : Type 0} (keys : List BoundOrderKey) → IsTotalOrder (fou
 found_total {K} keys = on_total (λ (f : code.Found K). f.row.now) (rows_total keys)
 
 pub ordered_by : {K : Type 0} (keys : List BoundOrderKey) (xs ys : List (code.Found K)) → IsSortedBy (before (found_cmp {K = K} keys)) ys → IsStableBy (before (found_cmp {K = K} keys)) xs ys
-    → map (found_by keys) ys ≡ ordered keys (map (found_by keys) xs)
+    → map (found_by keys) ys ≡ in_order keys (map (found_by keys) xs)
 ordered_by {K} keys xs ys h s = ap (map (found_by keys)) (stable_sort (found_cmp {K = K} keys) (found_total keys) xs ys h s) ∙ sym (sorted_by-map (λ (a b : Found). keys_cmp keys a.keys b.keys) (found_by {K = K} keys) xs)

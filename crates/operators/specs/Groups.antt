@@ -15,9 +15,9 @@ grouped_row places [] row = record { first = row; count = 1 } ∷ []
 grouped_row places (group ∷ groups) row =
     if alike_on places group.first row then record { first = group.first; count = group.count + 1 } ∷ groups else group ∷ grouped_row places groups row
 
-abbrev pub grouped : List ℕ → List Group → List (List Atom) → List Group
-grouped places groups [] = groups
-grouped places groups (row ∷ rows) = grouped places (grouped_row places groups row) rows
+abbrev pub grouping_of : List ℕ → List Group → List (List Atom) → List Group
+grouping_of places groups [] = groups
+grouping_of places groups (row ∷ rows) = grouping_of places (grouped_row places groups row) rows
 
 -- what the rows of each group have in these columns
 abbrev pub keys_on : List ℕ → List Group → List (List Atom)

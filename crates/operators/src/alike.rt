@@ -120,7 +120,8 @@ pub(crate) fn atoms_at<'a, K: Same>(
     row: &'a Row<K>,
 ) -> Result<Vec<Alike<'a, K>>, AllocError>
     requires { All (λ column. column.place < length row.now) columns.now }
-    ensures { IfOk result (λ atoms. atoms.items ≡ map (λ column. atom_at row.now column.place) columns.now) }
+    ensures { IfOk result
+        (λ atoms. atoms.items ≡ map (λ column. atom_at row.now column.place) columns.now) }
 {
     let mut atoms = Vec::with_capacity(alloc, columns.len())?;
     for column in columns {

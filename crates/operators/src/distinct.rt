@@ -15,7 +15,8 @@ pub fn distinct<'a, K: Same>(
     alloc: Global,
     found: Vec<Found<'a, K>>,
 ) -> Result<Vec<Found<'a, K>>, AllocError>
-    ensures { IfOk result (λ kept. (keys : List BoundOrderKey) → map (found_by keys) kept.items ≡ first_seen [] (map (found_by keys) found.entry.items)) }
+    ensures { IfOk result (λ kept. (keys : List BoundOrderKey)
+        → map (found_by keys) kept.items ≡ first_seen [] (map (found_by keys) found.entry.items)) }
 {
     let firsts = firsts(alloc, found.as_slice())?;
     let mut kept = Vec::new(alloc);
@@ -32,7 +33,8 @@ fn keep_if<'a, K: Same>(
     row: Found<'a, K>,
     kept: &mut Vec<Found<'a, K>>,
 ) -> Result<(), AllocError>
-    ensures { OnOk result (kept.new.items ≡ (if is_first then kept.old.items ++ row.entry ∷ [] else kept.old.items)) }
+    ensures { OnOk result
+        (kept.new.items ≡ (if is_first then kept.old.items ++ row.entry ∷ [] else kept.old.items)) }
 {
     if is_first {
         kept.push(row)?;

@@ -3,7 +3,7 @@
 ghost use Rattle.std.specs.Prelude.{◌≡◌, ℕ, ◌+◌, ◌<◌, ◌≤◌, ◌^◌, [], length, map, IfOk, OnOk};
 ghost use Rattle.std.specs.List.{All};
 ghost use Rattle.row_store.specs.Paged.{flat};
-ghost use Rattle.operators.specs.Groups.{keys_on, grouped, grouped_row, group_of};
+ghost use Rattle.operators.specs.Groups.{keys_on, grouping_of, grouped_row, group_of};
 
 use crate::alike::{Alike, atoms_at};
 use ae_base::atoms::Row;
@@ -26,9 +26,12 @@ pub fn groups<'a, K: Same>(
     columns: &[PlaceAt],
     pages: &'a [Page<Row<K>>],
 ) -> Result<Vec<Group<'a, K>>, AllocError>
-    requires columns { All (λ row. All (λ column. column.place < length row) columns.now) (flat pages.now) }
+    requires columns { All (λ row. All (λ column. column.place < length row) columns.now)
+        (flat pages.now) }
     requires few { length (flat pages.now) < 2 ^ 32 }
-    ensures { IfOk result (λ groups. map group_of groups.items ≡ grouped (map (λ column. column.place) columns.now) [] (flat pages.now)) }
+    ensures { IfOk result
+        (λ groups. map group_of groups.items
+        ≡ grouping_of (map (λ column. column.place) columns.now) [] (flat pages.now)) }
 {
     let mut keys = IndexSet::new(alloc);
     let mut groups = Vec::new(alloc);
@@ -47,10 +50,16 @@ fn add_all<'a, K: Same>(
     groups: &mut Vec<Group<'a, K>>,
 ) -> Result<(), AllocError>
     requires columns { All (λ row. All (λ column. column.place < length row) columns.now) rows.now }
-    requires keyed { map (λ key. key.items) keys.old.keys ≡ keys_on (map (λ column. column.place) columns.now) (map group_of groups.old.items) }
-    requires few { (most : ℕ) × (most + length rows.now < 2 ^ 32) × All (λ group. group.count ≤ most) (map group_of groups.old.items) }
-    ensures keyed { OnOk result (map (λ key. key.items) keys.new.keys ≡ keys_on (map (λ column. column.place) columns.now) (map group_of groups.new.items)) }
-    ensures groups { OnOk result (map group_of groups.new.items ≡ grouped (map (λ column. column.place) columns.now) (map group_of groups.old.items) rows.now) }
+    requires keyed { map (λ key. key.items) keys.old.keys
+        ≡ keys_on (map (λ column. column.place) columns.now) (map group_of groups.old.items) }
+    requires few { (most : ℕ) × (most + length rows.now < 2 ^ 32)
+        × All (λ group. group.count ≤ most) (map group_of groups.old.items) }
+    ensures keyed { OnOk result
+        (map (λ key. key.items) keys.new.keys ≡ keys_on (map (λ column. column.place) columns.now)
+        (map group_of groups.new.items)) }
+    ensures groups { OnOk result
+        (map group_of groups.new.items ≡ grouping_of (map (λ column. column.place) columns.now)
+        (map group_of groups.old.items) rows.now) }
 {
     for row in rows {
         add(alloc, columns, row, keys, groups)?;
@@ -68,10 +77,15 @@ fn add<'a, K: Same>(
     groups: &mut Vec<Group<'a, K>>,
 ) -> Result<(), AllocError>
     requires columns { All (λ column. column.place < length row.now) columns.now }
-    requires keyed { map (λ key. key.items) keys.old.keys ≡ keys_on (map (λ column. column.place) columns.now) (map group_of groups.old.items) }
+    requires keyed { map (λ key. key.items) keys.old.keys
+        ≡ keys_on (map (λ column. column.place) columns.now) (map group_of groups.old.items) }
     requires few { All (λ group. group.count + 1 < 2 ^ 32) (map group_of groups.old.items) }
-    ensures keyed { OnOk result (map (λ key. key.items) keys.new.keys ≡ keys_on (map (λ column. column.place) columns.now) (map group_of groups.new.items)) }
-    ensures groups { OnOk result (map group_of groups.new.items ≡ grouped_row (map (λ column. column.place) columns.now) (map group_of groups.old.items) row.now) }
+    ensures keyed { OnOk result
+        (map (λ key. key.items) keys.new.keys ≡ keys_on (map (λ column. column.place) columns.now)
+        (map group_of groups.new.items)) }
+    ensures groups { OnOk result
+        (map group_of groups.new.items ≡ grouped_row (map (λ column. column.place) columns.now)
+        (map group_of groups.old.items) row.now) }
 {
     let (place, _) = keys.insert_full(atoms_at(alloc, columns, row)?)?;
     if place < groups.len() {

@@ -5,7 +5,7 @@ ghost use Rattle.std.specs.Ordering.{nat_cmp};
 ghost use Rattle.std.specs.Str.{chars};
 ghost use Rattle.std.specs.Cmp.Lexicographic.{slice_cmp};
 ghost use Rattle.scalar.specs.Eval.{atom_at};
-ghost use Rattle.operators.specs.Found.{keys_of, found_by, kind_of, datum_order, atom_cmp, turned, keys_cmp, ordered};
+ghost use Rattle.operators.specs.Found.{keys_of, found_by, kind_of, datum_order, atom_cmp, in_direction, keys_cmp, in_order};
 
 use crate::found::Found;
 use ae_base::atoms::{Atom, AtomOf, Row};
@@ -20,7 +20,9 @@ pub fn order<K: Same>(
     found: &mut Vec<Found<'_, K>>,
     keys: &[BoundOrderKey],
 ) -> Result<(), AllocError>
-    ensures { OnOk result (map (found_by keys.now) found.new.items ≡ ordered keys.now (map (found_by keys.now) found.old.items)) }
+    ensures { OnOk result
+        (map (found_by keys.now) found.new.items
+        ≡ in_order keys.now (map (found_by keys.now) found.old.items)) }
 {
     found.sort_by(|a, b| by_keys(keys, a.row, b.row))
 }
@@ -40,7 +42,9 @@ fn by_keys<K: Same>(keys: &[BoundOrderKey], row: &Row<K>, other: &Row<K>) -> Ord
 
 /// The order of two rows by one key. A column that a row doesn't have counts as NULL.
 fn by_key<K: Same>(key: BoundOrderKey, row: &Row<K>, other: &Row<K>) -> Ordering
-    ensures { result ≡ turned key.descending (atom_cmp (atom_at row.now key.place) (atom_at other.now key.place)) }
+    ensures { result
+        ≡ in_direction key.descending
+        (atom_cmp (atom_at row.now key.place) (atom_at other.now key.place)) }
 {
     let null = Atom::new(AtomOf::Null);
     let order = atom_order(

@@ -8,9 +8,9 @@ use Rattle.sql_tree.specs.Bound.{BoundQuery}
 use Rattle.sql_tree.specs.declared.bound.BoundOrderKey.{BoundOrderKey}
 use Rattle.scalar.specs.Classes.{Class, Pairing, IsOneToOne, RowsCorrespond}
 use Rattle.scalar.specs.Typed.{IsNotRandomized}
-use Rattle.operators.specs.Found.{Found, found_by, keys_cmp, ordered, topped}
+use Rattle.operators.specs.Found.{Found, found_by, keys_cmp, in_order, top_of}
 use Rattle.operators.specs.declared.found.Found as code
-use Rattle.query_results.specs.Results.{distinct_if, answered}
+use Rattle.query_results.specs.Results.{distinct_if, answer_rows}
 use Rattle.operators.proofs.Interface.{all_mapped}
 use Rattle.operators.proofs.Interface.{map-push}
 use Rattle.operators.proofs.Interface.{all_first, all_sorted, all_top, FoundCorresponds, Founds, firsts_alike, sorted_alike, top_alike, shown_alike}
@@ -20,12 +20,12 @@ module _ (P : Found → Type 0) where
   all_distinct None fs h = h
   all_distinct (Some at) fs h = all_first P [] fs h
 
-pub all_answered : (Q : List Atom → Type 0) (q : BoundQuery) (fs : List Found) → All (λ (f : Found). Q f.shown) fs → All Q (answered q fs)
+pub all_answered : (Q : List Atom → Type 0) (q : BoundQuery) (fs : List Found) → All (λ (f : Found). Q f.shown) fs → All Q (answer_rows q fs)
 all_answered Q q fs h =
     let P : Found → Type 0 = λ (f : Found). Q f.shown in
     let cmp : Found → Found → Ordering = λ a b. keys_cmp q.order_by a.keys b.keys in
-    all_mapped Q (λ (f : Found). f.shown) (topped q.top (ordered q.order_by (distinct_if q.distinct fs)))
-    (all_top P q.top (ordered q.order_by (distinct_if q.distinct fs)) (all_sorted P cmp (distinct_if q.distinct fs) (all_distinct P q.distinct fs h)))
+    all_mapped Q (λ (f : Found). f.shown) (top_of q.top (in_order q.order_by (distinct_if q.distinct fs)))
+    (all_top P q.top (in_order q.order_by (distinct_if q.distinct fs)) (all_sorted P cmp (distinct_if q.distinct fs) (all_distinct P q.distinct fs h)))
 
 -- ---- rows that correspond
 
@@ -34,12 +34,12 @@ module _ (R : Pairing) (r : IsOneToOne R) (cs : List Class) where
   distinct_alike None fs gs n h = h
   distinct_alike (Some at) fs gs n h = firsts_alike R r cs (n refl) [] [] fs gs tt h
 
-  pub answered_alike : (q : BoundQuery) (fs gs : List Found) → (IsSome q.distinct → All IsNotRandomized cs) → AllZip (FoundCorresponds R cs) fs gs → AllZip (RowsCorrespond R cs) (answered q fs) (answered q gs)
+  pub answered_alike : (q : BoundQuery) (fs gs : List Found) → (IsSome q.distinct → All IsNotRandomized cs) → AllZip (FoundCorresponds R cs) fs gs → AllZip (RowsCorrespond R cs) (answer_rows q fs) (answer_rows q gs)
   answered_alike q fs gs n h =
       let kept = distinct_alike q.distinct fs gs n h in
       let order = sorted_alike R r cs q.order_by (distinct_if q.distinct fs) (distinct_if q.distinct gs) kept in
-      shown_alike R r cs (topped q.top (ordered q.order_by (distinct_if q.distinct fs))) (topped q.top (ordered q.order_by (distinct_if q.distinct gs)))
-      (top_alike R r cs q.top (ordered q.order_by (distinct_if q.distinct fs)) (ordered q.order_by (distinct_if q.distinct gs)) order)
+      shown_alike R r cs (top_of q.top (in_order q.order_by (distinct_if q.distinct fs))) (top_of q.top (in_order q.order_by (distinct_if q.distinct gs)))
+      (top_alike R r cs q.top (in_order q.order_by (distinct_if q.distinct fs)) (in_order q.order_by (distinct_if q.distinct gs)) order)
 
 -- ---- what is shown, one after another
 
@@ -69,15 +69,15 @@ shown-seen : {K : Type 0} (keys : List BoundOrderKey) (xs : List (code.Found K))
 shown-seen keys [] = refl
 shown-seen keys (x ∷ xs) = ap (λ l. x.shown ∷ l) (shown-seen keys xs)
 
-topped-map : {A B : Type 0} (f : A → B) (most : Option ℕ) (xs : List A) → map f (topped most xs) ≡ topped most (map f xs)
+topped-map : {A B : Type 0} (f : A → B) (most : Option ℕ) (xs : List A) → map f (top_of most xs) ≡ top_of most (map f xs)
 topped-map f None xs = refl
 topped-map f (Some zero) xs = refl
 topped-map f (Some (suc n)) [] = refl
 topped-map f (Some (suc n)) (x ∷ xs) = ap (λ l. f x ∷ l) (topped-map f (Some n) xs)
 
 pub answered_so : {K : Type 0} (q : BoundQuery) (keys : List BoundOrderKey) (given kept sorted top : List (code.Found K)) (rows : List (List Atom)) → keys ≡ q.order_by
-    → map (found_by q.order_by) kept ≡ distinct_if q.distinct (map (found_by q.order_by) given) → map (found_by keys) sorted ≡ ordered keys (map (found_by keys) kept) → top ≡ topped q.top sorted → rows ≡ map shown_of top
-    → rows ≡ answered q (map (found_by q.order_by) given)
+    → map (found_by q.order_by) kept ≡ distinct_if q.distinct (map (found_by q.order_by) given) → map (found_by keys) sorted ≡ in_order keys (map (found_by keys) kept) → top ≡ top_of q.top sorted → rows ≡ map shown_of top
+    → rows ≡ answer_rows q (map (found_by q.order_by) given)
 answered_so {K} q keys given kept sorted top rows same d o t r =
-    let order : map (found_by {K = K} q.order_by) sorted ≡ ordered q.order_by (map (found_by q.order_by) kept) = subst (λ ks. map (found_by {K = K} ks) sorted ≡ ordered ks (map (found_by ks) kept)) same o in
-    r ∙ ap (map shown_of) t ∙ shown-seen q.order_by (topped q.top sorted) ∙ ap (map (λ (f : Found). f.shown)) (topped-map (found_by {K = K} q.order_by) q.top sorted ∙ ap (topped q.top) (order ∙ ap (ordered q.order_by) d))
+    let order : map (found_by {K = K} q.order_by) sorted ≡ in_order q.order_by (map (found_by q.order_by) kept) = subst (λ ks. map (found_by {K = K} ks) sorted ≡ in_order ks (map (found_by ks) kept)) same o in
+    r ∙ ap (map shown_of) t ∙ shown-seen q.order_by (top_of q.top sorted) ∙ ap (map (λ (f : Found). f.shown)) (topped-map (found_by {K = K} q.order_by) q.top sorted ∙ ap (top_of q.top) (order ∙ ap (in_order q.order_by) d))

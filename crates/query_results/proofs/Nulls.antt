@@ -11,7 +11,7 @@ use Rattle.sql_tree.specs.declared.bound.BoundOrderKey.{BoundOrderKey}
 use Rattle.sql_tree.specs.Operands as operands
 use Rattle.sql_tree.specs.Bound.{BoundOperand, BoundItemValue, BoundItem, BoundQuery}
 use Rattle.sql_tree.specs.Bound as bound
-use Rattle.scalar.specs.Eval.{combined, negated, number_or_null, atom_at, eval, eval_terms}
+use Rattle.scalar.specs.Eval.{sum_with, minus, number_or_null, atom_at, eval, eval_terms}
 use Rattle.scalar.proofs.Interface.{both_same}
 use Rattle.operators.specs.Events.{or_overflow}
 use Rattle.operators.specs.Found.{Found, keys_of}
@@ -30,7 +30,7 @@ module _ (row other params : List Atom) (same : (place : ℕ) → atom_at row pl
     eval_same (operands.Literal at v) = refl
     eval_same (operands.Param at p) = refl
     eval_same (operands.Column at p) = ap Ok (same p)
-    eval_same (operands.Minus at x) = ap (λ r. r >>= negated) (eval_same x)
+    eval_same (operands.Minus at x) = ap (λ r. r >>= minus) (eval_same x)
     eval_same (operands.Sum first terms) =
         both_same (eval row params first) (eval other params first) (λ sum. eval_terms row params (number_or_null sum) terms) (λ sum. eval_terms other params (number_or_null sum) terms) (eval_same first)
         (λ sum. terms_same terms (number_or_null sum))
@@ -38,11 +38,11 @@ module _ (row other params : List Atom) (same : (place : ℕ) → atom_at row pl
     terms_same : (terms : operands.Terms ℕ ℕ) (sum : Atom) → eval_terms row params sum terms ≡ eval_terms other params sum terms
     terms_same operands.NoMore sum = refl
     terms_same (operands.PlusThen at x more) sum =
-        both_same (eval row params x) (eval other params x) (λ term. combined (λ a b. a +ℤ b) sum term >>= λ next. eval_terms row params next more) (λ term. combined (λ a b. a +ℤ b) sum term >>= λ next. eval_terms other params next more) (eval_same x)
-        (λ term. both_same (combined (λ a b. a +ℤ b) sum term) (combined (λ a b. a +ℤ b) sum term) (λ next. eval_terms row params next more) (λ next. eval_terms other params next more) refl (λ next. terms_same more next))
+        both_same (eval row params x) (eval other params x) (λ term. sum_with (λ a b. a +ℤ b) sum term >>= λ next. eval_terms row params next more) (λ term. sum_with (λ a b. a +ℤ b) sum term >>= λ next. eval_terms other params next more) (eval_same x)
+        (λ term. both_same (sum_with (λ a b. a +ℤ b) sum term) (sum_with (λ a b. a +ℤ b) sum term) (λ next. eval_terms row params next more) (λ next. eval_terms other params next more) refl (λ next. terms_same more next))
     terms_same (operands.MinusThen at x more) sum =
-        both_same (eval row params x) (eval other params x) (λ term. combined (λ a b. a -ℤ b) sum term >>= λ next. eval_terms row params next more) (λ term. combined (λ a b. a -ℤ b) sum term >>= λ next. eval_terms other params next more) (eval_same x)
-        (λ term. both_same (combined (λ a b. a -ℤ b) sum term) (combined (λ a b. a -ℤ b) sum term) (λ next. eval_terms row params next more) (λ next. eval_terms other params next more) refl (λ next. terms_same more next))
+        both_same (eval row params x) (eval other params x) (λ term. sum_with (λ a b. a -ℤ b) sum term >>= λ next. eval_terms row params next more) (λ term. sum_with (λ a b. a -ℤ b) sum term >>= λ next. eval_terms other params next more) (eval_same x)
+        (λ term. both_same (sum_with (λ a b. a -ℤ b) sum term) (sum_with (λ a b. a -ℤ b) sum term) (λ next. eval_terms row params next more) (λ next. eval_terms other params next more) refl (λ next. terms_same more next))
 
   item_same : (count : ℕ) (v : BoundItemValue) → item_of params count row v ≡ item_of params count other v
   item_same count (bound.Value x) = ap or_overflow (eval_same x)

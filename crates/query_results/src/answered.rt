@@ -2,8 +2,8 @@
 
 ghost use Rattle.std.specs.Prelude.{◌≡◌, map, IfOk};
 ghost use Rattle.sql_tree.specs.Bound.{query_of};
-ghost use Rattle.operators.specs.Found.{found_by, topped};
-ghost use Rattle.query_results.specs.Results.{answered, distinct_if};
+ghost use Rattle.operators.specs.Found.{found_by, top_of};
+ghost use Rattle.query_results.specs.Results.{answer_rows, distinct_if};
 
 use ae_base::atoms::Rows;
 use ae_base::lists::Seq;
@@ -21,7 +21,9 @@ pub(crate) fn answered<'a, K: Same>(
     query: &BoundQuery,
     found: Seq<Found<'a, K>>,
 ) -> Result<Rows<K>, AllocError>
-    ensures { IfOk result (λ rows. rows ≡ answered (query_of query.now) (map (found_by query.now.order_by) found.entry)) }
+    ensures { IfOk result
+        (λ rows. rows
+        ≡ answer_rows (query_of query.now) (map (found_by query.now.order_by) found.entry)) }
 {
     let mut found = distinct_if(alloc, query, found.into_vec())?;
     order(&mut found, query.order_by.as_slice())?;
@@ -34,7 +36,8 @@ fn distinct_if<'a, K: Same>(
     query: &BoundQuery,
     found: Vec<Found<'a, K>>,
 ) -> Result<Vec<Found<'a, K>>, AllocError>
-    ensures { IfOk result (λ kept. map (found_by query.now.order_by) kept.items ≡ distinct_if query.now.distinct (map (found_by query.now.order_by) found.entry.items)) }
+    ensures { IfOk result (λ kept. map (found_by query.now.order_by) kept.items
+        ≡ distinct_if query.now.distinct (map (found_by query.now.order_by) found.entry.items)) }
 {
     if query.distinct.is_some() {
         distinct(alloc, found)
@@ -45,7 +48,7 @@ fn distinct_if<'a, K: Same>(
 
 /// Keeps so many from the front, or all.
 fn top<K: Same>(found: &mut Vec<Found<'_, K>>, most: Option<u64>)
-    ensures { found.new.items ≡ topped most found.old.items }
+    ensures { found.new.items ≡ top_of most found.old.items }
 {
     if let Some(most) = most {
         found.truncate(most as usize);

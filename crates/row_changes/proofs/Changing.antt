@@ -10,7 +10,7 @@ use Rattle.ae_base.specs.declared.refusals.Refusal.{Refusal}
 use Rattle.ae_base.specs.declared.refusals.Refusal.TheVariants.{Fault, OutOfMemory}
 use Rattle.sql_tree.specs.Bound.{BoundCondition}
 use Rattle.ae_base.specs.declared.faults.SqlFault.{SqlFault}
-use Rattle.row_changes.specs.Changes.{changed, all_changed, all_tested, staying, Tested, selects, tested_row, row_to_delete}
+use Rattle.row_changes.specs.Changes.{tested_with, all_changed, all_tested, staying, Tested, selects, tested_row, row_to_delete}
 use Rattle.row_store.specs.Changes.{unhit}
 use Rattle.row_changes.specs.Rows.{replaced}
 use Rattle.operators.proofs.Interface.{collected, collected_more}
@@ -37,11 +37,11 @@ paired_more f xs ys i x lt e n y =
 -- ---- the rows that UPDATE changes
 
 pub changes_more : (f : List Atom → Result Tested SqlFault) (rows : List (List Atom)) (i : ℕ) (row : List Atom) (whole : Result (List Tested) SqlFault) (changes : List (Option (List Atom))) (change : Option (List Atom))
-    → i < length rows → row ≡ get_or rows i row → length changes ≡ i → whole ≡ collected (all_changed (take i rows) changes) (each f (drop i rows)) → f row ≡ Ok (changed row change)
+    → i < length rows → row ≡ get_or rows i row → length changes ≡ i → whole ≡ collected (all_changed (take i rows) changes) (each f (drop i rows)) → f row ≡ Ok (tested_with row change)
     → whole ≡ collected (all_changed (take (i + 1) rows) (changes ++ change ∷ [])) (each f (drop (i + 1) rows))
 changes_more f rows i row whole changes change lt e n w h =
-    each_more f rows i row lt e whole (all_changed (take i rows) changes) (changed row change) w h
-    ∙ ap (λ done. collected done (each f (drop (i + 1) rows))) (sym (paired_more (λ (p : List Atom × Option (List Atom)). changed p.0 p.1) rows changes i row lt e n change))
+    each_more f rows i row lt e whole (all_changed (take i rows) changes) (tested_with row change) w h
+    ∙ ap (λ done. collected done (each f (drop (i + 1) rows))) (sym (paired_more (λ (p : List Atom × Option (List Atom)). tested_with p.0 p.1) rows changes i row lt e n change))
 
 pub hits_more : (f : List Atom → Result Tested SqlFault) (rows : List (List Atom)) (i : ℕ) (row : List Atom) (whole : Result (List Tested) SqlFault) (hits : List Bool) (hit : Bool)
     → i < length rows → row ≡ get_or rows i row → length hits ≡ i → whole ≡ collected (all_tested (take i rows) hits) (each f (drop i rows)) → f row ≡ Ok (record { hit = hit; row = row })

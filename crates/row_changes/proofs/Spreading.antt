@@ -12,7 +12,7 @@ use Rattle.ae_base.specs.declared.faults.SqlFault.{SqlFault}
 use Rattle.operators.proofs.Interface.{collected}
 use Rattle.row_store.specs.declared.changes.Change.{Change}
 use Rattle.row_store.specs.Changes.{written}
-use Rattle.row_changes.specs.Changes.{Tested, changed, all_changed, standing, spread, noted, AreRising}
+use Rattle.row_changes.specs.Changes.{Tested, tested_with, all_changed, standing, spread, with_change, AreRising}
 use Rattle.row_changes.proofs.Changing.{changes_more}
 
 abbrev Changed : Type 0
@@ -105,13 +105,13 @@ module _ (f : List Atom → Result Tested SqlFault) (rows : List (List Atom)) (i
   next_none : spread 0 (i + 1) cs ≡ spread 0 i cs ++ None ∷ []
   next_none = let one : i + 1 ≡ suc i = omega arith in let to : i ≡ 0 + i = omega arith in ap (λ n. spread 0 n cs) one ∙ spread_none 0 i cs (subst (λ n. AreRising 0 n cs) to s.rising)
 
-  pub changing_none : f row ≡ Ok (changed row None) → AreChanging f rows (i + 1) cs
+  pub changing_none : f row ≡ Ok (tested_with row None) → AreChanging f rows (i + 1) cs
   changing_none h = record {
     so_far = changes_more f rows i row (each f rows) (spread 0 i cs) None lt is (spread_long 0 i cs) s.so_far h ∙ ap (λ o. collected (all_changed (take (i + 1) rows) o) (each f (drop (i + 1) rows))) (sym next_none);
     rising = rising_more 0 i (i + 1) cs (omega arith) s.rising;
   }
 
-  pub changing_some : (new : Changed) → new.place ≡ i → f row ≡ Ok (changed row (Some new.row)) → AreChanging f rows (i + 1) (cs ++ new ∷ [])
+  pub changing_some : (new : Changed) → new.place ≡ i → f row ≡ Ok (tested_with row (Some new.row)) → AreChanging f rows (i + 1) (cs ++ new ∷ [])
   changing_some new e h =
       let one : i + 1 ≡ suc i = omega arith in
       let to : i ≡ 0 + i = omega arith in
@@ -122,7 +122,7 @@ module _ (f : List Atom → Result Tested SqlFault) (rows : List (List Atom)) (i
         rising = rising_push 0 i cs new e (omega arith) s.rising;
       }
 
-  pub changing_more : (new : Option (List Atom)) → f row ≡ Ok (changed row new) → AreChanging f rows (i + 1) (noted cs i new)
+  pub changing_more : (new : Option (List Atom)) → f row ≡ Ok (tested_with row new) → AreChanging f rows (i + 1) (with_change cs i new)
   changing_more None h = changing_none h
   changing_more (Some new) h = changing_some (record { place = i; row = new }) refl h
 
@@ -199,7 +199,7 @@ spread_count p (suc n) (c ∷ cs) r = by_test (c.place == p) refl (λ h. spread_
         sum_by-cons (λ (c : Option (List Atom)). cond (is_some c) 1 0) None (spread (p + 1) n (c ∷ cs)) in
         omega (arith, rest, one)
 
-hit_is : (row : List Atom) (change : Option (List Atom)) → (changed row change).hit ≡ is_some change
+hit_is : (row : List Atom) (change : Option (List Atom)) → (tested_with row change).hit ≡ is_some change
 hit_is row None = refl
 hit_is row (Some new) = refl
 
@@ -208,7 +208,7 @@ dense_counted [] [] n = refl
 dense_counted [] (c ∷ changes) n = absurd (omega arith)
 dense_counted (row ∷ rows) [] n = absurd (omega arith)
 dense_counted (row ∷ rows) (c ∷ changes) n =
-    sum_by-cons (λ (t : Tested). cond t.hit 1 0) (changed row c) (all_changed rows changes)
+    sum_by-cons (λ (t : Tested). cond t.hit 1 0) (tested_with row c) (all_changed rows changes)
     ∙ ap (λ b. cond b 1 0 + count_by (λ (t : Tested). t.hit) (all_changed rows changes)) (hit_is row c)
     ∙ ap (λ m. cond (is_some c) 1 0 + m) (dense_counted rows changes (omega arith))
     ∙ sym (sum_by-cons (λ (c : Option (List Atom)). cond (is_some c) 1 0) c changes)

@@ -23,11 +23,11 @@ selects params None row = Ok true
 selects params (Some condition) row = asks params condition row
 
 -- the values that SET gives, over the old row
-abbrev pub assigned : List ColumnDef → (row params : List Atom) → List BoundAssignment → Result (List (ℕ × Atom)) SqlFault
-assigned columns row params sets = values_into columns row params (map (λ a. a.place) sets) (map (λ a. a.value) sets)
+abbrev pub set_values : List ColumnDef → (row params : List Atom) → List BoundAssignment → Result (List (ℕ × Atom)) SqlFault
+set_values columns row params sets = values_into columns row params (map (λ a. a.place) sets) (map (λ a. a.value) sets)
 
 abbrev pub updated_row : List ColumnDef → BoundUpdate → List Atom → List Atom → Bool → Result Tested SqlFault
-updated_row columns u params row true = assigned columns row params u.assignments >>= λ given. Ok (record { hit = true; row = replaced 0 given row })
+updated_row columns u params row true = set_values columns row params u.assignments >>= λ given. Ok (record { hit = true; row = replaced 0 given row })
 updated_row columns u params row false = Ok (record { hit = false; row = row })
 
 abbrev pub row_to_update : List ColumnDef → BoundUpdate → List Atom → List Atom → Result Tested SqlFault
@@ -44,12 +44,12 @@ abbrev pub ArePlacedSets : (columns params : ℕ) → List BoundAssignment → T
 ArePlacedSets columns params sets = All (λ a. (a.place < columns) × IsPlaced columns params a.value) sets
 
 -- a row with the new one that is to stand in its place, where the filter was true of it
-abbrev pub changed : List Atom → Option (List Atom) → Tested
-changed row None = record { hit = false; row = row }
-changed row (Some new) = record { hit = true; row = new }
+abbrev pub tested_with : List Atom → Option (List Atom) → Tested
+tested_with row None = record { hit = false; row = row }
+tested_with row (Some new) = record { hit = true; row = new }
 
 abbrev pub all_changed : List (List Atom) → List (Option (List Atom)) → List Tested
-all_changed rows changes = map (λ p. changed p.0 p.1) (zip rows changes)
+all_changed rows changes = map (λ p. tested_with p.0 p.1) (zip rows changes)
 
 -- the rows as they stand after the changes
 abbrev pub standing : List (List Atom) → List (Option (List Atom)) → List (List Atom)
@@ -63,9 +63,9 @@ spread place (suc count) (change ∷ changes) =
     if change.place == place then Some change.row ∷ spread (place + 1) count changes else None ∷ spread (place + 1) count (change ∷ changes)
 
 -- a change is noted where there is one
-abbrev pub noted : List (Change (List Atom)) → ℕ → Option (List Atom) → List (Change (List Atom))
-noted changes place None = changes
-noted changes place (Some row) = changes ++ record { place = place; row = row } ∷ []
+abbrev pub with_change : List (Change (List Atom)) → ℕ → Option (List Atom) → List (Change (List Atom))
+with_change changes place None = changes
+with_change changes place (Some row) = changes ++ record { place = place; row = row } ∷ []
 
 -- the places of changes rise, from one on, and stay below another
 abbrev pub AreRising : (from to : ℕ) → List (Change (List Atom)) → Type 0

@@ -25,8 +25,12 @@ pub fn hits<K: Same>(
     filter: &Option<BoundCondition>,
     params: &[Atom<K>],
 ) -> Result<Seq<bool>, Refusal>
-    requires { All (λ row. IsPlacedFilter (length row.now) (length params.now) (option_map condition_of filter.now)) rows.now }
-    ensures hits { AnswersAs (all_tested (map (λ row. row.now) rows.now)) result (each (row_to_delete (option_map condition_of filter.now) params.now) (map (λ row. row.now) rows.now)) }
+    requires { All
+        (λ row. IsPlacedFilter (length row.now) (length params.now)
+        (option_map condition_of filter.now)) rows.now }
+    ensures hits { AnswersAs (all_tested (map (λ row. row.now) rows.now)) result
+        (each (row_to_delete (option_map condition_of filter.now) params.now)
+        (map (λ row. row.now) rows.now)) }
     ensures each { IfOk result (λ hits. length hits ≡ length rows.now) }
 {
     let mut hits = Seq::new(alloc);

@@ -22,7 +22,8 @@ pub(crate) fn selects<'a, K: Same>(
     row: &LentRow<'a, K>,
     params: &'a [Atom<K>],
 ) -> Result<bool, Refusal>
-    requires { IsPlacedFilter (length row.now) (length params.now) (option_map condition_of filter.now) }
+    requires { IsPlacedFilter (length row.now) (length params.now)
+        (option_map condition_of filter.now) }
     ensures { Answers result (selects params.now (option_map condition_of filter.now) row.now) }
 {
     let Some(condition) = filter else {

@@ -31,9 +31,11 @@ pub fn new_rows<K: Same>(
     count: usize,
 ) -> Result<Rows<K>, Refusal>
     requires named { All (λ place. place < length columns.now) named.now }
-    requires rows { All (λ row. (length row.values ≡ length named.now) × All (IsPlaced 0 (length params.now)) row.values) (map row_of bound.now) }
+    requires rows { All (λ row. (length row.values ≡ length named.now)
+        × All (IsPlaced 0 (length params.now)) row.values) (map row_of bound.now) }
     requires most { count ≤ 100000 }
-    ensures { Answers result (rows.new_rows columns.now named.now params.now count (map row_of bound.now)) }
+    ensures { Answers result
+        (rows.new_rows columns.now named.now params.now count (map row_of bound.now)) }
 {
     let mut rows = Rows::new(alloc);
     for row in bound {
@@ -56,7 +58,8 @@ fn new_row<K: Same>(
     requires named { All (λ place. place < length columns.now) named.now }
     requires count { length values.now ≡ length named.now }
     requires values { All (IsPlaced 0 (length params.now)) (map operand_of values.now) }
-    ensures { Answers result (rows.new_row columns.now named.now params.now (map operand_of values.now)) }
+    ensures { Answers result
+        (rows.new_row columns.now named.now params.now (map operand_of values.now)) }
 {
     let nothing = Row::new(alloc);
     let given = values_into(
@@ -81,8 +84,10 @@ fn values_into<'a, K: Same>(
 ) -> Result<Seq<(usize, Atom<K>)>, Refusal>
     requires named { All (λ place. place < length columns.now) named.now }
     requires count { length values.now ≡ length named.now }
-    requires values { All (IsPlaced (length row.now) (length params.now)) (map operand_of values.now) }
-    ensures { Answers result (rows.values_into columns.now row.now params.now named.now (map operand_of values.now)) }
+    requires values { All (IsPlaced (length row.now) (length params.now))
+        (map operand_of values.now) }
+    ensures { Answers result
+        (rows.values_into columns.now row.now params.now named.now (map operand_of values.now)) }
 {
     let mut given = Seq::new(alloc);
     for (i, value) in values.iter().enumerate() {
@@ -101,7 +106,8 @@ pub(crate) fn value_into<'a, K: Same>(
 ) -> Result<(usize, Atom<K>), Refusal>
     requires place { place < length columns.now }
     requires value { IsPlaced (length row.now) (length params.now) (operand_of value.now) }
-    ensures { Answers result (rows.value_into columns.now row.now params.now place (operand_of value.now)) }
+    ensures { Answers result
+        (rows.value_into columns.now row.now params.now place (operand_of value.now)) }
 {
     match eval(value, row, params) {
         Ok(atom) => Ok((place, admitted(&columns[place], atom)?)),

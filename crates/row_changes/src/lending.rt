@@ -31,7 +31,8 @@ pub(crate) fn lend_each<'a, K: Same>(
     rows: &'a [Row<K>],
     lent: &mut Seq<&'a Row<K>>,
 ) -> Result<(), AllocError>
-    ensures { OnOk result (map (λ row. row.now) lent.new ≡ map (λ row. row.now) lent.old ++ rows.now) }
+    ensures { OnOk result (map (λ row. row.now) lent.new ≡ map (λ row. row.now) lent.old
+        ++ rows.now) }
 {
     for row in rows {
         lent.push(row)?;
@@ -46,7 +47,8 @@ pub(crate) fn lent_changed<'a, K: Same>(
     changes: &'a [Change<Row<K>>],
 ) -> Result<Seq<&'a Row<K>>, AllocError>
     requires { All (λ change. change.place < length (flat pages.now)) changes.now }
-    ensures { IfOk result (λ rows. map (λ row. row.now) rows ≡ written (flat pages.now) changes.now) }
+    ensures { IfOk result
+        (λ rows. map (λ row. row.now) rows ≡ written (flat pages.now) changes.now) }
 {
     let mut rows = lent(alloc, pages)?.into_vec();
     lend_changes(&mut rows, changes);
@@ -56,7 +58,8 @@ pub(crate) fn lent_changed<'a, K: Same>(
 /// Puts the new rows in the places of the old ones, lent.
 fn lend_changes<'a, K: Same>(rows: &mut Vec<&'a Row<K>>, changes: &'a [Change<Row<K>>])
     requires { All (λ change. change.place < length rows.old.items) changes.now }
-    ensures { map (λ row. row.now) rows.new.items ≡ written (map (λ row. row.now) rows.old.items) changes.now }
+    ensures { map (λ row. row.now) rows.new.items ≡ written (map (λ row. row.now) rows.old.items)
+        changes.now }
 {
     for change in changes {
         rows[change.place] = &change.row;

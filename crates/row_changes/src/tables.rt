@@ -88,7 +88,8 @@ impl<K: Same> Table<K> {
     pub fn insert(&mut self, alloc: Global, rows: Rows<K>) -> Result<(), Refusal>
         requires few { length self.old.keys ≤ 8 }
         requires distinct { AreDistinct self.old.keys self.old.rows }
-        ensures answer { Answers result (unless_twins (first_twins 1 self.old.keys (self.old.rows ++ rows)) tt) }
+        ensures answer { Answers result
+            (unless_twins (first_twins 1 self.old.keys (self.old.rows ++ rows)) tt) }
         ensures keys { self.new.keys ≡ self.old.keys }
         ensures rows { self.new.rows ≡ standing_rows result self.old.rows rows }
     {
@@ -107,8 +108,10 @@ impl<K: Same> Table<K> {
         requires few { length self.old.keys ≤ 8 }
         requires distinct { AreDistinct self.old.keys self.old.rows }
         requires placed { All (λ change. change.place < length self.old.rows) changes }
-        requires kept { AreKept (map assignment_of assignments.now) self.old.rows (written self.old.rows changes) }
-        ensures answer { Answers result (unless_twins (first_twins 1 self.old.keys (written self.old.rows changes)) tt) }
+        requires kept { AreKept (map assignment_of assignments.now) self.old.rows
+            (written self.old.rows changes) }
+        ensures answer { Answers result
+            (unless_twins (first_twins 1 self.old.keys (written self.old.rows changes)) tt) }
         ensures keys { self.new.keys ≡ self.old.keys }
         ensures rows { self.new.rows ≡ changed_rows result self.old.rows changes }
     {
@@ -132,7 +135,8 @@ impl<K: Same> Table<K> {
     /// Drops the rows that were hit, or without memory none; those behind them move up.
     pub fn drop_hit(&mut self, alloc: Global, hits: &[bool]) -> Result<(), AllocError>
         requires { length hits.now ≡ length self.old.rows }
-        ensures ok { OnOk result (self.new ≡ record { keys = self.old.keys; rows = unhit self.old.rows hits.now }) }
+        ensures ok { OnOk result
+            (self.new ≡ record { keys = self.old.keys; rows = unhit self.old.rows hits.now }) }
         ensures err { OnErr result (self.new ≡ self.old) }
     {
         self.indexes = thinned(alloc, &self.indexes, self.rows.rows(), hits)?;
@@ -172,10 +176,12 @@ fn insert_into<K: Same>(
     requires few { length indexes.old.items ≤ 8 }
     requires distinct { AreDistinct (keys_of indexes.old.items) stored.old.rows }
     requires indexed { All (IndexesRows stored.old.rows) indexes.old.items }
-    ensures answer { Answers result (unless_twins (first_twins 1 (keys_of indexes.old.items) (stored.old.rows ++ rows)) tt) }
+    ensures answer { Answers result
+        (unless_twins (first_twins 1 (keys_of indexes.old.items) (stored.old.rows ++ rows)) tt) }
     ensures keys { keys_of indexes.new.items ≡ keys_of indexes.old.items }
     ensures rows { stored.new.rows ≡ standing_rows result stored.old.rows rows }
-    ensures indexed { All (IndexesRows (standing_rows result stored.old.rows rows)) indexes.new.items }
+    ensures indexed { All (IndexesRows (standing_rows result stored.old.rows rows))
+        indexes.new.items }
 {
     match stored.reserve(alloc, rows.len()) {
         Ok(()) => {}
@@ -235,9 +241,12 @@ fn renewed<K: Same>(
 ) -> Result<Vec<UniqueIndex<K>>, Refusal>
     requires few { length indexes.now ≤ 8 }
     requires placed { All (λ change. change.place < length (flat pages.now)) changes.now }
-    ensures answer { AnswersAs nothing_more result (unless_twins (first_twins 1 (keys_of indexes.now) (written (flat pages.now) changes.now)) tt) }
+    ensures answer { AnswersAs nothing_more result
+        (unless_twins (first_twins 1 (keys_of indexes.now) (written (flat pages.now) changes.now))
+        tt) }
     ensures keys { IfOk result (λ new. keys_of new.items ≡ keys_of indexes.now) }
-    ensures indexed { IfOk result (λ new. All (IndexesRows (written (flat pages.now) changes.now)) new.items) }
+    ensures indexed { IfOk result
+        (λ new. All (IndexesRows (written (flat pages.now) changes.now)) new.items) }
 {
     let rows = lent_changed(alloc, pages, changes)?;
     let mut new = fresh(alloc, indexes, &[])?;
@@ -256,7 +265,8 @@ fn thinned<K: Same>(
 ) -> Result<Vec<UniqueIndex<K>>, AllocError>
     requires { length hits.now ≡ length (flat pages.now) }
     ensures keys { IfOk result (λ new. keys_of new.items ≡ keys_of indexes.now) }
-    ensures indexed { IfOk result (λ new. All (IndexesRows (unhit (flat pages.now) hits.now)) new.items) }
+    ensures indexed { IfOk result
+        (λ new. All (IndexesRows (unhit (flat pages.now) hits.now)) new.items) }
 {
     let rows = lent_unhit(alloc, pages, hits)?;
     fresh(alloc, indexes, rows.as_slice())

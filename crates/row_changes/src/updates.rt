@@ -7,9 +7,9 @@ ghost use Rattle.ae_base.specs.Results.{Answers, AnswersAs, each};
 ghost use Rattle.sql_tree.specs.Bound.{assignment_of, update_of};
 ghost use Rattle.sql_tree.specs.Conditions.{condition_of};
 ghost use Rattle.sql_tree.specs.Placed.{IsPlaced, IsPlacedFilter};
-ghost use Rattle.row_changes.specs.Changes.{ArePlacedSets, changed, all_changed, spread, noted, AreRising};
+ghost use Rattle.row_changes.specs.Changes.{ArePlacedSets, tested_with, all_changed, spread, with_change, AreRising};
 ghost use Rattle.row_changes.specs.Rows as rows;
-ghost use Rattle.row_changes.specs.Changes.{assigned, row_to_update};
+ghost use Rattle.row_changes.specs.Changes.{set_values, row_to_update};
 
 use crate::filters::selects;
 use crate::inserts::{value_at, value_into};
@@ -31,11 +31,16 @@ pub fn changes<K: Same>(
     update: &BoundUpdate,
     params: &[Atom<K>],
 ) -> Result<Seq<Change<Row<K>>>, Refusal>
-    requires sets { ArePlacedSets (length columns.now) (length params.now) (map assignment_of update.now.assignments) }
-    requires filter { IsPlacedFilter (length columns.now) (length params.now) (option_map condition_of update.now.filter) }
+    requires sets { ArePlacedSets (length columns.now) (length params.now)
+        (map assignment_of update.now.assignments) }
+    requires filter { IsPlacedFilter (length columns.now) (length params.now)
+        (option_map condition_of update.now.filter) }
     requires wide { All (λ row. length row.now ≡ length columns.now) rows.now }
-    ensures changes { AnswersAs (λ changes. all_changed (map (λ row. row.now) rows.now) (spread 0 (length rows.now) changes)) result
-        (each (row_to_update columns.now (update_of update.now) params.now) (map (λ row. row.now) rows.now)) }
+    ensures changes { AnswersAs
+        (λ changes. all_changed (map (λ row. row.now) rows.now)
+        (spread 0 (length rows.now) changes)) result
+        (each (row_to_update columns.now (update_of update.now) params.now)
+        (map (λ row. row.now) rows.now)) }
     ensures rising { IfOk result (AreRising 0 (length rows.now)) }
 {
     let mut changes = Seq::new(alloc);
@@ -54,7 +59,7 @@ fn note<K: Same>(
     place: usize,
     new: Option<Row<K>>,
 ) -> Result<(), AllocError>
-    ensures { OnOk result (changes.new ≡ noted changes.old place new) }
+    ensures { OnOk result (changes.new ≡ with_change changes.old place new) }
 {
     match new {
         None => Ok(()),
@@ -70,10 +75,13 @@ fn change<K: Same>(
     update: &BoundUpdate,
     params: &[Atom<K>],
 ) -> Result<Option<Row<K>>, Refusal>
-    requires sets { ArePlacedSets (length columns.now) (length params.now) (map assignment_of update.now.assignments) }
-    requires filter { IsPlacedFilter (length columns.now) (length params.now) (option_map condition_of update.now.filter) }
+    requires sets { ArePlacedSets (length columns.now) (length params.now)
+        (map assignment_of update.now.assignments) }
+    requires filter { IsPlacedFilter (length columns.now) (length params.now)
+        (option_map condition_of update.now.filter) }
     requires wide { length row.now ≡ length columns.now }
-    ensures { AnswersAs (changed row.now) result (row_to_update columns.now (update_of update.now) params.now row.now) }
+    ensures { AnswersAs (tested_with row.now) result
+        (row_to_update columns.now (update_of update.now) params.now row.now) }
 {
     let lent = LentRow::whole(row);
     if !selects(&update.filter, &lent, params)? {
@@ -91,8 +99,11 @@ fn assigned<'a, K: Same>(
     assignments: &'a [BoundAssignment],
     params: &'a [Atom<K>],
 ) -> Result<Seq<(usize, Atom<K>)>, Refusal>
-    requires { All (λ a. (a.place < length columns.now) × IsPlaced (length row.now) (length params.now) a.value) (map assignment_of assignments.now) }
-    ensures { Answers result (assigned columns.now row.now params.now (map assignment_of assignments.now)) }
+    requires { All (λ a. (a.place < length columns.now)
+        × IsPlaced (length row.now) (length params.now) a.value)
+        (map assignment_of assignments.now) }
+    ensures { Answers result
+        (set_values columns.now row.now params.now (map assignment_of assignments.now)) }
 {
     let mut given = Seq::new(alloc);
     for assignment in assignments {

@@ -5,7 +5,7 @@ use Rattle.std.specs.List.{All}
 use Rattle.std.proofs.lemmas.Bool.{leb-true, leb-false}
 use Rattle.std.proofs.lemmas.List.{append-nil}
 use Rattle.std.proofs.lemmas.List.Elements.{All-head, All-tail, All-cons, All-nil}
-use Rattle.row_store.specs.Paged.{flat, lengths, IsDense, IsPaged, last_room, IsPlace, merged_next, merged_at, can_merge, settled}
+use Rattle.row_store.specs.Paged.{flat, lengths, IsDense, IsPaged, last_room, IsPlace, merged_next, merged_at, can_merge, compaction_at}
 
 abbrev IsSmall : ℕ → Type 0
 IsSmall n = n ≤ 256
@@ -179,7 +179,7 @@ merged_flat page [] = refl
 merged_flat zero (rows ∷ pages) = next_flat rows pages
 merged_flat (suc page) (rows ∷ pages) = ap (λ l. rows ++ l) (merged_flat page pages)
 
-pub settled_flat : {T : Type 0} (page : ℕ) (pages : List (List T)) → flat (settled page pages) ≡ flat pages
+pub settled_flat : {T : Type 0} (page : ℕ) (pages : List (List T)) → flat (compaction_at page pages) ≡ flat pages
 settled_flat zero pages = merged_flat zero pages
 settled_flat (suc page) pages = merged_flat page (merged_at (suc page) pages) ∙ merged_flat (suc page) pages
 
@@ -197,18 +197,18 @@ merged_length zero (rows ∷ next ∷ pages) = by_test (nat_le (length rows + le
     by_test false = record { less = omega arith; few = omega arith }
 merged_length (suc page) (rows ∷ pages) = let s = merged_length page pages in record { less = omega (arith, s.less); few = omega (arith, s.few) }
 
-pub settled_length : {T : Type 0} (page : ℕ) (pages : List (List T)) → length (settled page pages) ≤ length pages
+pub settled_length : {T : Type 0} (page : ℕ) (pages : List (List T)) → length (compaction_at page pages) ≤ length pages
 settled_length zero pages = (merged_length zero pages).less
 settled_length (suc page) pages =
     let a = (merged_length (suc page) pages).less in
     let b = (merged_length page (merged_at (suc page) pages)).less in
     omega (arith, a, b)
 
-pub settled_first : {T : Type 0} (page : ℕ) (pages : List (List T)) → page ≡ 0 → merged_at page pages ≡ settled page pages
+pub settled_first : {T : Type 0} (page : ℕ) (pages : List (List T)) → page ≡ 0 → merged_at page pages ≡ compaction_at page pages
 settled_first zero pages e = refl
 settled_first (suc page) pages e = absurd cc
 
-pub settled_later : {T : Type 0} (page before : ℕ) (pages : List (List T)) → before + 1 ≡ page → merged_at before (merged_at page pages) ≡ settled page pages
+pub settled_later : {T : Type 0} (page before : ℕ) (pages : List (List T)) → before + 1 ≡ page → merged_at before (merged_at page pages) ≡ compaction_at page pages
 settled_later zero before pages e = absurd (omega (arith, e))
 settled_later (suc page) before pages e = let same : before ≡ page = omega (arith, e) in ap (λ n. merged_at n (merged_at (suc page) pages)) same
 
@@ -238,11 +238,11 @@ head_dense x y (z ∷ zs) h d = by_test (nat_le (length y + length z) 256) d
     by_test true d = (omega (arith, h, length-append y z), d)
     by_test false d = (h, d)
 
-cons_dense : {T : Type 0} (x y : List T) (page : ℕ) (zs : List (List T)) → 256 < length x + length y → IsDense (lengths (settled (suc page) (y ∷ zs))) → IsDense (length x ∷ lengths (settled (suc page) (y ∷ zs)))
+cons_dense : {T : Type 0} (x y : List T) (page : ℕ) (zs : List (List T)) → 256 < length x + length y → IsDense (lengths (compaction_at (suc page) (y ∷ zs))) → IsDense (length x ∷ lengths (compaction_at (suc page) (y ∷ zs)))
 cons_dense x y zero zs h d = head_dense x y (merged_at zero zs) h d
 cons_dense x y (suc page) zs h d = (h, d)
 
-settled_dense : {T : Type 0} (pages : List (List T)) (page : ℕ) (rows : List T) → IsDense (lengths pages) → IsDense (lengths (settled page (slice_set pages page rows)))
+settled_dense : {T : Type 0} (pages : List (List T)) (page : ℕ) (rows : List T) → IsDense (lengths pages) → IsDense (lengths (compaction_at page (slice_set pages page rows)))
 settled_dense [] zero rows d = tt
 settled_dense [] (suc page) rows d = tt
 settled_dense (x ∷ pages) zero rows d = next_dense rows pages (dense_tail (length x) (lengths pages) d)
@@ -271,11 +271,11 @@ merged_small zero (rows ∷ pages) h = next_small rows pages (All-head IsSmall (
 merged_small (suc page) (rows ∷ pages) h =
     All-cons IsSmall (length rows) (lengths (merged_at page pages)) (All-head IsSmall (length rows) (lengths pages) h) (merged_small page pages (All-tail IsSmall (length rows) (lengths pages) h))
 
-settled_small : {T : Type 0} (page : ℕ) (pages : List (List T)) → All IsSmall (lengths pages) → All IsSmall (lengths (settled page pages))
+settled_small : {T : Type 0} (page : ℕ) (pages : List (List T)) → All IsSmall (lengths pages) → All IsSmall (lengths (compaction_at page pages))
 settled_small zero pages h = merged_small zero pages h
 settled_small (suc page) pages h = merged_small page (merged_at (suc page) pages) (merged_small (suc page) pages h)
 
-pub settled_paged : {T : Type 0} (pages : List (List T)) (page : ℕ) (rows : List T) → length rows ≤ 256 → IsPaged (lengths pages) → IsPaged (lengths (settled page (slice_set pages page rows)))
+pub settled_paged : {T : Type 0} (pages : List (List T)) (page : ℕ) (rows : List T) → length rows ≤ 256 → IsPaged (lengths pages) → IsPaged (lengths (compaction_at page (slice_set pages page rows)))
 settled_paged pages page rows le p = record {
   small = settled_small page (slice_set pages page rows) (subst (All IsSmall) (sym (lengths_of_set pages page rows)) (small_set (lengths pages) page (length rows) le p.small));
   dense = settled_dense pages page rows p.dense;

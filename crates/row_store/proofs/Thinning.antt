@@ -6,7 +6,7 @@ use Rattle.std.proofs.lemmas.Bool.{cases_lt}
 use Rattle.std.proofs.lemmas.List.{append-nil, take_all, drop_all, take_more, drop_more, take_more_set, take-set, take-set-le, drop-set-lt, length-set, length-take, length-drop}
 use Rattle.std.proofs.lemmas.List.Elements.{All-head, All-tail}
 use Rattle.std.proofs.lemmas.List.Sums.{sum_by-cons}
-use Rattle.row_store.specs.Paged.{flat, lengths, IsDense, IsPaged, merged_next, merged_at, packed}
+use Rattle.row_store.specs.Paged.{flat, lengths, IsDense, IsPaged, merged_next, merged_at, compaction}
 use Rattle.row_store.specs.Changes.{unhit}
 use Rattle.row_store.proofs.Packing.{next_flat, next_dense, next_small, lengths_of_set, small_set}
 
@@ -133,20 +133,20 @@ thinned old now hits i before le s =
 
 -- ---- pages that share one
 
-pub packed_flat : {T : Type 0} (pages : List (List T)) → flat (packed pages) ≡ flat pages
+pub packed_flat : {T : Type 0} (pages : List (List T)) → flat (compaction pages) ≡ flat pages
 packed_flat [] = refl
-packed_flat (rows ∷ pages) = next_flat rows (packed pages) ∙ ap (λ l. rows ++ l) (packed_flat pages)
+packed_flat (rows ∷ pages) = next_flat rows (compaction pages) ∙ ap (λ l. rows ++ l) (packed_flat pages)
 
-packed_dense : {T : Type 0} (pages : List (List T)) → IsDense (lengths (packed pages))
+packed_dense : {T : Type 0} (pages : List (List T)) → IsDense (lengths (compaction pages))
 packed_dense [] = tt
-packed_dense (rows ∷ pages) = next_dense rows (packed pages) (packed_dense pages)
+packed_dense (rows ∷ pages) = next_dense rows (compaction pages) (packed_dense pages)
 
-packed_small : {T : Type 0} (pages : List (List T)) → All (λ n. n ≤ 256) (lengths pages) → All (λ n. n ≤ 256) (lengths (packed pages))
+packed_small : {T : Type 0} (pages : List (List T)) → All (λ n. n ≤ 256) (lengths pages) → All (λ n. n ≤ 256) (lengths (compaction pages))
 packed_small [] h = h
 packed_small (rows ∷ pages) h =
-    next_small rows (packed pages) (All-head (λ n. n ≤ 256) (length rows) (lengths pages) h) (packed_small pages (All-tail (λ n. n ≤ 256) (length rows) (lengths pages) h))
+    next_small rows (compaction pages) (All-head (λ n. n ≤ 256) (length rows) (lengths pages) h) (packed_small pages (All-tail (λ n. n ≤ 256) (length rows) (lengths pages) h))
 
-pub packed_paged : {T : Type 0} (pages : List (List T)) → All (λ n. n ≤ 256) (lengths pages) → IsPaged (lengths (packed pages))
+pub packed_paged : {T : Type 0} (pages : List (List T)) → All (λ n. n ≤ 256) (lengths pages) → IsPaged (lengths (compaction pages))
 packed_paged pages h = record { small = packed_small pages h; dense = packed_dense pages }
 
 next_length : {T : Type 0} (rows : List T) (pages : List (List T)) → length (merged_next rows pages) ≤ suc (length pages)
@@ -157,31 +157,31 @@ next_length rows (next ∷ pages) = by_test (Rattle.std.specs.Prelude.nat_le (le
     by_test true = omega arith
     by_test false = omega arith
 
-pub packed_length : {T : Type 0} (pages : List (List T)) → length (packed pages) ≤ length pages
+pub packed_length : {T : Type 0} (pages : List (List T)) → length (compaction pages) ≤ length pages
 packed_length [] = omega arith
-packed_length (rows ∷ pages) = let a = next_length rows (packed pages) in let b = packed_length pages in omega (arith, a, b)
+packed_length (rows ∷ pages) = let a = next_length rows (compaction pages) in let b = packed_length pages in omega (arith, a, b)
 
-pub pack_start : {T : Type 0} (old : List (List T)) (page : ℕ) → length old ≤ page → old ≡ take page old ++ packed (drop page old)
-pack_start old page le = sym (ap (λ ps. take page old ++ packed ps) (drop_all page old le) ∙ append-nil (take page old) ∙ take_all page old le)
+pub pack_start : {T : Type 0} (old : List (List T)) (page : ℕ) → length old ≤ page → old ≡ take page old ++ compaction (drop page old)
+pack_start old page le = sym (ap (λ ps. take page old ++ compaction ps) (drop_all page old le) ∙ append-nil (take page old) ∙ take_all page old le)
 
 merged_behind : {T : Type 0} (front : List (List T)) (rows : List T) (pages : List (List T)) → merged_at (length front) (front ++ rows ∷ pages) ≡ front ++ merged_next rows pages
 merged_behind [] rows pages = refl
 merged_behind (f ∷ front) rows pages = ap (λ l. f ∷ l) (merged_behind front rows pages)
 
 -- the page before those that share one already
-pub pack_more : {T : Type 0} (old now new : List (List T)) (bound page : ℕ) → page + 1 ≡ bound → bound ≤ length old → now ≡ take bound old ++ packed (drop bound old) → new ≡ merged_at page now → new ≡ take page old ++ packed (drop page old)
+pub pack_more : {T : Type 0} (old now new : List (List T)) (bound page : ℕ) → page + 1 ≡ bound → bound ≤ length old → now ≡ take bound old ++ compaction (drop bound old) → new ≡ merged_at page now → new ≡ take page old ++ compaction (drop page old)
 pack_more old now new bound page e le w m = by_front (get_or old page []) (take_more old page [] (omega (arith, e, le))) (drop_more old page [] (omega (arith, e, le)))
   where
-    by_front : (rows : List _) → take (page + 1) old ≡ take page old ++ rows ∷ [] → drop page old ≡ rows ∷ drop (page + 1) old → new ≡ take page old ++ packed (drop page old)
+    by_front : (rows : List _) → take (page + 1) old ≡ take page old ++ rows ∷ [] → drop page old ≡ rows ∷ drop (page + 1) old → new ≡ take page old ++ compaction (drop page old)
     by_front rows t d =
         let n : page ≡ length (take page old) = omega (arith, length-take page old, e, le) in
-        m ∙ ap (merged_at page) (w ∙ ap (λ k. take k old ++ packed (drop k old)) (sym e) ∙ ap (λ f. f ++ packed (drop (page + 1) old)) t ∙ append_assoc (take page old) (rows ∷ []) (packed (drop (page + 1) old)))
-        ∙ ap (λ k. merged_at k (take page old ++ rows ∷ packed (drop (page + 1) old))) n
-        ∙ merged_behind (take page old) rows (packed (drop (page + 1) old))
-        ∙ sym (ap (λ ps. take page old ++ packed ps) d)
+        m ∙ ap (merged_at page) (w ∙ ap (λ k. take k old ++ compaction (drop k old)) (sym e) ∙ ap (λ f. f ++ compaction (drop (page + 1) old)) t ∙ append_assoc (take page old) (rows ∷ []) (compaction (drop (page + 1) old)))
+        ∙ ap (λ k. merged_at k (take page old ++ rows ∷ compaction (drop (page + 1) old))) n
+        ∙ merged_behind (take page old) rows (compaction (drop (page + 1) old))
+        ∙ sym (ap (λ ps. take page old ++ compaction ps) d)
 
-pub pack_within : {T : Type 0} (old now : List (List T)) (bound page : ℕ) → page + 1 ≡ bound → bound ≤ length old → now ≡ take bound old ++ packed (drop bound old) → page < length now
-pack_within old now bound page e le w = omega (arith, e, le, ap length w, length-append (take bound old) (packed (drop bound old)), length-take bound old)
+pub pack_within : {T : Type 0} (old now : List (List T)) (bound page : ℕ) → page + 1 ≡ bound → bound ≤ length old → now ≡ take bound old ++ compaction (drop bound old) → page < length now
+pack_within old now bound page e le w = omega (arith, e, le, ap length w, length-append (take bound old) (compaction (drop bound old)), length-take bound old)
 
 -- what is read of a place is there, whatever stands for what isn't
 pub same_there : {A : Type 0} (xs : List A) (i : ℕ) (x y : A) → i < length xs → get_or xs i x ≡ get_or xs i y
@@ -189,5 +189,5 @@ same_there [] i x y lt = absurd (omega arith)
 same_there (a ∷ xs) zero x y lt = refl
 same_there (a ∷ xs) (suc i) x y lt = same_there xs i x y (omega (arith, lt))
 
-pub pack_done : {T : Type 0} (old now : List (List T)) (bound : ℕ) → bound ≡ 0 → now ≡ take bound old ++ packed (drop bound old) → now ≡ packed old
-pack_done old now bound e w = w ∙ ap (λ k. take k old ++ packed (drop k old)) e
+pub pack_done : {T : Type 0} (old now : List (List T)) (bound : ℕ) → bound ≡ 0 → now ≡ take bound old ++ compaction (drop bound old) → now ≡ compaction old
+pack_done old now bound e w = w ∙ ap (λ k. take k old ++ compaction (drop k old)) e

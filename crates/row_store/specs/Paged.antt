@@ -60,14 +60,14 @@ can_merge zero (rows ∷ next ∷ pages) = nat_le (length rows + length next) 25
 can_merge (suc page) (rows ∷ pages) = can_merge page pages
 
 -- first the page and the next one, and then the one before and the page
-abbrev pub settled : {T : Type 0} → ℕ → List (List T) → List (List T)
-settled zero pages = merged_at zero pages
-settled (suc page) pages = merged_at page (merged_at (suc page) pages)
+abbrev pub compaction_at : {T : Type 0} → ℕ → List (List T) → List (List T)
+compaction_at zero pages = merged_at zero pages
+compaction_at (suc page) pages = merged_at page (merged_at (suc page) pages)
 
 -- from the last page to the first
-abbrev pub packed : {T : Type 0} → List (List T) → List (List T)
-packed [] = []
-packed (rows ∷ pages) = merged_next rows (packed pages)
+abbrev pub compaction : {T : Type 0} → List (List T) → List (List T)
+compaction [] = []
+compaction (rows ∷ pages) = merged_next rows (compaction pages)
 
 -- what a table keeps: its pages, and empty ones for which its list of pages has room
 pub record IsKept {T : Type 0} (pages empty : List (List T)) (capacity : ℕ) : Type 0 where

@@ -4,7 +4,7 @@ ghost use Rattle.std.specs.Prelude.{◌≡◌, ◌<◌, ◌≤◌, ◌+◌, ◌*
 ghost use Rattle.std.specs.List.{All};
 ghost use Rattle.row_store.specs.Changes.{written, unhit};
 ghost use Rattle.std.specs.Vec.{vec_capacity};
-ghost use Rattle.row_store.specs.Paged.{IsPaged, IsKept, IsPlace, flat, lengths, last_room, settled, packed, merged_at, can_merge};
+ghost use Rattle.row_store.specs.Paged.{IsPaged, IsKept, IsPlace, flat, lengths, last_room, compaction_at, compaction, merged_at, can_merge};
 
 use crate::changes::Change;
 use crate::pages::Page;
@@ -251,7 +251,8 @@ fn push<T: Drop>(pages: &mut Vec<Page<T>>, ready: &mut Vec<Page<T>>, row: T)
     requires room { 0 < last_room (lengths pages.old.items) + 256 * length ready.old.items }
     ensures rows { flat pages.new.items ≡ flat pages.old.items ++ row ∷ [] }
     ensures kept { IsKept pages.new.items ready.new.items (vec_capacity pages.new) }
-    ensures room { last_room (lengths pages.new.items) + 256 * length ready.new.items + 1 ≡ last_room (lengths pages.old.items) + 256 * length ready.old.items }
+    ensures room { last_room (lengths pages.new.items) + 256 * length ready.new.items + 1
+        ≡ last_room (lengths pages.old.items) + 256 * length ready.old.items }
 {
     if 0 < last_room(pages.as_slice()) {
         let last = pages.len() - 1;
@@ -289,7 +290,7 @@ fn take_out<T: Drop>(pages: &mut Vec<Page<T>>, i: usize, place: Place)
 
 fn settle<T: Drop>(pages: &mut Vec<Page<T>>, page: usize)
     requires { page < length pages.old.items }
-    ensures pages { pages.new.items ≡ settled page pages.old.items }
+    ensures pages { pages.new.items ≡ compaction_at page pages.old.items }
     ensures capacity { vec_capacity pages.new ≡ vec_capacity pages.old }
 {
     merge(pages, page);
@@ -340,7 +341,7 @@ fn count_unhit(hits: &[bool]) -> usize
 
 /// Has pages share one where they fit, from the last to the first.
 fn pack<T: Drop>(pages: &mut Vec<Page<T>>)
-    ensures pages { pages.new.items ≡ packed pages.old.items }
+    ensures pages { pages.new.items ≡ compaction pages.old.items }
     ensures capacity { vec_capacity pages.new ≡ vec_capacity pages.old }
 {
     for page in (0..pages.len()).rev() {

@@ -28,7 +28,7 @@ use Rattle.scalar.specs.declared.faults.Overflow.{Overflow}
 use Rattle.scalar.specs.declared.truth.Truth.{Truth}
 use Rattle.scalar.specs.declared.truth.Truth.TheVariants as truths
 use Rattle.scalar.specs.Classes.{Class, Open, Det, Rnd, Pairing, class_at, IsNotNull, IsNotSealed, IsOneToOne, Correspond, PlacesCorrespond, RowsCorrespond, BothAnswer}
-use Rattle.scalar.specs.Eval.{atom_at, overflow, combined, negated, number_or_null, eval, eval_terms, datum_cmp, holds, truth_of, ordered, same_or_not, compare, negation, conjunction, disjunction, if_negated, null_truth, in_list, truth, truth_all, truth_any}
+use Rattle.scalar.specs.Eval.{atom_at, overflow, sum_with, minus, number_or_null, eval, eval_terms, datum_cmp, holds, truth_of, order_truth, same_or_not, compare, negation, conjunction, disjunction, if_negated, null_truth, in_list, truth, truth_all, truth_any}
 use Rattle.scalar.specs.Typed.{StandsAt, AreSumsOpen, AreTermsOpen, IsNotRandomized, MayCompare, AreComparable, IsTypedCondition, AreTypedConditions}
 use Rattle.scalar.proofs.Renaming.{both_same}
 
@@ -68,7 +68,7 @@ number_order : (a b : ℤ) → is_eq (int_cmp a b) ≡ int_eq a b
 number_order a b = refl
 
 -- values of which sameness is asked are compared so
-compare_data : (compared : Comparison) (a b : Datum) → IsOfSameness compared → ordered compared (datum_cmp a b) ≡ same_or_not compared (datum_eq a b)
+compare_data : (compared : Comparison) (a b : Datum) → IsOfSameness compared → order_truth compared (datum_cmp a b) ≡ same_or_not compared (datum_eq a b)
 compare_data compared (Num a) (Num b) s = by_order compared (int_cmp a b) s ∙ ap (same_or_not compared) (number_order a b)
 compare_data compared (Num a) (Text b) s = refl
 compare_data compared (Num a) (Bin b) s = refl
@@ -223,14 +223,14 @@ module _ (R : Pairing) (r : IsOneToOne R) where
   within_open n true = (refl, tt)
   within_open n false = refl
 
-  negated_open : (a : Atom) → BothAnswer (Correspond R Open) (negated a) (negated a)
+  negated_open : (a : Atom) → BothAnswer (Correspond R Open) (minus a) (minus a)
   negated_open Null = (refl, tt)
   negated_open (Plain (Num n)) = within_open (neg_ℤ n) (int_le (negsuc 9223372036854775807) (neg_ℤ n) && int_le (neg_ℤ n) (pos 9223372036854775807))
   negated_open (Plain (Text t)) = (refl, tt)
   negated_open (Plain (Bin t)) = (refl, tt)
   negated_open (Sealed c) = (refl, tt)
 
-  combined_open : (f : ℤ → ℤ → ℤ) (a b : Atom) → BothAnswer (Correspond R Open) (combined f a b) (combined f a b)
+  combined_open : (f : ℤ → ℤ → ℤ) (a b : Atom) → BothAnswer (Correspond R Open) (sum_with f a b) (sum_with f a b)
   combined_open f Null b = (refl, tt)
   combined_open f (Plain (Num n)) Null = (refl, tt)
   combined_open f (Plain (Num n)) (Plain (Num m)) = within_open (f n m) (int_le (negsuc 9223372036854775807) (f n m) && int_le (f n m) (pos 9223372036854775807))
@@ -241,8 +241,8 @@ module _ (R : Pairing) (r : IsOneToOne R) where
   combined_open f (Plain (Bin t)) b = (refl, tt)
   combined_open f (Sealed c) b = (refl, tt)
 
-  negated_alike : (a b : Atom) → Correspond R Open a b → BothAnswer (Correspond R Open) (negated a) (negated b)
-  negated_alike a b m = subst (λ x. BothAnswer (Correspond R Open) (negated a) (negated x)) (sym m.0) (negated_open a)
+  negated_alike : (a b : Atom) → Correspond R Open a b → BothAnswer (Correspond R Open) (minus a) (minus b)
+  negated_alike a b m = subst (λ x. BothAnswer (Correspond R Open) (minus a) (minus x)) (sym m.0) (negated_open a)
 
   number_open : (a : Atom) → IsNotSealed (number_or_null a)
   number_open Null = tt
@@ -254,9 +254,9 @@ module _ (R : Pairing) (r : IsOneToOne R) where
   number_alike : (a b : Atom) → Correspond R Open a b → Correspond R Open (number_or_null a) (number_or_null b)
   number_alike a b m = (ap number_or_null m.0, number_open a)
 
-  combined_alike : (f : ℤ → ℤ → ℤ) (a b c d : Atom) → Correspond R Open a b → Correspond R Open c d → BothAnswer (Correspond R Open) (combined f a c) (combined f b d)
+  combined_alike : (f : ℤ → ℤ → ℤ) (a b c d : Atom) → Correspond R Open a b → Correspond R Open c d → BothAnswer (Correspond R Open) (sum_with f a c) (sum_with f b d)
   combined_alike f a b c d m n =
-      subst (λ x. BothAnswer (Correspond R Open) (combined f a c) (combined f x d)) (sym m.0) (subst (λ x. BothAnswer (Correspond R Open) (combined f a c) (combined f a x)) (sym n.0) (combined_open f a c))
+      subst (λ x. BothAnswer (Correspond R Open) (sum_with f a c) (sum_with f x d)) (sym m.0) (subst (λ x. BothAnswer (Correspond R Open) (sum_with f a c) (sum_with f a x)) (sym n.0) (combined_open f a c))
 
   module _ (columns params : List Class) (row other values others : List Atom) (rows : PlacesCorrespond R columns row other) (given : PlacesCorrespond R params values others) where
     at_class : (c d : Class) (a b : Atom) → c ≡ d → Correspond R d a b → Correspond R c a b
@@ -274,7 +274,7 @@ module _ (R : Pairing) (r : IsOneToOne R) where
       eval_at (operands.Column at p) c h s = at_class c (class_at columns p) (atom_at row p) (atom_at other p) s (rows p)
       eval_at (operands.Minus at x) c h s =
           open_answers c (eval row values (operands.Minus at x)) (eval other others (operands.Minus at x)) s
-          (both_then (Correspond R Open) (Correspond R Open) (eval row values x) (eval other others x) negated negated (eval_at x Open h.1 h.0) negated_alike)
+          (both_then (Correspond R Open) (Correspond R Open) (eval row values x) (eval other others x) minus minus (eval_at x Open h.1 h.0) negated_alike)
       eval_at (operands.Sum first terms) c h s =
           open_answers c (eval row values (operands.Sum first terms)) (eval other others (operands.Sum first terms)) s
           (both_then (Correspond R Open) (Correspond R Open) (eval row values first) (eval other others first) (λ sum. eval_terms row values (number_or_null sum) terms) (λ sum. eval_terms other others (number_or_null sum) terms)
@@ -284,14 +284,14 @@ module _ (R : Pairing) (r : IsOneToOne R) where
           → BothAnswer (Correspond R Open) (eval_terms row values a terms) (eval_terms other others b terms)
       terms_alike operands.NoMore a b h m = m
       terms_alike (operands.PlusThen at x more) a b h m =
-          both_then (Correspond R Open) (Correspond R Open) (eval row values x) (eval other others x) (λ term. combined (λ a b. a +ℤ b) a term >>= λ next. eval_terms row values next more)
-          (λ term. combined (λ a b. a +ℤ b) b term >>= λ next. eval_terms other others next more) (eval_at x Open h.1 h.0)
-          (λ c d n. both_then (Correspond R Open) (Correspond R Open) (combined (λ a b. a +ℤ b) a c) (combined (λ a b. a +ℤ b) b d) (λ next. eval_terms row values next more) (λ next. eval_terms other others next more)
+          both_then (Correspond R Open) (Correspond R Open) (eval row values x) (eval other others x) (λ term. sum_with (λ a b. a +ℤ b) a term >>= λ next. eval_terms row values next more)
+          (λ term. sum_with (λ a b. a +ℤ b) b term >>= λ next. eval_terms other others next more) (eval_at x Open h.1 h.0)
+          (λ c d n. both_then (Correspond R Open) (Correspond R Open) (sum_with (λ a b. a +ℤ b) a c) (sum_with (λ a b. a +ℤ b) b d) (λ next. eval_terms row values next more) (λ next. eval_terms other others next more)
           (combined_alike (λ a b. a +ℤ b) a b c d m n) (λ x y k. terms_alike more x y h.2 k))
       terms_alike (operands.MinusThen at x more) a b h m =
-          both_then (Correspond R Open) (Correspond R Open) (eval row values x) (eval other others x) (λ term. combined (λ a b. a -ℤ b) a term >>= λ next. eval_terms row values next more)
-          (λ term. combined (λ a b. a -ℤ b) b term >>= λ next. eval_terms other others next more) (eval_at x Open h.1 h.0)
-          (λ c d n. both_then (Correspond R Open) (Correspond R Open) (combined (λ a b. a -ℤ b) a c) (combined (λ a b. a -ℤ b) b d) (λ next. eval_terms row values next more) (λ next. eval_terms other others next more)
+          both_then (Correspond R Open) (Correspond R Open) (eval row values x) (eval other others x) (λ term. sum_with (λ a b. a -ℤ b) a term >>= λ next. eval_terms row values next more)
+          (λ term. sum_with (λ a b. a -ℤ b) b term >>= λ next. eval_terms other others next more) (eval_at x Open h.1 h.0)
+          (λ c d n. both_then (Correspond R Open) (Correspond R Open) (sum_with (λ a b. a -ℤ b) a c) (sum_with (λ a b. a -ℤ b) b d) (λ next. eval_terms row values next more) (λ next. eval_terms other others next more)
           (combined_alike (λ a b. a -ℤ b) a b c d m n) (λ x y k. terms_alike more x y h.2 k))
 
     -- every operand stands at some class
@@ -340,13 +340,13 @@ module _ (R : Pairing) (r : IsOneToOne R) where
         (λ p q e. ap (disjunction (compare comparison.Equal b d)) e
         ∙ ap (λ t. disjunction t p) (sym (compare_alike comparison.Equal first.0.class a b c d first.0.admitted (m first.0.class first.0.left) n)))))
 
-    in_alike : (x : BoundOperand) → AreSumsOpen columns params x → (s t : Result Atom Overflow) → ((c : Class) → StandsAt columns params c x → BothAnswer (Correspond R c) s t) → (negated : Bool) (list : List BoundOperand)
+    in_alike : (x : BoundOperand) → AreSumsOpen columns params x → (s t : Result Atom Overflow) → ((c : Class) → StandsAt columns params c x → BothAnswer (Correspond R c) s t) → (minus : Bool) (list : List BoundOperand)
         → All (λ y. AreComparable columns params comparison.Equal x y × AreSumsOpen columns params y) list
-        → (t >>= λ b. in_list other others b list >>= λ u. Ok (if_negated negated u)) ≡ (s >>= λ a. in_list row values a list >>= λ u. Ok (if_negated negated u))
-    in_alike x h (Ok a) (Ok b) each negated list all = ap (λ r. r >>= λ u. Ok (if_negated negated u)) (in_list_alike x h a b each list all)
-    in_alike x h (Ok a) (Err e) each negated list all = absurd (each (class_of_operand x) (stands_somewhere x))
-    in_alike x h (Err e) (Ok b) each negated list all = absurd (each (class_of_operand x) (stands_somewhere x))
-    in_alike x h (Err e) (Err f) each negated list all = ap Err (each (class_of_operand x) (stands_somewhere x))
+        → (t >>= λ b. in_list other others b list >>= λ u. Ok (if_negated minus u)) ≡ (s >>= λ a. in_list row values a list >>= λ u. Ok (if_negated minus u))
+    in_alike x h (Ok a) (Ok b) each minus list all = ap (λ r. r >>= λ u. Ok (if_negated minus u)) (in_list_alike x h a b each list all)
+    in_alike x h (Ok a) (Err e) each minus list all = absurd (each (class_of_operand x) (stands_somewhere x))
+    in_alike x h (Err e) (Ok b) each minus list all = absurd (each (class_of_operand x) (stands_somewhere x))
+    in_alike x h (Err e) (Err f) each minus list all = ap Err (each (class_of_operand x) (stands_somewhere x))
 
     compare_at : (compared : Comparison) (left right : BoundOperand) → AreComparable columns params compared left right → AreSumsOpen columns params left → AreSumsOpen columns params right
         → (eval other others left >>= λ a. eval other others right >>= λ b. Ok (compare compared a b)) ≡ (eval row values left >>= λ a. eval row values right >>= λ b. Ok (compare compared a b))
@@ -357,19 +357,19 @@ module _ (R : Pairing) (r : IsOneToOne R) where
         (λ a b m. both_then (Correspond R may.class) (λ p q. q ≡ p) (eval row values right) (eval other others right) (λ c. Ok (compare compared a c)) (λ d. Ok (compare compared b d))
         (eval_at right may.class k may.right) (λ c d n. sym (compare_alike compared may.class a b c d may.admitted m n))))
 
-    null_at : (negated : Bool) (x : BoundOperand) → AreSumsOpen columns params x
-        → (eval other others x >>= λ a. Ok (if_negated negated (null_truth a))) ≡ (eval row values x >>= λ a. Ok (if_negated negated (null_truth a)))
-    null_at negated x h =
+    null_at : (minus : Bool) (x : BoundOperand) → AreSumsOpen columns params x
+        → (eval other others x >>= λ a. Ok (if_negated minus (null_truth a))) ≡ (eval row values x >>= λ a. Ok (if_negated minus (null_truth a)))
+    null_at minus x h =
         let c = class_of_operand x in
-        same_answer (eval row values x >>= λ a. Ok (if_negated negated (null_truth a))) (eval other others x >>= λ a. Ok (if_negated negated (null_truth a)))
-        (both_then (Correspond R c) (λ p q. q ≡ p) (eval row values x) (eval other others x) (λ a. Ok (if_negated negated (null_truth a))) (λ a. Ok (if_negated negated (null_truth a)))
-        (eval_at x c h (stands_somewhere x)) (λ a b m. ap (if_negated negated) (sym (same_null c a b m))))
+        same_answer (eval row values x >>= λ a. Ok (if_negated minus (null_truth a))) (eval other others x >>= λ a. Ok (if_negated minus (null_truth a)))
+        (both_then (Correspond R c) (λ p q. q ≡ p) (eval row values x) (eval other others x) (λ a. Ok (if_negated minus (null_truth a))) (λ a. Ok (if_negated minus (null_truth a)))
+        (eval_at x c h (stands_somewhere x)) (λ a b m. ap (if_negated minus) (sym (same_null c a b m))))
 
     mutual
       truth_at : (condition : BoundCondition) → IsTypedCondition columns params condition → truth other others condition ≡ truth row values condition
       truth_at (conditions.Compare at compared left right) h = compare_at compared left right h.0 h.1 h.2
-      truth_at (conditions.IsNull negated x) h = null_at negated x h
-      truth_at (conditions.In at negated x list) h = in_alike x h.0 (eval row values x) (eval other others x) (λ c s. eval_at x c h.0 s) negated list h.1
+      truth_at (conditions.IsNull minus x) h = null_at minus x h
+      truth_at (conditions.In at minus x list) h = in_alike x h.0 (eval row values x) (eval other others x) (λ c s. eval_at x c h.0 s) minus list h.1
       truth_at (conditions.Not c) h = ap (λ r. r >>= λ t. Ok (negation t)) (truth_at c h)
       truth_at (conditions.AllOf all) h = all_at all h
       truth_at (conditions.AnyOf any) h = any_at any h

@@ -10,7 +10,7 @@ use Rattle.sql_tree.specs.Operands as operands
 use Rattle.sql_tree.specs.Conditions as conditions
 use Rattle.sql_tree.specs.Bound.{BoundOperand, BoundCondition}
 use Rattle.sql_tree.specs.Uses.{uses_in, uses_in_terms, uses_in_condition, uses_in_conditions, renamed_operand, renamed_terms, renamed_condition, renamed_conditions}
-use Rattle.scalar.specs.Eval.{combined, negated, number_or_null, eval, eval_terms, compare, negation, conjunction, disjunction, if_negated, null_truth, in_list, truth, truth_all, truth_any}
+use Rattle.scalar.specs.Eval.{sum_with, minus, number_or_null, eval, eval_terms, compare, negation, conjunction, disjunction, if_negated, null_truth, in_list, truth, truth_all, truth_any}
 use Rattle.scalar.specs.Laws.{AreMoved}
 use Rattle.scalar.proofs.Terms.{ok_atom}
 
@@ -27,7 +27,7 @@ module _ (f : ℕ → ℕ) (row params others : List Atom) where
     eval_moved (operands.Literal at v) m = refl
     eval_moved (operands.Param at p) m = ap ok_atom (m p (eq-eqb p p refl))
     eval_moved (operands.Column at c) m = refl
-    eval_moved (operands.Minus at x) m = ap (λ r. r >>= negated) (eval_moved x m)
+    eval_moved (operands.Minus at x) m = ap (λ r. r >>= minus) (eval_moved x m)
     eval_moved (operands.Sum first terms) m =
         both_same (eval row others (renamed_operand f first)) (eval row params first) (λ sum. eval_terms row others (number_or_null sum) (renamed_terms f terms)) (λ sum. eval_terms row params (number_or_null sum) terms)
         (eval_moved first (λ p e. m p (or_left (uses_in p first) (uses_in_terms p terms) e)))
@@ -36,14 +36,14 @@ module _ (f : ℕ → ℕ) (row params others : List Atom) where
     terms_moved : (sum : Atom) (terms : operands.Terms ℕ ℕ) → AreMoved (λ place. uses_in_terms place terms) f params others → eval_terms row others sum (renamed_terms f terms) ≡ eval_terms row params sum terms
     terms_moved sum operands.NoMore m = refl
     terms_moved sum (operands.PlusThen at x more) m =
-        both_same (eval row others (renamed_operand f x)) (eval row params x) (λ term. combined (λ a b. a +ℤ b) sum term >>= λ next. eval_terms row others next (renamed_terms f more))
-        (λ term. combined (λ a b. a +ℤ b) sum term >>= λ next. eval_terms row params next more) (eval_moved x (λ p e. m p (or_left (uses_in p x) (uses_in_terms p more) e)))
-        (λ term. both_same (combined (λ a b. a +ℤ b) sum term) (combined (λ a b. a +ℤ b) sum term) (λ next. eval_terms row others next (renamed_terms f more)) (λ next. eval_terms row params next more) refl
+        both_same (eval row others (renamed_operand f x)) (eval row params x) (λ term. sum_with (λ a b. a +ℤ b) sum term >>= λ next. eval_terms row others next (renamed_terms f more))
+        (λ term. sum_with (λ a b. a +ℤ b) sum term >>= λ next. eval_terms row params next more) (eval_moved x (λ p e. m p (or_left (uses_in p x) (uses_in_terms p more) e)))
+        (λ term. both_same (sum_with (λ a b. a +ℤ b) sum term) (sum_with (λ a b. a +ℤ b) sum term) (λ next. eval_terms row others next (renamed_terms f more)) (λ next. eval_terms row params next more) refl
         (λ next. terms_moved next more (λ p e. m p (or_right (uses_in p x) (uses_in_terms p more) e))))
     terms_moved sum (operands.MinusThen at x more) m =
-        both_same (eval row others (renamed_operand f x)) (eval row params x) (λ term. combined (λ a b. a -ℤ b) sum term >>= λ next. eval_terms row others next (renamed_terms f more))
-        (λ term. combined (λ a b. a -ℤ b) sum term >>= λ next. eval_terms row params next more) (eval_moved x (λ p e. m p (or_left (uses_in p x) (uses_in_terms p more) e)))
-        (λ term. both_same (combined (λ a b. a -ℤ b) sum term) (combined (λ a b. a -ℤ b) sum term) (λ next. eval_terms row others next (renamed_terms f more)) (λ next. eval_terms row params next more) refl
+        both_same (eval row others (renamed_operand f x)) (eval row params x) (λ term. sum_with (λ a b. a -ℤ b) sum term >>= λ next. eval_terms row others next (renamed_terms f more))
+        (λ term. sum_with (λ a b. a -ℤ b) sum term >>= λ next. eval_terms row params next more) (eval_moved x (λ p e. m p (or_left (uses_in p x) (uses_in_terms p more) e)))
+        (λ term. both_same (sum_with (λ a b. a -ℤ b) sum term) (sum_with (λ a b. a -ℤ b) sum term) (λ next. eval_terms row others next (renamed_terms f more)) (λ next. eval_terms row params next more) refl
         (λ next. terms_moved next more (λ p e. m p (or_right (uses_in p x) (uses_in_terms p more) e))))
 
   in_list_moved : (x : Atom) (list : List BoundOperand) → AreMoved (λ place. list_any (uses_in place) list) f params others → in_list row others x (map (renamed_operand f) list) ≡ in_list row params x list
@@ -60,11 +60,11 @@ module _ (f : ℕ → ℕ) (row params others : List Atom) where
         both_same (eval row others (renamed_operand f left)) (eval row params left) (λ a. eval row others (renamed_operand f right) >>= λ b. Ok (compare compared a b)) (λ a. eval row params right >>= λ b. Ok (compare compared a b))
         (eval_moved left (λ p e. m p (or_left (uses_in p left) (uses_in p right) e)))
         (λ a. ap (λ r. r >>= λ b. Ok (compare compared a b)) (eval_moved right (λ p e. m p (or_right (uses_in p left) (uses_in p right) e))))
-    truth_moved (conditions.IsNull negated x) m = ap (λ r. r >>= λ a. Ok (if_negated negated (null_truth a))) (eval_moved x m)
-    truth_moved (conditions.In at negated x list) m =
-        both_same (eval row others (renamed_operand f x)) (eval row params x) (λ a. in_list row others a (map (renamed_operand f) list) >>= λ t. Ok (if_negated negated t)) (λ a. in_list row params a list >>= λ t. Ok (if_negated negated t))
+    truth_moved (conditions.IsNull minus x) m = ap (λ r. r >>= λ a. Ok (if_negated minus (null_truth a))) (eval_moved x m)
+    truth_moved (conditions.In at minus x list) m =
+        both_same (eval row others (renamed_operand f x)) (eval row params x) (λ a. in_list row others a (map (renamed_operand f) list) >>= λ t. Ok (if_negated minus t)) (λ a. in_list row params a list >>= λ t. Ok (if_negated minus t))
         (eval_moved x (λ p e. m p (or_left (uses_in p x) (list_any (uses_in p) list) e)))
-        (λ a. ap (λ r. r >>= λ t. Ok (if_negated negated t)) (in_list_moved a list (λ p e. m p (or_right (uses_in p x) (list_any (uses_in p) list) e))))
+        (λ a. ap (λ r. r >>= λ t. Ok (if_negated minus t)) (in_list_moved a list (λ p e. m p (or_right (uses_in p x) (list_any (uses_in p) list) e))))
     truth_moved (conditions.Not condition) m = ap (λ r. r >>= λ t. Ok (negation t)) (truth_moved condition m)
     truth_moved (conditions.AllOf all) m = all_moved all m
     truth_moved (conditions.AnyOf any) m = any_moved any m

@@ -42,23 +42,23 @@ abbrev pub within_64_bits : ℤ → Result Atom Overflow
 within_64_bits n = if int_le (negsuc 9223372036854775807) n && int_le n (pos 9223372036854775807) then Ok (Plain (Num n)) else Err overflow
 
 -- a sum of two numbers; NULL with anything is NULL
-abbrev pub combined : (ℤ → ℤ → ℤ) → Atom → Atom → Result Atom Overflow
-combined f (Plain (Num a)) (Plain (Num b)) = within_64_bits (f a b)
-combined f (Plain (Num a)) Null = Ok Null
-combined f (Plain (Num a)) (Plain (Text t)) = Ok Null
-combined f (Plain (Num a)) (Plain (Bin t)) = Ok Null
-combined f (Plain (Num a)) (Sealed c) = Ok Null
-combined f (Plain (Text t)) b = Ok Null
-combined f (Plain (Bin t)) b = Ok Null
-combined f Null b = Ok Null
-combined f (Sealed c) b = Ok Null
+abbrev pub sum_with : (ℤ → ℤ → ℤ) → Atom → Atom → Result Atom Overflow
+sum_with f (Plain (Num a)) (Plain (Num b)) = within_64_bits (f a b)
+sum_with f (Plain (Num a)) Null = Ok Null
+sum_with f (Plain (Num a)) (Plain (Text t)) = Ok Null
+sum_with f (Plain (Num a)) (Plain (Bin t)) = Ok Null
+sum_with f (Plain (Num a)) (Sealed c) = Ok Null
+sum_with f (Plain (Text t)) b = Ok Null
+sum_with f (Plain (Bin t)) b = Ok Null
+sum_with f Null b = Ok Null
+sum_with f (Sealed c) b = Ok Null
 
-abbrev pub negated : Atom → Result Atom Overflow
-negated (Plain (Num a)) = within_64_bits (neg_ℤ a)
-negated (Plain (Text t)) = Ok Null
-negated (Plain (Bin t)) = Ok Null
-negated Null = Ok Null
-negated (Sealed c) = Ok Null
+abbrev pub minus : Atom → Result Atom Overflow
+minus (Plain (Num a)) = within_64_bits (neg_ℤ a)
+minus (Plain (Text t)) = Ok Null
+minus (Plain (Bin t)) = Ok Null
+minus Null = Ok Null
+minus (Sealed c) = Ok Null
 
 -- what is no number counts as NULL in a sum
 abbrev pub number_or_null : Atom → Atom
@@ -78,16 +78,16 @@ abbrev mutual
   eval row params (operands.Literal at v) = Ok (atom_of_value v)
   eval row params (operands.Param at place) = Ok (atom_at params place)
   eval row params (operands.Column at place) = Ok (atom_at row place)
-  eval row params (operands.Minus at operand) = eval row params operand >>= negated
+  eval row params (operands.Minus at operand) = eval row params operand >>= minus
   eval row params (operands.Sum first terms) = eval row params first >>= λ sum. eval_terms row params (number_or_null sum) terms
 
   -- a sum goes from left to right
   pub eval_terms : List Atom → List Atom → Atom → operands.Terms ℕ ℕ → Result Atom Overflow
   eval_terms row params sum operands.NoMore = Ok sum
   eval_terms row params sum (operands.PlusThen at operand more) =
-      eval row params operand >>= λ term. combined (λ a b. a +ℤ b) sum term >>= λ next. eval_terms row params next more
+      eval row params operand >>= λ term. sum_with (λ a b. a +ℤ b) sum term >>= λ next. eval_terms row params next more
   eval_terms row params sum (operands.MinusThen at operand more) =
-      eval row params operand >>= λ term. combined (λ a b. a -ℤ b) sum term >>= λ next. eval_terms row params next more
+      eval row params operand >>= λ term. sum_with (λ a b. a -ℤ b) sum term >>= λ next. eval_terms row params next more
 
 -- ---- comparisons
 
@@ -137,15 +137,15 @@ same_or_not comparison.Greater same = truths.Unknown
 same_or_not comparison.GreaterEqual same = truths.Unknown
 
 -- nothing is the same as a value of another kind
-abbrev pub ordered : Comparison → Option Ordering → Truth
-ordered compared None = same_or_not compared false
-ordered compared (Some order) = truth_of (holds compared order)
+abbrev pub order_truth : Comparison → Option Ordering → Truth
+order_truth compared None = same_or_not compared false
+order_truth compared (Some order) = truth_of (holds compared order)
 
 -- a comparison with NULL is unknown; of sealed values only sameness is known, and none is the same as a plain one
 abbrev pub compare : Comparison → Atom → Atom → Truth
 compare compared Null b = truths.Unknown
 compare compared (Plain a) Null = truths.Unknown
-compare compared (Plain a) (Plain b) = ordered compared (datum_cmp a b)
+compare compared (Plain a) (Plain b) = order_truth compared (datum_cmp a b)
 compare compared (Plain a) (Sealed b) = same_or_not compared false
 compare compared (Sealed a) Null = truths.Unknown
 compare compared (Sealed a) (Plain b) = same_or_not compared false
@@ -192,9 +192,9 @@ abbrev mutual
   pub truth : List Atom → List Atom → BoundCondition → Result Truth Overflow
   truth row params (conditions.Compare at compared left right) =
       eval row params left >>= λ a. eval row params right >>= λ b. Ok (compare compared a b)
-  truth row params (conditions.IsNull negated operand) = eval row params operand >>= λ a. Ok (if_negated negated (null_truth a))
-  truth row params (conditions.In at negated operand list) =
-      eval row params operand >>= λ x. in_list row params x list >>= λ t. Ok (if_negated negated t)
+  truth row params (conditions.IsNull minus operand) = eval row params operand >>= λ a. Ok (if_negated minus (null_truth a))
+  truth row params (conditions.In at minus operand list) =
+      eval row params operand >>= λ x. in_list row params x list >>= λ t. Ok (if_negated minus t)
   truth row params (conditions.Not condition) = truth row params condition >>= λ t. Ok (negation t)
   truth row params (conditions.AllOf all) = truth_all row params all
   truth row params (conditions.AnyOf any) = truth_any row params any

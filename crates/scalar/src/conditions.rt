@@ -59,7 +59,9 @@ fn compare<'a, K: Same>(
 ) -> Result<Truth, Overflow>
     requires left { IsPlaced (length row.now) (length params.now) (operand_of left.now) }
     requires right { IsPlaced (length row.now) (length params.now) (operand_of right.now) }
-    ensures { result ≡ truth row.now params.now (conditions.Compare 0 comparison (operand_of left.now) (operand_of right.now)) }
+    ensures { result
+        ≡ truth row.now params.now
+        (conditions.Compare 0 comparison (operand_of left.now) (operand_of right.now)) }
 {
     match (lend(left, row, params), lend(right, row, params)) {
         (Ok(left), Ok(right)) => Ok(left.compare(comparison, &right)),
@@ -74,7 +76,8 @@ fn is_null<'a, K: Same>(
     params: &'a [Atom<K>],
 ) -> Result<Truth, Overflow>
     requires { IsPlaced (length row.now) (length params.now) (operand_of operand.now) }
-    ensures { result ≡ truth row.now params.now (conditions.IsNull negated (operand_of operand.now)) }
+    ensures { result
+        ≡ truth row.now params.now (conditions.IsNull negated (operand_of operand.now)) }
 {
     match lend(operand, row, params) {
         Ok(value) => Ok(value.null_truth().negated_if(negated)),
@@ -91,7 +94,9 @@ fn is_in<'a, K: Same>(
 ) -> Result<Truth, Overflow>
     requires operand { IsPlaced (length row.now) (length params.now) (operand_of operand.now) }
     requires list { All (IsPlaced (length row.now) (length params.now)) (map operand_of list.now) }
-    ensures { result ≡ truth row.now params.now (conditions.In 0 negated (operand_of operand.now) (map operand_of list.now)) }
+    ensures { result
+        ≡ truth row.now params.now
+        (conditions.In 0 negated (operand_of operand.now) (map operand_of list.now)) }
 {
     match lend(operand, row, params) {
         Ok(value) => Ok(equals_one(&value, list, row, params)?.negated_if(negated)),
@@ -125,7 +130,8 @@ fn all_of<'a, K: Same>(
     row: &LentRow<'a, K>,
     params: &'a [Atom<K>],
 ) -> Result<Truth, Overflow>
-    requires { ArePlacedConditions (length row.now) (length params.now) (conditions_listed conditions.now) }
+    requires { ArePlacedConditions (length row.now) (length params.now)
+        (conditions_listed conditions.now) }
     ensures { result ≡ truth_all row.now params.now (conditions_listed conditions.now) }
 {
     let mut all = Truth::True;
@@ -141,7 +147,8 @@ fn any_of<'a, K: Same>(
     row: &LentRow<'a, K>,
     params: &'a [Atom<K>],
 ) -> Result<Truth, Overflow>
-    requires { ArePlacedConditions (length row.now) (length params.now) (conditions_listed conditions.now) }
+    requires { ArePlacedConditions (length row.now) (length params.now)
+        (conditions_listed conditions.now) }
     ensures { result ≡ truth_any row.now params.now (conditions_listed conditions.now) }
 {
     let mut any = Truth::False;

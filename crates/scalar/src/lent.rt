@@ -6,7 +6,7 @@ ghost use Rattle.ae_base.specs.declared.values.Datum.TheVariants.{Num};
 ghost use Rattle.std.specs.Ordering.{nat_cmp};
 ghost use Rattle.std.specs.Str.{chars};
 ghost use Rattle.std.specs.Cmp.Lexicographic.{slice_cmp};
-ghost use Rattle.scalar.specs.Eval.{atom_of_value, combined, negated, number_or_null, compare, ordered, same_or_not, null_truth, or_overflow};
+ghost use Rattle.scalar.specs.Eval.{atom_of_value, sum_with, minus, number_or_null, compare, order_truth, same_or_not, null_truth, or_overflow};
 
 use crate::faults::Overflow;
 use crate::truth::Truth;
@@ -95,7 +95,7 @@ impl<'a, K: Same> Lent<'a, K> {
     }
 
     pub(crate) fn plus(&self, term: &Lent<'_, K>) -> Result<Lent<'a, K>, Overflow>
-        ensures { result ≡ combined (λ a b. a +ℤ b) self.now term.now }
+        ensures { result ≡ sum_with (λ a b. a +ℤ b) self.now term.now }
     {
         match (&self.lent, &term.lent) {
             (LentOf::Number(a), LentOf::Number(b)) => Lent::number(a.checked_add(*b)),
@@ -104,7 +104,7 @@ impl<'a, K: Same> Lent<'a, K> {
     }
 
     pub(crate) fn minus(&self, term: &Lent<'_, K>) -> Result<Lent<'a, K>, Overflow>
-        ensures { result ≡ combined (λ a b. a -ℤ b) self.now term.now }
+        ensures { result ≡ sum_with (λ a b. a -ℤ b) self.now term.now }
     {
         match (&self.lent, &term.lent) {
             (LentOf::Number(a), LentOf::Number(b)) => Lent::number(a.checked_sub(*b)),
@@ -113,7 +113,7 @@ impl<'a, K: Same> Lent<'a, K> {
     }
 
     pub(crate) fn negated(&self) -> Result<Lent<'a, K>, Overflow>
-        ensures { result ≡ negated self.now }
+        ensures { result ≡ minus self.now }
     {
         match &self.lent {
             LentOf::Number(a) => Lent::number(a.checked_neg()),
@@ -179,7 +179,7 @@ fn text_order(a: &str, b: &str) -> Ordering
 }
 
 fn ordered(comparison: Comparison, order: Ordering) -> Truth
-    ensures { result ≡ ordered comparison (Some order) }
+    ensures { result ≡ order_truth comparison (Some order) }
 {
     Truth::known(match comparison {
         Comparison::Equal => order.is_eq(),

@@ -7,7 +7,6 @@ use Rattle.ae_base.specs.declared.faults.SqlFault.{SqlFault}
 use Rattle.ae_base.specs.declared.faults.SqlFault.TheVariants as fault
 use Rattle.ae_base.specs.declared.types.Enc.{Enc}
 use Rattle.sql_tree.specs.Bound.{BoundStatement, Bound}
-use Rattle.sql_tree.specs.Bound as bound
 use Rattle.catalog.specs.Catalogs.{Catalog}
 use Rattle.scalar.specs.Classes.{Class, Pairing, IsOneToOne, RowsCorrespond, BothAnswer}
 use Rattle.engine.specs.Correspond.{ArePairsWithin, AreKeysTyped, ContentsCorrespond, WorldsCorrespond, AnswersCorrespond}
@@ -17,8 +16,10 @@ use Rattle.engine.specs.Typed.{param_classes}
 use Rattle.engine.specs.Worlds.{World}
 use Rattle.engine.proofs.Interface.{step_alike}
 use Rattle.engine.proofs.Interface.{contents_at, contents_set}
-use Rattle.transactions.specs.Counted.{Counted, CountedOutcome, Execution, count_of, tables_of, target, is_definition, changed_by, counts_behind, is_at_last_count, counted, counted_step, raised_at, alone}
-use Rattle.transactions.specs.Stores.{Transaction, Store, Ask, Begins, Commits, RollsBack, Executes, Transacted, transaction_at, with_transaction, seen_by, is_used, noted, joined, stepped_in, conflict, why_not, placed, committed, executed_in, executed_alone, transacted}
+use Rattle.sql_tree.specs.Sorts.{is_definition, tables_of, target}
+use Rattle.catalog.specs.Definitions.{followed}
+use Rattle.transactions.specs.Counted.{Counted, CountedOutcome, Execution, count_of, changed_by, counts_behind, effect_in, is_at_last_count, counted, counted_step, raised_at, alone}
+use Rattle.transactions.specs.Stores.{Transaction, Store, Ask, Begins, Commits, RollsBack, Executes, Transacted, transaction_at, with_transaction, seen_by, is_used, with_uses, with_changed, stepped_in, conflict, why_not, with_tables, committed, executed_in, executed_alone, transacted}
 use Rattle.transactions.specs.declared.uses.Used.{Used}
 use Rattle.transactions.specs.Correspond.{CountedCorrespond, TransactionsCorrespond, SessionsCorrespond, StoresCorrespond, AsksCorrespond, TransactedCorrespond}
 use Rattle.transactions.specs.WellKept.{IsTransaction, IsOpen, IsStore, IsFor, MayAsk}
@@ -58,23 +59,7 @@ module _ (R : Pairing) where
   last_alike c d (Some name) h = ap (λ n. n == 18446744073709551615) (count_alike c d name h)
 
   behind_alike : (c d : Counted) (s : BoundStatement) → CountedCorrespond R c d → counts_behind d s ≡ counts_behind c s
-  behind_alike c d s h = both c.world.catalog d.world.catalog c.world.contents d.world.contents c.counts d.counts s h.worlds.catalog h.counts
-    where
-      plain : (k : Catalog) (xs ys : List (List (List Atom))) (ns : List ℕ) (s : BoundStatement) → counts_behind (made k ys ns) s ≡ counts_behind (made k xs ns) s
-      plain k xs ys ns (bound.CreateMaster name path) = refl
-      plain k xs ys ns (bound.CreateKey name master wrapped) = refl
-      plain k xs ys ns (bound.CreateTable table) = refl
-      plain k xs ys ns (bound.DropTable name) = refl
-      plain k xs ys ns (bound.DropMaster name) = refl
-      plain k xs ys ns (bound.DropKey name) = refl
-      plain k xs ys ns (bound.Insert i) = refl
-      plain k xs ys ns (bound.Update u) = refl
-      plain k xs ys ns (bound.Delete x) = refl
-      plain k xs ys ns (bound.Select q) = refl
-      plain k xs ys ns (bound.Control control) = refl
-
-      both : (k l : Catalog) (xs ys : List (List (List Atom))) (ns ms : List ℕ) (s : BoundStatement) → l ≡ k → ms ≡ ns → counts_behind (made l ys ms) s ≡ counts_behind (made k xs ns) s
-      both k l xs ys ns ms s e f = ap (λ k. counts_behind (made k ys ms) s) e ∙ ap (λ ns. counts_behind (made k ys ns) s) f ∙ plain k xs ys ns s
+  behind_alike c d s h = ap (λ k. followed 0 (effect_in k s) d.counts) h.worlds.catalog ∙ ap (followed 0 (effect_in c.world.catalog s)) h.counts
 
   raised_alike : (c d : Counted) (name : Option (List ℕ)) → CountedCorrespond R c d → CountedCorrespond R (raised_at c name) (raised_at d name)
   raised_alike c d None h = h
@@ -121,7 +106,7 @@ module _ (R : Pairing) where
       ∙ ap (λ o. if c.world.catalog.version == t.version then o else Some (fault.Moved (record { seen = t.version; now = c.world.catalog.version }))) (ap (conflict d) k.used ∙ conflict_alike c d t.used h)
 
   placed_alike : (k : Catalog) (own others : List (List (List Atom))) (ns ms : List ℕ) (names : List (List ℕ)) (xs ys : List (List (List Atom))) (counts : List ℕ) → ContentsCorrespond R k.tables own others → ContentsCorrespond R k.tables xs ys
-      → CountedCorrespond R (placed (made k xs counts) (made k own ns) names) (placed (made k ys counts) (made k others ms) names)
+      → CountedCorrespond R (with_tables (made k xs counts) (made k own ns) names) (with_tables (made k ys counts) (made k others ms) names)
   placed_alike k own others ns ms [] xs ys counts o h = record { worlds = record { catalog = refl; contents = h }; counts = refl }
   placed_alike k own others ns ms (name ∷ names) xs ys counts o h =
       let p = lies k name in
@@ -130,7 +115,7 @@ module _ (R : Pairing) where
       placed_alike k own others ns ms names (slice_set xs p left) (slice_set ys p right) (slice_set counts p (unwrap_or (slice_get counts p) 0 + 1)) o
       (contents_set R k.tables xs ys p left right h (λ def e. contents_at R k.tables own others p def o e))
 
-  committed_alike : (c d : Counted) (t u : Transaction) → CountedCorrespond R c d → TransactionsCorrespond R t u → t.own.world.catalog ≡ c.world.catalog → CountedCorrespond R (placed c t.own t.changed) (placed d u.own u.changed)
+  committed_alike : (c d : Counted) (t u : Transaction) → CountedCorrespond R c d → TransactionsCorrespond R t u → t.own.world.catalog ≡ c.world.catalog → CountedCorrespond R (with_tables c t.own t.changed) (with_tables d u.own u.changed)
   committed_alike c d t u h k same =
       let l = c.world.catalog in
       let right_is : made l d.world.contents c.counts ≡ d = ap (λ (x : Catalog). made x d.world.contents c.counts) (sym h.worlds.catalog) ∙ ap (made d.world.catalog d.world.contents) (sym h.counts) in
@@ -138,17 +123,17 @@ module _ (R : Pairing) where
       let other_is : made l u.own.world.contents u.own.counts ≡ u.own = ap (λ (x : Catalog). made x u.own.world.contents u.own.counts) (sym (k.own.worlds.catalog ∙ same)) in
       let own = subst (λ (x : Catalog). ContentsCorrespond R x.tables t.own.world.contents u.own.world.contents) same k.own.worlds.contents in
       let p = placed_alike l t.own.world.contents u.own.world.contents t.own.counts u.own.counts t.changed c.world.contents d.world.contents c.counts own h.worlds.contents in
-      subst (λ names. CountedCorrespond R (placed c t.own t.changed) (placed d u.own names)) (sym k.changed)
-      (subst (λ x. CountedCorrespond R (placed c t.own t.changed) (placed d x t.changed)) other_is
-      (subst (λ x. CountedCorrespond R (placed c t.own t.changed) (placed x (made l u.own.world.contents u.own.counts) t.changed)) right_is
-      (subst (λ x. CountedCorrespond R (placed c x t.changed) (placed (made l d.world.contents c.counts) (made l u.own.world.contents u.own.counts) t.changed)) own_is p)))
+      subst (λ names. CountedCorrespond R (with_tables c t.own t.changed) (with_tables d u.own names)) (sym k.changed)
+      (subst (λ x. CountedCorrespond R (with_tables c t.own t.changed) (with_tables d x t.changed)) other_is
+      (subst (λ x. CountedCorrespond R (with_tables c t.own t.changed) (with_tables x (made l u.own.world.contents u.own.counts) t.changed)) right_is
+      (subst (λ x. CountedCorrespond R (with_tables c x t.changed) (with_tables (made l d.world.contents c.counts) (made l u.own.world.contents u.own.counts) t.changed)) own_is p)))
 
   -- ---- sessions
 
-  noted_alike : (c d : Counted) (names : List (List ℕ)) (used : List Used) → CountedCorrespond R c d → noted d used names ≡ noted c used names
+  noted_alike : (c d : Counted) (names : List (List ℕ)) (used : List Used) → CountedCorrespond R c d → with_uses d used names ≡ with_uses c used names
   noted_alike c d [] used h = refl
   noted_alike c d (name ∷ names) used h =
-      ap (λ n. noted d (if is_used used name then used else used ++ record { table = name; seen = n } ∷ []) names) (count_alike c d name h)
+      ap (λ n. with_uses d (if is_used used name then used else used ++ record { table = name; seen = n } ∷ []) names) (count_alike c d name h)
       ∙ noted_alike c d names (if is_used used name then used else used ++ record { table = name; seen = count_of c name } ∷ []) h
 
   with_session : (s o : Store) (session : ℕ) (x y : Option Transaction) → StoresCorrespond R s o → SessionsCorrespond R x y → StoresCorrespond R (with_transaction s session x) (with_transaction o session y)
@@ -171,9 +156,9 @@ module _ (R : Pairing) where
   commits_alike s o session t u None None e m h k same =
       let v = version (s.shared.world.catalog.version == t.version) refl e in
       let c = committed_alike s.shared o.shared t u h.shared k (same v) in
-      let left : Store = record { shared = placed s.shared t.own t.changed; sessions = s.sessions } in
-      let right : Store = record { shared = placed o.shared u.own u.changed; sessions = o.sessions } in
-      record { answers = tt; stores = with_session left right session None None (with_shared s o (placed s.shared t.own t.changed) (placed o.shared u.own u.changed) h c) tt }
+      let left : Store = record { shared = with_tables s.shared t.own t.changed; sessions = s.sessions } in
+      let right : Store = record { shared = with_tables o.shared u.own u.changed; sessions = o.sessions } in
+      record { answers = tt; stores = with_session left right session None None (with_shared s o (with_tables s.shared t.own t.changed) (with_tables o.shared u.own u.changed) h c) tt }
     where
       version : (b : Bool) → (s.shared.world.catalog.version == t.version) ≡ b
           → (if b then conflict s.shared t.used else Some (fault.Moved (record { seen = t.version; now = s.shared.world.catalog.version }))) ≡ None
@@ -224,8 +209,8 @@ module _ (R : Pairing) where
               stores = with_session s o session (Some (stepped_in t (record { bound = b; encs = encs; params = params }) p)) (Some (stepped_in u (record { bound = b; encs = encs; params = others }) q)) h (record {
                 own = own.after;
                 version = k.version;
-                used = ap (λ us. noted u.own us (tables_of b.statement)) k.used ∙ noted_alike t.own u.own (tables_of b.statement) t.used k.own;
-                changed = ap (λ cs. joined cs (changed_by b.statement q.answer)) k.changed ∙ ap (joined t.changed) (changed_alike b.statement p.answer q.answer own.answers);
+                used = ap (λ us. with_uses u.own us (tables_of b.statement)) k.used ∙ noted_alike t.own u.own (tables_of b.statement) t.used k.own;
+                changed = ap (λ cs. with_changed cs (changed_by b.statement q.answer)) k.changed ∙ ap (with_changed t.changed) (changed_alike b.statement p.answer q.answer own.answers);
               });
             }
 

@@ -3,10 +3,11 @@ use Rattle.std.proofs.Common.{◌≡◌, ◌≢◌, ℕ, zero, suc, ◌-◌, Lis
 use Rattle.std.specs.Prelude.{slice_set, slice_index_or, ◌==◌, if◌then◌else◌}
 use Rattle.ae_base.specs.declared.faults.SqlFault.{SqlFault}
 use Rattle.ae_base.specs.declared.faults.SqlFault.TheVariants as fault
+use Rattle.sql_tree.specs.Sorts.{is_definition}
 use Rattle.transactions.specs.Alone.{is_of, others_of, LeavesShared}
-use Rattle.transactions.specs.Counted.{Counted, Execution, is_definition, counted_step, alone}
+use Rattle.transactions.specs.Counted.{Counted, Execution, counted_step, alone}
 use Rattle.transactions.specs.Serial.{Call, all_after}
-use Rattle.transactions.specs.Stores.{Transaction, Store, Ask, Begins, Commits, RollsBack, Executes, Transacted, refused, with_transaction, stepped_in, why_not, placed, committed, transacted, transact}
+use Rattle.transactions.specs.Stores.{Transaction, Store, Ask, Begins, Commits, RollsBack, Executes, Transacted, refused, with_transaction, stepped_in, why_not, with_tables, committed, transacted, transact}
 use Rattle.transactions.proofs.Places.{is_there, not_there, set_length}
 use Rattle.transactions.proofs.Seen.{slot_of}
 
@@ -63,7 +64,7 @@ module _ (k n : ℕ) (shared : Counted) (xs ys : Slots) (long : length ys ≡ le
   sets now o = record { shared = refl; long = set_length ys (n - 1) o ∙ long ∙ sym (set_length xs (n - 1) o); others = set_both k (n - 1) xs ys o long h }
 
   commits : (t : Transaction) (f : Option SqlFault) → Beside k (committed left n t f).after (committed right n t f).after
-  commits t None = sets (placed shared t.own t.changed) None
+  commits t None = sets (with_tables shared t.own t.changed) None
   commits t (Some f) = sets shared None
 
   executes : (t : Transaction) (e : Execution) (b : Bool)

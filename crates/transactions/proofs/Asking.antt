@@ -15,9 +15,10 @@ use Rattle.engine.specs.Laws.{AreTypesMoved}
 use Rattle.engine.specs.Step.{Answer, Rows}
 use Rattle.engine.specs.Worlds.{World}
 use Rattle.engine.specs.declared.answers.ResultColumn.{ResultColumn}
+use Rattle.sql_tree.specs.Sorts.{control_in}
 use Rattle.transactions.specs.Correspond.{AsksCorrespond, ExecutionsCorrespond}
 use Rattle.transactions.specs.Counted.{Execution, execution, step_of}
-use Rattle.transactions.specs.Stores.{Transaction, Store, Executes, control_in, asked, ask_by, ask_of, transaction_at, world_of, why_not, committed, transacted, transact}
+use Rattle.transactions.specs.Stores.{Transaction, Store, Executes, asked, ask_by, ask_of, transaction_at, world_of, why_not, committed, transacted, transact}
 use Rattle.transactions.specs.WellKept.{IsFor, MayAsk}
 use Rattle.transactions.proofs.Renaming.{transact_renamed}
 use Rattle.transactions.proofs.Seen.{answered_by_step}
@@ -78,12 +79,7 @@ module _ (store : Store) (session : ℕ) (e : Execution) (columns : List ResultC
 
 -- a statement with its parameters at other places asks for the same, over their values there
 control_renamed : (f : ℕ → ℕ) (s : BoundStatement) → control_in (renamed_statement f s) ≡ control_in s
-control_renamed f (bound.CreateMaster name path) = refl
-control_renamed f (bound.CreateKey name master wrapped) = refl
-control_renamed f (bound.CreateTable table) = refl
-control_renamed f (bound.DropTable name) = refl
-control_renamed f (bound.DropMaster name) = refl
-control_renamed f (bound.DropKey name) = refl
+control_renamed f (bound.Definition d) = refl
 control_renamed f (bound.Insert i) = refl
 control_renamed f (bound.Update u) = refl
 control_renamed f (bound.Delete d) = refl

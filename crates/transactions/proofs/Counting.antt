@@ -10,8 +10,9 @@ use Rattle.sql_tree.specs.Bound as bound
 use Rattle.catalog.specs.Catalogs.{Catalog}
 use Rattle.engine.specs.Step.{Answer, Outcome}
 use Rattle.engine.specs.Worlds.{World, place_of}
-use Rattle.transactions.specs.Counted.{Counted, CountedOutcome, Execution, count_of, tables_of, target, is_definition, changed_by, counts_behind, is_at_last_count, counted, step_of, counted_step, raised_at, alone}
-use Rattle.transactions.specs.Effects.{effect_of, followed, raised_place}
+use Rattle.sql_tree.specs.Sorts.{is_definition, tables_of, target}
+use Rattle.transactions.specs.Counted.{Counted, CountedOutcome, Execution, count_of, changed_by, counts_behind, is_at_last_count, counted, step_of, counted_step, raised_at, alone}
+use Rattle.transactions.specs.Effects.{raised_place}
 use Rattle.transactions.proofs.Frame.{lies, counted_reads}
 use Rattle.transactions.proofs.Places.{set_length}
 use Rattle.transactions.proofs.Replay.{put_length}
@@ -40,19 +41,6 @@ accepted c s a w e =
 pub full : (c : Counted) (s : BoundStatement) (a : Answer) (w : World) → is_at_last_count c (target s) ≡ true → counted c s (Ok a) w ≡ record { answer = Err fault.Full; after = c }
 full c s a w e = ap (λ b. let o : CountedOutcome = if b then record { answer = Err fault.Full; after = c } else record { answer = Ok a; after = record { world = w; counts = counts_behind c s } } in o) e
 
-pub followed_counts : (c : Counted) (s : BoundStatement) → followed (effect_of c s) c.counts ≡ counts_behind c s
-followed_counts c (bound.CreateMaster name path) = refl
-followed_counts c (bound.CreateKey name master wrapped) = refl
-followed_counts c (bound.CreateTable table) = refl
-followed_counts c (bound.DropTable name) = refl
-followed_counts c (bound.DropMaster name) = refl
-followed_counts c (bound.DropKey name) = refl
-followed_counts c (bound.Insert i) = refl
-followed_counts c (bound.Update u) = refl
-followed_counts c (bound.Delete d) = refl
-followed_counts c (bound.Select q) = refl
-followed_counts c (bound.Control control) = refl
-
 -- what is accepted was not at its last count
 not_last : (c : Counted) (s : BoundStatement) (a : Result Answer SqlFault) (w : World) (x : Answer) → (counted c s a w).answer ≡ Ok x → is_at_last_count c (target s) ≡ false
 not_last c s (Err f) w x h = absurd cc
@@ -64,12 +52,7 @@ not_last c s (Ok answer) w x h = by (is_at_last_count c (target s)) refl h
     by false e h = e
 
 pub work_of : (s : BoundStatement) (name : List ℕ) → target s ≡ Some name → is_definition s ≡ false
-work_of (bound.CreateMaster n path) name e = absurd cc
-work_of (bound.CreateKey n master wrapped) name e = absurd cc
-work_of (bound.CreateTable table) name e = absurd cc
-work_of (bound.DropTable n) name e = absurd cc
-work_of (bound.DropMaster n) name e = absurd cc
-work_of (bound.DropKey n) name e = absurd cc
+work_of (bound.Definition d) name e = absurd cc
 work_of (bound.Insert i) name e = refl
 work_of (bound.Update u) name e = refl
 work_of (bound.Delete d) name e = refl
@@ -147,10 +130,10 @@ alone_refused c e f after h = ap (λ (o : CountedOutcome). let r : CountedOutcom
 -- ---- what the code does for a step
 
 pub executed : (c : Counted) (e : Execution) (a : Answer) (w : World) (counts : List ℕ) → is_at_last_count c (target e.bound.statement) ≡ false → step_of c e ≡ record { answer = Ok a; world = w }
-    → counts ≡ followed (effect_of c e.bound.statement) c.counts → counted_step c e ≡ record { answer = Ok a; after = record { world = w; counts = counts } }
+    → counts ≡ counts_behind c e.bound.statement → counted_step c e ≡ record { answer = Ok a; after = record { world = w; counts = counts } }
 executed c e a w counts last h n =
     ap (λ (o : Outcome). counted c e.bound.statement o.answer o.world) h ∙ accepted c e.bound.statement a w last
-    ∙ ap (λ ns. let o : CountedOutcome = record { answer = Ok a; after = record { world = w; counts = ns } } in o) (sym (n ∙ followed_counts c e.bound.statement))
+    ∙ ap (λ ns. let o : CountedOutcome = record { answer = Ok a; after = record { world = w; counts = ns } } in o) (sym n)
 
 step_counted : (c : Counted) (e : Execution) → IsCounted c → IsCounted (counted_step c e).after
 step_counted c e h = by (changed_by e.bound.statement (counted_step c e).answer) (alone_kept c e h).counted
@@ -162,7 +145,7 @@ step_counted c e h = by (changed_by e.bound.statement (counted_step c e).answer)
         record { long = sym (set_length a.counts (place_of a.world name) (count_of a name + 1)) ∙ k.long }
 
 pub executed_long : (c : Counted) (e : Execution) (a : Answer) (w : World) (counts : List ℕ) → length c.counts ≡ length c.world.contents → is_at_last_count c (target e.bound.statement) ≡ false
-    → step_of c e ≡ record { answer = Ok a; world = w } → counts ≡ followed (effect_of c e.bound.statement) c.counts → length counts ≡ length w.contents
+    → step_of c e ≡ record { answer = Ok a; world = w } → counts ≡ counts_behind c e.bound.statement → length counts ≡ length w.contents
 executed_long c e a w counts long last h n =
     let k = step_counted c e (record { long = long }) in
     let after : (counted_step c e).after ≡ record { world = w; counts = counts } = ap (λ (o : CountedOutcome). o.after) (executed c e a w counts last h n) in

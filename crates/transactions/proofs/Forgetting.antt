@@ -1,7 +1,6 @@
 -- Rows come only where nothing is changed but the notes of used tables.
 use Rattle.std.proofs.Common.{◌≡◌, ℕ, zero, suc, ◌-◌, List, [], ◌∷◌, ◌++◌, length, take, get_or, set, refl, ap, sym, subst, ◌∙◌, Option, Some, None, Result, Ok, Err, false}
 use Rattle.std.specs.Prelude.{if◌then◌else◌, IfOk, map, filter, count_by, not}
-use Rattle.std.specs.List.{remove}
 use Rattle.ae_base.specs.Atoms.{Atom}
 use Rattle.ae_base.specs.Results.{◌>>=◌}
 use Rattle.ae_base.specs.declared.faults.SqlFault.{SqlFault}
@@ -11,20 +10,22 @@ use Rattle.ae_base.specs.declared.types.Enc.{Enc}
 use Rattle.sql_tree.specs.Bound.{BoundQuery, BoundStatement, Bound}
 use Rattle.sql_tree.specs.Bound as bound
 use Rattle.sql_tree.specs.declared.statements.TransactionControl.{TransactionControl}
-use Rattle.catalog.specs.Catalogs.{Catalog, with_master, with_key, with_table, without_master, without_key, without_table}
+use Rattle.catalog.specs.Catalogs.{Catalog}
+use Rattle.catalog.specs.Definitions.{defined_by, effect_of, followed}
 use Rattle.row_changes.specs.Changes.{Tested}
 use Rattle.engine.specs.Columns.{result_column}
 use Rattle.engine.specs.Answers.{answer_of}
 use Rattle.engine.specs.Queries.{found_in}
 use Rattle.engine.specs.Step as step
 use Rattle.engine.specs.Step.{Answer, Outcome, Done, Rows, outcome, done_by, rows_to_insert, rows_to_update, rows_to_delete}
-use Rattle.engine.specs.Worlds.{World, place_of, rows_of, with_rows}
+use Rattle.engine.specs.Worlds.{World, rows_of, with_rows}
 use Rattle.engine.specs.declared.answers.Answer as code
 use Rattle.engine.specs.declared.answers.ResultColumn.{ResultColumn}
+use Rattle.sql_tree.specs.Sorts.{control_in, is_definition, tables_of, target}
 use Rattle.transactions.specs.Answers.{Transacts}
-use Rattle.transactions.specs.Counted.{Counted, CountedOutcome, Execution, tables_of, target, is_definition, changed_by, counts_behind, is_at_last_count, counted, step_of, counted_step, raised_at}
+use Rattle.transactions.specs.Counted.{Counted, CountedOutcome, Execution, changed_by, counts_behind, is_at_last_count, counted, step_of, counted_step, raised_at}
 use Rattle.transactions.specs.Forgotten.{used_in, used_by, forgotten_in, forgotten, HasNoted, IsUndone}
-use Rattle.transactions.specs.Stores.{Transaction, Store, Transacted, Executes, control_in, asked, ask_of, refused, transaction_at, with_transaction, seen_by, world_of, joined, stepped_in, executed_in, transacted, transact}
+use Rattle.transactions.specs.Stores.{Transaction, Store, Transacted, Executes, asked, ask_of, refused, transaction_at, with_transaction, seen_by, world_of, with_changed, stepped_in, executed_in, transacted, transact}
 use Rattle.transactions.specs.declared.uses.Used.{Used}
 use Rattle.transactions.proofs.Asking.{control_shows_no_rows}
 use Rattle.transactions.proofs.Noting.{noted_front}
@@ -44,14 +45,10 @@ module _ (c : Counted) (columns : List ResultColumn) (rows : List (List Atom)) w
     pub world : o.world ≡ c.world
     pub counts : counts_behind c s ≡ c.counts
 
-  defines : (r : Result Catalog SqlFault) → AnswersRows (outcome c.world (step.defined c.world r)) → ⊥
-  defines (Ok catalog) h = cc
-  defines (Err f) h = cc
-
-  makes : (r : Result Catalog SqlFault) (contents : List (List (List Atom)))
+  defines : (r : Result Catalog SqlFault) (contents : List (List (List Atom)))
       → AnswersRows (outcome c.world (r >>= λ catalog. Ok (record { answer = step.Defined; world = record { catalog = catalog; contents = contents } }))) → ⊥
-  makes (Ok catalog) contents h = cc
-  makes (Err f) contents h = cc
+  defines (Ok catalog) contents h = cc
+  defines (Err f) contents h = cc
 
   changes : {X : Type 0} (r : Result X SqlFault) (count : X → ℕ) (world : X → World) → AnswersRows (outcome c.world (r >>= λ x. Ok (record { answer = step.Changed (count x); world = world x }))) → ⊥
   changes (Ok x) count world h = cc
@@ -63,16 +60,7 @@ module _ (c : Counted) (columns : List ResultColumn) (rows : List (List Atom)) w
   reads q shown (Err f) = record { work = refl; target = refl; world = refl; counts = refl }
 
   reading : (b : Bound) (encs : List Enc) (params : List Atom) (s : BoundStatement) → AnswersRows (outcome c.world (done_by c.world b encs s params)) → IsReading s (outcome c.world (done_by c.world b encs s params))
-  reading b encs params (bound.CreateMaster name path) h = absurd (defines (with_master c.world.catalog name path) h)
-  reading b encs params (bound.CreateKey name master wrapped) h = absurd (defines (with_key c.world.catalog name master wrapped) h)
-  reading b encs params (bound.CreateTable table) h = absurd (makes (with_table c.world.catalog table.def) (c.world.contents ++ [] ∷ []) h)
-  reading b encs params (bound.DropTable name) h = absurd (drops (without_table c.world.catalog name) h)
-    where
-      drops : (r : Result Catalog SqlFault) → AnswersRows (outcome c.world (r >>= λ catalog. Ok (record { answer = step.Defined; world = record { catalog = catalog; contents = remove c.world.contents (place_of c.world name) } }))) → ⊥
-      drops (Ok catalog) h = cc
-      drops (Err f) h = cc
-  reading b encs params (bound.DropMaster name) h = absurd (defines (without_master c.world.catalog name) h)
-  reading b encs params (bound.DropKey name) h = absurd (defines (without_key c.world.catalog name) h)
+  reading b encs params (bound.Definition d) h = absurd (defines (defined_by c.world.catalog d) (followed [] (effect_of c.world.catalog d) c.world.contents) h)
   reading b encs params (bound.Insert i) h = absurd (changes (rows_to_insert c.world i params) (λ rows. length rows) (λ rows. with_rows c.world i.table (rows_of c.world i.table ++ rows)) h)
   reading b encs params (bound.Update u) h =
       absurd (changes (rows_to_update c.world u params) (λ tested. count_by (λ (t : Tested). t.hit) tested) (λ tested. with_rows c.world u.table (map (λ (t : Tested). t.row) tested)) h)
@@ -158,8 +146,8 @@ module _ (store : Store) (session : ℕ) (e : Execution) (columns : List ResultC
       made : Counted → List Used → List (List ℕ) → Transaction
       made c used changed = record { own = c; version = t.version; used = used; changed = changed }
 
-      unchanged : (t : Transaction) (a : Result Answer SqlFault) → target e.bound.statement ≡ None → made t.own t.used (joined t.changed (changed_by e.bound.statement a)) ≡ made t.own t.used t.changed
-      unchanged t a n = ap (λ o. made t.own t.used (joined t.changed o)) (changed_none e.bound.statement a n)
+      unchanged : (t : Transaction) (a : Result Answer SqlFault) → target e.bound.statement ≡ None → made t.own t.used (with_changed t.changed (changed_by e.bound.statement a)) ≡ made t.own t.used t.changed
+      unchanged t a n = ap (λ o. made t.own t.used (with_changed t.changed o)) (changed_none e.bound.statement a n)
 
   undone_by : (o : Option Transaction) → transaction_at store session ≡ o → (step_of (seen_by store.shared o) e).answer ≡ Ok (Rows columns rows) → forgotten (transacted store session o (Executes e)).after session (used_in o) ≡ store
   undone_by None is h =

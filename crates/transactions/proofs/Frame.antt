@@ -12,7 +12,7 @@ use Rattle.sql_tree.specs.declared.bound.BoundSource.{BoundSource}
 use Rattle.sql_tree.specs.Bound.{BoundInsert, BoundUpdate, BoundDelete, BoundJoin, BoundQuery, BoundStatement, Bound}
 use Rattle.sql_tree.specs.Bound as bound
 use Rattle.catalog.specs.Catalogs.{Catalog}
-use Rattle.operators.specs.Events.{Event, scanned, joined}
+use Rattle.operators.specs.Events.{Event, scan_of, join_of}
 use Rattle.query_results.specs.Results.{where_true, all_found, answer_of}
 use Rattle.unique_keys.specs.Keys.{first_twins, unless_twins}
 use Rattle.row_changes.specs.Rows.{new_rows}
@@ -23,7 +23,8 @@ use Rattle.engine.specs.Step as step
 use Rattle.engine.specs.Step.{Answer, Outcome, Done, outcome, columns_of, uniques_of, rows_to_insert, rows_to_update, rows_to_delete, done_by}
 use Rattle.engine.specs.Worlds.{World, place_of, rows_of, with_rows}
 use Rattle.engine.proofs.Interface.{inserted_done, updated_done, deleted_done, selected_done}
-use Rattle.transactions.specs.Counted.{Counted, CountedOutcome, Execution, tables_of, target, is_definition, changed_by, count_of, counts_behind, is_at_last_count, counted, counted_step}
+use Rattle.sql_tree.specs.Sorts.{is_definition, tables_of, target}
+use Rattle.transactions.specs.Counted.{Counted, CountedOutcome, Execution, changed_by, count_of, counts_behind, is_at_last_count, counted, counted_step}
 use Rattle.transactions.specs.Frames.{put, written, AreDoneAlike}
 
 abbrev pub world_at : Catalog → List (List (List Atom)) → World
@@ -77,14 +78,14 @@ module _ (world : World) (more : List (List (List Atom))) where
   joins_same params [] es h = refl
   joins_same params (join ∷ joins) es h =
       let rest = map (λ (s : BoundSource). s.table) (map (λ (j : BoundJoin). j.source) joins) in
-      ap (λ rows. joined_all other params joins (joined params join.on rows es)) (All-head Same join.source.table rest h)
-      ∙ joins_same params joins (joined params join.on (rows_of world join.source.table) es) (All-tail Same join.source.table rest h)
+      ap (λ rows. joined_all other params joins (join_of params join.on rows es)) (All-head Same join.source.table rest h)
+      ∙ joins_same params joins (join_of params join.on (rows_of world join.source.table) es) (All-tail Same join.source.table rest h)
 
   found_same : (q : BoundQuery) (params : List Atom) → All Same (tables_of (bound.Select q)) → found_in other q params ≡ found_in world q params
   found_same q params h =
       let rest = map (λ (s : BoundSource). s.table) (map (λ (j : BoundJoin). j.source) q.joins) in
       let first = All-head Same q.from.table rest h in
-      let walk = ap (λ rows. joined_all other params q.joins (scanned rows)) first ∙ joins_same params q.joins (scanned (rows_of world q.from.table)) (All-tail Same q.from.table rest h) in
+      let walk = ap (λ rows. joined_all other params q.joins (scan_of rows)) first ∙ joins_same params q.joins (scan_of (rows_of world q.from.table)) (All-tail Same q.from.table rest h) in
       ap (λ es. answer_of q (all_found q params (where_true params q.filter es))) walk
 
   select_both : (b : Bound) (encs : List Enc) (q : BoundQuery) (params : List Atom) → All Same (tables_of (bound.Select q))
@@ -96,12 +97,7 @@ module _ (world : World) (more : List (List (List Atom))) where
       (λ rows. (refl, ([], refl, refl))))
 
   done_both : (b : Bound) (encs : List Enc) (params : List Atom) (s : BoundStatement) → is_definition s ≡ false → All Same (tables_of s) → Both world other (target s) (done_by world b encs s params) (done_by other b encs s params)
-  done_both b encs params (bound.CreateMaster name path) d h = absurd cc
-  done_both b encs params (bound.CreateKey name master wrapped) d h = absurd cc
-  done_both b encs params (bound.CreateTable table) d h = absurd cc
-  done_both b encs params (bound.DropTable name) d h = absurd cc
-  done_both b encs params (bound.DropMaster name) d h = absurd cc
-  done_both b encs params (bound.DropKey name) d h = absurd cc
+  done_both b encs params (bound.Definition x) d h = absurd cc
   done_both b encs params (bound.Insert i) d h = insert_both i params (All-head Same i.table [] h)
   done_both b encs params (bound.Update u) d h = update_both u params (All-head Same u.table [] h)
   done_both b encs params (bound.Delete x) d h = delete_both x params (All-head Same x.table [] h)
@@ -140,12 +136,7 @@ pub record Changes (catalog : Catalog) (contents others : List (List (List Atom)
   pub right_after : right.after ≡ made catalog (put (lies catalog) (changed_by s left.answer) rows others) more
 
 counts_same : (c : Counted) (s : BoundStatement) → is_definition s ≡ false → counts_behind c s ≡ c.counts
-counts_same c (bound.CreateMaster name path) d = refl
-counts_same c (bound.CreateKey name master wrapped) d = refl
-counts_same c (bound.CreateTable table) d = absurd cc
-counts_same c (bound.DropTable name) d = absurd cc
-counts_same c (bound.DropMaster name) d = refl
-counts_same c (bound.DropKey name) d = refl
+counts_same c (bound.Definition x) d = absurd cc
 counts_same c (bound.Insert i) d = refl
 counts_same c (bound.Update u) d = refl
 counts_same c (bound.Delete x) d = refl
@@ -153,12 +144,7 @@ counts_same c (bound.Select q) d = refl
 counts_same c (bound.Control control) d = refl
 
 target_named : (P : List ℕ → Type 0) (c d : Counted) (s : BoundStatement) → All P (tables_of s) → ((name : List ℕ) → P name → count_of d name ≡ count_of c name) → is_at_last_count d (target s) ≡ is_at_last_count c (target s)
-target_named P c d (bound.CreateMaster name path) h g = refl
-target_named P c d (bound.CreateKey name master wrapped) h g = refl
-target_named P c d (bound.CreateTable table) h g = refl
-target_named P c d (bound.DropTable name) h g = refl
-target_named P c d (bound.DropMaster name) h g = refl
-target_named P c d (bound.DropKey name) h g = refl
+target_named P c d (bound.Definition x) h g = refl
 target_named P c d (bound.Insert i) h g = ap (λ n. n == 18446744073709551615) (g i.table (All-head P i.table [] h))
 target_named P c d (bound.Update u) h g = ap (λ n. n == 18446744073709551615) (g u.table (All-head P u.table [] h))
 target_named P c d (bound.Delete x) h g = ap (λ n. n == 18446744073709551615) (g x.table (All-head P x.table [] h))

@@ -10,12 +10,13 @@ use Rattle.sql_tree.specs.Bound.{BoundStatement}
 use Rattle.engine.specs.Step.{Answer, Defined}
 use Rattle.engine.specs.Worlds.{World}
 use Rattle.transactions.proofs.Seen.{slot_of}
-use Rattle.transactions.specs.Counted.{Counted, CountedOutcome, Execution, count_of, tables_of, target, is_definition, changed_by, counts_behind, is_at_last_count, counted, step_of, counted_step, raised_at, raised_all, alone}
+use Rattle.sql_tree.specs.Sorts.{is_definition, tables_of, target}
+use Rattle.transactions.specs.Counted.{Counted, CountedOutcome, Execution, count_of, changed_by, counts_behind, is_at_last_count, counted, step_of, counted_step, raised_at, raised_all, alone}
 use Rattle.transactions.specs.Frames.{put}
 use Rattle.transactions.specs.Journal.{is_lasting, lasting, call_of, calls_in, whole, kept_of, journal, AreAccepted, AreReplayed, after_records}
 use Rattle.transactions.specs.Laws.{IsMadeAgain}
 use Rattle.transactions.specs.Serial.{Deed, Call, all_after, after_deeds, changed_in, after_unit, AreAnswered, no_logs, log_at, with_log, deed, record_of}
-use Rattle.transactions.specs.Stores.{Transaction, Store, Ask, Begins, Commits, RollsBack, Executes, Transacted, refused, transaction_at, with_transaction, stepped_in, joined, conflict, why_not, placed, committed, transacted, transact}
+use Rattle.transactions.specs.Stores.{Transaction, Store, Ask, Begins, Commits, RollsBack, Executes, Transacted, refused, transaction_at, with_transaction, stepped_in, with_changed, conflict, why_not, with_tables, committed, transacted, transact}
 use Rattle.transactions.specs.declared.uses.Used.{Used}
 use Rattle.transactions.specs.WellKept.{HasNoTransactions}
 use Rattle.transactions.proofs.Frame.{made, lies, counted_reads}
@@ -117,7 +118,7 @@ pub record IsThinned (c : Counted) (changed : List (List ℕ)) (deeds : List Dee
 thinned : (c : Counted) (changed : List (List ℕ)) (deeds : List Deed) → AreAnswered c deeds → IsThinned c changed deeds
 thinned c changed [] h = record { answered = tt; after = refl; tables = refl }
 thinned c changed (d ∷ deeds) h = by (is_lasting d.execution.bound.statement d.answer) refl
-    (thinned (counted_step c d.execution).after (joined changed (changed_by d.execution.bound.statement d.answer)) deeds h.1)
+    (thinned (counted_step c d.execution).after (with_changed changed (changed_by d.execution.bound.statement d.answer)) deeds h.1)
   where
     Goal : List Deed → Type 0
     Goal ds = (AreAnswered c ds) × (after_deeds c ds ≡ after_deeds c (d ∷ deeds)) × (changed_in changed ds ≡ changed_in changed (d ∷ deeds))
@@ -126,18 +127,18 @@ thinned c changed (d ∷ deeds) h = by (is_lasting d.execution.bound.statement d
     packed g = record { answered = g.0; after = g.1; tables = g.2 }
 
     goal_by : (b : Bool) → is_lasting d.execution.bound.statement d.answer ≡ b
-        → IsThinned (counted_step c d.execution).after (joined changed (changed_by d.execution.bound.statement d.answer)) deeds
+        → IsThinned (counted_step c d.execution).after (with_changed changed (changed_by d.execution.bound.statement d.answer)) deeds
         → Goal (if b then d ∷ lasting deeds else lasting deeds)
     goal_by true e rest = ((h.0, rest.answered), rest.after, rest.tables)
     goal_by false e rest =
         let p = passing c d.execution d.answer h.0 e in (
           subst (λ x. AreAnswered x (lasting deeds)) p.0 rest.answered,
           ap (λ x. after_deeds x (lasting deeds)) (sym p.0) ∙ rest.after,
-          ap (λ t. changed_in (joined changed t) (lasting deeds)) (sym p.1) ∙ rest.tables,
+          ap (λ t. changed_in (with_changed changed t) (lasting deeds)) (sym p.1) ∙ rest.tables,
         )
 
     by : (b : Bool) → is_lasting d.execution.bound.statement d.answer ≡ b
-        → IsThinned (counted_step c d.execution).after (joined changed (changed_by d.execution.bound.statement d.answer)) deeds → IsThinned c changed (d ∷ deeds)
+        → IsThinned (counted_step c d.execution).after (with_changed changed (changed_by d.execution.bound.statement d.answer)) deeds → IsThinned c changed (d ∷ deeds)
     by b e rest = packed (goal_by (is_lasting d.execution.bound.statement d.answer) refl rest)
 
 lasting_work : (deeds : List Deed) → AreWork deeds → AreWork (lasting deeds)
@@ -192,7 +193,7 @@ module _ (shared : Counted) (session : ℕ) (lt : session - 1 < 64) where
       let is : transact (busy shared session t) session Commits ≡ committed (busy shared session t) session t None =
       ap (λ o. transacted (busy shared session t) session o Commits) (busy_at t) ∙ ap (committed (busy shared session t) session t) why in
       let now : (committed (busy shared session t) session t None).after ≡ idle (after_unit shared (log ++ [])) =
-      ap (λ ss. let x : Store = record { shared = placed shared t.own t.changed; sessions = ss } in x) (set_set nobody (session - 1) (Some t) None ∙ set_none 64 (session - 1))
+      ap (λ ss. let x : Store = record { shared = with_tables shared t.own t.changed; sessions = ss } in x) (set_set nobody (session - 1) (Some t) None ∙ set_none 64 (session - 1))
       ∙ ap idle d.after ∙ ap (λ l. idle (after_unit shared l)) (sym (append_none log)) in
       record { accepted = (subst (λ (x : Transacted). IsOk x.answer) (sym is) refl, tt); after = ap (λ (x : Transacted). x.after) is ∙ now }
     where
@@ -316,7 +317,7 @@ one_kept store session Commits (Some t) log n is h = by (why_not store.shared t)
         let thin = thinned store.shared [] log d.answered in
         let lt : session - 1 < 64 = subst (λ m. session - 1 < m) n (within store.sessions (session - 1) t is) in
         let w = whole_done store.shared session lt (lasting log) (lasting_work log h.from.work) (lasting_accepted log) thin.answered in
-        let unit : after_unit store.shared (lasting log) ≡ placed store.shared t.own t.changed =
+        let unit : after_unit store.shared (lasting log) ≡ with_tables store.shared t.own t.changed =
         ap (λ c. raised_all c (changed_in [] (lasting log))) thin.after ∙ ap (raised_all (after_deeds store.shared log)) thin.tables ∙ sym d.after in
         record { replayed = w.replayed; after = w.after ∙ ap idle unit }
 

@@ -14,8 +14,9 @@ use Rattle.engine.specs.Step.{Answer, Defined}
 use Rattle.engine.specs.WellTyped.{IsWellTyped, IsTableOf, IsAnswerOf}
 use Rattle.engine.specs.Worlds.{World, HoldsRows}
 use Rattle.engine.proofs.Interface.{step_kept}
-use Rattle.transactions.specs.Counted.{Counted, CountedOutcome, Execution, tables_of, target, is_definition, changed_by, counts_behind, is_at_last_count, counted, counted_step, raised_at, alone}
-use Rattle.transactions.specs.Stores.{Transaction, Store, Ask, Begins, Commits, RollsBack, Executes, Transacted, transaction_at, with_transaction, seen_by, stepped_in, conflict, why_not, placed, committed, executed_in, transacted}
+use Rattle.sql_tree.specs.Sorts.{is_definition, tables_of, target}
+use Rattle.transactions.specs.Counted.{Counted, CountedOutcome, Execution, changed_by, counts_behind, is_at_last_count, counted, counted_step, raised_at, alone}
+use Rattle.transactions.specs.Stores.{Transaction, Store, Ask, Begins, Commits, RollsBack, Executes, Transacted, transaction_at, with_transaction, seen_by, stepped_in, conflict, why_not, with_tables, committed, executed_in, transacted}
 use Rattle.transactions.specs.WellKept.{IsTransaction, IsOpen, IsStore, IsFor, MayAsk}
 use Rattle.transactions.proofs.Frame.{made, lies, counted_reads}
 use Rattle.transactions.proofs.Places.{is_there}
@@ -67,7 +68,7 @@ module _ (cell : List ℕ → Bool) where
   given_own R (t ∷ tables) (c ∷ contents) (o ∷ own) (suc k) h g = (h.0, given_own R tables contents own k h.1 g.1)
 
   placed_typed : (catalog : Catalog) (own : List (List (List Atom))) (counts : List ℕ) (names : List (List ℕ)) (contents : List (List (List Atom))) (more : List ℕ) → IsWellTyped cell (made catalog own counts).world → IsWellTyped cell (made catalog contents more).world
-      → IsWellTyped cell (placed (made catalog contents more) (made catalog own counts) names).world
+      → IsWellTyped cell (with_tables (made catalog contents more) (made catalog own counts) names).world
   placed_typed catalog own counts [] contents more o h = h
   placed_typed catalog own counts (name ∷ names) contents more o h =
       let k = lies catalog name in
@@ -143,7 +144,7 @@ module _ (cell : List ℕ → Bool) where
       let shared = store.shared in
       let kept = placed_kept t.own t.changed shared (record { long = h.shared.counts }) in
       let same = k.same (version (shared.world.catalog.version == t.version) refl e) in
-      let now = placed shared t.own t.changed in
+      let now = with_tables shared t.own t.changed in
       let typed : IsWellTyped cell now.world = moved t.own same k.own.world in
       let s = with_shared store now h kept typed in
       (with_session (record { shared = now; sessions = store.sessions }) session None s tt, tt)
@@ -157,10 +158,10 @@ module _ (cell : List ℕ → Bool) where
       world_with : List (List (List Atom)) → List ℕ → Catalog → Counted
       world_with contents counts catalog = made catalog contents counts
 
-      moved : (own : Counted) → own.world.catalog ≡ store.shared.world.catalog → IsWellTyped cell own.world → IsWellTyped cell (placed store.shared own t.changed).world
+      moved : (own : Counted) → own.world.catalog ≡ store.shared.world.catalog → IsWellTyped cell own.world → IsWellTyped cell (with_tables store.shared own t.changed).world
       moved own same w =
           let is : made store.shared.world.catalog own.world.contents own.counts ≡ own = ap (world_with own.world.contents own.counts) (sym same) in
-          subst (λ x. IsWellTyped cell (placed store.shared x t.changed).world) is
+          subst (λ x. IsWellTyped cell (with_tables store.shared x t.changed).world) is
           (placed_typed store.shared.world.catalog own.world.contents own.counts t.changed store.shared.world.contents store.shared.counts (subst (λ (x : Counted). IsWellTyped cell x.world) (sym is) w) h.shared.world)
 
   keeps : (store : Store) (session : ℕ) (ask : Ask) (o : Option Transaction) → IsStore cell store → IsOpen cell store.shared o → MayAsk cell (seen_by store.shared o).world ask → Keeps (transacted store session o ask)

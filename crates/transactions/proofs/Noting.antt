@@ -6,7 +6,7 @@ use Rattle.std.specs.Str.{bytes_eq}
 use Rattle.std.proofs.lemmas.Bool.Decides.{Decides-eqb}
 use Rattle.ae_base.specs.declared.faults.SqlFault.TheVariants as fault
 use Rattle.transactions.specs.Counted.{Counted, count_of}
-use Rattle.transactions.specs.Stores.{is_used, noted, joined, conflict}
+use Rattle.transactions.specs.Stores.{is_used, with_uses, with_changed, conflict}
 use Rattle.transactions.specs.declared.uses.Used.{Used}
 
 -- ---- uses are noted at the end
@@ -15,12 +15,12 @@ pub record IsLonger (used now : List Used) : Type 0 where
   pub more : List Used
   pub is : now ≡ used ++ more
 
-noted_more : (c : Counted) (names : List (List ℕ)) (used : List Used) → IsLonger used (noted c used names)
+noted_more : (c : Counted) (names : List (List ℕ)) (used : List Used) → IsLonger used (with_uses c used names)
 noted_more c [] used = record { more = []; is = sym (append-nil used) }
 noted_more c (n ∷ names) used = by (is_used used n) (λ b. noted_more c names (if b then used else used ++ record { table = n; seen = count_of c n } ∷ []))
   where
-    by : (b : Bool) → ((b : Bool) → IsLonger (if b then used else used ++ record { table = n; seen = count_of c n } ∷ []) (noted c (if b then used else used ++ record { table = n; seen = count_of c n } ∷ []) names))
-        → IsLonger used (noted c (if b then used else used ++ record { table = n; seen = count_of c n } ∷ []) names)
+    by : (b : Bool) → ((b : Bool) → IsLonger (if b then used else used ++ record { table = n; seen = count_of c n } ∷ []) (with_uses c (if b then used else used ++ record { table = n; seen = count_of c n } ∷ []) names))
+        → IsLonger used (with_uses c (if b then used else used ++ record { table = n; seen = count_of c n } ∷ []) names)
     by true more = more true
     by false more =
         let u : Used = record { table = n; seen = count_of c n } in
@@ -32,7 +32,7 @@ take_front [] [] = refl
 take_front [] (y ∷ ys) = refl
 take_front (x ∷ xs) ys = ap (λ zs. x ∷ zs) (take_front xs ys)
 
-pub noted_front : (c : Counted) (names : List (List ℕ)) (used : List Used) → take (length used) (noted c used names) ≡ used
+pub noted_front : (c : Counted) (names : List (List ℕ)) (used : List Used) → take (length used) (with_uses c used names) ≡ used
 noted_front c names used = let m = noted_more c names used in ap (take (length used)) m.is ∙ take_front used m.more
 
 take_more : {A : Type 0} (a b more : List A) → take (length a) b ≡ a → take (length a) (b ++ more) ≡ a
@@ -47,7 +47,7 @@ take_more (x ∷ a) (y ∷ b) more e =
     cc
 
 -- what was at the front stays there
-pub front_noted : (c : Counted) (names : List (List ℕ)) (front used : List Used) → take (length front) used ≡ front → take (length front) (noted c used names) ≡ front
+pub front_noted : (c : Counted) (names : List (List ℕ)) (front used : List Used) → take (length front) used ≡ front → take (length front) (with_uses c used names) ≡ front
 front_noted c names front used e = let m = noted_more c names used in ap (take (length front)) m.is ∙ take_more front used m.more e
 
 pub front_trans : {A : Type 0} (xs ys zs : List A) → take (length xs) ys ≡ xs → take (length ys) zs ≡ ys → take (length xs) zs ≡ xs
@@ -65,14 +65,14 @@ front_trans (x ∷ xs) (y ∷ ys) (z ∷ zs) e f =
 
 -- ---- changes
 
-pub joined_none : (changed : List (List ℕ)) (o : Option (List ℕ)) → o ≡ None → joined changed o ≡ changed
-joined_none changed o e = ap (joined changed) e
+pub joined_none : (changed : List (List ℕ)) (o : Option (List ℕ)) → o ≡ None → with_changed changed o ≡ changed
+joined_none changed o e = ap (with_changed changed) e
 
-pub joined_known : (changed : List (List ℕ)) (o : Option (List ℕ)) (name : List ℕ) → o ≡ Some name → list_any (λ n. bytes_eq n name) changed ≡ true → joined changed o ≡ changed
-joined_known changed o name e h = ap (joined changed) e ∙ ap (λ b. if b then changed else changed ++ name ∷ []) h
+pub joined_known : (changed : List (List ℕ)) (o : Option (List ℕ)) (name : List ℕ) → o ≡ Some name → list_any (λ n. bytes_eq n name) changed ≡ true → with_changed changed o ≡ changed
+joined_known changed o name e h = ap (with_changed changed) e ∙ ap (λ b. if b then changed else changed ++ name ∷ []) h
 
-pub joined_new : (changed : List (List ℕ)) (o : Option (List ℕ)) (name : List ℕ) → o ≡ Some name → list_any (λ n. bytes_eq n name) changed ≡ false → joined changed o ≡ changed ++ name ∷ []
-joined_new changed o name e h = ap (joined changed) e ∙ ap (λ b. if b then changed else changed ++ name ∷ []) h
+pub joined_new : (changed : List (List ℕ)) (o : Option (List ℕ)) (name : List ℕ) → o ≡ Some name → list_any (λ n. bytes_eq n name) changed ≡ false → with_changed changed o ≡ changed ++ name ∷ []
+joined_new changed o name e h = ap (with_changed changed) e ∙ ap (λ b. if b then changed else changed ++ name ∷ []) h
 
 -- ---- conflicts
 

@@ -16,8 +16,9 @@ use Rattle.engine.specs.Step as step
 use Rattle.engine.specs.Step.{Answer, Outcome}
 use Rattle.engine.specs.Worlds.{World}
 use Rattle.engine.proofs.Interface.{step_moved}
-use Rattle.transactions.specs.Counted.{Counted, CountedOutcome, Execution, tables_of, is_definition, changed_by, counted, counted_step, raised_at, alone, execution}
-use Rattle.transactions.specs.Stores.{Transaction, Store, Executes, Transacted, transaction_at, with_transaction, noted, joined, executed_in, transacted}
+use Rattle.sql_tree.specs.Sorts.{is_definition, tables_of}
+use Rattle.transactions.specs.Counted.{Counted, CountedOutcome, Execution, changed_by, counted, counted_step, raised_at, alone, execution}
+use Rattle.transactions.specs.Stores.{Transaction, Store, Executes, Transacted, transaction_at, with_transaction, with_uses, with_changed, executed_in, transacted}
 
 -- two executions that are one to every counted world
 pub record AreSame (e other : Execution) : Type 0 where
@@ -46,7 +47,7 @@ in_same e other store session t h =
     refusal = record { answer = Err fault.InTransaction; after = store }
 
     went : List (List ℕ) → CountedOutcome → Option (List ℕ) → Transacted
-    went names o name = record { answer = o.answer; after = with_transaction store session (Some (record t { own = o.after; used = noted t.own t.used names; changed = joined t.changed name })) }
+    went names o name = record { answer = o.answer; after = with_transaction store session (Some (record t { own = o.after; used = with_uses t.own t.used names; changed = with_changed t.changed name })) }
 
 transacted_same : (e other : Execution) (store : Store) (session : ℕ) (o : Option Transaction) → AreSame e other → transacted store session o (Executes other) ≡ transacted store session o (Executes e)
 transacted_same e other store session None h = ap (λ (o : CountedOutcome). went o) (alone_same e other store.shared h)
@@ -60,12 +61,7 @@ transacted_same e other store session (Some t) h = in_same e other store session
 module _ (f : ℕ → ℕ) where
   counted_renamed : (c : Counted) (s : BoundStatement) (a : Result Answer SqlFault) (w : World) → counted c (renamed_statement f s) a w ≡ counted c s a w
   counted_renamed c s (Err g) w = refl
-  counted_renamed c (bound.CreateMaster name path) (Ok x) w = refl
-  counted_renamed c (bound.CreateKey name master wrapped) (Ok x) w = refl
-  counted_renamed c (bound.CreateTable table) (Ok x) w = refl
-  counted_renamed c (bound.DropTable name) (Ok x) w = refl
-  counted_renamed c (bound.DropMaster name) (Ok x) w = refl
-  counted_renamed c (bound.DropKey name) (Ok x) w = refl
+  counted_renamed c (bound.Definition d) (Ok x) w = refl
   counted_renamed c (bound.Insert i) (Ok x) w = refl
   counted_renamed c (bound.Update u) (Ok x) w = refl
   counted_renamed c (bound.Delete d) (Ok x) w = refl
@@ -73,12 +69,7 @@ module _ (f : ℕ → ℕ) where
   counted_renamed c (bound.Control control) (Ok x) w = refl
 
   definition_renamed : (s : BoundStatement) → is_definition (renamed_statement f s) ≡ is_definition s
-  definition_renamed (bound.CreateMaster name path) = refl
-  definition_renamed (bound.CreateKey name master wrapped) = refl
-  definition_renamed (bound.CreateTable table) = refl
-  definition_renamed (bound.DropTable name) = refl
-  definition_renamed (bound.DropMaster name) = refl
-  definition_renamed (bound.DropKey name) = refl
+  definition_renamed (bound.Definition d) = refl
   definition_renamed (bound.Insert i) = refl
   definition_renamed (bound.Update u) = refl
   definition_renamed (bound.Delete d) = refl
@@ -90,12 +81,7 @@ module _ (f : ℕ → ℕ) where
   joins_renamed (join ∷ joins) = ap (λ names. join.source.table ∷ names) (joins_renamed joins)
 
   tables_renamed : (s : BoundStatement) → tables_of (renamed_statement f s) ≡ tables_of s
-  tables_renamed (bound.CreateMaster name path) = refl
-  tables_renamed (bound.CreateKey name master wrapped) = refl
-  tables_renamed (bound.CreateTable table) = refl
-  tables_renamed (bound.DropTable name) = refl
-  tables_renamed (bound.DropMaster name) = refl
-  tables_renamed (bound.DropKey name) = refl
+  tables_renamed (bound.Definition d) = refl
   tables_renamed (bound.Insert i) = refl
   tables_renamed (bound.Update u) = refl
   tables_renamed (bound.Delete d) = refl
@@ -104,12 +90,7 @@ module _ (f : ℕ → ℕ) where
 
   changed_renamed : (s : BoundStatement) (a : Result Answer SqlFault) → changed_by (renamed_statement f s) a ≡ changed_by s a
   changed_renamed s (Err g) = refl
-  changed_renamed (bound.CreateMaster name path) (Ok x) = refl
-  changed_renamed (bound.CreateKey name master wrapped) (Ok x) = refl
-  changed_renamed (bound.CreateTable table) (Ok x) = refl
-  changed_renamed (bound.DropTable name) (Ok x) = refl
-  changed_renamed (bound.DropMaster name) (Ok x) = refl
-  changed_renamed (bound.DropKey name) (Ok x) = refl
+  changed_renamed (bound.Definition d) (Ok x) = refl
   changed_renamed (bound.Insert i) (Ok x) = refl
   changed_renamed (bound.Update u) (Ok x) = refl
   changed_renamed (bound.Delete d) (Ok x) = refl

@@ -7,8 +7,9 @@ use Rattle.ae_base.specs.Atoms.{Atom}
 use Rattle.ae_base.specs.declared.faults.SqlFault.{SqlFault}
 use Rattle.catalog.specs.Catalogs.{Catalog}
 use Rattle.engine.specs.Step.{Answer}
-use Rattle.transactions.specs.Counted.{tables_of, is_definition, changed_by, counted_step, raised_all}
-use Rattle.transactions.specs.Stores.{joined, placed}
+use Rattle.sql_tree.specs.Sorts.{is_definition, tables_of}
+use Rattle.transactions.specs.Counted.{changed_by, counted_step, raised_all}
+use Rattle.transactions.specs.Stores.{with_changed, with_tables}
 use Rattle.transactions.specs.Serial.{Deed, after_deeds, changed_in, AreAnswered}
 use Rattle.transactions.specs.Frames.{put}
 use Rattle.transactions.proofs.Frame.{made, lies, counted_reads}
@@ -39,11 +40,11 @@ put_both place (Some name) rows xs ys p n e = by (place name == p) refl
 
 put_mixed : (place : List ℕ → ℕ) (changed : List (List ℕ)) (name : Option (List ℕ)) (rows : List (List Atom)) (start xs ys : Contents) (p : ℕ) → length ys ≡ length xs
     → slice_get ys p ≡ (if covers place changed p then slice_get xs p else slice_get start p)
-    → slice_get (put place name rows ys) p ≡ (if covers place (joined changed name) p then slice_get (put place name rows xs) p else slice_get start p)
+    → slice_get (put place name rows ys) p ≡ (if covers place (with_changed changed name) p then slice_get (put place name rows xs) p else slice_get start p)
 put_mixed place changed None rows start xs ys p n e = e
 put_mixed place changed (Some name) rows start xs ys p n e = by (place name == p) refl
   where
-    by : (b : Bool) → (place name == p) ≡ b → slice_get (slice_set ys (place name) rows) p ≡ (if covers place (joined changed (Some name)) p then slice_get (slice_set xs (place name) rows) p else slice_get start p)
+    by : (b : Bool) → (place name == p) ≡ b → slice_get (slice_set ys (place name) rows) p ≡ (if covers place (with_changed changed (Some name)) p then slice_get (slice_set xs (place name) rows) p else slice_get start p)
     by true t =
         subst (λ k. slice_get (slice_set ys (place name) rows) k ≡ slice_get (slice_set xs (place name) rows) k) (is_there (place name) p t) (set_same ys xs (place name) rows n)
         ∙ ap (λ b. if b then slice_get (slice_set xs (place name) rows) p else slice_get start p) (sym (joined_there place changed name p t))
@@ -79,13 +80,13 @@ replayed catalog U start counts more same (d ∷ deeds) changed own again works 
     let t = changed_by s d.answer in
     let left : (counted_step (made catalog own counts) e).after ≡ made catalog (put (lies catalog) t f.rows own) counts = f.left_after ∙ ap (λ (a : Result Answer SqlFault). made catalog (put (lies catalog) (changed_by s a) f.rows own) counts) given.0 in
     let right : (counted_step (made catalog again more) e).after ≡ made catalog (put (lies catalog) t f.rows again) more = f.right_after ∙ ap (λ (a : Result Answer SqlFault). made catalog (put (lies catalog) (changed_by s a) f.rows again) more) given.0 in
-    let next : AreAbreast (lies catalog) U (joined changed t) start (put (lies catalog) t f.rows own) (put (lies catalog) t f.rows again) = record {
+    let next : AreAbreast (lies catalog) U (with_changed changed t) start (put (lies catalog) t f.rows own) (put (lies catalog) t f.rows again) = record {
       long = put_length (lies catalog) t f.rows again ∙ abreast.long ∙ sym (put_length (lies catalog) t f.rows own);
       level = put_length (lies catalog) t f.rows again ∙ abreast.level;
       used = λ name u. put_both (lies catalog) t f.rows own again (lies catalog name) abreast.long (abreast.used name u);
       mixed = λ p. put_mixed (lies catalog) changed t f.rows start own again p abreast.long (abreast.mixed p);
     } in
-    let r = replayed catalog U start counts more same deeds (joined changed t) (put (lies catalog) t f.rows own) (put (lies catalog) t f.rows again)
+    let r = replayed catalog U start counts more same deeds (with_changed changed t) (put (lies catalog) t f.rows own) (put (lies catalog) t f.rows again)
     (All-tail (λ (x : Deed). is_definition x.execution.bound.statement ≡ false) d deeds works) (All-tail (λ (x : Deed). All U (tables_of x.execution.bound.statement)) d deeds about)
     (subst (λ c. AreAnswered c deeds) left given.1) next in
     record {
@@ -117,7 +118,7 @@ placed_one place name names start own again p n e = by (place name == p) refl (c
 
 pub placed_is : (catalog : Catalog) (own again : Contents) (counts : List ℕ) (names : List (List ℕ)) (start : Contents) (more : List ℕ) → length own ≡ length start
     → ((p : ℕ) → slice_get again p ≡ (if covers (lies catalog) names p then slice_get own p else slice_get start p))
-    → placed (made catalog start more) (made catalog own counts) names ≡ raised_all (made catalog again more) names
+    → with_tables (made catalog start more) (made catalog own counts) names ≡ raised_all (made catalog again more) names
 placed_is catalog own again counts [] start more n h = ap (λ xs. made catalog xs more) (sym (same_places again start h))
 placed_is catalog own again counts (name ∷ names) start more n h =
     let k = lies catalog name in

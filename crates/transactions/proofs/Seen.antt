@@ -9,9 +9,10 @@ use Rattle.catalog.specs.Catalogs.{Catalog}
 use Rattle.scalar.specs.Classes.{Pairing}
 use Rattle.engine.specs.Step.{Answer}
 use Rattle.engine.specs.Worlds.{World}
-use Rattle.transactions.specs.Counted.{Counted, CountedOutcome, Execution, tables_of, target, is_definition, changed_by, counts_behind, is_at_last_count, counted, step_of, counted_step, raised_at}
+use Rattle.sql_tree.specs.Sorts.{is_definition, tables_of, target}
+use Rattle.transactions.specs.Counted.{Counted, CountedOutcome, Execution, changed_by, counts_behind, is_at_last_count, counted, step_of, counted_step, raised_at}
 use Rattle.transactions.specs.Correspond.{CountedCorrespond, SessionsCorrespond, StoresCorrespond}
-use Rattle.transactions.specs.Stores.{Transaction, Store, Ask, Begins, Commits, RollsBack, Executes, Transacted, refused, transaction_at, with_transaction, seen_by, world_of, stepped_in, why_not, replaced, placed, committed, executed_in, transacted, transact}
+use Rattle.transactions.specs.Stores.{Transaction, Store, Ask, Begins, Commits, RollsBack, Executes, Transacted, refused, transaction_at, with_transaction, seen_by, world_of, stepped_in, why_not, with_own_table, with_tables, committed, executed_in, transacted, transact}
 use Rattle.transactions.specs.WellKept.{IsCountedWell, IsOpen, IsStore}
 use Rattle.transactions.proofs.Alike.{zip_at}
 use Rattle.transactions.proofs.Frame.{counted_reads}
@@ -52,9 +53,9 @@ raised_by : (P : World → Type 0) (c : Counted) (name : Option (List ℕ)) → 
 raised_by P c None h = h
 raised_by P c (Some name) h = h
 
-placed_by : (P : Catalog → Type 0) (own : Counted) (names : List (List ℕ)) (c : Counted) → P c.world.catalog → P (placed c own names).world.catalog
+placed_by : (P : Catalog → Type 0) (own : Counted) (names : List (List ℕ)) (c : Counted) → P c.world.catalog → P (with_tables c own names).world.catalog
 placed_by P own [] c h = h
-placed_by P own (name ∷ names) c h = placed_by P own names (replaced c name own) h
+placed_by P own (name ∷ names) c h = placed_by P own names (with_own_table c name own) h
 
 committed_by : (P : Catalog → Type 0) (store : Store) (session : ℕ) (t : Transaction) (f : Option SqlFault) → P store.shared.world.catalog → P (committed store session t f).after.shared.world.catalog
 committed_by P store session t None h = placed_by P t.own t.changed store.shared h

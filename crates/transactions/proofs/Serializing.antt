@@ -10,8 +10,9 @@ use Rattle.ae_base.specs.Atoms.{Atom}
 use Rattle.ae_base.specs.declared.faults.SqlFault.{SqlFault}
 use Rattle.catalog.specs.Catalogs.{Catalog}
 use Rattle.engine.specs.Step.{Answer, Defined}
-use Rattle.transactions.specs.Counted.{Counted, CountedOutcome, Execution, count_of, tables_of, is_definition, changed_by, counted_step, raised_at, raised_all, alone}
-use Rattle.transactions.specs.Stores.{Transaction, Store, Ask, Begins, Commits, RollsBack, Executes, Transacted, transaction_at, with_transaction, is_used, noted, joined, stepped_in, conflict, why_not, placed, committed, executed_in, transacted, transact}
+use Rattle.sql_tree.specs.Sorts.{is_definition, tables_of}
+use Rattle.transactions.specs.Counted.{Counted, CountedOutcome, Execution, count_of, changed_by, counted_step, raised_at, raised_all, alone}
+use Rattle.transactions.specs.Stores.{Transaction, Store, Ask, Begins, Commits, RollsBack, Executes, Transacted, transaction_at, with_transaction, is_used, with_uses, with_changed, stepped_in, conflict, why_not, with_tables, committed, executed_in, transacted, transact}
 use Rattle.transactions.specs.declared.uses.Used.{Used}
 use Rattle.transactions.specs.Serial.{Deed, Call, Recorded, all_after, after_deeds, changed_in, after_unit, after_units, AreAnswered, AreUnitsAnswered, no_logs, log_at, with_log, deed, recorded, history}
 use Rattle.transactions.specs.Laws.{IsSerial}
@@ -68,9 +69,9 @@ answered_push : (c : Counted) (deeds : List Deed) (d : Deed) → AreAnswered c d
 answered_push c [] d h e = (e, tt)
 answered_push c (x ∷ deeds) d h e = (h.0, answered_push (counted_step c x.execution).after deeds d h.1 e)
 
-changed_push : (changed : List (List ℕ)) (deeds : List Deed) (d : Deed) → changed_in changed (deeds ++ d ∷ []) ≡ joined (changed_in changed deeds) (changed_by d.execution.bound.statement d.answer)
+changed_push : (changed : List (List ℕ)) (deeds : List Deed) (d : Deed) → changed_in changed (deeds ++ d ∷ []) ≡ with_changed (changed_in changed deeds) (changed_by d.execution.bound.statement d.answer)
 changed_push changed [] d = refl
-changed_push changed (x ∷ deeds) d = changed_push (joined changed (changed_by x.execution.bound.statement x.answer)) deeds d
+changed_push changed (x ∷ deeds) d = changed_push (with_changed changed (changed_by x.execution.bound.statement x.answer)) deeds d
 
 -- ---- the used tables
 
@@ -94,33 +95,33 @@ used_last (x ∷ used) u = or_one (bytes_eq x.table u.table) (is_used (used ++ u
     or_one false b e = e
 
 -- what is used stays used; and all of the names are
-pub noted_keeps : (c : Counted) (names : List (List ℕ)) (used : List Used) (name : List ℕ) → is_used used name ≡ true → is_used (noted c used names) name ≡ true
+pub noted_keeps : (c : Counted) (names : List (List ℕ)) (used : List Used) (name : List ℕ) → is_used used name ≡ true → is_used (with_uses c used names) name ≡ true
 noted_keeps c [] used name h = h
 noted_keeps c (n ∷ names) used name h = by (is_used used n) (λ b e. noted_keeps c names (if b then used else used ++ record { table = n; seen = count_of c n } ∷ []) name e)
   where
-    by : (b : Bool) → ((b : Bool) → is_used (if b then used else used ++ record { table = n; seen = count_of c n } ∷ []) name ≡ true → is_used (noted c (if b then used else used ++ record { table = n; seen = count_of c n } ∷ []) names) name ≡ true)
-        → is_used (noted c (if b then used else used ++ record { table = n; seen = count_of c n } ∷ []) names) name ≡ true
+    by : (b : Bool) → ((b : Bool) → is_used (if b then used else used ++ record { table = n; seen = count_of c n } ∷ []) name ≡ true → is_used (with_uses c (if b then used else used ++ record { table = n; seen = count_of c n } ∷ []) names) name ≡ true)
+        → is_used (with_uses c (if b then used else used ++ record { table = n; seen = count_of c n } ∷ []) names) name ≡ true
     by true more = more true h
     by false more = more false (used_push used (record { table = n; seen = count_of c n }) name h)
 
-pub noted_all : (c : Counted) (names : List (List ℕ)) (used : List Used) → All (λ name. is_used (noted c used names) name ≡ true) names
+pub noted_all : (c : Counted) (names : List (List ℕ)) (used : List Used) → All (λ name. is_used (with_uses c used names) name ≡ true) names
 noted_all c [] used = All-nil (λ name. is_used used name ≡ true)
 noted_all c (n ∷ names) used = by (is_used used n) refl (λ b. noted_all c names (if b then used else used ++ record { table = n; seen = count_of c n } ∷ []))
   where
     by : (b : Bool) → is_used used n ≡ b
-        → ((b : Bool) → All (λ name. is_used (noted c (if b then used else used ++ record { table = n; seen = count_of c n } ∷ []) names) name ≡ true) names)
-        → All (λ name. is_used (noted c (if b then used else used ++ record { table = n; seen = count_of c n } ∷ []) names) name ≡ true) (n ∷ names)
-    by true e more = All-cons (λ name. is_used (noted c used names) name ≡ true) n names (noted_keeps c names used n e) (more true)
+        → ((b : Bool) → All (λ name. is_used (with_uses c (if b then used else used ++ record { table = n; seen = count_of c n } ∷ []) names) name ≡ true) names)
+        → All (λ name. is_used (with_uses c (if b then used else used ++ record { table = n; seen = count_of c n } ∷ []) names) name ≡ true) (n ∷ names)
+    by true e more = All-cons (λ name. is_used (with_uses c used names) name ≡ true) n names (noted_keeps c names used n e) (more true)
     by false e more =
         let u : Used = record { table = n; seen = count_of c n } in
-        All-cons (λ name. is_used (noted c (used ++ u ∷ []) names) name ≡ true) n names (noted_keeps c names (used ++ u ∷ []) n (used_last used u)) (more false)
+        All-cons (λ name. is_used (with_uses c (used ++ u ∷ []) names) name ≡ true) n names (noted_keeps c names (used ++ u ∷ []) n (used_last used u)) (more false)
 
-pub noted_seen : (base own : Counted) (names : List (List ℕ)) (used : List Used) → ((name : List ℕ) → count_of own name ≡ count_of base name) → All (Seen base) used → All (Seen base) (noted own used names)
+pub noted_seen : (base own : Counted) (names : List (List ℕ)) (used : List Used) → ((name : List ℕ) → count_of own name ≡ count_of base name) → All (Seen base) used → All (Seen base) (with_uses own used names)
 noted_seen base own [] used same h = h
 noted_seen base own (n ∷ names) used same h = by (is_used used n) (λ b g. noted_seen base own names (if b then used else used ++ record { table = n; seen = count_of own n } ∷ []) same g)
   where
-    by : (b : Bool) → ((b : Bool) → All (Seen base) (if b then used else used ++ record { table = n; seen = count_of own n } ∷ []) → All (Seen base) (noted own (if b then used else used ++ record { table = n; seen = count_of own n } ∷ []) names))
-        → All (Seen base) (noted own (if b then used else used ++ record { table = n; seen = count_of own n } ∷ []) names)
+    by : (b : Bool) → ((b : Bool) → All (Seen base) (if b then used else used ++ record { table = n; seen = count_of own n } ∷ []) → All (Seen base) (with_uses own (if b then used else used ++ record { table = n; seen = count_of own n } ∷ []) names))
+        → All (Seen base) (with_uses own (if b then used else used ++ record { table = n; seen = count_of own n } ∷ []) names)
     by true more = more true h
     by false more = more false (All-push (Seen base) used (record { table = n; seen = count_of own n }) h (same n))
 
@@ -230,12 +231,12 @@ stepped_logged base shared t log e d h =
       after = deeds_push base log one ∙ ap (λ c. (counted_step c e).after) h.after;
       answered = answered_push base log one h.answered (ap (λ c. (counted_step c e).answer) h.after);
       work = All-push (λ (x : Deed). is_definition x.execution.bound.statement ≡ false) log one h.work d;
-      about = All-push (λ (x : Deed). All (λ name. is_used (noted own t.used names) name ≡ true) (tables_of x.execution.bound.statement)) log one
-          (All-weaker (λ (x : Deed). All (λ name. is_used t.used name ≡ true) (tables_of x.execution.bound.statement)) (λ (x : Deed). All (λ name. is_used (noted own t.used names) name ≡ true) (tables_of x.execution.bound.statement))
-          (λ x g. All-weaker (λ name. is_used t.used name ≡ true) (λ name. is_used (noted own t.used names) name ≡ true) (λ name u. noted_keeps own names t.used name u) (tables_of x.execution.bound.statement) g) log h.about)
+      about = All-push (λ (x : Deed). All (λ name. is_used (with_uses own t.used names) name ≡ true) (tables_of x.execution.bound.statement)) log one
+          (All-weaker (λ (x : Deed). All (λ name. is_used t.used name ≡ true) (tables_of x.execution.bound.statement)) (λ (x : Deed). All (λ name. is_used (with_uses own t.used names) name ≡ true) (tables_of x.execution.bound.statement))
+          (λ x g. All-weaker (λ name. is_used t.used name ≡ true) (λ name. is_used (with_uses own t.used names) name ≡ true) (λ name u. noted_keeps own names t.used name u) (tables_of x.execution.bound.statement) g) log h.about)
           (noted_all own names t.used);
       seen = noted_seen base own names t.used same h.seen;
-      changed = ap (λ c. joined c (changed_by s o.answer)) h.changed ∙ sym (changed_push [] log one);
+      changed = ap (λ c. with_changed c (changed_by s o.answer)) h.changed ∙ sym (changed_push [] log one);
       catalog = ap (λ (c : Counted). c.world.catalog) f.left_after ∙ h.catalog;
       counts = ap (λ (c : Counted). c.counts) f.left_after ∙ h.counts;
     }
@@ -249,7 +250,7 @@ stepped_logged base shared t log e d h =
 -- ---- COMMIT
 
 pub record IsUnitDone (shared : Counted) (t : Transaction) (log : List Deed) : Type 0 where
-  pub after : placed shared t.own t.changed ≡ after_unit shared log
+  pub after : with_tables shared t.own t.changed ≡ after_unit shared log
   pub answered : AreAnswered shared log
 
 pub committed_done : (base shared : Counted) (t : Transaction) (log : List Deed) → shared.world.catalog.version ≡ t.version → conflict shared t.used ≡ None → IsLoggedFrom base shared t log → IsUnitDone shared t log
@@ -268,9 +269,9 @@ committed_done base shared t log v c h =
     let put = placed_is k r.own_after r.again_after base.counts (changed_in [] log) again shared.counts (sym r.abreast.long ∙ r.abreast.level) r.abreast.mixed in
     record {
       after =
-          ap (λ names. placed shared t.own names) h.changed
-          ∙ ap (λ o. placed shared o (changed_in [] log)) (sym own)
-          ∙ ap (λ x. placed x (made k r.own_after base.counts) (changed_in [] log)) (sym is)
+          ap (λ names. with_tables shared t.own names) h.changed
+          ∙ ap (λ o. with_tables shared o (changed_in [] log)) (sym own)
+          ∙ ap (λ x. with_tables x (made k r.own_after base.counts) (changed_in [] log)) (sym is)
           ∙ put
           ∙ ap (λ x. raised_all x (changed_in [] log)) (sym r.again_is)
           ∙ ap (λ x. after_unit x log) is;
@@ -313,7 +314,7 @@ commits store logs session t log None e inv h =
     let free = unmoved (store.shared.world.catalog.version == t.version) refl e in
     let d = committed_done h.base store.shared t log free.0 free.1 h.from in
     let kept = placed_kept t.own t.changed store.shared inv.counted in
-    let now = placed store.shared t.own t.changed in
+    let now = with_tables store.shared t.own t.changed in
     record {
       shared = sym d.after;
       answered = (d.answered, tt);
@@ -356,7 +357,7 @@ executes_alone store logs session e inv is =
       };
     }
   where
-    raised_once : (c : Counted) (name : Option (List ℕ)) → raised_all c (joined [] name) ≡ raised_at c name
+    raised_once : (c : Counted) (name : Option (List ℕ)) → raised_all c (with_changed [] name) ≡ raised_at c name
     raised_once c None = refl
     raised_once c (Some name) = refl
 

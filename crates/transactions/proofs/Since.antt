@@ -1,21 +1,25 @@
 -- Counts tell changes: while the version stays, the rows of a table are the same where its count is.
-use Rattle.std.proofs.Common.{◌≡◌, ◌≤◌, ℕ, zero, suc, ◌+◌, List, [], ◌∷◌, ◌++◌, length, length-append, refl, ap, sym, subst, ◌∙◌, arith, Option, Some, None, unwrap_or, Result, Ok, Err, false}
+use Rattle.std.proofs.Common.{◌≡◌, ◌≤◌, ℕ, zero, suc, ◌+◌, List, [], ◌∷◌, length, length-append, refl, ap, sym, subst, ◌∙◌, arith, Option, Some, None, unwrap_or, Result, Ok, Err, false}
 use Rattle.std.specs.Prelude.{slice_set}
-use Rattle.std.specs.List.{All, slice_get, remove}
+use Rattle.std.specs.List.{All, slice_get}
 use Rattle.ae_base.specs.Atoms.{Atom}
 use Rattle.ae_base.specs.Results.{◌>>=◌}
 use Rattle.ae_base.specs.declared.types.Enc.{Enc}
-use Rattle.sql_tree.specs.declared.bound.BoundTable.{BoundTable}
+use Rattle.sql_tree.specs.declared.bound.BoundDefinition.{BoundDefinition}
 use Rattle.ae_base.specs.declared.faults.SqlFault.{SqlFault}
 use Rattle.sql_tree.specs.Bound.{BoundStatement, Bound}
 use Rattle.sql_tree.specs.Bound as bound
-use Rattle.catalog.specs.Catalogs.{Catalog, with_master, with_key, with_table, without_master, without_key, without_table}
-use Rattle.catalog.proofs.Interface.{with_master-followed, with_key-followed, with_table-followed, without_master-followed, without_key-followed, without_table-followed}
+use Rattle.catalog.specs.Catalogs.{Catalog}
+use Rattle.catalog.specs.Definitions.{defined_by, effect_of, followed}
+use Rattle.catalog.specs.declared.effects.Effect.{Effect}
+use Rattle.catalog.specs.declared.effects.Effect.TheVariants.{Stays, Adds, Removes}
+use Rattle.catalog.proofs.Interface.{defined_by-followed}
 use Rattle.engine.specs.Step as step
-use Rattle.engine.specs.Step.{Answer, Outcome, Done, outcome, done_by}
+use Rattle.engine.specs.Step.{Answer, Outcome, outcome, done_by}
 use Rattle.engine.specs.Worlds.{place_of, rows_of, with_rows}
-use Rattle.transactions.specs.Counted.{Counted, Execution, tables_of, is_definition, changed_by, counted, counted_step, raised, raised_at, alone}
-use Rattle.transactions.specs.Stores.{replaced, placed}
+use Rattle.sql_tree.specs.Sorts.{is_definition, tables_of}
+use Rattle.transactions.specs.Counted.{Counted, Execution, changed_by, counted, counted_step, raised, raised_at, alone}
+use Rattle.transactions.specs.Stores.{with_own_table, with_tables}
 use Rattle.transactions.specs.Frames.{put}
 use Rattle.transactions.proofs.Frame.{made, lies, counted_reads}
 use Rattle.transactions.proofs.Places.{set_length, remove_length}
@@ -106,12 +110,12 @@ given_kept c name rows h =
 kept_refl : (c : Counted) → IsCounted c → Kept c c
 kept_refl c h = record { counted = h; since = since_refl c }
 
-pub placed_kept : (own : Counted) (names : List (List ℕ)) (shared : Counted) → IsCounted shared → Kept shared (placed shared own names)
+pub placed_kept : (own : Counted) (names : List (List ℕ)) (shared : Counted) → IsCounted shared → Kept shared (with_tables shared own names)
 placed_kept own [] shared h = kept_refl shared h
 placed_kept own (name ∷ names) shared h =
     let one = given_kept shared name (rows_of own.world name) h in
-    let rest = placed_kept own names (replaced shared name own) one.counted in
-    record { counted = rest.counted; since = since_trans shared (replaced shared name own) (placed shared own (name ∷ names)) one.since rest.since }
+    let rest = placed_kept own names (with_own_table shared name own) one.counted in
+    record { counted = rest.counted; since = since_trans shared (with_own_table shared name own) (with_tables shared own (name ∷ names)) one.since rest.since }
 
 -- ---- a statement outside transactions
 
@@ -136,62 +140,25 @@ module _ (c : Counted) (h : IsCounted c) where
   abbrev left_by : BoundStatement → Outcome → Counted
   left_by s o = let p = counted c s o.answer o.world in raised_at p.after (changed_by s p.answer)
 
-  abbrev defined_so : Result Catalog SqlFault → Outcome
-  defined_so r = outcome c.world (step.defined c.world r)
+  abbrev defined_as : BoundDefinition → Catalog → Counted
+  defined_as d new = record { world = record { catalog = new; contents = followed [] (effect_of c.world.catalog d) c.world.contents }; counts = followed 0 (effect_of c.world.catalog d) c.counts }
 
-  plain : (new : Catalog) → new.version ≡ v + 1 → Kept c (record { world = record { catalog = new; contents = c.world.contents }; counts = c.counts })
-  plain new e = record { counted = record { long = h.long }; since = newer c (record { world = record { catalog = new; contents = c.world.contents }; counts = c.counts }) e }
+  long_behind : (e : Effect) → length (followed 0 e c.counts) ≡ length (followed [] e c.world.contents)
+  long_behind Stays = h.long
+  long_behind Adds = length-append c.counts (0 ∷ []) ∙ ap (λ n. n + 1) h.long ∙ sym (length-append c.world.contents ([] ∷ []))
+  long_behind (Removes place) = remove_length c.counts c.world.contents place h.long
 
-  master_made : (name path : List ℕ) (r : Result Catalog SqlFault) → ((new : Catalog) → r ≡ Ok new → new.version ≡ v + 1) → Kept c (left_by (bound.CreateMaster name path) (defined_so r))
-  master_made name path (Ok new) g = plain new (g new refl)
-  master_made name path (Err f) g = kept_refl c h
-
-  key_made : (name master wrapped : List ℕ) (r : Result Catalog SqlFault) → ((new : Catalog) → r ≡ Ok new → new.version ≡ v + 1) → Kept c (left_by (bound.CreateKey name master wrapped) (defined_so r))
-  key_made name master wrapped (Ok new) g = plain new (g new refl)
-  key_made name master wrapped (Err f) g = kept_refl c h
-
-  master_dropped : (name : List ℕ) (r : Result Catalog SqlFault) → ((new : Catalog) → r ≡ Ok new → new.version ≡ v + 1) → Kept c (left_by (bound.DropMaster name) (defined_so r))
-  master_dropped name (Ok new) g = plain new (g new refl)
-  master_dropped name (Err f) g = kept_refl c h
-
-  key_dropped : (name : List ℕ) (r : Result Catalog SqlFault) → ((new : Catalog) → r ≡ Ok new → new.version ≡ v + 1) → Kept c (left_by (bound.DropKey name) (defined_so r))
-  key_dropped name (Ok new) g = plain new (g new refl)
-  key_dropped name (Err f) g = kept_refl c h
-
-  abbrev with_one : Catalog → Counted
-  with_one new = record { world = record { catalog = new; contents = c.world.contents ++ [] ∷ [] }; counts = c.counts ++ 0 ∷ [] }
-
-  abbrev without_one : List ℕ → Catalog → Counted
-  without_one name new = record { world = record { catalog = new; contents = remove c.world.contents (place_of c.world name) }; counts = remove c.counts (place_of c.world name) }
-
-  abbrev created_done : Catalog → Done
-  created_done new = record { answer = step.Defined; world = (with_one new).world }
-
-  abbrev dropped_done : List ℕ → Catalog → Done
-  dropped_done name new = record { answer = step.Defined; world = (without_one name new).world }
-
-  table_made : (table : BoundTable) (r : Result Catalog SqlFault) → ((new : Catalog) → r ≡ Ok new → new.version ≡ v + 1) → Kept c (left_by (bound.CreateTable table) (outcome c.world (r >>= λ new. Ok (created_done new))))
-  table_made table (Ok new) g = record {
-    counted = record { long = length-append c.counts (0 ∷ []) ∙ ap (λ n. n + 1) h.long ∙ sym (length-append c.world.contents ([] ∷ [])) };
-    since = newer c (with_one new) (g new refl);
+  defined_kept : (d : BoundDefinition) (r : Result Catalog SqlFault) → defined_by c.world.catalog d ≡ r
+      → Kept c (left_by (bound.Definition d) (outcome c.world (r >>= λ new. Ok (record { answer = step.Defined; world = (defined_as d new).world }))))
+  defined_kept d (Ok new) e = record {
+    counted = record { long = long_behind (effect_of c.world.catalog d) };
+    since = newer c (defined_as d new) (defined_by-followed c.world.catalog new d e).1;
   }
-  table_made table (Err f) g = kept_refl c h
-
-  table_dropped : (name : List ℕ) (r : Result Catalog SqlFault) → ((new : Catalog) → r ≡ Ok new → new.version ≡ v + 1) → Kept c (left_by (bound.DropTable name) (outcome c.world (r >>= λ new. Ok (dropped_done name new))))
-  table_dropped name (Ok new) g = record {
-    counted = record { long = remove_length c.counts c.world.contents (place_of c.world name) h.long };
-    since = newer c (without_one name new) (g new refl);
-  }
-  table_dropped name (Err f) g = kept_refl c h
+  defined_kept d (Err f) e = kept_refl c h
 
   statement_kept : (b : Bound) (encs : List Enc) (params : List Atom) (s : BoundStatement) → b.statement ≡ s → (is_definition s ≡ false → Kept c (alone c (record { bound = b; encs = encs; params = params })).after)
       → Kept c (left_by s (outcome c.world (done_by c.world b encs s params)))
-  statement_kept b encs params (bound.CreateMaster name path) e g = master_made name path (with_master c.world.catalog name path) (λ new d. (with_master-followed c.world.catalog new name path d).1)
-  statement_kept b encs params (bound.CreateKey name master wrapped) e g = key_made name master wrapped (with_key c.world.catalog name master wrapped) (λ new d. (with_key-followed c.world.catalog new name master wrapped d).1)
-  statement_kept b encs params (bound.CreateTable table) e g = table_made table (with_table c.world.catalog table.def) (λ new d. (with_table-followed c.world.catalog new table.def d).1)
-  statement_kept b encs params (bound.DropTable name) e g = table_dropped name (without_table c.world.catalog name) (λ new d. (without_table-followed c.world.catalog new name d).1)
-  statement_kept b encs params (bound.DropMaster name) e g = master_dropped name (without_master c.world.catalog name) (λ new d. (without_master-followed c.world.catalog new name d).1)
-  statement_kept b encs params (bound.DropKey name) e g = key_dropped name (without_key c.world.catalog name) (λ new d. (without_key-followed c.world.catalog new name d).1)
+  statement_kept b encs params (bound.Definition d) e g = defined_kept d (defined_by c.world.catalog d) refl
   statement_kept b encs params (bound.Insert i) e g = subst (λ s. Kept c (left_by s (outcome c.world (done_by c.world b encs s params)))) e (g refl)
   statement_kept b encs params (bound.Update u) e g = subst (λ s. Kept c (left_by s (outcome c.world (done_by c.world b encs s params)))) e (g refl)
   statement_kept b encs params (bound.Delete x) e g = subst (λ s. Kept c (left_by s (outcome c.world (done_by c.world b encs s params)))) e (g refl)

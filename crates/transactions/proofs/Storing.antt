@@ -8,11 +8,12 @@ use Rattle.ae_base.specs.declared.refusals.Refusal.TheVariants.{Fault, OutOfMemo
 use Rattle.engine.specs.Answers.{answer_of}
 use Rattle.engine.specs.declared.answers.Answer as code
 use Rattle.engine.specs.Step.{Defined}
+use Rattle.sql_tree.specs.Sorts.{is_definition}
 use Rattle.transactions.specs.Answers.{GivesCounted, StepsIn, StepsWhere, Transacts}
-use Rattle.transactions.specs.Counted.{Counted, CountedOutcome, Execution, is_definition, counted_step, alone}
+use Rattle.transactions.specs.Counted.{Counted, CountedOutcome, Execution, counted_step, alone}
 use Rattle.transactions.specs.Forgotten.{forgotten_in, forgotten}
 use Rattle.transactions.specs.Noted.{IsHeld}
-use Rattle.transactions.specs.Stores.{Transaction, Store, Transacted, Begins, Commits, RollsBack, Executes, refused, begun_over, transaction_at, with_transaction, stepped_in, why_not, placed, committed, executed_in, transacted, transact}
+use Rattle.transactions.specs.Stores.{Transaction, Store, Transacted, Begins, Commits, RollsBack, Executes, refused, begun_over, transaction_at, with_transaction, stepped_in, why_not, with_tables, committed, executed_in, transacted, transact}
 use Rattle.transactions.proofs.Padding.{set_twice}
 use Rattle.transactions.proofs.Seen.{set_back}
 
@@ -97,7 +98,7 @@ module _ (store : Store) (session : ℕ) where
   pub begun_in : (t : Transaction) → transaction_at store session ≡ Some t → transact store session Begins ≡ record { answer = Err fault.InTransaction; after = store }
   begun_in t is = ap (λ o. transacted store session o Begins) is
 
-  pub commits : (t : Transaction) (shared : Counted) (sessions : List (Option Transaction)) → transaction_at store session ≡ Some t → sessions ≡ set store.sessions k None → why_not store.shared t ≡ None → shared ≡ placed store.shared t.own t.changed
+  pub commits : (t : Transaction) (shared : Counted) (sessions : List (Option Transaction)) → transaction_at store session ≡ Some t → sessions ≡ set store.sessions k None → why_not store.shared t ≡ None → shared ≡ with_tables store.shared t.own t.changed
       → transact store session Commits ≡ record { answer = Ok Defined; after = store_of shared sessions }
   commits t shared sessions is s w e =
       ap (λ o. transacted store session o Commits) is ∙ ap (committed store session t) w

@@ -15,7 +15,7 @@ use Rattle.engine.proofs.Interface.{table_place_there}
 use Rattle.transactions.specs.Counted.{Counted, count_of, is_at_last_count, raised}
 use Rattle.transactions.specs.Effects.{exchanged}
 use Rattle.transactions.specs.Noted.{AreApart}
-use Rattle.transactions.specs.Stores.{replaced, placed}
+use Rattle.transactions.specs.Stores.{with_own_table, with_tables}
 use Rattle.transactions.proofs.Places.{set_other}
 
 -- ---- tables of different names lie apart
@@ -48,17 +48,17 @@ names_apart world a b ha hb other same = by (table_among world.catalog.tables a)
 
 -- of the other names nothing changes
 placed_other : (own : Counted) (k : ℕ) (rows : List (List Atom)) (names : List (List ℕ)) (shared : Counted) → All (λ n. place_of own.world n ≢ k) names
-    → placed shared (record { world = record { catalog = own.world.catalog; contents = slice_set own.world.contents k rows }; counts = own.counts }) names ≡ placed shared own names
+    → with_tables shared (record { world = record { catalog = own.world.catalog; contents = slice_set own.world.contents k rows }; counts = own.counts }) names ≡ with_tables shared own names
 placed_other own k rows [] shared h = refl
 placed_other own k rows (n ∷ names) shared h =
     let after : Counted = record { world = record { catalog = own.world.catalog; contents = slice_set own.world.contents k rows }; counts = own.counts } in
     let same : rows_of after.world n ≡ rows_of own.world n = ap (λ o. unwrap_or o []) (set_other own.world.contents k (place_of own.world n) rows (All-head (λ n. place_of own.world n ≢ k) n names h)) in
-    ap (λ r. placed (raised (record { world = with_rows shared.world n r; counts = shared.counts }) n) after names) same
-    ∙ placed_other own k rows names (replaced shared n own) (All-tail (λ n. place_of own.world n ≢ k) n names h)
+    ap (λ r. with_tables (raised (record { world = with_rows shared.world n r; counts = shared.counts }) n) after names) same
+    ∙ placed_other own k rows names (with_own_table shared n own) (All-tail (λ n. place_of own.world n ≢ k) n names h)
 
 -- what is still to be placed comes to what all comes to
 pub record IsTaking (start first : Counted) (names left : List (List ℕ)) (now own : Counted) : Type 0 where
-  pub whole : placed now own left ≡ placed start first names
+  pub whole : with_tables now own left ≡ with_tables start first names
   pub same : own.world.catalog ≡ now.world.catalog
   pub there : All (λ n. IsSome (table_among now.world.catalog.tables n)) left
   pub further : All (λ n. is_at_last_count now (Some n) ≡ false) left
@@ -71,14 +71,14 @@ module _ (start first : Counted) (names : List (List ℕ)) (now own : Counted) (
   both : (n : List ℕ) → There n × (name ≢ n) → place_of now.world n ≢ place_of now.world name
   both n k = names_apart now.world name n (All-head There name rest h.there) k.0 k.1
 
-  pub taken : (rows : List (List Atom)) → IsTaking start first names rest (replaced now name own) (exchanged own name rows)
+  pub taken : (rows : List (List Atom)) → IsTaking start first names rest (with_own_table now name own) (exchanged own name rows)
   taken rows =
       let pair : All (λ n. There n × (name ≢ n)) rest = λ i d lt. (All-tail There name rest h.there i d lt, h.apart.0 i d lt) in
       let places : All (λ n. place_of now.world n ≢ place_of now.world name) rest = All-weaker (λ n. There n × (name ≢ n)) (λ n. place_of now.world n ≢ place_of now.world name) both rest pair in
       let own_places : All (λ n. place_of own.world n ≢ place_of own.world name) rest =
       subst (λ (c : Catalog). All (λ n. place_of (record { catalog = c; contents = [] }) n ≢ place_of (record { catalog = c; contents = [] }) name) rest) (sym h.same) places in
       record {
-        whole = placed_other own (place_of own.world name) rows rest (replaced now name own) own_places ∙ h.whole;
+        whole = placed_other own (place_of own.world name) rows rest (with_own_table now name own) own_places ∙ h.whole;
         same = h.same;
         there = All-tail There name rest h.there;
         further = λ i d lt.
@@ -101,7 +101,7 @@ module _ (start first : Counted) (names : List (List ℕ)) (now own : Counted) (
   pub is_further : is_at_last_count now (Some name) ≡ false
   is_further = All-head (λ n. is_at_last_count now (Some n) ≡ false) name (drop (i + 1) names) next.further
 
-  pub taken_there : (rows : List (List Atom)) (after more : Counted) → after ≡ replaced now name own → more ≡ exchanged own name rows → IsTaking start first names (drop (i + 1) names) after more
+  pub taken_there : (rows : List (List Atom)) (after more : Counted) → after ≡ with_own_table now name own → more ≡ exchanged own name rows → IsTaking start first names (drop (i + 1) names) after more
   taken_there rows after more a m =
       subst (λ (c : Counted). IsTaking start first names (drop (i + 1) names) c more) (sym a)
-      (subst (λ (c : Counted). IsTaking start first names (drop (i + 1) names) (replaced now name own) c) (sym m) (taken start first names now own name (drop (i + 1) names) next rows))
+      (subst (λ (c : Counted). IsTaking start first names (drop (i + 1) names) (with_own_table now name own) c) (sym m) (taken start first names now own name (drop (i + 1) names) next rows))

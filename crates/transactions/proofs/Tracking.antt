@@ -16,9 +16,10 @@ use Rattle.sql_tree.specs.OnTables.{table_among, IsStatementOn}
 use Rattle.catalog.specs.Catalogs.{Catalog}
 use Rattle.engine.specs.Step.{Answer}
 use Rattle.engine.specs.Worlds.{place_of}
-use Rattle.transactions.specs.Counted.{Counted, Execution, count_of, tables_of, target, is_definition, changed_by, is_at_last_count, counted_step, alone}
+use Rattle.sql_tree.specs.Sorts.{is_definition, tables_of, target}
+use Rattle.transactions.specs.Counted.{Counted, Execution, count_of, changed_by, is_at_last_count, counted_step, alone}
 use Rattle.transactions.specs.Noted.{AreApart, IsChanged, IsNoted, IsNotedIn, IsHeld}
-use Rattle.transactions.specs.Stores.{Transaction, Store, Ask, Begins, Commits, RollsBack, Executes, Transacted, refused, begun_over, transaction_at, with_transaction, seen_by, world_of, is_used, noted, joined, stepped_in, conflict, why_not, placed, committed, executed_in, transacted, transact}
+use Rattle.transactions.specs.Stores.{Transaction, Store, Ask, Begins, Commits, RollsBack, Executes, Transacted, refused, begun_over, transaction_at, with_transaction, seen_by, world_of, is_used, with_uses, with_changed, stepped_in, conflict, why_not, with_tables, committed, executed_in, transacted, transact}
 use Rattle.transactions.specs.declared.uses.Used.{Used}
 use Rattle.transactions.proofs.Counting.{IsSame, work_same, accepted_not_last}
 use Rattle.transactions.proofs.Keeping.{all_at, all_set}
@@ -37,7 +38,7 @@ apart_push (x ∷ xs) name e h =
     let n = or_parts (bytes_eq x name) (list_any (λ n. bytes_eq n name) xs) e in
     (All-push (λ other. x ≢ other) xs name h.0 (differ x name n.0), apart_push xs name n.1 h.1)
 
-joined_apart : (changed : List (List ℕ)) (o : Option (List ℕ)) → AreApart changed → AreApart (joined changed o)
+joined_apart : (changed : List (List ℕ)) (o : Option (List ℕ)) → AreApart changed → AreApart (with_changed changed o)
 joined_apart changed None h = h
 joined_apart changed (Some name) h = by (list_any (λ n. bytes_eq n name) changed) refl
   where
@@ -45,7 +46,7 @@ joined_apart changed (Some name) h = by (list_any (λ n. bytes_eq n name) change
     by true e = h
     by false e = apart_push changed name e h
 
-joined_all : (P : List ℕ → Type 0) (changed : List (List ℕ)) (o : Option (List ℕ)) → All P changed → ((name : List ℕ) → o ≡ Some name → P name) → All P (joined changed o)
+joined_all : (P : List ℕ → Type 0) (changed : List (List ℕ)) (o : Option (List ℕ)) → All P changed → ((name : List ℕ) → o ≡ Some name → P name) → All P (with_changed changed o)
 joined_all P changed None h p = h
 joined_all P changed (Some name) h p = by (list_any (λ n. bytes_eq n name) changed)
   where
@@ -58,35 +59,19 @@ joined_all P changed (Some name) h p = by (list_any (λ n. bytes_eq n name) chan
 same_some : (a b : List ℕ) → Some a ≡ Some b → a ≡ b
 same_some a b e = cc
 
-target_used : (c : Counted) (used : List Used) (s : BoundStatement) (name : List ℕ) → target s ≡ Some name → is_used (noted c used (tables_of s)) name ≡ true
-target_used c used (bound.CreateMaster n path) name e = absurd cc
-target_used c used (bound.CreateKey n master wrapped) name e = absurd cc
-target_used c used (bound.CreateTable table) name e = absurd cc
-target_used c used (bound.DropTable n) name e = absurd cc
-target_used c used (bound.DropMaster n) name e = absurd cc
-target_used c used (bound.DropKey n) name e = absurd cc
-target_used c used (bound.Insert i) name e = only i.table name (same_some i.table name e)
-  where
-    only : (table name : List ℕ) → table ≡ name → is_used (noted c used (table ∷ [])) name ≡ true
-    only table name e = subst (λ n. is_used (noted c used (table ∷ [])) n ≡ true) e (All-head (λ n. is_used (noted c used (table ∷ [])) n ≡ true) table [] (noted_all c (table ∷ []) used))
-target_used c used (bound.Update u) name e = only u.table name (same_some u.table name e)
-  where
-    only : (table name : List ℕ) → table ≡ name → is_used (noted c used (table ∷ [])) name ≡ true
-    only table name e = subst (λ n. is_used (noted c used (table ∷ [])) n ≡ true) e (All-head (λ n. is_used (noted c used (table ∷ [])) n ≡ true) table [] (noted_all c (table ∷ []) used))
-target_used c used (bound.Delete d) name e = only d.table name (same_some d.table name e)
-  where
-    only : (table name : List ℕ) → table ≡ name → is_used (noted c used (table ∷ [])) name ≡ true
-    only table name e = subst (λ n. is_used (noted c used (table ∷ [])) n ≡ true) e (All-head (λ n. is_used (noted c used (table ∷ [])) n ≡ true) table [] (noted_all c (table ∷ []) used))
+used_alone : (c : Counted) (used : List Used) (table name : List ℕ) → table ≡ name → is_used (with_uses c used (table ∷ [])) name ≡ true
+used_alone c used table name e = subst (λ n. is_used (with_uses c used (table ∷ [])) n ≡ true) e (All-head (λ n. is_used (with_uses c used (table ∷ [])) n ≡ true) table [] (noted_all c (table ∷ []) used))
+
+target_used : (c : Counted) (used : List Used) (s : BoundStatement) (name : List ℕ) → target s ≡ Some name → is_used (with_uses c used (tables_of s)) name ≡ true
+target_used c used (bound.Definition d) name e = absurd cc
+target_used c used (bound.Insert i) name e = used_alone c used i.table name (same_some i.table name e)
+target_used c used (bound.Update u) name e = used_alone c used u.table name (same_some u.table name e)
+target_used c used (bound.Delete d) name e = used_alone c used d.table name (same_some d.table name e)
 target_used c used (bound.Select q) name e = absurd cc
 target_used c used (bound.Control control) name e = absurd cc
 
 pub target_there : (tables : List TableDef) (columns : List ColumnSite) (s : BoundStatement) (name : List ℕ) → IsStatementOn tables columns s → target s ≡ Some name → IsSome (table_among tables name)
-target_there tables columns (bound.CreateMaster n path) name h e = absurd cc
-target_there tables columns (bound.CreateKey n master wrapped) name h e = absurd cc
-target_there tables columns (bound.CreateTable table) name h e = absurd cc
-target_there tables columns (bound.DropTable n) name h e = absurd cc
-target_there tables columns (bound.DropMaster n) name h e = absurd cc
-target_there tables columns (bound.DropKey n) name h e = absurd cc
+target_there tables columns (bound.Definition d) name h e = absurd cc
 target_there tables columns (bound.Insert i) name h e = subst (λ n. IsSome (table_among tables n)) (same_some i.table name e) h.0
 target_there tables columns (bound.Update u) name h e = subst (λ n. IsSome (table_among tables n)) (same_some u.table name e) h.0
 target_there tables columns (bound.Delete d) name h e = subst (λ n. IsSome (table_among tables n)) (same_some d.table name e) h.0
@@ -125,7 +110,7 @@ stepped_noted shared t e h d on =
             catalog = s.catalog ∙ b.catalog;
             counts = λ p. subst (λ ns. unwrap_or (slice_get ns p) 0 ≤ unwrap_or (slice_get shared.counts p) 0) (sym s.counts) (b.counts p);
           };
-      seen = All-weaker (Seen t.own) (Seen o.after) (λ u k. k ∙ sym (count_same t.own o.after s u.table)) (noted t.own t.used names) (noted_seen t.own t.own names t.used (λ name. refl) h.seen);
+      seen = All-weaker (Seen t.own) (Seen o.after) (λ u k. k ∙ sym (count_same t.own o.after s u.table)) (with_uses t.own t.used names) (noted_seen t.own t.own names t.used (λ name. refl) h.seen);
       changed = joined_all (IsChanged next) t.changed (changed_by e.bound.statement o.answer)
           (All-weaker (IsChanged t) (IsChanged next) (λ name k. record {
             there = subst (λ (c : Catalog). IsSome (table_among c.tables name)) (sym s.catalog) k.there;
@@ -208,7 +193,7 @@ held_by store session (Some t) Commits h k on = by (why_not store.shared t)
   where
     by : (f : Option SqlFault) → IsHeld (committed store session t f).after
     by None =
-        let now = placed store.shared t.own t.changed in
+        let now = with_tables store.shared t.own t.changed in
         with_slot (record { shared = now; sessions = store.sessions }) session None (with_shared store now h (placed_kept t.own t.changed store.shared (record { long = h.long }))) tt
     by (Some f) = with_slot store session None h tt
 held_by store session (Some t) RollsBack h k on = with_slot store session None h tt

@@ -1,13 +1,17 @@
 -- Worlds that count the changes of each table, and what a statement does to one.
-use Rattle.std.specs.Prelude.{ℕ, ◌+◌, List, [], ◌∷◌, ◌++◌, map, Option, Some, None, Result, Ok, Err, Bool, true, false, ◌==◌, if◌then◌else◌, unwrap_or, slice_set}
-use Rattle.std.specs.List.{slice_get, remove}
+use Rattle.std.specs.Prelude.{ℕ, ◌+◌, List, [], ◌∷◌, Option, Some, None, Result, Ok, Err, Bool, false, ◌==◌, if◌then◌else◌, unwrap_or, slice_set}
+use Rattle.std.specs.List.{slice_get}
 use Rattle.ae_base.specs.Atoms.{Atom}
 use Rattle.ae_base.specs.declared.faults.SqlFault.{SqlFault}
 use Rattle.ae_base.specs.declared.faults.SqlFault.TheVariants as fault
 use Rattle.sql_tree.specs.Bound.{BoundStatement, Bound}
 use Rattle.sql_tree.specs.Bound as bound
-use Rattle.sql_tree.specs.OnTables.{sources_of}
+use Rattle.sql_tree.specs.Sorts.{target}
 use Rattle.ae_base.specs.declared.types.Enc.{Enc}
+use Rattle.catalog.specs.Catalogs.{Catalog}
+use Rattle.catalog.specs.Definitions.{effect_of, followed}
+use Rattle.catalog.specs.declared.effects.Effect.{Effect}
+use Rattle.catalog.specs.declared.effects.Effect.TheVariants.{Stays}
 use Rattle.engine.specs.Step.{Answer, Outcome, step}
 use Rattle.engine.specs.Worlds.{World, empty_world, place_of}
 
@@ -31,50 +35,7 @@ nothing_counted = record { world = empty_world; counts = [] }
 abbrev pub count_of : Counted → List ℕ → ℕ
 count_of c name = unwrap_or (slice_get c.counts (place_of c.world name)) 0
 
--- ---- which tables a statement is about
-
--- those that it reads or changes, in the order of its text
-abbrev pub tables_of : BoundStatement → List (List ℕ)
-tables_of (bound.CreateMaster name path) = []
-tables_of (bound.CreateKey name master wrapped) = []
-tables_of (bound.CreateTable table) = []
-tables_of (bound.DropTable name) = []
-tables_of (bound.DropMaster name) = []
-tables_of (bound.DropKey name) = []
-tables_of (bound.Insert i) = i.table ∷ []
-tables_of (bound.Update u) = u.table ∷ []
-tables_of (bound.Delete d) = d.table ∷ []
-tables_of (bound.Select q) = map (λ source. source.table) (sources_of q)
-tables_of (bound.Control control) = []
-
--- the one whose rows it changes
-abbrev pub target : BoundStatement → Option (List ℕ)
-target (bound.CreateMaster name path) = None
-target (bound.CreateKey name master wrapped) = None
-target (bound.CreateTable table) = None
-target (bound.DropTable name) = None
-target (bound.DropMaster name) = None
-target (bound.DropKey name) = None
-target (bound.Insert i) = Some i.table
-target (bound.Update u) = Some u.table
-target (bound.Delete d) = Some d.table
-target (bound.Select q) = None
-target (bound.Control control) = None
-
-abbrev pub is_definition : BoundStatement → Bool
-is_definition (bound.CreateMaster name path) = true
-is_definition (bound.CreateKey name master wrapped) = true
-is_definition (bound.CreateTable table) = true
-is_definition (bound.DropTable name) = true
-is_definition (bound.DropMaster name) = true
-is_definition (bound.DropKey name) = true
-is_definition (bound.Insert i) = false
-is_definition (bound.Update u) = false
-is_definition (bound.Delete d) = false
-is_definition (bound.Select q) = false
-is_definition (bound.Control control) = false
-
--- the table whose rows it has changed: where it was accepted
+-- the table whose rows a statement has changed: where it was accepted
 abbrev pub changed_by : BoundStatement → Result Answer SqlFault → Option (List ℕ)
 changed_by statement (Ok answer) = target statement
 changed_by statement (Err f) = None
@@ -85,19 +46,14 @@ pub record CountedOutcome : Type 0 where
   pub answer : Result Answer SqlFault
   pub after : Counted
 
+-- what a statement does to the list of tables, where it is accepted
+abbrev pub effect_in : Catalog → BoundStatement → Effect
+effect_in catalog (bound.Definition d) = effect_of catalog d
+effect_in catalog other = Stays
+
 -- the counts of the tables behind an accepted statement: a new table is counted from 0, and a dropped one no more
 abbrev pub counts_behind : Counted → BoundStatement → List ℕ
-counts_behind c (bound.CreateMaster name path) = c.counts
-counts_behind c (bound.CreateKey name master wrapped) = c.counts
-counts_behind c (bound.CreateTable table) = c.counts ++ 0 ∷ []
-counts_behind c (bound.DropTable name) = remove c.counts (place_of c.world name)
-counts_behind c (bound.DropMaster name) = c.counts
-counts_behind c (bound.DropKey name) = c.counts
-counts_behind c (bound.Insert i) = c.counts
-counts_behind c (bound.Update u) = c.counts
-counts_behind c (bound.Delete d) = c.counts
-counts_behind c (bound.Select q) = c.counts
-counts_behind c (bound.Control control) = c.counts
+counts_behind c s = followed 0 (effect_in c.world.catalog s) c.counts
 
 -- the last count is 2^64 - 1
 abbrev pub is_at_last_count : Counted → Option (List ℕ) → Bool

@@ -1,36 +1,14 @@
--- What an accepted statement does to the list of counts, and what COMMIT does to two worlds.
+-- What raises a count, what COMMIT does to two worlds, and what is answered at the last count.
 use Rattle.std.specs.Prelude.{◌≡◌, ℕ, ◌+◌, List, [], ◌∷◌, ◌++◌, Option, Some, None, Result, Ok, Err, unwrap_or, slice_set}
-use Rattle.std.specs.List.{slice_get, remove}
+use Rattle.std.specs.List.{slice_get}
 use Rattle.ae_base.specs.Atoms.{Atom}
 use Rattle.ae_base.specs.declared.faults.SqlFault.{SqlFault}
 use Rattle.ae_base.specs.declared.faults.SqlFault.TheVariants as fault
 use Rattle.ae_base.specs.declared.refusals.Refusal.{Refusal}
 use Rattle.ae_base.specs.declared.refusals.Refusal.TheVariants.{Fault}
-use Rattle.sql_tree.specs.Bound.{BoundStatement}
-use Rattle.sql_tree.specs.Bound as bound
 use Rattle.engine.specs.declared.answers.Answer as code
-use Rattle.engine.specs.Worlds.{place_of, with_rows}
-use Rattle.transactions.specs.declared.counts.Effect.{Effect}
-use Rattle.transactions.specs.declared.counts.Effect.TheVariants.{Stays, Adds, Removes}
+use Rattle.engine.specs.Worlds.{with_rows}
 use Rattle.transactions.specs.Counted.{Counted}
-
-abbrev pub effect_of : Counted → BoundStatement → Effect
-effect_of c (bound.CreateMaster name path) = Stays
-effect_of c (bound.CreateKey name master wrapped) = Stays
-effect_of c (bound.CreateTable table) = Adds
-effect_of c (bound.DropTable name) = Removes (place_of c.world name)
-effect_of c (bound.DropMaster name) = Stays
-effect_of c (bound.DropKey name) = Stays
-effect_of c (bound.Insert i) = Stays
-effect_of c (bound.Update u) = Stays
-effect_of c (bound.Delete d) = Stays
-effect_of c (bound.Select q) = Stays
-effect_of c (bound.Control control) = Stays
-
-abbrev pub followed : Effect → List ℕ → List ℕ
-followed Stays counts = counts
-followed Adds counts = counts ++ 0 ∷ []
-followed (Removes place) counts = remove counts place
 
 -- the count of the table at a place is raised
 abbrev pub raised_place : Counted → ℕ → Counted

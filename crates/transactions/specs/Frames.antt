@@ -5,7 +5,8 @@ use Rattle.ae_base.specs.Atoms.{Atom}
 use Rattle.sql_tree.specs.Bound.{BoundStatement}
 use Rattle.engine.specs.Step.{Outcome, step}
 use Rattle.engine.specs.Worlds.{World, place_of, rows_of}
-use Rattle.transactions.specs.Counted.{Execution, tables_of, is_definition, changed_by}
+use Rattle.sql_tree.specs.Sorts.{is_definition, tables_of}
+use Rattle.transactions.specs.Counted.{Execution, changed_by}
 
 -- the rows of the table of that name, if one is told, are these now
 abbrev pub put : (List ℕ → ℕ) → Option (List ℕ) → List (List Atom) → List (List (List Atom)) → List (List (List Atom))

@@ -4,7 +4,7 @@ use Rattle.std.specs.Prelude.{◌≡◌, ℕ, List, [], ◌∷◌, ◌++◌, fil
 use Rattle.ae_base.specs.declared.faults.SqlFault.{SqlFault}
 use Rattle.sql_tree.specs.Bound.{BoundStatement}
 use Rattle.engine.specs.Step.{Answer}
-use Rattle.transactions.specs.Counted.{target, is_definition}
+use Rattle.sql_tree.specs.Sorts.{is_definition, target}
 use Rattle.transactions.specs.Serial.{Deed, Call, all_after, record_of, log_at, with_log}
 use Rattle.transactions.specs.Stores.{Ask, Begins, Commits, RollsBack, Executes, Transaction, Store, transaction_at, transact}
 

@@ -2,8 +2,9 @@
 use Rattle.std.specs.Prelude.{◌≡◌, ℕ, ◌-◌, List, [], ◌∷◌, ◌++◌, Option, Some, None, Result, Ok, Err, if◌then◌else◌, replicate, slice_index_or, slice_set}
 use Rattle.ae_base.specs.declared.faults.SqlFault.{SqlFault}
 use Rattle.engine.specs.Step.{Answer}
-use Rattle.transactions.specs.Counted.{Execution, Counted, is_definition, changed_by, counted_step, raised_all}
-use Rattle.transactions.specs.Stores.{Ask, Begins, Commits, RollsBack, Executes, Transaction, Store, joined, transaction_at, transact}
+use Rattle.sql_tree.specs.Sorts.{is_definition}
+use Rattle.transactions.specs.Counted.{Execution, Counted, changed_by, counted_step, raised_all}
+use Rattle.transactions.specs.Stores.{Ask, Begins, Commits, RollsBack, Executes, Transaction, Store, with_changed, transaction_at, transact}
 
 -- a statement that was executed, and what it was answered
 pub record Deed : Type 0 where
@@ -28,7 +29,7 @@ after_deeds c (d ∷ deeds) = after_deeds (counted_step c d.execution).after dee
 -- the tables that they changed
 abbrev pub changed_in : List (List ℕ) → List Deed → List (List ℕ)
 changed_in changed [] = changed
-changed_in changed (d ∷ deeds) = changed_in (joined changed (changed_by d.execution.bound.statement d.answer)) deeds
+changed_in changed (d ∷ deeds) = changed_in (with_changed changed (changed_by d.execution.bound.statement d.answer)) deeds
 
 abbrev pub after_unit : Counted → List Deed → Counted
 after_unit c deeds = raised_all (after_deeds c deeds) (changed_in [] deeds)

@@ -2,8 +2,8 @@
 use Rattle.std.specs.Prelude.{ℕ, ◌-◌, List, ◌++◌, length, replicate, Option, None}
 use Rattle.transactions.specs.Stores.{Transaction}
 
-abbrev pub padded : {A : Type 0} → List (Option A) → List (Option A)
-padded held = held ++ replicate (64 - length held) None
+abbrev pub slots_of : {A : Type 0} → List (Option A) → List (Option A)
+slots_of held = held ++ replicate (64 - length held) None
 
 pub record Slots : Type 0 where
   pub transactions : List (Option Transaction)

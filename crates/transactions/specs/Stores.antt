@@ -5,13 +5,13 @@ use Rattle.std.specs.Str.{bytes_eq}
 use Rattle.ae_base.specs.declared.faults.SqlFault.{SqlFault}
 use Rattle.ae_base.specs.declared.faults.SqlFault.TheVariants as fault
 use Rattle.sql_tree.specs.Bound.{BoundStatement}
-use Rattle.sql_tree.specs.Bound as bound
+use Rattle.sql_tree.specs.Sorts.{control_in, is_definition, tables_of}
 use Rattle.sql_tree.specs.declared.statements.TransactionControl.{TransactionControl}
 use Rattle.sql_tree.specs.declared.statements.TransactionControl.TheVariants as control
 use Rattle.engine.specs.Step.{Answer, Defined}
 use Rattle.engine.specs.Worlds.{rows_of, with_rows}
 use Rattle.transactions.specs.declared.uses.Used.{Used}
-use Rattle.transactions.specs.Counted.{Execution, Counted, CountedOutcome, nothing_counted, count_of, tables_of, is_definition, changed_by, counted_step, raised, alone}
+use Rattle.transactions.specs.Counted.{Execution, Counted, CountedOutcome, nothing_counted, count_of, changed_by, counted_step, raised, alone}
 
 -- ---- the state
 
@@ -53,10 +53,6 @@ pub data Ask : Type 0 where
   Executes : (e : Execution) → Ask
 
 -- what a statement asks: BEGIN, COMMIT and ROLLBACK of the transactions, each other of a world
-abbrev pub control_in : BoundStatement → Option TransactionControl
-control_in (bound.Control control) = Some control
-control_in other = None
-
 abbrev pub asked : Option TransactionControl → Execution → Ask
 asked None e = Executes e
 asked (Some control.Begin) e = Begins
@@ -90,19 +86,19 @@ abbrev pub is_used : List Used → List ℕ → Bool
 is_used used name = list_any (λ u. bytes_eq u.table name) used
 
 -- each name is listed once, at its first use
-abbrev pub noted : Counted → List Used → List (List ℕ) → List Used
-noted c used [] = used
-noted c used (name ∷ names) = noted c (if is_used used name then used else used ++ record { table = name; seen = count_of c name } ∷ []) names
+abbrev pub with_uses : Counted → List Used → List (List ℕ) → List Used
+with_uses c used [] = used
+with_uses c used (name ∷ names) = with_uses c (if is_used used name then used else used ++ record { table = name; seen = count_of c name } ∷ []) names
 
-abbrev pub joined : List (List ℕ) → Option (List ℕ) → List (List ℕ)
-joined changed None = changed
-joined changed (Some name) = if list_any (λ n. bytes_eq n name) changed then changed else changed ++ name ∷ []
+abbrev pub with_changed : List (List ℕ) → Option (List ℕ) → List (List ℕ)
+with_changed changed None = changed
+with_changed changed (Some name) = if list_any (λ n. bytes_eq n name) changed then changed else changed ++ name ∷ []
 
 abbrev pub stepped_in : Transaction → Execution → CountedOutcome → Transaction
 stepped_in t e o = record t {
   own = o.after;
-  used = noted t.own t.used (tables_of e.bound.statement);
-  changed = joined t.changed (changed_by e.bound.statement o.answer);
+  used = with_uses t.own t.used (tables_of e.bound.statement);
+  changed = with_changed t.changed (changed_by e.bound.statement o.answer);
 }
 
 -- a definition has no place in a transaction
@@ -123,18 +119,18 @@ why_not shared t =
     if shared.world.catalog.version == t.version then conflict shared t.used else Some (fault.Moved (record { seen = t.version; now = shared.world.catalog.version }))
 
 -- a table has these rows, and was changed once more
-abbrev pub replaced : Counted → List ℕ → Counted → Counted
-replaced c name own = raised (record c { world = with_rows c.world name (rows_of own.world name) }) name
+abbrev pub with_own_table : Counted → List ℕ → Counted → Counted
+with_own_table c name own = raised (record c { world = with_rows c.world name (rows_of own.world name) }) name
 
 -- the changed tables take the place of the shared ones
-abbrev pub placed : Counted → Counted → List (List ℕ) → Counted
-placed shared own [] = shared
-placed shared own (name ∷ names) = placed (replaced shared name own) own names
+abbrev pub with_tables : Counted → Counted → List (List ℕ) → Counted
+with_tables shared own [] = shared
+with_tables shared own (name ∷ names) = with_tables (with_own_table shared name own) own names
 
 -- whether it is accepted or not, the transaction has ended
 abbrev pub committed : Store → ℕ → Transaction → Option SqlFault → Transacted
 committed store session t None =
-    record { answer = Ok Defined; after = with_transaction (record store { shared = placed store.shared t.own t.changed }) session None }
+    record { answer = Ok Defined; after = with_transaction (record store { shared = with_tables store.shared t.own t.changed }) session None }
 committed store session t (Some f) = record { answer = Err f; after = with_transaction store session None }
 
 -- ---- all together

@@ -10,6 +10,7 @@ use Rattle.ae_base.specs.declared.values.Datum.TheVariants.{Num}
 use Rattle.ae_base.specs.declared.values.Value.TheVariants as value
 use Rattle.sql_tree.specs.Bound.{BoundStatement}
 use Rattle.sql_tree.specs.Bound as bound
+use Rattle.sql_tree.specs.declared.bound.BoundDefinition.TheVariants as definition
 use Rattle.sql_tree.specs.Operands as operands
 use Rattle.engine.specs.Step.{Answer, Rows, Changed, Defined}
 use Rattle.transactions.specs.Serial.{Call}
@@ -33,7 +34,10 @@ abbrev pub rollback : BoundStatement
 rollback = bound.Control control.Rollback
 
 abbrev pub create : List ℕ → List (List ℕ) → BoundStatement
-create name uniques = bound.CreateTable (record { def = record { name = name; columns = record { name = codes "a"; ty = ty.Int; enc = enc.Plain; not_null = false } ∷ []; uniques = uniques }; keyed = [] })
+create name uniques = bound.Definition (definition.CreateTable (record {
+  def = record { name = name; columns = record { name = codes "a"; ty = ty.Int; enc = enc.Plain; not_null = false } ∷ []; uniques = uniques };
+  keyed = [];
+}))
 
 abbrev pub insert : ℕ → BoundStatement
 insert n = bound.Insert (record { table = t; named = 0 ∷ []; rows = record { at = 0; values = operands.Literal 0 (value.Is (Num (pos n))) ∷ [] } ∷ [] })

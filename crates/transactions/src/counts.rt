@@ -1,19 +1,19 @@
 //! Worlds that count the changes of their tables.
 
-ghost use Rattle.std.specs.Prelude.{◌≡◌, ◌==◌, ◌<◌, ◌+◌, ◌++◌, ◌∷◌, [], IfOk, IsSome, IsTrue, OnOk, Some, false, length, slice_set, unwrap_or, vec_capacity, vec_len};
-ghost use Rattle.std.specs.List.{All, remove, slice_get};
+ghost use Rattle.std.specs.Prelude.{◌≡◌, ◌==◌, ◌<◌, ◌+◌, ◌++◌, ◌∷◌, [], IfOk, IsSome, IsTrue, OnOk, Some, false, length, slice_set, unwrap_or};
+ghost use Rattle.std.specs.List.{All, slice_get};
 ghost use Rattle.std.specs.Option.{option_map};
 ghost use Rattle.sql_tree.specs.Bound.{bound_of, statement_of};
 ghost use Rattle.sql_tree.specs.OnTables.{table_among};
+ghost use Rattle.sql_tree.specs.Sorts.{target};
 ghost use Rattle.engine.specs.BoundOn.{IsBoundOn};
 ghost use Rattle.engine.specs.Worlds as worlds;
 ghost use Rattle.transactions.specs.Answers.{GivesCounted};
 ghost use Rattle.transactions.specs.Noted.{AreApart};
 ghost use Rattle.transactions.specs.Counted as spec;
 ghost use Rattle.transactions.specs.Effects as effects;
-ghost use Rattle.transactions.specs.Stores.{placed, replaced};
+ghost use Rattle.transactions.specs.Stores.{with_tables, with_own_table};
 
-use crate::tables::target;
 use ae_base::atoms::Atom;
 use ae_base::faults::SqlFault;
 use ae_base::lists::Duplicate;
@@ -22,6 +22,7 @@ use ae_base::refusals::Refusal;
 use ae_base::sameness::Same;
 use ae_base::types::Enc;
 use catalog::catalogs::Catalog;
+use catalog::effects::Effect;
 use engine::answers::Answer;
 use engine::worlds::World;
 use sql_tree::bound::{Bound, BoundStatement};
@@ -44,34 +45,6 @@ impl<K: Same> Model for Counted<K> {
     ghost view = { λ c. record { world = c.world; counts = c.counts.items } };
 
     ghost invariant = { λ c. length c.counts.items ≡ length c.world.contents };
-}
-
-/// What an accepted statement does to the list of counts.
-#[derive(Clone, Copy)]
-pub(crate) enum Effect {
-    Stays,
-    /// A table more, at the end.
-    Adds,
-    /// A table less, at this place.
-    Removes(usize),
-}
-
-impl Effect {
-    /// Has the counts follow the tables. A new table is counted from 0.
-    fn follow(self, counts: &mut Vec<u64>)
-        requires { vec_len counts.old < vec_capacity counts.old }
-        ensures { counts.new.items ≡ effects.followed self counts.old.items }
-    {
-        match self {
-            Effect::Stays => {}
-            Effect::Adds => counts.push_reserved(0),
-            Effect::Removes(place) => {
-                if place < counts.len() {
-                    let _ = counts.remove(place);
-                }
-            }
-        }
-    }
 }
 
 impl<K: Same> Counted<K> {
@@ -111,26 +84,21 @@ impl<K: Same> Counted<K> {
 
     /// Whether a statement would change a table that has the last count.
     fn is_at_last(&self, statement: &BoundStatement) -> bool
-        ensures { result ≡ spec.is_at_last_count self.now (spec.target (statement_of statement.now)) }
+        ensures { result ≡ spec.is_at_last_count self.now (target (statement_of statement.now)) }
     {
-        match target(statement) {
+        match statement.target() {
             Some(name) => self.count_of(name) == u64::MAX,
             None => false,
         }
     }
 
-    /// What a statement does to the list of counts, where it is accepted.
+    /// What a statement does to the list of tables, where it is accepted.
     fn effect(&self, statement: &BoundStatement) -> Effect
-        ensures { result ≡ effects.effect_of self.now (statement_of statement.now) }
+        ensures { result ≡ spec.effect_in self.now.world.catalog (statement_of statement.now) }
     {
         match statement {
-            BoundStatement::CreateTable(_) => Effect::Adds,
-            BoundStatement::DropTable(name) => Effect::Removes(self.place_of(name)),
-            BoundStatement::CreateMaster { .. }
-            | BoundStatement::CreateKey { .. }
-            | BoundStatement::DropMaster(_)
-            | BoundStatement::DropKey(_)
-            | BoundStatement::Insert(_)
+            BoundStatement::Definition(definition) => self.catalog().effect(definition),
+            BoundStatement::Insert(_)
             | BoundStatement::Update(_)
             | BoundStatement::Delete(_)
             | BoundStatement::Select(_)
@@ -149,7 +117,8 @@ impl<K: Same> Counted<K> {
         params: &[Atom<K>],
     ) -> Result<Answer<K>, Refusal>
         requires { IsBoundOn self.old.world.catalog (bound_of bound) encs.now params.now }
-        ensures { GivesCounted result self.old self.new (spec.counted_step self.old (spec.execution (bound_of bound) encs.now params.now)) }
+        ensures { GivesCounted result self.old self.new
+            (spec.counted_step self.old (spec.execution (bound_of bound) encs.now params.now)) }
     {
         if self.is_at_last(&bound.statement) {
             return self.unchanged(alloc, bound, encs, params);
@@ -158,7 +127,7 @@ impl<K: Same> Counted<K> {
         match self.counts.reserve(1) {
             Ok(()) => {
                 let answer = self.world.execute(alloc, bound, encs, params)?;
-                effect.follow(&mut self.counts);
+                effect.follow(&mut self.counts, 0);
                 Ok(answer)
             }
             Err(AllocError) => {
@@ -177,8 +146,10 @@ impl<K: Same> Counted<K> {
         params: &[Atom<K>],
     ) -> Result<Answer<K>, Refusal>
         requires bound { IsBoundOn self.now.world.catalog (bound_of bound) encs.now params.now }
-        requires last { IsTrue (spec.is_at_last_count self.now (spec.target (statement_of bound.statement))) }
-        ensures { GivesCounted result self.now self.now (spec.counted_step self.now (spec.execution (bound_of bound) encs.now params.now)) }
+        requires last { IsTrue
+            (spec.is_at_last_count self.now (target (statement_of bound.statement))) }
+        ensures { GivesCounted result self.now self.now
+            (spec.counted_step self.now (spec.execution (bound_of bound) encs.now params.now)) }
     {
         match self.world.copy() {
             Ok(world) => {
@@ -203,7 +174,8 @@ impl<K: Same> Counted<K> {
         params: &[Atom<K>],
     ) -> Result<Answer<K>, Refusal>
         requires { IsBoundOn self.old.world.catalog (bound_of bound) encs.now params.now }
-        ensures { GivesCounted result self.old self.new (spec.alone self.old (spec.execution (bound_of bound) encs.now params.now)) }
+        ensures { GivesCounted result self.old self.new
+            (spec.alone self.old (spec.execution (bound_of bound) encs.now params.now)) }
     {
         let changed = self.target_place(&bound.statement);
         let answer = self.execute(alloc, bound, encs, params)?;
@@ -215,9 +187,10 @@ impl<K: Same> Counted<K> {
 
     /// The place of the table whose rows a statement changes.
     fn target_place(&self, statement: &BoundStatement) -> Option<usize>
-        ensures { result ≡ option_map (worlds.place_of self.now.world) (spec.target (statement_of statement.now)) }
+        ensures { result
+            ≡ option_map (worlds.place_of self.now.world) (target (statement_of statement.now)) }
     {
-        match target(statement) {
+        match statement.target() {
             Some(name) => Some(self.place_of(name)),
             None => None,
         }
@@ -239,8 +212,9 @@ impl<K: Same> Counted<K> {
         requires same { own.old.world.catalog ≡ self.old.world.catalog }
         requires there { IsSome (table_among self.old.world.catalog.tables name.now) }
         requires further { spec.is_at_last_count self.old (Some name.now) ≡ false }
-        ensures here { self.new ≡ replaced self.old name.now own.old }
-        ensures own { own.new ≡ effects.exchanged own.old name.now (worlds.rows_of self.old.world name.now) }
+        ensures here { self.new ≡ with_own_table self.old name.now own.old }
+        ensures own { own.new
+            ≡ effects.exchanged own.old name.now (worlds.rows_of self.old.world name.now) }
     {
         self.world.swap_table(&mut own.world, name);
         let place = self.place_of(name);
@@ -251,10 +225,12 @@ impl<K: Same> Counted<K> {
     /// raises their counts. It takes no memory.
     pub(crate) fn take_tables(&mut self, own: &mut Counted<K>, names: &[Name])
         requires same { own.old.world.catalog ≡ self.old.world.catalog }
-        requires there { All (λ name. IsSome (table_among self.old.world.catalog.tables name)) names.now }
-        requires further { All (λ name. spec.is_at_last_count self.old (Some name) ≡ false) names.now }
+        requires there { All (λ name. IsSome (table_among self.old.world.catalog.tables name))
+            names.now }
+        requires further { All (λ name. spec.is_at_last_count self.old (Some name) ≡ false)
+            names.now }
         requires apart { AreApart names.now }
-        ensures { self.new ≡ placed self.old own.old names.now }
+        ensures { self.new ≡ with_tables self.old own.old names.now }
     {
         for name in names {
             self.take_table(own, name);

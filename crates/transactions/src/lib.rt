@@ -5,6 +5,5 @@ mod counts;
 pub mod laws;
 mod slots;
 pub mod stores;
-mod tables;
 mod transactions;
 pub mod uses;

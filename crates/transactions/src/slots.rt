@@ -2,7 +2,7 @@
 
 ghost use Rattle.std.specs.Prelude.{◌≡◌, ◌≤◌, ◌<◌, ◌-◌, IsSome, None, OnOk, Some, length, replicate, slice_index_or, slice_set};
 ghost use Rattle.std.specs.Option.{option_copied};
-ghost use Rattle.transactions.specs.Slots.{padded};
+ghost use Rattle.transactions.specs.Slots.{slots_of};
 
 use crate::transactions::Transaction;
 use ae_base::sameness::Same;
@@ -19,11 +19,14 @@ pub(crate) struct Slots<K: Same> {
 impl<K: Same> Model for Slots<K> {
     ghost use Rattle.std.specs.Prelude.{◌≤◌, length};
     ghost use Rattle.transactions.specs.Slots as spec;
-    ghost use Rattle.transactions.specs.Slots.{padded};
+    ghost use Rattle.transactions.specs.Slots.{slots_of};
 
     ghost Value = { spec.Slots };
 
-    ghost view = { λ s. record { transactions = padded s.held.items; reached = length s.held.items } };
+    ghost view = { λ s. record {
+      transactions = slots_of s.held.items;
+      reached = length s.held.items;
+    } };
 
     ghost invariant = { λ s. length s.held.items ≤ 64 };
 }
@@ -73,7 +76,8 @@ impl<K: Same> Slots<K> {
     /// Puts a transaction of a session, for which there is memory.
     pub(crate) fn put(&mut self, session: SessionId, transaction: Transaction<K>)
         requires { session - 1 < self.old.reached }
-        ensures { self.new.transactions ≡ slice_set self.old.transactions (session - 1) (Some transaction) }
+        ensures { self.new.transactions ≡ slice_set self.old.transactions (session - 1)
+            (Some transaction) }
     {
         self.held[place_of(session)] = Some(transaction);
     }
@@ -91,7 +95,7 @@ fn place_of(session: SessionId) -> usize
 fn extend<K: Same>(held: &mut Vec<Option<Transaction<K>>>, place: usize) -> Result<(), AllocError>
     requires place { place < 64 }
     requires few { length held.old.items ≤ 64 }
-    ensures same { padded held.new.items ≡ padded held.old.items }
+    ensures same { slots_of held.new.items ≡ slots_of held.old.items }
     ensures there { OnOk result (place < length held.new.items) }
     ensures few { length held.new.items ≤ 64 }
 {

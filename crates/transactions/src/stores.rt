@@ -2,10 +2,10 @@
 
 ghost use Rattle.std.specs.Prelude.{◌≡◌, IfOk};
 ghost use Rattle.sql_tree.specs.Bound.{bound_of, statement_of};
+ghost use Rattle.sql_tree.specs.Sorts.{is_definition};
 ghost use Rattle.engine.specs.Answers.{answer_of};
 ghost use Rattle.engine.specs.BoundOn.{IsBoundOn};
 ghost use Rattle.transactions.specs.Answers.{StepsWhere, Transacts};
-ghost use Rattle.transactions.specs.Counted as counted;
 ghost use Rattle.transactions.specs.Counted.{execution};
 ghost use Rattle.transactions.specs.Noted.{IsHeld};
 ghost use Rattle.transactions.specs.Forgotten.{IsUndone, forgotten, used_by};
@@ -14,7 +14,6 @@ ghost use Rattle.transactions.specs.Stores.{ask_of, transact, world_of};
 
 use crate::counts::Counted;
 use crate::slots::Slots;
-use crate::tables::{control_in, is_definition};
 use crate::transactions::Transaction;
 use ae_base::atoms::Atom;
 use ae_base::faults::SqlFault;
@@ -45,7 +44,8 @@ impl<K: Same> Model for Store<K> {
 
     ghost view = { λ s. record { shared = s.shared; sessions = s.slots.transactions } };
 
-    ghost invariant = { λ s. IsHeld (record { shared = s.shared; sessions = s.slots.transactions }) };
+    ghost invariant = { λ s. IsHeld
+        (record { shared = s.shared; sessions = s.slots.transactions }) };
 }
 
 impl<K: Same> Store<K> {
@@ -91,9 +91,12 @@ impl<K: Same> Store<K> {
         encs: &[Enc],
         params: &[Atom<K>],
     ) -> Result<Answer<K>, Refusal>
-        requires { IsBoundOn (world_of self.old session).world.catalog (bound_of bound) encs.now params.now }
-        ensures exact { Transacts result self.old self.new (transact self.old session (ask_of (execution (bound_of bound) encs.now params.now))) }
-        ensures undone { IfOk result (λ answer. IsUndone self.old session self.new (answer_of answer)) }
+        requires { IsBoundOn (world_of self.old session).world.catalog (bound_of bound) encs.now
+            params.now }
+        ensures exact { Transacts result self.old self.new
+            (transact self.old session (ask_of (execution (bound_of bound) encs.now params.now))) }
+        ensures undone { IfOk result
+            (λ answer. IsUndone self.old session self.new (answer_of answer)) }
     {
         self.transact(alloc, session, bound, encs, params)
     }
@@ -106,10 +109,12 @@ impl<K: Same> Store<K> {
         encs: &[Enc],
         params: &[Atom<K>],
     ) -> Result<Answer<K>, Refusal>
-        requires { IsBoundOn (world_of self.old session).world.catalog (bound_of bound) encs.now params.now }
-        ensures { Transacts result self.old self.new (transact self.old session (ask_of (execution (bound_of bound) encs.now params.now))) }
+        requires { IsBoundOn (world_of self.old session).world.catalog (bound_of bound) encs.now
+            params.now }
+        ensures { Transacts result self.old self.new
+            (transact self.old session (ask_of (execution (bound_of bound) encs.now params.now))) }
     {
-        let Some(control) = control_in(&bound.statement) else {
+        let Some(control) = bound.statement.control() else {
             return self.step(alloc, session, bound, encs, params);
         };
         drop(bound);
@@ -175,8 +180,11 @@ impl<K: Same> Store<K> {
         encs: &[Enc],
         params: &[Atom<K>],
     ) -> Result<Answer<K>, Refusal>
-        requires { IsBoundOn (world_of self.old session).world.catalog (bound_of bound) encs.now params.now }
-        ensures { Transacts result self.old self.new (transact self.old session (spec.Executes (execution (bound_of bound) encs.now params.now))) }
+        requires { IsBoundOn (world_of self.old session).world.catalog (bound_of bound) encs.now
+            params.now }
+        ensures { Transacts result self.old self.new
+            (transact self.old session
+            (spec.Executes (execution (bound_of bound) encs.now params.now))) }
     {
         match self.slots.take(session) {
             Some(transaction) => {
@@ -223,9 +231,10 @@ fn step_in<K: Same>(
     params: &[Atom<K>],
 ) -> Result<Answer<K>, Refusal>
     requires { IsBoundOn transaction.old.own.world.catalog (bound_of bound) encs.now params.now }
-    ensures { StepsWhere (counted.is_definition (statement_of bound.statement)) result transaction.old transaction.new (execution (bound_of bound) encs.now params.now) }
+    ensures { StepsWhere (is_definition (statement_of bound.statement)) result transaction.old
+        transaction.new (execution (bound_of bound) encs.now params.now) }
 {
-    if is_definition(&bound.statement) {
+    if bound.statement.sort().defines() {
         drop(bound);
         return Err(Refusal::Fault(SqlFault::InTransaction));
     }

@@ -5,16 +5,15 @@ ghost use Rattle.std.specs.List.{All, list_any};
 ghost use Rattle.std.specs.Str.{bytes_eq};
 ghost use Rattle.sql_tree.specs.Bound.{bound_of, statement_of};
 ghost use Rattle.engine.specs.BoundOn.{IsBoundOn};
+ghost use Rattle.sql_tree.specs.Sorts.{tables_of, target};
 ghost use Rattle.transactions.specs.Answers.{StepsIn};
-ghost use Rattle.transactions.specs.Counted as counted;
-ghost use Rattle.transactions.specs.Counted.{count_of, execution, tables_of};
+ghost use Rattle.transactions.specs.Counted.{count_of, execution};
 ghost use Rattle.transactions.specs.Effects.{with_name};
 ghost use Rattle.transactions.specs.Noted.{IsNoted};
 ghost use Rattle.transactions.specs.Stores as spec;
-ghost use Rattle.transactions.specs.Stores.{joined, noted, placed};
+ghost use Rattle.transactions.specs.Stores.{with_changed, with_uses, with_tables};
 
 use crate::counts::Counted;
-use crate::tables::target;
 use crate::uses::{Used, note_tables};
 use ae_base::atoms::Atom;
 use ae_base::faults::SqlFault;
@@ -45,7 +44,12 @@ impl<K: Same> Model for Transaction<K> {
 
     ghost Value = { spec.Transaction };
 
-    ghost view = { λ t. record { own = t.own; version = t.version; used = t.used.items; changed = t.changed.items } };
+    ghost view = { λ t. record {
+      own = t.own;
+      version = t.version;
+      used = t.used.items;
+      changed = t.changed.items;
+    } };
 }
 
 impl<K: Same> Transaction<K> {
@@ -92,7 +96,8 @@ impl<K: Same> Transaction<K> {
         params: &[Atom<K>],
     ) -> Result<Answer<K>, Refusal>
         requires { IsBoundOn self.old.own.world.catalog (bound_of bound) encs.now params.now }
-        ensures { StepsIn result self.old self.new (execution (bound_of bound) encs.now params.now) }
+        ensures { StepsIn result self.old self.new
+            (execution (bound_of bound) encs.now params.now) }
     {
         let before = self.used.len();
         let prepared = prepare(
@@ -139,7 +144,7 @@ impl<K: Same> Transaction<K> {
     pub(crate) fn commit(self, shared: &mut Counted<K>)
         requires noted { IsNoted shared.old self }
         requires free { spec.why_not shared.old self ≡ None }
-        ensures { shared.new ≡ placed shared.old self.own self.changed }
+        ensures { shared.new ≡ with_tables shared.old self.own self.changed }
     {
         let mut own = self.own;
         shared.take_tables(&mut own, self.changed.as_slice());
@@ -168,11 +173,15 @@ fn prepare<K: Same>(
     own: &Counted<K>,
     statement: &BoundStatement,
 ) -> Result<Option<Name>, AllocError>
-    ensures used { OnOk result (used.new.items ≡ noted own.now used.old.items (tables_of (statement_of statement.now))) }
+    ensures used { OnOk result
+        (used.new.items
+        ≡ with_uses own.now used.old.items (tables_of (statement_of statement.now))) }
     ensures unused { OnErr result (used.new.items ≡ used.old.items) }
     ensures front { take (length used.old.items) used.new.items ≡ used.old.items }
     ensures changed { changed.new.items ≡ changed.old.items }
-    ensures name { IfOk result (λ name. joined changed.old.items (counted.target (statement_of statement.now)) ≡ with_name changed.old.items name) }
+    ensures name { IfOk result
+        (λ name. with_changed changed.old.items (target (statement_of statement.now))
+        ≡ with_name changed.old.items name) }
     ensures room { OnOk result (vec_len changed.new < vec_capacity changed.new) }
 {
     let name = name_to_join(changed, statement)?;
@@ -191,11 +200,13 @@ fn name_to_join(
     statement: &BoundStatement,
 ) -> Result<Option<Name>, AllocError>
     ensures changed { changed.new.items ≡ changed.old.items }
-    ensures name { IfOk result (λ name. joined changed.old.items (counted.target (statement_of statement.now)) ≡ with_name changed.old.items name) }
+    ensures name { IfOk result
+        (λ name. with_changed changed.old.items (target (statement_of statement.now))
+        ≡ with_name changed.old.items name) }
     ensures room { OnOk result (vec_len changed.new < vec_capacity changed.new) }
 {
     changed.reserve(1)?;
-    let Some(name) = target(statement) else {
+    let Some(name) = statement.target() else {
         return Ok(None);
     };
     if is_among(changed, name) {

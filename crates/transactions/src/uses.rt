@@ -2,8 +2,8 @@
 
 ghost use Rattle.std.specs.Prelude.{◌≡◌, ◌∷◌, [], IfOk, OnErr, OnOk, length, map, take};
 ghost use Rattle.sql_tree.specs.Bound.{join_of, statement_of};
-ghost use Rattle.transactions.specs.Counted.{tables_of};
-ghost use Rattle.transactions.specs.Stores.{is_used, noted};
+ghost use Rattle.sql_tree.specs.Sorts.{tables_of};
+ghost use Rattle.transactions.specs.Stores.{is_used, with_uses};
 
 use crate::counts::Counted;
 use ae_base::lists::Duplicate;
@@ -27,7 +27,7 @@ fn is_used(used: &[Used], name: &Name) -> bool
 
 /// Notes a table at its first use. Without memory nothing changes.
 fn note<K: Same>(used: &mut Vec<Used>, own: &Counted<K>, name: &Name) -> Result<(), AllocError>
-    ensures ok { OnOk result (used.new.items ≡ noted own.now used.old.items (name.now ∷ [])) }
+    ensures ok { OnOk result (used.new.items ≡ with_uses own.now used.old.items (name.now ∷ [])) }
     ensures err { OnErr result (used.new.items ≡ used.old.items) }
 {
     if is_used(used, name) {
@@ -45,7 +45,10 @@ fn note_joins<K: Same>(
     own: &Counted<K>,
     joins: &[BoundJoin],
 ) -> Result<(), AllocError>
-    ensures ok { OnOk result (used.new.items ≡ noted own.now used.old.items (map (λ source. source.table) (map (λ join. join.source) (map join_of joins.now)))) }
+    ensures ok { OnOk result
+        (used.new.items
+        ≡ with_uses own.now used.old.items
+        (map (λ source. source.table) (map (λ join. join.source) (map join_of joins.now)))) }
     ensures front { take (length used.old.items) used.new.items ≡ used.old.items }
 {
     for further in joins {
@@ -61,17 +64,13 @@ fn note_some<K: Same>(
     own: &Counted<K>,
     statement: &BoundStatement,
 ) -> Result<(), AllocError>
-    ensures ok { OnOk result (used.new.items ≡ noted own.now used.old.items (tables_of (statement_of statement.now))) }
+    ensures ok { OnOk result
+        (used.new.items
+        ≡ with_uses own.now used.old.items (tables_of (statement_of statement.now))) }
     ensures front { take (length used.old.items) used.new.items ≡ used.old.items }
 {
     match statement {
-        BoundStatement::CreateMaster { .. }
-        | BoundStatement::CreateKey { .. }
-        | BoundStatement::CreateTable(_)
-        | BoundStatement::DropTable(_)
-        | BoundStatement::DropMaster(_)
-        | BoundStatement::DropKey(_)
-        | BoundStatement::Control(_) => Ok(()),
+        BoundStatement::Definition(_) | BoundStatement::Control(_) => Ok(()),
         BoundStatement::Insert(insert) => note(used, own, &insert.table),
         BoundStatement::Update(update) => note(used, own, &update.table),
         BoundStatement::Delete(delete) => note(used, own, &delete.table),
@@ -89,7 +88,9 @@ pub(crate) fn note_tables<K: Same>(
     own: &Counted<K>,
     statement: &BoundStatement,
 ) -> Result<(), AllocError>
-    ensures ok { OnOk result (used.new.items ≡ noted own.now used.old.items (tables_of (statement_of statement.now))) }
+    ensures ok { OnOk result
+        (used.new.items
+        ≡ with_uses own.now used.old.items (tables_of (statement_of statement.now))) }
     ensures err { OnErr result (used.new.items ≡ used.old.items) }
     ensures front { take (length used.old.items) used.new.items ≡ used.old.items }
 {

@@ -52,7 +52,8 @@ impl<K: Same> UniqueIndex<K> {
 
     /// The index of no rows for the same key.
     pub fn emptied(&self, alloc: Global) -> Result<UniqueIndex<K>, AllocError>
-        ensures { IfOk result (λ index. index ≡ record { places = self.now.places; keyed = nothing }) }
+        ensures { IfOk result
+            (λ index. index ≡ record { places = self.now.places; keyed = nothing }) }
     {
         Ok(UniqueIndex::new(alloc, self.places.copy()?))
     }

@@ -72,7 +72,8 @@ fn admit_each<K: Same>(
 /// Has each index forget the rows from a place on.
 fn forget_each<K: Same>(indexes: &mut Vec<UniqueIndex<K>>, from: usize)
     ensures keys { keys_of indexes.new.items ≡ keys_of indexes.old.items }
-    ensures front { (rows : List (List Atom)) → All (IndexesFirst rows) indexes.old.items → length rows ≡ from
+    ensures front { (rows : List (List Atom)) → All (IndexesFirst rows) indexes.old.items
+        → length rows ≡ from
         → All (IndexesRows rows) indexes.new.items }
 {
     for i in 0..indexes.len() {
@@ -87,7 +88,8 @@ pub fn fresh<K: Same>(
     rows: &[&Row<K>],
 ) -> Result<Vec<UniqueIndex<K>>, AllocError>
     ensures keys { IfOk result (λ fresh. keys_of fresh.items ≡ keys_of indexes.now) }
-    ensures indexed { IfOk result (λ fresh. All (IndexesRows (map (λ row. row.now) rows.now)) fresh.items) }
+    ensures indexed { IfOk result
+        (λ fresh. All (IndexesRows (map (λ row. row.now) rows.now)) fresh.items) }
 {
     let mut fresh = Vec::with_capacity(alloc, indexes.len())?;
     for index in indexes {

@@ -1,10 +1,9 @@
 -- One list more.
-use Rattle.std.proofs.Common.{◌<◌, ◌≤◌, List, length, map, sym, ap, ◌∙◌, arith}
+use Rattle.std.proofs.Common.{◌<◌, ◌≤◌, length, map, sym, ap, ◌∙◌, arith}
 use Rattle.std.proofs.lemmas.List.{length-map}
-use Rattle.ae_base.specs.Atoms.{Atom}
+use Rattle.operators.proofs.Interface.{map-read, map-set}
 use Rattle.key_index.specs.Places.{before}
 use Rattle.key_index.proofs.Counting.{cut_more, cut_all}
-use Rattle.key_index.proofs.Looking.{map-set, map-read}
 use Rattle.key_index.proofs.index.cut_each.Goals as goal
 
 pub loop-list-preserved : goal.loop-list-preserved
@@ -14,9 +13,9 @@ loop-list-preserved c =
     let lt : i < length lists = omega (arith, c.loop-list.auto.lists, c.loop-list-test.true) in
     let long = length-map lists (λ list. list.items) in
     let within : i < length (map (λ list. list.items) lists) = omega (arith, lt, long) in
-    rw (map-set (λ (key : List Atom). key) (λ list. list.items) lists i c.cut_from.new.list)
+    rw (map-set (λ list. list.items) lists i c.cut_from.new.list)
     (cut_more (before c.args.place) (map (λ list. list.items) c.args.lists.now) (map (λ list. list.items) lists) i c.list-item.result.items c.cut_from.new.list.items c.loop-list.invariant within
-    (map-read (λ (key : List Atom). key) (λ list. list.items) lists i c.list-item.result lt c.list-item.is) (c.cut_from.ensures ∙ ap (λ v. before c.args.place v.items) (sym c.list-item.is)))
+    (map-read (λ list. list.items) lists i c.list-item.result lt c.list-item.is) (c.cut_from.ensures ∙ ap (λ v. before c.args.place v.items) (sym c.list-item.is)))
 
 pub returns : goal.returns
 returns c =

@@ -3,7 +3,7 @@ use Rattle.std.proofs.Common.{length, map, sym, ap, ◌∙◌, Ok}
 use Rattle.std.proofs.lemmas.Result.{err_from_is_err_and}
 use Rattle.row_store.specs.Paged.{flat}
 use Rattle.sql_tree.specs.Bound.{query_of, item_of}
-use Rattle.operators.specs.Events.{scanned, fault_in}
+use Rattle.operators.specs.Events.{scan_of, fault_in}
 use Rattle.operators.specs.Found.{found_by}
 use Rattle.query_results.specs.Results.{found_of, results, all_found, answer_of}
 use Rattle.operators.proofs.Interface.{fault_handed}
@@ -21,7 +21,7 @@ returns-in_err-found g c =
     let params = c.args.params.now in
     let p = err_from_is_err_and c.from_residual.result c.from_residual.ensures.1 in
     rw (p.1, p.2)
-    (fault_handed (map (found_by {K = g.row.K.Denot} q.order_by)) c.in_err-found.field-0.0 (results (found_of q params 0) 0 (scanned (flat c.rows.result.now))) (answer_of q (all_found q params c.args.events)) c.in_err-found.ensures
+    (fault_handed (map (found_by {K = g.row.K.Denot} q.order_by)) c.in_err-found.field-0.0 (results (found_of q params 0) 0 (scan_of (flat c.rows.result.now))) (answer_of q (all_found q params c.args.events)) c.in_err-found.ensures
     (row_fault q params c.args.events (flat c.rows.result.now) c.requires.alone (fault_in c.args.events) c.rows.ensures))
 
 pub returns-in-Some : goal.returns-in-Some

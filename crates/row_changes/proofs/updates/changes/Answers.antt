@@ -2,7 +2,7 @@
 use Rattle.std.proofs.Common.{◌≡◌, ◌<◌, length, map, take, sym, arith}
 use Rattle.std.proofs.lemmas.List.{length-map}
 use Rattle.sql_tree.specs.Bound.{update_of}
-use Rattle.row_changes.specs.Changes.{row_to_update, changed, all_changed, spread}
+use Rattle.row_changes.specs.Changes.{row_to_update, tested_with, all_changed, spread}
 use Rattle.row_changes.proofs.Changing.{change_failed, read_mapped}
 use Rattle.row_changes.proofs.Spreading.{changing_more, changing_done}
 use Rattle.row_changes.proofs.updates.changes.Goals as goal
@@ -15,7 +15,7 @@ returns-in-Err-clause-changes g c =
     let lt : i < length R = omega (arith, c.loop-place-test.true, length-map c.args.rows.now (λ row. row.now)) in
     let is = read_mapped (λ row. row.now) c.args.rows.now i c.index-rows-place.result c.loop-place-test.true c.index-rows-place.is in
     change_failed f (λ changes. all_changed R (spread 0 (length c.args.rows.now) changes)) R i c.index-rows-place.result.now (all_changed (take i R) (spread 0 i c.loop-place.changes)) lt is c.loop-place.invariant.so_far c.in-Err.refusal
-    (changed c.index-rows-place.result.now) c.in-Err.ensures
+    (tested_with c.index-rows-place.result.now) c.in-Err.ensures
 
 pub loop-place-preserved : goal.loop-place-preserved
 loop-place-preserved g c =

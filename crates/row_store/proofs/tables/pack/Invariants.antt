@@ -1,12 +1,12 @@
 -- The pages behind share one where they fit.
 use Rattle.std.proofs.Common.{◌≡◌, ◌≤◌, ◌++◌, take, drop, length}
 use Rattle.std.specs.Vec.{vec_capacity}
-use Rattle.row_store.specs.Paged.{packed}
+use Rattle.row_store.specs.Paged.{compaction}
 use Rattle.row_store.proofs.tables.pack.Given as goal
 
 abbrev pub invariant-loop-page : goal.invariant-loop-page
 invariant-loop-page g l = record {
-  so_far : l.pages.items ≡ take l.page l.fn.pages.items ++ packed (drop l.page l.fn.pages.items);
+  so_far : l.pages.items ≡ take l.page l.fn.pages.items ++ compaction (drop l.page l.fn.pages.items);
   within : l.page ≤ length l.fn.pages.items;
   capacity : vec_capacity l.pages ≡ vec_capacity l.fn.pages;
 }

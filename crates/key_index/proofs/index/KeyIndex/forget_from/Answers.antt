@@ -1,6 +1,6 @@
 -- Each list is cut.
 use Rattle.std.proofs.Common.{map, ap, ◌∙◌}
-use Rattle.key_index.specs.Places.{looked}
+use Rattle.operators.specs.Alike.{looked}
 use Rattle.key_index.proofs.Counting.{before_looked}
 use Rattle.key_index.proofs.index.KeyIndex.forget_from.Goals as goal
 

@@ -3,7 +3,8 @@ use Rattle.std.proofs.Common.{◌≡◌, [], ℕ, sym, ap, ◌∙◌, not}
 use Rattle.std.specs.Prelude.{filter, ◌==◌}
 use Rattle.operators.specs.Alike.{are_alike}
 use Rattle.key_index.specs.Places.{places_at}
-use Rattle.key_index.proofs.Looking.{position_some, position_none, found_there, found_none, written_as, has_same}
+use Rattle.operators.proofs.Interface.{position_none, position_some}
+use Rattle.key_index.proofs.Looking.{found_there, found_none, written_as, has_same}
 use Rattle.key_index.proofs.index.KeyIndex.remove.Goals as goal
 
 pub returns-in-Some : goal.returns-in-Some

@@ -1,0 +1,102 @@
+-- What follows the tables of a catalog when something is defined or dropped.
+use Rattle.std.proofs.Common.{◌≡◌, List, [], refl, ap, sym, subst, ◌∙◌, arith, Ok}
+use Rattle.std.specs.List.{All, AllZip}
+use Rattle.std.proofs.lemmas.List.Elements.{All-push}
+use Rattle.ae_base.specs.Atoms.{Atom}
+use Rattle.ae_base.specs.Results.{◌>>=◌}
+use Rattle.ae_base.specs.declared.tables.TableDef.{TableDef}
+use Rattle.sql_tree.specs.declared.bound.BoundDefinition.{BoundDefinition}
+use Rattle.sql_tree.specs.declared.bound.BoundDefinition.TheVariants as definition
+use Rattle.sql_tree.specs.declared.bound.BoundTable.{BoundTable}
+use Rattle.sql_tree.specs.declared.bound.ColumnSite.{ColumnSite}
+use Rattle.sql_tree.specs.Definitions.{uniques_in}
+use Rattle.sql_tree.specs.Placed.{IsPlacedTable, IsPlacedDefinition}
+use Rattle.catalog.specs.Catalogs.{Catalog}
+use Rattle.catalog.specs.Definitions.{defined_by, effect_of, followed}
+use Rattle.catalog.specs.declared.effects.Effect.{Effect}
+use Rattle.catalog.specs.declared.effects.Effect.TheVariants.{Stays, Adds, Removes}
+use Rattle.catalog.proofs.Interface.{All-remove, tables_follow}
+use Rattle.scalar.specs.Classes.{Pairing}
+use Rattle.row_changes.specs.Tables.{Held}
+use Rattle.engine.specs.Correspond.{ContentsCorrespond}
+use Rattle.engine.specs.Held.{contents_of, IsKeyed, AreHeld}
+use Rattle.engine.specs.Step as step
+use Rattle.engine.specs.Step.{outcome}
+use Rattle.engine.specs.Worlds.{World, HoldsRows, IsShaped}
+use Rattle.engine.proofs.Contents.{zip_push, zip_remove}
+use Rattle.engine.proofs.Held as held
+use Rattle.engine.proofs.Tables.{contents_push, contents_remove}
+use Rattle.engine.proofs.Walks.{keys_placed}
+
+-- ---- one step of lists
+
+zip_followed : {A B : Type 0} (R : A → B → Type 0) (xs : List A) (ys : List B) (x : A) (y : B) (e : Effect) → AllZip R xs ys → (e ≡ Adds → R x y) → AllZip R (followed x e xs) (followed y e ys)
+zip_followed R xs ys x y Stays h r = h
+zip_followed R xs ys x y Adds h r = zip_push R xs ys x y h (r refl)
+zip_followed R xs ys x y (Removes place) h r = zip_remove R xs ys place h
+
+all_followed : {A : Type 0} (P : A → Type 0) (xs : List A) (x : A) (e : Effect) → All P xs → (e ≡ Adds → P x) → All P (followed x e xs)
+all_followed P xs x Stays h r = h
+all_followed P xs x Adds h r = All-push P xs x h (r refl)
+all_followed P xs x (Removes place) h r = All-remove P xs place h
+
+alike_followed : (R : Pairing) (defs : List TableDef) (contents others : List (List (List Atom))) (def : TableDef) (e : Effect) → ContentsCorrespond R defs contents others
+    → ContentsCorrespond R (followed def e defs) (followed [] e contents) (followed [] e others)
+alike_followed R defs contents others def Stays h = h
+alike_followed R defs contents others def Adds h = contents_push R defs contents others def h
+alike_followed R defs contents others def (Removes place) h = contents_remove R defs contents others place h
+
+contents_followed : (tables : List Held) (table : Held) (e : Effect) → contents_of (followed table e tables) ≡ followed table.rows e (contents_of tables)
+contents_followed tables table Stays = refl
+contents_followed tables table Adds = held.contents_push tables table
+contents_followed tables table (Removes place) = held.contents_remove tables place
+
+-- ---- behind an accepted definition
+
+module _ (catalog new : Catalog) (d : BoundDefinition) (accepted : defined_by catalog d ≡ Ok new) where
+  pub zip_defined : {B : Type 0} (R : TableDef → B → Type 0) (ys : List B) (y : B) → AllZip R catalog.tables ys → ((table : BoundTable) → d ≡ definition.CreateTable table → R table.def y)
+      → AllZip R new.tables (followed y (effect_of catalog d) ys)
+  zip_defined R ys y h made =
+      let t = tables_follow catalog new d accepted in
+      subst (λ defs. AllZip R defs (followed y (effect_of catalog d) ys)) (sym t.tables)
+      (zip_followed R catalog.tables ys t.def y (effect_of catalog d) h (λ adds. let m = t.made adds in subst (λ def. R def y) m.2 (made m.0 m.1)))
+
+  pub all_defined : (P : TableDef → Type 0) → All P catalog.tables → ((table : BoundTable) → d ≡ definition.CreateTable table → P table.def) → All P new.tables
+  all_defined P h made =
+      let t = tables_follow catalog new d accepted in
+      subst (All P) (sym t.tables) (all_followed P catalog.tables t.def (effect_of catalog d) h (λ adds. let m = t.made adds in subst P m.2 (made m.0 m.1)))
+
+  pub alike_defined : (R : Pairing) (contents others : List (List (List Atom))) → ContentsCorrespond R catalog.tables contents others
+      → ContentsCorrespond R new.tables (followed [] (effect_of catalog d) contents) (followed [] (effect_of catalog d) others)
+  alike_defined R contents others h =
+      let t = tables_follow catalog new d accepted in
+      subst (λ defs. ContentsCorrespond R defs (followed [] (effect_of catalog d) contents) (followed [] (effect_of catalog d) others)) (sym t.tables)
+      (alike_followed R catalog.tables contents others t.def (effect_of catalog d) h)
+
+  pub shaped_behind : (columns : List ColumnSite) (contents : List (List (List Atom))) → IsPlacedDefinition columns d → IsShaped (record { catalog = catalog; contents = contents })
+      → IsShaped (record { catalog = new; contents = followed [] (effect_of catalog d) contents })
+  shaped_behind columns contents placed w = zip_defined HoldsRows contents [] w (λ table is.
+      let p : IsPlacedTable columns table = subst (IsPlacedDefinition columns) is placed in
+      record { wide = λ k row lt. absurd (omega arith); most = omega arith; few = p.few; within = keys_placed columns table p; unique = λ k key lt. refl })
+
+  -- ---- the tables as they are held
+
+  module _ (tables : List Held) (table : Held) (t : table ≡ record { keys = uniques_in d; rows = [] }) where
+    rows_behind : contents_of (followed table (effect_of catalog d) tables) ≡ followed [] (effect_of catalog d) (contents_of tables)
+    rows_behind = contents_followed tables table (effect_of catalog d) ∙ ap (λ (x : Held). followed x.rows (effect_of catalog d) (contents_of tables)) t
+
+    pub held_behind : (columns : List ColumnSite) → IsPlacedDefinition columns d → AreHeld catalog tables → AreHeld new (followed table (effect_of catalog d) tables)
+    held_behind columns placed h = record {
+      shaped = subst (λ (contents : List (List (List Atom))). IsShaped (record { catalog = new; contents = contents })) (sym rows_behind) (shaped_behind columns (contents_of tables) placed h.shaped);
+      keyed = zip_defined IsKeyed tables table h.keyed (λ made is. ap (λ (x : Held). x.keys) t ∙ ap uniques_in is);
+    }
+
+    pub defined_gives : let world : World = record { catalog = catalog; contents = contents_of tables } in
+        outcome world (step.define world d) ≡ record { answer = Ok step.Defined; world = record { catalog = new; contents = contents_of (followed table (effect_of catalog d) tables) } }
+    defined_gives =
+        let world : World = record { catalog = catalog; contents = contents_of tables } in
+        ap (λ o. outcome world (o >>= λ c. Ok (record { answer = step.Defined; world = record { catalog = c; contents = followed [] (effect_of catalog d) (contents_of tables) } }))) accepted
+        ∙ ap made (sym rows_behind)
+      where
+        made : List (List (List Atom)) → step.Outcome
+        made contents = record { answer = Ok step.Defined; world = record { catalog = new; contents = contents } }
