@@ -1,0 +1,209 @@
+-- A write or a cut that is synced at once, and reads of a file that is on the disk.
+use Rattle.std.proofs.Common.{◌≡◌, ℕ, ◌≤◌, List, [], ◌∷◌, ◌++◌, length, take, Option, Some, None, refl, sym, ap, ◌∙◌, subst, arith, ◌<◌, drop, length-append}
+use Rattle.std.specs.Prelude.{IfSome}
+use Rattle.ae_edge.specs.Devices.{WhereTold}
+use Rattle.disk.specs.Calls.{StaysSynced, WasAsked, with_bytes, with_length, Writes, Cuts, Syncs, IsPart, Gives}
+use Rattle.disk.specs.Crashes.{Asked, Range, Length, Stand, IsImage, kept}
+use Rattle.disk.specs.Moments.{Moments, Passes, LeavesNow, Leaves}
+use Rattle.disk.specs.Durable.{IsKept, Torn, WritesThrough, CutsThrough, StaysKept}
+use Rattle.disk.specs.declared.disks.Given.TheVariants as given
+use Rattle.disk.specs.declared.disks.Stored.{Stored}
+use Rattle.disk.specs.declared.disks.Stored.TheVariants as stored
+use Rattle.std.proofs.lemmas.List.{take_all}
+use Rattle.std.proofs.Math.Seq.{take-add}
+use Rattle.disk.specs.Durable.{ReadsWhole}
+use Rattle.ae_edge.proofs.Interface.{told_then, told_map}
+use Rattle.disk.proofs.Told.{told_from, told_from_then}
+use Rattle.disk.proofs.Images.{kept_only, torn_same}
+use Rattle.disk.proofs.Moments.{leaves_none, leaves_pass}
+
+-- images don't depend on what reads give
+pub same_images : (a b : Stand) (image : List ℕ) → b.synced ≡ a.synced → b.asked ≡ a.asked → IsImage b image → IsImage a image
+same_images a b image s q is =
+    let e : b ≡ record { seen = b.seen; synced = a.synced; asked = a.asked } = λ i. record { seen = b.seen; synced = s i; asked = q i } in
+    let moved = subst (λ (w : Stand). IsImage w image) e is in
+    record { no_shorter = moved.no_shorter; no_longer = moved.no_longer; kept = moved.kept }
+
+-- at a kept disk
+kept_leaves : (P : List ℕ → Type 0) (file : List ℕ) (stand : Stand) → stand ≡ kept file → P file → LeavesNow P stand
+kept_leaves P file stand is p image im =
+    subst P (sym (kept_only file image (subst (λ (w : Stand). IsImage w image) is im))) p
+
+-- a kept disk stays so where nothing was asked
+stays_kept : (a b : Moments) → IsKept a → Passes StaysSynced a b → b.now ≡ a.now
+stays_kept a b k p =
+    let synced : b.now.synced ≡ a.now.seen = p.here.0 ∙ ap (λ (w : Stand). w.synced) k in
+    let asked : b.now.asked ≡ [] = p.here.1 ∙ ap (λ (w : Stand). w.asked) k in
+    let image : IsImage (kept a.now.seen) b.now.seen = same_images (kept a.now.seen) b.now b.now.seen synced asked p.is_image in
+    let seen : b.now.seen ≡ a.now.seen = kept_only a.now.seen b.now.seen image in
+    let e : b.now ≡ kept a.now.seen = λ i. record { seen = seen i; synced = synced i; asked = asked i } in
+    e ∙ sym k
+
+module _ (file : List ℕ) (asked : Asked) where
+  -- the first moment, after a call that asked for it
+  asked_once : (a b : Moments) (Q : Stand → Stand → Type 0) → a.now ≡ kept file → Passes Q a b → b.now.synced ≡ a.now.synced → b.now.asked ≡ asked ∷ a.now.asked → Leaves (Torn file asked) a b
+  asked_once a b Q k p synced more =
+      let s : b.now.synced ≡ file = synced ∙ ap (λ (w : Stand). w.synced) k in
+      let q : b.now.asked ≡ asked ∷ [] = more ∙ ap (λ (w : Stand). asked ∷ w.asked) k in
+      let here : LeavesNow (Torn file asked) b.now = λ image im. same_images (record { seen = file; synced = file; asked = asked ∷ [] }) b.now image s q im in
+      leaves_pass (Torn file asked) Q a a b (leaves_none (Torn file asked) a (kept_leaves (Torn file asked) file a.now k (torn_same file asked))) p here
+
+  asked_now : (a b : Moments) → Leaves (Torn file asked) a b → LeavesNow (Torn file asked) b.now → Leaves (Torn file asked) a b
+  asked_now a b p now = p
+
+-- no call had its memory
+none_asked : (file : List ℕ) (asked : Asked) (a b : Moments) → a.now ≡ kept file → b ≡ a → Leaves (Torn file asked) a b
+none_asked file asked a b k e =
+    subst (λ (w : Moments). Leaves (Torn file asked) a w) (sym e) (leaves_none (Torn file asked) a (kept_leaves (Torn file asked) file a.now k (torn_same file asked)))
+
+-- the sync after it
+sync_after : (file : List ℕ) (asked : Asked) (result : Stored) (a b c : Moments) → a.now ≡ kept file → Leaves (Torn file asked) a b
+    → b.now.synced ≡ file → b.now.asked ≡ asked ∷ [] → Syncs result b c → Leaves (Torn file asked) a c
+sync_after file asked stored.Done a b c k p s q y =
+    let was : Torn file asked b.now.seen = same_images (record { seen = file; synced = file; asked = asked ∷ [] }) b.now b.now.seen s q y.was_image in
+    leaves_pass (Torn file asked) (λ before after. after ≡ kept before.seen) a b c p y (kept_leaves (Torn file asked) b.now.seen c.now y.here was)
+sync_after file asked stored.Failed a b c k p s q y =
+    leaves_pass (Torn file asked) StaysSynced a b c p y (λ image im. same_images (record { seen = file; synced = file; asked = asked ∷ [] }) c.now image (y.here.0 ∙ s) (y.here.1 ∙ q) im)
+sync_after file asked stored.OutOfMemory a b c k p s q y = subst (λ (w : Moments). Leaves (Torn file asked) a w) (sym y) p
+
+-- ---- a write
+
+write_failed : (at : ℕ) (bytes : List ℕ) (a b : Moments) → IsKept a → Writes stored.Failed at bytes a b → WritesThrough stored.Failed at bytes a b
+write_failed at bytes a b k w = asked_once a.now.seen (Range at (length bytes)) a b (WasAsked (Range at (length bytes))) k w w.here.0 w.here.1
+
+write_unasked : (at : ℕ) (bytes : List ℕ) (a b : Moments) → IsKept a → Writes stored.OutOfMemory at bytes a b → WritesThrough stored.OutOfMemory at bytes a b
+write_unasked at bytes a b k w = none_asked a.now.seen (Range at (length bytes)) a b k w
+
+-- each crash up to the sync, by its answer
+write_moments : (result : Stored) (at : ℕ) (bytes : List ℕ) (a b c : Moments) → IsKept a → Writes stored.Done at bytes a b → Syncs result b c → Leaves (Torn a.now.seen (Range at (length bytes))) a c
+write_moments result at bytes a b c k w y =
+    let asked = Range at (length bytes) in
+    let first = asked_once a.now.seen asked a b (λ before after. after ≡ with_bytes at bytes before) k w (ap (λ (s : Stand). s.synced) w.here) (ap (λ (s : Stand). s.asked) w.here) in
+    sync_after a.now.seen asked result a b c k first (ap (λ (s : Stand). s.synced) w.here ∙ ap (λ (s : Stand). s.synced) k) (ap (λ (s : Stand). s.asked) w.here ∙ ap (λ (s : Stand). asked ∷ s.asked) k) y
+
+write_synced : (result : Stored) (at : ℕ) (bytes : List ℕ) (a b c : Moments) → IsKept a → Writes stored.Done at bytes a b → Syncs result b c → WritesThrough result at bytes a c
+write_synced stored.Done at bytes a b c k w y = record { moments = write_moments stored.Done at bytes a b c k w y; now = y.here ∙ ap (λ (s : Stand). kept s.seen) w.here }
+write_synced stored.Failed at bytes a b c k w y = write_moments stored.Failed at bytes a b c k w y
+write_synced stored.OutOfMemory at bytes a b c k w y = write_moments stored.OutOfMemory at bytes a b c k w y
+
+pub write_failed_told : (at : ℕ) (bytes : List ℕ) (a b : Option Moments) → IfSome a IsKept → WhereTold (Writes stored.Failed at bytes) a b → WhereTold (WritesThrough stored.Failed at bytes) a b
+write_failed_told at bytes = told_from IsKept (Writes stored.Failed at bytes) (WritesThrough stored.Failed at bytes) (write_failed at bytes)
+
+pub write_unasked_told : (at : ℕ) (bytes : List ℕ) (a b : Option Moments) → IfSome a IsKept → WhereTold (Writes stored.OutOfMemory at bytes) a b → WhereTold (WritesThrough stored.OutOfMemory at bytes) a b
+write_unasked_told at bytes = told_from IsKept (Writes stored.OutOfMemory at bytes) (WritesThrough stored.OutOfMemory at bytes) (write_unasked at bytes)
+
+pub write_synced_told : (result : Stored) (at : ℕ) (bytes : List ℕ) (a b c : Option Moments) → IfSome a IsKept
+    → WhereTold (Writes stored.Done at bytes) a b → WhereTold (Syncs result) b c → WhereTold (WritesThrough result at bytes) a c
+write_synced_told result at bytes = told_from_then IsKept (Writes stored.Done at bytes) (Syncs result) (WritesThrough result at bytes) (write_synced result at bytes)
+
+-- ---- a cut
+
+cut_failed : (len : ℕ) (a b : Moments) → IsKept a → Cuts stored.Failed len a b → CutsThrough stored.Failed len a b
+cut_failed len a b k w = asked_once a.now.seen (Length len) a b (WasAsked (Length len)) k w w.here.0 w.here.1
+
+cut_unasked : (len : ℕ) (a b : Moments) → IsKept a → Cuts stored.OutOfMemory len a b → CutsThrough stored.OutOfMemory len a b
+cut_unasked len a b k w = none_asked a.now.seen (Length len) a b k w
+
+cut_moments : (result : Stored) (len : ℕ) (a b c : Moments) → IsKept a → Cuts stored.Done len a b → Syncs result b c → Leaves (Torn a.now.seen (Length len)) a c
+cut_moments result len a b c k w y =
+    let asked = Length len in
+    let first = asked_once a.now.seen asked a b (λ before after. after ≡ with_length len before) k w (ap (λ (s : Stand). s.synced) w.here) (ap (λ (s : Stand). s.asked) w.here) in
+    sync_after a.now.seen asked result a b c k first (ap (λ (s : Stand). s.synced) w.here ∙ ap (λ (s : Stand). s.synced) k) (ap (λ (s : Stand). s.asked) w.here ∙ ap (λ (s : Stand). asked ∷ s.asked) k) y
+
+cut_synced : (result : Stored) (len : ℕ) (a b c : Moments) → IsKept a → Cuts stored.Done len a b → Syncs result b c → CutsThrough result len a c
+cut_synced stored.Done len a b c k w y = record { moments = cut_moments stored.Done len a b c k w y; now = y.here ∙ ap (λ (s : Stand). kept s.seen) w.here }
+cut_synced stored.Failed len a b c k w y = cut_moments stored.Failed len a b c k w y
+cut_synced stored.OutOfMemory len a b c k w y = cut_moments stored.OutOfMemory len a b c k w y
+
+pub cut_failed_told : (len : ℕ) (a b : Option Moments) → IfSome a IsKept → WhereTold (Cuts stored.Failed len) a b → WhereTold (CutsThrough stored.Failed len) a b
+cut_failed_told len = told_from IsKept (Cuts stored.Failed len) (CutsThrough stored.Failed len) (cut_failed len)
+
+pub cut_unasked_told : (len : ℕ) (a b : Option Moments) → IfSome a IsKept → WhereTold (Cuts stored.OutOfMemory len) a b → WhereTold (CutsThrough stored.OutOfMemory len) a b
+cut_unasked_told len = told_from IsKept (Cuts stored.OutOfMemory len) (CutsThrough stored.OutOfMemory len) (cut_unasked len)
+
+pub cut_synced_told : (result : Stored) (len : ℕ) (a b c : Option Moments) → IfSome a IsKept
+    → WhereTold (Cuts stored.Done len) a b → WhereTold (Syncs result) b c → WhereTold (CutsThrough result len) a c
+cut_synced_told result len = told_from_then IsKept (Cuts stored.Done len) (Syncs result) (CutsThrough result len) (cut_synced result len)
+
+-- ---- reads
+
+-- the bytes read so far are a front of the file, and the disk stands as it stood
+pub record HasRead (bytes : List ℕ) (old now : Moments) : Type 0 where
+  pub front : bytes ≡ take (length bytes) old.now.seen
+  pub kept : IsKept old
+  pub stays : StaysKept old now
+
+stays_same : (a : Moments) → IsKept a → StaysKept a a
+stays_same a k = record { moments = leaves_none (λ image. image ≡ a.now.seen) a (kept_leaves (λ image. image ≡ a.now.seen) a.now.seen a.now k refl); now = refl }
+
+stays_pass : (Q : Stand → Stand → Type 0) (a b c : Moments) → IsKept a → StaysKept a b → Passes Q b c → c.now ≡ b.now → StaysKept a c
+stays_pass Q a b c k p q e = record {
+  moments = leaves_pass (λ image. image ≡ a.now.seen) Q a b c p.moments q (kept_leaves (λ image. image ≡ a.now.seen) a.now.seen c.now (e ∙ p.now ∙ k) refl);
+  now = e ∙ p.now;
+}
+
+is_kept_now : (a b : Moments) → IsKept a → StaysKept a b → IsKept b
+is_kept_now a b k p = p.now ∙ k ∙ ap (λ (s : Stand). kept s.seen) (sym p.now)
+
+longer_front : (bytes part file : List ℕ) → bytes ≡ take (length bytes) file → part ≡ take (length part) (drop (length bytes) file) → bytes ++ part ≡ take (length (bytes ++ part)) file
+longer_front bytes part file front is =
+    (λ i. front i ++ is i) ∙ sym (take-add (length bytes) (length part) file) ∙ ap (λ n. take n file) (sym (length-append bytes part))
+
+read_on : (part bytes : List ℕ) (a b c : Moments) → HasRead bytes a b → Gives (length bytes) (given.Bytes part) b c → HasRead (bytes ++ part) a c
+read_on part bytes a b c h r = record {
+  front = longer_front bytes part a.now.seen h.front (subst (λ (s : Stand). part ≡ take (length part) (drop (length bytes) s.seen)) h.stays.now r.here.1.is);
+  kept = h.kept;
+  stays = stays_pass (λ before after. (after ≡ before) × IsPart (length bytes) part before.seen) a b c h.kept h.stays r r.here.0;
+}
+
+none_there : (at size count : ℕ) → (at < size → 0 < count) → count ≡ 0 → size ≤ at
+none_there at size count some none = not_lt at size (λ less. absurd (omega (arith, some less, none)))
+  where
+    not_lt : (m n : ℕ) → (m < n → ⊥) → n ≤ m
+    not_lt m n none = grind arith
+
+-- no more bytes are there
+read_end : (part bytes : List ℕ) (a b c : Moments) → HasRead bytes a b → Gives (length bytes) (given.Bytes part) b c → part ≡ [] → ReadsWhole (given.Bytes bytes) a c
+read_end part bytes a b c h r none =
+    let some : length bytes < length a.now.seen → 0 < length part = subst (λ (s : Stand). length bytes < length s.seen → 0 < length part) h.stays.now r.here.1.some in
+    let past = none_there (length bytes) (length a.now.seen) (length part) some (ap length none) in
+    (h.front ∙ take_all (length bytes) a.now.seen past, stays_pass (λ before after. (after ≡ before) × IsPart (length bytes) part before.seen) a b c h.kept h.stays r r.here.0)
+
+read_failed : (bytes : List ℕ) (a b c : Moments) → HasRead bytes a b → Gives (length bytes) given.Failed b c → ReadsWhole given.Failed a c
+read_failed bytes a b c h r = stays_pass StaysSynced a b c h.kept h.stays r (stays_kept b c (is_kept_now a b h.kept h.stays) r)
+
+read_unasked : (bytes : List ℕ) (a b c : Moments) → HasRead bytes a b → Gives (length bytes) given.OutOfMemory b c → ReadsWhole given.OutOfMemory a c
+read_unasked bytes a b c h r = subst (λ (w : Moments). StaysKept a w) (sym r) h.stays
+
+pub read_none_told : (a : Option Moments) → IfSome a IsKept → WhereTold (HasRead []) a a
+read_none_told (Some a) k = record { front = refl; kept = k; stays = stays_same a k }
+read_none_told None k = tt
+
+pub read_on_told : (part bytes : List ℕ) (a b c : Option Moments) → WhereTold (HasRead bytes) a b → WhereTold (Gives (length bytes) (given.Bytes part)) b c → WhereTold (HasRead (bytes ++ part)) a c
+read_on_told part bytes = told_then (HasRead bytes) (Gives (length bytes) (given.Bytes part)) (HasRead (bytes ++ part)) (λ a b c h r. read_on part bytes a b c h r)
+
+pub read_end_told : (part bytes : List ℕ) (a b c : Option Moments) → WhereTold (HasRead bytes) a b → WhereTold (Gives (length bytes) (given.Bytes part)) b c → part ≡ [] → WhereTold (ReadsWhole (given.Bytes bytes)) a c
+read_end_told part bytes a b c h r none = told_then (HasRead bytes) (Gives (length bytes) (given.Bytes part)) (ReadsWhole (given.Bytes bytes)) (λ x y z p q. read_end part bytes x y z p q none) a b c h r
+
+pub read_failed_told : (bytes : List ℕ) (a b c : Option Moments) → WhereTold (HasRead bytes) a b → WhereTold (Gives (length bytes) given.Failed) b c → WhereTold (ReadsWhole given.Failed) a c
+read_failed_told bytes = told_then (HasRead bytes) (Gives (length bytes) given.Failed) (ReadsWhole given.Failed) (read_failed bytes)
+
+pub read_unasked_told : (bytes : List ℕ) (a b c : Option Moments) → WhereTold (HasRead bytes) a b → WhereTold (Gives (length bytes) given.OutOfMemory) b c → WhereTold (ReadsWhole given.OutOfMemory) a c
+read_unasked_told bytes = told_then (HasRead bytes) (Gives (length bytes) given.OutOfMemory) (ReadsWhole given.OutOfMemory) (read_unasked bytes)
+
+-- without memory for what came
+pub read_stopped_told : (part bytes : List ℕ) (a b c : Option Moments) → WhereTold (HasRead bytes) a b → WhereTold (Gives (length bytes) (given.Bytes part)) b c → WhereTold (ReadsWhole given.OutOfMemory) a c
+read_stopped_told part bytes =
+    told_then (HasRead bytes) (Gives (length bytes) (given.Bytes part)) (ReadsWhole given.OutOfMemory) (λ a b c h r. (read_on part bytes a b c h r).stays)
+
+-- or for any more
+pub read_full_told : (bytes : List ℕ) (a b : Option Moments) → WhereTold (HasRead bytes) a b → WhereTold (ReadsWhole given.OutOfMemory) a b
+read_full_told bytes = told_map (HasRead bytes) (ReadsWhole given.OutOfMemory) (λ a b h. h.stays)
+
+-- ---- a sync alone
+
+-- of a file that is on the disk
+pub sync_kept : (result : Stored) (a b : Moments) → IsKept a → Syncs result a b → StaysKept a b
+sync_kept stored.Done a b k y = stays_pass (λ before after. after ≡ kept before.seen) a a b k (stays_same a k) y (y.here ∙ sym k)
+sync_kept stored.Failed a b k y = stays_pass StaysSynced a a b k (stays_same a k) y (stays_kept a b k y)
+sync_kept stored.OutOfMemory a b k y = subst (λ (w : Moments). StaysKept a w) (sym y) (stays_same a k)

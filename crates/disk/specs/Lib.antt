@@ -1,0 +1,5 @@
+pub mod Calls
+pub mod Crashes
+pub mod DiskCalls
+pub mod Durable
+pub mod Moments

@@ -1,0 +1,123 @@
+//! Disks with one file.
+
+ghost use Rattle.std.specs.Prelude.{◌≡◌, ◌<◌, ◌≤◌, ◌+◌, ◌^◌, ◌∷◌, [], ℕ, List, Option, IfSome, length};
+ghost use Rattle.std.specs.Borrow.{GName};
+ghost use Rattle.ae_edge.specs.Devices.{WhereTold};
+ghost use Rattle.disk.specs.Calls.{CountsGiven, CountsMeasured, CountsStored, Cuts, Gives, IsWithin, Measures, Syncs, Writes};
+ghost use Rattle.disk.specs.Moments.{Moments};
+
+use ae_base::blobs::Blob;
+use std::alloc::Global;
+
+/// What a call on the length of the file answers.
+#[derive(Clone, Copy, PartialEq, Eq, Debug)]
+pub enum Measured {
+    /// So many bytes.
+    Bytes(u64),
+    /// The call failed.
+    Failed,
+    OutOfMemory,
+}
+
+/// What a call for bytes of the file answers.
+#[derive(Drop)]
+pub enum Given {
+    /// The next bytes; none only at the end of the file or past it.
+    Bytes(Blob),
+    /// The call failed.
+    Failed,
+    OutOfMemory,
+}
+
+/// What a call that changes the file answers, or one that syncs.
+#[derive(Clone, Copy, PartialEq, Eq, Debug)]
+pub enum Stored {
+    Done,
+    /// The call failed.
+    Failed,
+    OutOfMemory,
+}
+
+/// A disk with one file. A call that answers `OutOfMemory` has done nothing. After `Failed` reads
+/// may give any of the images that a crash may leave.
+pub trait Disk {
+    /// How it has stood at each moment, and how it stands now, where that is told. Each call that
+    /// has its memory is one moment more.
+    ghost told: { Self → Option Moments };
+
+    /// How many calls have failed. It never falls.
+    ghost faults: { Self → ℕ };
+
+    /// The names of what it is lent.
+    ghost names: { Self → List GName };
+
+    /// The length of the file in bytes.
+    fn size(&mut self) -> Measured
+        ensures same { names self.new ≡ names self.old }
+        ensures content { WhereTold (Measures result) (told self.old) (told self.new) }
+        ensures count { faults self.old ≤ faults self.new }
+        ensures counts { CountsMeasured result (faults self.old) (faults self.new) };
+
+    /// The bytes from a place on, at most `max`: none only at the end of the file or past it.
+    fn read(&mut self, alloc: Global, at: u64, max: usize) -> Given
+        requires { 1 ≤ max }
+        ensures same { names self.new ≡ names self.old }
+        ensures piece { IsWithin max result }
+        ensures content { WhereTold (Gives at result) (told self.old) (told self.new) }
+        ensures count { faults self.old ≤ faults self.new }
+        ensures counts { CountsGiven result (faults self.old) (faults self.new) };
+
+    /// Puts bytes at a place, which is at most the end of the file. Until a sync a crash may leave
+    /// any bytes there.
+    fn write(&mut self, at: u64, bytes: &[u8]) -> Stored
+        requires inside { IfSome (told self.old) (λ disk. at ≤ length disk.now.seen) }
+        requires end { at + length bytes.now < 2 ^ 64 }
+        ensures same { names self.new ≡ names self.old }
+        ensures content { WhereTold (Writes result at bytes.now) (told self.old) (told self.new) }
+        ensures count { faults self.old ≤ faults self.new }
+        ensures counts { CountsStored result (faults self.old) (faults self.new) };
+
+    /// Cuts the file to a length. Until a sync a crash may leave any part of what was cut away.
+    fn cut(&mut self, len: u64) -> Stored
+        requires inside { IfSome (told self.old) (λ disk. len ≤ length disk.now.seen) }
+        ensures same { names self.new ≡ names self.old }
+        ensures content { WhereTold (Cuts result len) (told self.old) (told self.new) }
+        ensures count { faults self.old ≤ faults self.new }
+        ensures counts { CountsStored result (faults self.old) (faults self.new) };
+
+    /// Puts the file on the disk as reads give it: from then on a crash leaves that.
+    fn sync(&mut self) -> Stored
+        ensures same { names self.new ≡ names self.old }
+        ensures content { WhereTold (Syncs result) (told self.old) (told self.new) }
+        ensures count { faults self.old ≤ faults self.new }
+        ensures counts { CountsStored result (faults self.old) (faults self.new) };
+}
+
+/// One that is lent.
+impl<D: Disk> Disk for &mut D {
+    ghost told = { λ d. D.told d.now };
+
+    ghost faults = { λ d. D.faults d.now };
+
+    ghost names = { λ d. d.ghost_name ∷ [] };
+
+    fn size(&mut self) -> Measured {
+        (**self).size()
+    }
+
+    fn read(&mut self, alloc: Global, at: u64, max: usize) -> Given {
+        (**self).read(alloc, at, max)
+    }
+
+    fn write(&mut self, at: u64, bytes: &[u8]) -> Stored {
+        (**self).write(at, bytes)
+    }
+
+    fn cut(&mut self, len: u64) -> Stored {
+        (**self).cut(len)
+    }
+
+    fn sync(&mut self) -> Stored {
+        (**self).sync()
+    }
+}

@@ -1,0 +1,8 @@
+//! A disk with one file: what each call does, and what a crash at any moment may leave. In memory,
+//! where that is told, and over a file of std, where it isn't.
+#![tactic(auto)]
+
+pub mod disks;
+pub mod durable;
+pub mod file_disk;
+pub mod mem_disk;

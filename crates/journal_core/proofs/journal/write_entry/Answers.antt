@@ -1,0 +1,36 @@
+-- The record is put behind the closed gate, and then the gate is opened.
+use Rattle.std.proofs.Common.{◌≤◌, ◌+◌, ℕ, List, length, arith}
+use Rattle.journal_core.specs.Journals.{IsEntry}
+use Rattle.journal_core.specs.Records.{IsRecord}
+use Rattle.journal_core.specs.Appends.{most_bytes}
+use Rattle.journal_core.proofs.Appending.{mounted_kept_told, mounted_inside_told, staged_kept_told, staged_inside_told, entry_stopped_told, entry_unwritten_told, entry_written_told}
+use Rattle.journal_core.proofs.journal.write_entry.Goals as goal
+
+is_entry : (gate : ℕ) (entry : List ℕ) → IsRecord entry → gate + 10 + length entry ≤ most_bytes → IsEntry entry
+is_entry gate entry is few = record { proper = is; small = omega (arith, few) }
+
+pub stage-requires-clause-kept : goal.stage-requires-clause-kept
+stage-requires-clause-kept g c = mounted_kept_told c.args.gate _ c.requires.mounted
+
+pub stage-requires-clause-inside : goal.stage-requires-clause-inside
+stage-requires-clause-inside g c = mounted_inside_told c.args.gate _ c.requires.mounted
+
+pub write_through-requires-clause-kept : goal.write_through-requires-clause-kept
+write_through-requires-clause-kept g c =
+    staged_kept_told c.args.gate c.args.entry.now (is_entry c.args.gate c.args.entry.now c.requires.proper c.requires.room) _ _ c.requires.mounted c.in-Done.ensures.content
+
+pub write_through-requires-clause-inside : goal.write_through-requires-clause-inside
+write_through-requires-clause-inside g c =
+    staged_inside_told c.args.gate c.args.entry.now (is_entry c.args.gate c.args.entry.now c.requires.proper c.requires.room) _ _ c.requires.mounted c.in-Done.ensures.content
+
+pub returns-in-Done-clause-content : goal.returns-in-Done-clause-content
+returns-in-Done-clause-content g c =
+    entry_written_told c.args.gate c.args.entry.now (is_entry c.args.gate c.args.entry.now c.requires.proper c.requires.room) c.write_through.result _ _ _ c.requires.mounted c.in-Done.ensures.content c.write_through.ensures.content
+
+pub returns-in-Failed-clause-content : goal.returns-in-Failed-clause-content
+returns-in-Failed-clause-content g c =
+    entry_stopped_told c.args.gate c.args.entry.now (is_entry c.args.gate c.args.entry.now c.requires.proper c.requires.room) _ _ c.requires.mounted c.in-Failed.ensures.content
+
+pub returns-in-OutOfMemory-clause-content : goal.returns-in-OutOfMemory-clause-content
+returns-in-OutOfMemory-clause-content g c =
+    entry_unwritten_told c.args.gate c.args.entry.now (is_entry c.args.gate c.args.entry.now c.requires.proper c.requires.room) _ _ c.requires.mounted c.in-OutOfMemory.ensures.content

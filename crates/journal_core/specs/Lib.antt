@@ -1,0 +1,9 @@
+pub mod Appends
+pub mod Journals
+pub mod JournalWorked
+pub mod Laws
+pub mod Mounts
+pub mod Parsing
+pub mod Records
+pub mod Settling
+pub mod States

@@ -1,0 +1,31 @@
+-- What a record of a journal may be.
+use Rattle.std.specs.Prelude.{◌≡◌, ◌≢◌, ℕ, ◌≤◌, List, [], ◌++◌, length, take}
+use Rattle.std.specs.List.{All, concat}
+use Rattle.wire_messages.specs.declared.requests.Request.{Request}
+use Rattle.wire_messages.specs.declared.requests.Request.TheVariants.{Describe, Execute}
+use Rattle.wire_spelling.specs.Spelling.{SpellsRequest}
+use Rattle.journal_core.specs.declared.records.Front.{Front}
+use Rattle.journal_core.specs.declared.records.Front.TheVariants as front
+
+abbrev pub IsExecute : Request → Type 0
+IsExecute (Describe session text declarations) = ⊥
+IsExecute (Execute session version text params) = Unit {0}
+
+-- the frame of a request to execute a statement
+pub record IsExecuteFrame (bytes : List ℕ) : Type 0 where
+  pub request : Request
+  pub is : IsExecute request
+  pub spelled : SpellsRequest request bytes
+
+-- one or more such frames, one after another, and nothing else
+pub record IsRecord (bytes : List ℕ) : Type 0 where
+  pub frames : List (List ℕ)
+  pub some : frames ≢ []
+  pub each : All IsExecuteFrame frames
+  pub whole : bytes ≡ concat frames
+
+-- such a frame stands at the front, and is this long, or none does
+abbrev pub Fronts : Front → List ℕ → Type 0
+Fronts (front.Execute used) bytes = (used ≤ length bytes) × IsExecuteFrame (take used bytes)
+Fronts front.Other bytes = (frame rest : List ℕ) → IsExecuteFrame frame → bytes ≢ frame ++ rest
+Fronts front.OutOfMemory bytes = Unit {0}

@@ -1,0 +1,156 @@
+//! A journal, to which records are added.
+
+ghost use Rattle.std.specs.Prelude.{◌≡◌, ◌<◌, ◌≤◌, ◌+◌, ◌++◌, ◌∷◌, [], ◌^◌, ◌↔◌, IfOk, IfSome, IsTrue, false, length};
+ghost use Rattle.ae_edge.specs.Devices.{WhereTold};
+ghost use Rattle.disk.specs.Calls.{CountsStored};
+ghost use Rattle.disk.specs.Durable.{IsKept, WritesThrough};
+ghost use Rattle.journal_core.specs.Appends.{Appends, CountsAppended, IsMounted, StaysMounted, WritesEntry, fails, gate_after, most_bytes};
+ghost use Rattle.journal_core.specs.Journals.{framed};
+ghost use Rattle.journal_core.specs.Records.{IsRecord};
+
+use disk::disks::{Disk, Stored};
+use disk::durable::write_through;
+use std::alloc::{AllocError, Global};
+use std::marker::Model;
+
+// The most bytes that the file has.
+const MOST_BYTES: u64 = 1_099_511_627_776;
+
+/// A journal over a disk: its last gate stands at the end of the file. `Journal::mount` finds one.
+#[derive(Drop)]
+pub struct Journal {
+    gate: u64,
+    failed: bool,
+}
+
+impl Model for Journal {
+    ghost use Rattle.journal_core.specs.States.{JournalState};
+
+    ghost Value = { JournalState };
+
+    ghost view = { λ j. record { gate = j.gate; failed = j.failed } };
+}
+
+/// What adding a record answers.
+#[derive(Clone, Copy, PartialEq, Eq, Debug)]
+pub enum Appended {
+    /// It is on the disk.
+    Done,
+    /// A call of the disk failed. Mount the file again: it has the record or not.
+    DiskFault,
+    /// The file would have more than 1,099,511,627,776 bytes. Nothing is changed.
+    JournalFull,
+    /// Mount the file again: it has the record or not.
+    OutOfMemory,
+}
+
+impl Journal {
+    /// A journal whose last gate stands at a place.
+    pub(crate) fn at(gate: u64) -> Journal
+        ensures is { result ≡ record { gate = gate; failed = false } }
+        ensures fits { result.gate < 2 ^ 64 }
+    {
+        Journal {
+            gate,
+            failed: false,
+        }
+    }
+
+    /// Whether a call of `append` failed or had no memory. Then the file has to be mounted again.
+    pub fn failed(&self) -> bool
+        ensures { result ≡ self.now.failed }
+    {
+        self.failed
+    }
+
+    /// Whether the file has no room for a record of so many bytes.
+    fn is_full(&self, len: usize) -> bool
+        ensures { IsTrue result ↔ (most_bytes < self.now.gate + 10 + len) }
+    {
+        self.gate.saturating_add(10).saturating_add(len as u64) > MOST_BYTES
+    }
+
+    /// Adds a record, whose bytes are an entry of the file. While the call is under way a crash
+    /// leaves the records before it, with it or without; once it is `Done`, with it.
+    pub fn append<D: Disk>(&mut self, alloc: Global, disk: &mut D, entry: &[u8]) -> Appended
+        requires ready { self.old.failed ≡ false }
+        requires mounted { IfSome (D.told disk.old) (IsMounted self.old.gate) }
+        requires proper { IsRecord entry.now }
+        ensures content { WhereTold (Appends result self.old.gate entry.now)
+            (D.told disk.old) (D.told disk.new) }
+        ensures gate { self.new.gate ≡ gate_after result self.old.gate entry.now }
+        ensures failed { self.new.failed ≡ fails result }
+        ensures mounted { StaysMounted result self.new.gate (D.told disk.new) }
+        ensures full { (result ≡ Appended.JournalFull)
+            ↔ (most_bytes < self.old.gate + 10 + length entry.now) }
+        ensures same { D.names disk.new ≡ D.names disk.old }
+        ensures count { D.faults disk.old ≤ D.faults disk.new }
+        ensures counts { CountsAppended result (D.faults disk.old) (D.faults disk.new) }
+    {
+        if self.is_full(entry.len()) {
+            return Appended::JournalFull;
+        }
+        match write_entry(alloc, disk, self.gate, entry) {
+            Stored::Done => {
+                self.gate += 9 + entry.len() as u64;
+                Appended::Done
+            }
+            Stored::Failed => {
+                self.failed = true;
+                Appended::DiskFault
+            }
+            Stored::OutOfMemory => {
+                self.failed = true;
+                Appended::OutOfMemory
+            }
+        }
+    }
+}
+
+/// The bytes of a record in the file, and a closed gate.
+#[tactic(auto, unfolding(crate::specs::Journals::framed))]
+fn staged(alloc: Global, entry: &[u8]) -> Result<Vec<u8>, AllocError>
+    ensures { IfOk result (λ bytes. bytes.items ≡ framed entry.now ++ 0 ∷ []) }
+{
+    let mut bytes = Vec::new(alloc);
+    bytes.extend_from_slice(&(entry.len() as u64).to_be_bytes())?;
+    bytes.extend_from_slice(entry)?;
+    bytes.push(0)?;
+    Ok(bytes)
+}
+
+/// Puts a record, and a closed gate, behind the gate at a place.
+fn stage<D: Disk>(alloc: Global, disk: &mut D, gate: u64, entry: &[u8]) -> Stored
+    requires kept { IfSome (D.told disk.old) IsKept }
+    requires inside { IfSome (D.told disk.old) (λ d. gate + 1 ≤ length d.now.seen) }
+    requires room { gate + 10 + length entry.now ≤ most_bytes }
+    ensures content { WhereTold (WritesThrough result (gate + 1) (framed entry.now ++ 0 ∷ []))
+        (D.told disk.old) (D.told disk.new) }
+    ensures same { D.names disk.new ≡ D.names disk.old }
+    ensures count { D.faults disk.old ≤ D.faults disk.new }
+    ensures counts { CountsStored result (D.faults disk.old) (D.faults disk.new) }
+{
+    match staged(alloc, entry) {
+        Ok(bytes) => write_through(disk, gate + 1, bytes.as_slice()),
+        Err(_) => Stored::OutOfMemory,
+    }
+}
+
+/// Puts a record behind the closed gate at a place, and opens the gate once the record is on the
+/// disk.
+fn write_entry<D: Disk>(alloc: Global, disk: &mut D, gate: u64, entry: &[u8]) -> Stored
+    requires mounted { IfSome (D.told disk.old) (IsMounted gate) }
+    requires proper { IsRecord entry.now }
+    requires room { gate + 10 + length entry.now ≤ most_bytes }
+    ensures content { WhereTold (WritesEntry result gate entry.now)
+        (D.told disk.old) (D.told disk.new) }
+    ensures same { D.names disk.new ≡ D.names disk.old }
+    ensures count { D.faults disk.old ≤ D.faults disk.new }
+    ensures counts { CountsStored result (D.faults disk.old) (D.faults disk.new) }
+{
+    match stage(alloc, disk, gate, entry) {
+        Stored::Done => write_through(disk, gate, &[1]),
+        Stored::Failed => Stored::Failed,
+        Stored::OutOfMemory => Stored::OutOfMemory,
+    }
+}

@@ -1,0 +1,12 @@
+//! Disks and journals: what no clause says of them, each of their public calls once with ample
+//! memory, and a journal that is stopped at each call of its disk.
+#![tactic(auto)]
+
+#[cfg(test)]
+mod disks;
+#[cfg(test)]
+mod files;
+#[cfg(test)]
+mod journals;
+#[cfg(test)]
+mod stops;

@@ -1,0 +1,89 @@
+//! A journal that is stopped at each call of its disk, and what a crash leaves of it.
+
+use crate::journals::{EXECUTE, add, has_records};
+use disk::mem_disk::{DiskCall, MadeCall, MemDisk};
+use journal_core::journal::{Appended, Journal};
+use std::alloc::Global;
+use std::test::Fail;
+
+// The range of the last write that no sync followed.
+fn torn_range(made: &[MadeCall]) -> Option<(usize, usize)> {
+    let mut range = None;
+    for made in made {
+        match &made.call {
+            DiskCall::Write(at, bytes) => range = Some((*at as usize, bytes.len())),
+            DiskCall::Sync if !made.failed => range = None,
+            DiskCall::Size | DiskCall::Read(_, _) | DiskCall::Cut(_) | DiskCall::Sync => {}
+        }
+    }
+    range
+}
+
+// A crash's image of a disk: the bytes of that range are others, and of what is past the end only the
+// first are there.
+fn image(alloc: Global, disk: &MemDisk, byte: u8, most: usize) -> Result<Vec<u8>, Fail> {
+    let Some((at, len)) = torn_range(disk.made()) else {
+        return Ok(Vec::from_slice(alloc, disk.bytes())?);
+    };
+    let file = disk.bytes();
+    let mut image = Vec::from_slice(alloc, file)?;
+    image.truncate(at);
+    for _ in 0..len.min(most) {
+        image.push(byte)?;
+    }
+    if let Some(rest) = file.get(at.saturating_add(len)..) {
+        for _ in len.min(most)..len {
+            image.push(byte)?;
+        }
+        image.extend_from_slice(rest)?;
+    }
+    Ok(image)
+}
+
+// Adds a record again and again, until a call fails: how many are there.
+fn added(alloc: Global, disk: &mut MemDisk, most: usize) -> Result<usize, Fail> {
+    for done in 0..most {
+        if add(alloc, disk, EXECUTE)? != Appended::Done {
+            return Ok(done);
+        }
+    }
+    Ok(most)
+}
+
+// Whether an image is mounted with so many records or one more.
+fn holds(alloc: Global, image: &[u8], done: usize) -> Result<bool, Fail> {
+    let mut disk = MemDisk::new(alloc, image, Vec::new(alloc))?;
+    let mounted = Journal::mount(alloc, &mut disk);
+    let records = [EXECUTE; 4];
+    let without = records.get(..done);
+    let with = records.get(..done.saturating_add(1));
+    Ok(
+        without.is_some_and(|want| has_records(&mounted, want))
+            || with.is_some_and(|want| has_records(&mounted, want)),
+    )
+}
+
+#[test]
+fn a_stop_at_any_call_loses_nothing(rt: HostRuntime) -> Result<(), Fail> {
+    let alloc = rt.alloc();
+    let mut stops = 0u64;
+    for call in 0u64..40 {
+        let mut disk = MemDisk::new(alloc, b"", Vec::from_slice(alloc, &[call])?)?;
+        let done = added(alloc, &mut disk, 3)?;
+        if done < 3 {
+            stops = stops.saturating_add(1);
+        }
+        for byte in [0x00u8, 0x01, 0x07, 0xff] {
+            for most in [0usize, 1, 9, 30, 99] {
+                let image = image(alloc, &disk, byte, most)?;
+                assert!(rt;
+                    holds(alloc, image.as_slice(), done)?,
+                    "at {call}, {byte}, {most}"
+                );
+            }
+        }
+    }
+    // Each of three mounts has four calls, and so has each record.
+    assert_eq!(rt; stops, 24);
+    Ok(())
+}
