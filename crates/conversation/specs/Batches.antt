@@ -20,5 +20,5 @@ unless (Some f) batch = Err f
 unless None batch = Ok batch
 
 -- the batch, where it may be sent
-abbrev pub fitted : Batch → Result Batch DriverFault
-fitted batch = unless (why_unfit batch) batch
+abbrev pub fit_batch : Batch → Result Batch DriverFault
+fit_batch batch = unless (why_unfit batch) batch

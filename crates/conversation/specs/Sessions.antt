@@ -29,7 +29,7 @@ use Rattle.conversation.specs.declared.sessions.Turn.{Turn}
 use Rattle.conversation.specs.declared.sessions.ColumnType.{ColumnType}
 use Rattle.conversation.specs.declared.sessions.Session.{Session}
 use Rattle.conversation.specs.declared.sessions.Session.TheVariants.{Idle, Begun, Pending, Sent, Reading, Skipping}
-use Rattle.conversation.specs.Batches.{fitted}
+use Rattle.conversation.specs.Batches.{fit_batch}
 use Rattle.conversation.specs.Keys.{meta_of}
 use Rattle.conversation.specs.Pending.{Use, uses_in}
 use Rattle.conversation.specs.Cells.{is_row_of, read_atoms}
@@ -53,7 +53,7 @@ begun number (Err f) = record { answer = Err f; after = Idle }
 
 -- a session has one batch; its values fit their types; its text has at most 65,536 bytes
 abbrev pub begin : Session → ℕ → Batch → Turn (Result Request DriverFault)
-begin Idle number batch = begun number (fitted batch)
+begin Idle number batch = begun number (fit_batch batch)
 begin (Begun other) number batch = record { answer = Err fault.StillPending; after = Begun other }
 begin (Pending pending) number batch = record { answer = Err fault.StillPending; after = Pending pending }
 begin Sent number batch = record { answer = Err fault.StillPending; after = Sent }

@@ -28,9 +28,9 @@ use Rattle.conversation.specs.Sessions.{begin, described_params, titles_of, type
 use Rattle.conversation.specs.Talk.{Talk, Asks, Hears, Draws, Opens, Prints, Heard, Said, Shown, printing, nothing_shown}
 
 -- it goes on with a value, or with a fault
-abbrev pub on : {A E : Type 0} → (A → Talk) → (E → Talk) → Result A E → Talk
-on k fails (Ok x) = k x
-on k fails (Err e) = fails e
+abbrev pub on_result : {A E : Type 0} → (A → Talk) → (E → Talk) → Result A E → Talk
+on_result k fails (Ok x) = k x
+on_result k fails (Err e) = fails e
 
 -- each in turn; the first that fails ends it
 abbrev pub each_on : {A B E : Type 0} → (A → (B → Talk) → (E → Talk) → Talk) → List A → (List B → Talk) → (E → Talk) → Talk
@@ -41,8 +41,8 @@ each_on one (x ∷ xs) k fails = one x (λ y. each_on one xs (λ ys. k (y ∷ ys
 
 abbrev pub opening_one : List KeyMeta → Enc → (Option Keys → Talk) → (DriverFault → Talk) → Talk
 opening_one metas enc.Plain k fails = k None
-opening_one metas (enc.Det key) k fails = Opens (meta_of metas key) (on (λ keys. k (Some keys)) fails)
-opening_one metas (enc.Rnd key) k fails = Opens (meta_of metas key) (on (λ keys. k (Some keys)) fails)
+opening_one metas (enc.Det key) k fails = Opens (meta_of metas key) (on_result (λ keys. k (Some keys)) fails)
+opening_one metas (enc.Rnd key) k fails = Opens (meta_of metas key) (on_result (λ keys. k (Some keys)) fails)
 
 -- the keys of the encrypted columns are opened, from left to right
 abbrev pub opening : List KeyMeta → List ColumnType → (List (Option Keys) → Talk) → (DriverFault → Talk) → Talk
@@ -58,8 +58,8 @@ drawing keys ty (value.Is datum) k = Draws (λ iv. k (rnd_atom keys ty datum iv)
 -- the key is opened, also for NULL
 abbrev pub sealing_value : List KeyMeta → Enc → Ty → Value → (AtomOf (List ℕ) → Talk) → (DriverFault → Talk) → Talk
 sealing_value metas enc.Plain ty v k fails = k (plain_atom v)
-sealing_value metas (enc.Det key) ty v k fails = Opens (meta_of metas key) (on (λ keys. k (det_atom keys ty v)) fails)
-sealing_value metas (enc.Rnd key) ty v k fails = Opens (meta_of metas key) (on (λ keys. drawing keys ty v k) fails)
+sealing_value metas (enc.Det key) ty v k fails = Opens (meta_of metas key) (on_result (λ keys. k (det_atom keys ty v)) fails)
+sealing_value metas (enc.Rnd key) ty v k fails = Opens (meta_of metas key) (on_result (λ keys. drawing keys ty v k) fails)
 
 abbrev pub sent_param : Use → AtomOf (List ℕ) → SentParam
 sent_param u a = record { name = u.param.declaration.name; ty = u.param.declaration.ty; enc = u.enc; atom = a }

@@ -2,7 +2,7 @@
 
 ghost use Rattle.std.specs.Prelude.{◌≡◌, ◌≤◌, IfOk, MatchOption, None, Some, length, encode_utf8_all};
 ghost use Rattle.ae_base.specs.Batches.{first_unfit};
-ghost use Rattle.conversation.specs.Batches.{fitted, why_unfit};
+ghost use Rattle.conversation.specs.Batches.{fit_batch, why_unfit};
 ghost use Rattle.conversation.specs.Pending as told;
 
 use crate::faults::DriverFault;
@@ -39,7 +39,7 @@ impl FitBatch {
     /// The batch, where it may be sent, or why it may not: the first value that doesn't fit its
     /// type, or a text that is too long.
     pub fn check(batch: Batch) -> Result<Result<FitBatch, DriverFault>, AllocError>
-        ensures { IfOk result (λ checked. checked ≡ fitted batch) }
+        ensures { IfOk result (λ checked. checked ≡ fit_batch batch) }
     {
         if let Some(name) = first_unfit(batch.params.as_slice()) {
             return Ok(Err(DriverFault::DoesNotFit(name.copy()?)));
@@ -70,7 +70,8 @@ impl FitBatch {
 
 /// The first parameter whose value doesn't fit its type.
 fn first_unfit(params: &[Param]) -> Option<&ParamName>
-    ensures { MatchOption result (first_unfit params.now ≡ None) (λ name. first_unfit params.now ≡ Some name.now) }
+    ensures { MatchOption result (first_unfit params.now ≡ None)
+        (λ name. first_unfit params.now ≡ Some name.now) }
 {
     for param in params {
         if !param.value.fits(param.declaration.ty) {
@@ -95,15 +96,22 @@ impl Model for Pending {
 
     ghost Value = { told.Pending };
 
-    ghost view = { λ p. record { batch = p.batch; version = p.version; keys = p.keys; encs = p.encs } };
+    ghost view = { λ p. record {
+      batch = p.batch;
+      version = p.version;
+      keys = p.keys;
+      encs = p.encs;
+    } };
 
-    ghost invariant = { λ p. told.IsPending (record { batch = p.batch; version = p.version; keys = p.keys; encs = p.encs }) };
+    ghost invariant = { λ p. told.IsPending
+        (record { batch = p.batch; version = p.version; keys = p.keys; encs = p.encs }) };
 }
 
 impl Pending {
     /// The batch as it is described.
     pub fn new(batch: FitBatch, version: u64, keys: Seq<KeyMeta>, encs: Seq<Option<Enc>>) -> Pending
-        requires { told.IsPending (record { batch = batch; version = version; keys = keys; encs = encs }) }
+        requires { told.IsPending
+            (record { batch = batch; version = version; keys = keys; encs = encs }) }
         ensures { result ≡ record { batch = batch; version = version; keys = keys; encs = encs } }
     {
         Pending {

@@ -20,9 +20,9 @@ use Rattle.conversation.specs.declared.faults.DriverFault.{DriverFault}
 use Rattle.conversation.specs.Devices.{Devices, Goes}
 use Rattle.conversation.specs.Pending.{Pending, Use, uses_in}
 use Rattle.conversation.specs.Talk.{Talk}
-use Rattle.conversation.specs.Turns.{on, sealing, sent_param}
+use Rattle.conversation.specs.Turns.{on_result, sealing, sent_param}
 use Rattle.driver.specs.Calls.{IsSent}
-use Rattle.driver.specs.Sealed.{with_atom, sent, sent_names, use_names}
+use Rattle.driver.specs.Sealed.{with_atom, sending, sent_names, use_names}
 use Rattle.driver.proofs.Listing.{drop_next}
 
 -- a parameter, where one is wanted and none is there
@@ -31,7 +31,7 @@ blank = record { declaration = record { name = []; ty = Int }; value = Null }
 
 -- an atom beside its parameter
 pub sent_on : (sealed : Result (AtomOf (List ℕ)) DriverFault) (param : Param) (enc : Enc) (k : SentParam → Talk) (fails : DriverFault → Talk)
-    → on (λ a. k (sent_param (record { param = param; enc = enc }) a)) fails sealed ≡ on k fails (with_atom param enc sealed)
+    → on_result (λ a. k (sent_param (record { param = param; enc = enc }) a)) fails sealed ≡ on_result k fails (with_atom param enc sealed)
 sent_on (Ok a) param enc k fails = refl
 sent_on (Err f) param enc k fails = refl
 
@@ -74,7 +74,7 @@ pub uses_end : (ps : List Param) (es : List (Option Enc)) (i : ℕ) → length p
 uses_end ps es i l = ap (λ zs. uses_in zs (drop i es)) (drop_all i ps l)
 
 pub sent_goes : (sealed : Result (AtomOf (List ℕ)) DriverFault) (t : Talk) (param : Param) (enc : Enc) (k : SentParam → Talk) (fails : DriverFault → Talk) (x y : Devices)
-    → Goes t (on (λ a. k (sent_param (record { param = param; enc = enc }) a)) fails sealed) x y → Goes t (on k fails (with_atom param enc sealed)) x y
+    → Goes t (on_result (λ a. k (sent_param (record { param = param; enc = enc }) a)) fails sealed) x y → Goes t (on_result k fails (with_atom param enc sealed)) x y
 sent_goes (Ok a) t param enc k fails x y g = g
 sent_goes (Err f) t param enc k fails x y g = g
 
@@ -83,7 +83,7 @@ pub seals_same : (metas : List KeyMeta) (all us vs : List Use) (acc : List SentP
     → Goes (sealing metas all k fails) (sealing metas us (λ params. k (acc ++ params)) fails) x y → Goes (sealing metas all k fails) (sealing metas vs (λ params. k (acc ++ params)) fails) x y
 seals_same metas all us vs acc k fails x y e g = subst (λ zs. Goes (sealing metas all k fails) (sealing metas zs (λ params. k (acc ++ params)) fails) x y) e g
 
-length-sent : (sent : List SentParam) → length (sent_names sent) ≡ length sent
+length-sent : (sending : List SentParam) → length (sent_names sending) ≡ length sending
 length-sent [] = refl
 length-sent (p ∷ ps) = ap suc (length-sent ps)
 
@@ -91,23 +91,23 @@ length-uses : (uses : List Use) → length (use_names uses) ≡ length uses
 length-uses [] = refl
 length-uses (u ∷ us) = ap suc (length-uses us)
 
-pub sent_few : (sent : List SentParam) (uses : List Use) → sent_names sent ≡ use_names uses → length uses ≤ 128 → length sent ≤ 128
-sent_few sent uses e few =
-    let a = length-sent sent in
+pub sent_few : (sending : List SentParam) (uses : List Use) → sent_names sending ≡ use_names uses → length uses ≤ 128 → length sending ≤ 128
+sent_few sending uses e few =
+    let a = length-sent sending in
     let b = length-uses uses in
     let c = ap length e in
     omega arith
 
-pub sent_differ : (sent : List SentParam) (uses : List Use) → sent_names sent ≡ use_names uses → IsTrue (all_differ (use_names uses)) → IsTrue (all_differ (sent_names sent))
-sent_differ sent uses e differ = subst (λ names. IsTrue (all_differ names)) (sym e) differ
+pub sent_differ : (sending : List SentParam) (uses : List Use) → sent_names sending ≡ use_names uses → IsTrue (all_differ (use_names uses)) → IsTrue (all_differ (sent_names sending))
+sent_differ sending uses e differ = subst (λ names. IsTrue (all_differ names)) (sym e) differ
 
 -- what is sent goes on to where the turn is
-pub is_sent : (sealed : Result (List SentParam) DriverFault) (number : ℕ) (p : Pending) → IsSent (Ok (sent number p sealed).answer) (sent number p sealed).after
+pub is_sent : (sealed : Result (List SentParam) DriverFault) (number : ℕ) (p : Pending) → IsSent (Ok (sending number p sealed).answer) (sending number p sealed).after
 is_sent (Ok params) number p = refl
 is_sent (Err f) number p = tt
 
 pub turn_goes : (sealed : Result (List SentParam) DriverFault) (t : Talk) (number : ℕ) (p : Pending) (k : Result Request DriverFault → Session → Talk) (x y : Devices)
-    → Goes t (on (λ params. k (Ok (Execute number p.version p.batch.text params)) Sent) (λ f. k (Err f) Idle) sealed) x y → Goes t (k (sent number p sealed).answer (sent number p sealed).after) x y
+    → Goes t (on_result (λ params. k (Ok (Execute number p.version p.batch.text params)) Sent) (λ f. k (Err f) Idle) sealed) x y → Goes t (k (sending number p sealed).answer (sending number p sealed).after) x y
 turn_goes (Ok params) t number p k x y g = g
 turn_goes (Err f) t number p k x y g = g
 
@@ -116,8 +116,8 @@ sent_push : (xs : List SentParam) (p : SentParam) → sent_names (xs ++ p ∷ []
 sent_push [] p = refl
 sent_push (x ∷ xs) p = ap (λ zs. x.name ∷ zs) (sent_push xs p)
 
-pub names_more : (whole : List (List ℕ)) (sent new : List SentParam) (part : SentParam) (u : Use) (rest uses : List Use) → uses ≡ u ∷ rest → whole ≡ sent_names sent ++ use_names uses → new ≡ sent ++ part ∷ [] → part.name ≡ u.param.declaration.name
+pub names_more : (whole : List (List ℕ)) (sending new : List SentParam) (part : SentParam) (u : Use) (rest uses : List Use) → uses ≡ u ∷ rest → whole ≡ sent_names sending ++ use_names uses → new ≡ sending ++ part ∷ [] → part.name ≡ u.param.declaration.name
     → whole ≡ sent_names new ++ use_names rest
-names_more whole sent new part u rest uses e h n m =
-    h ∙ ap (λ us. sent_names sent ++ use_names us) e ∙ sym (append_assoc (sent_names sent) (u.param.declaration.name ∷ []) (use_names rest))
-    ∙ ap (λ name. (sent_names sent ++ name ∷ []) ++ use_names rest) (sym m) ∙ ap (λ zs. zs ++ use_names rest) (sym (sent_push sent part)) ∙ ap (λ zs. sent_names zs ++ use_names rest) (sym n)
+names_more whole sending new part u rest uses e h n m =
+    h ∙ ap (λ us. sent_names sending ++ use_names us) e ∙ sym (append_assoc (sent_names sending) (u.param.declaration.name ∷ []) (use_names rest))
+    ∙ ap (λ name. (sent_names sending ++ name ∷ []) ++ use_names rest) (sym m) ∙ ap (λ zs. zs ++ use_names rest) (sym (sent_push sending part)) ∙ ap (λ zs. sent_names zs ++ use_names rest) (sym n)

@@ -24,7 +24,9 @@ pub fn describe<'r>(
     batch: &Batch,
 ) -> Result<Request<'r>, AllocError>
     requires { why_unfit batch.now ≡ None }
-    ensures { IfOk result (λ asked. asked ≡ request.Describe number batch.now.text (map (λ p. p.declaration) batch.now.params)) }
+    ensures { IfOk result
+        (λ asked. asked
+        ≡ request.Describe number batch.now.text (map (λ p. p.declaration) batch.now.params)) }
 {
     Ok(Request::Describe {
         session: number,

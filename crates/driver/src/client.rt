@@ -74,7 +74,8 @@ impl Driver {
         number: SessionId,
         batch: Batch,
     ) -> Result<Result<Request<'r>, DriverFault>, AllocError>
-        ensures begun { Comes result (held.begin (session_of self.old number) number batch) (session_of self.old number) (session_of self.new number) }
+        ensures begun { Comes result (held.begin (session_of self.old number) number batch)
+            (session_of self.old number) (session_of self.new number) }
         ensures others { IsOnlyAt number self.old.sessions self.new.sessions }
         ensures kept { self.new.kept ≡ self.old.kept }
     {
@@ -92,7 +93,8 @@ impl Driver {
         number: SessionId,
         reply: &Reply<'_>,
     ) -> Result<DescribeAnswer, Halt>
-        ensures described { Describes result (held.described (session_of self.old number) reply.now) (session_of self.old number) (session_of self.new number) }
+        ensures described { Describes result (held.described (session_of self.old number) reply.now)
+            (session_of self.old number) (session_of self.new number) }
         ensures others { IsOnlyAt number self.old.sessions self.new.sessions }
         ensures kept { self.new.kept ≡ self.old.kept }
     {
@@ -115,7 +117,12 @@ impl Driver {
         entropy: &mut E,
     ) -> Result<Result<Request<'r>, DriverFault>, Halt>
         requires { IsOf (V.keys vault.old) self.old.kept }
-        ensures executed { Executes result number (session_of self.old number) (session_of self.new number) (devices (E.to_come entropy.old) (E.faults entropy.old) (E.names entropy.old) (V.keys vault.old) (V.faults vault.old) (V.names vault.old)) (devices (E.to_come entropy.new) (E.faults entropy.new) (E.names entropy.new) (V.keys vault.new) (V.faults vault.new) (V.names vault.new)) }
+        ensures executed { Executes result number (session_of self.old number)
+            (session_of self.new number)
+            (devices (E.to_come entropy.old) (E.faults entropy.old) (E.names entropy.old)
+            (V.keys vault.old) (V.faults vault.old) (V.names vault.old))
+            (devices (E.to_come entropy.new) (E.faults entropy.new) (E.names entropy.new)
+            (V.keys vault.new) (V.faults vault.new) (V.names vault.new)) }
         ensures sent { IsSent result (session_of self.new number) }
         ensures others { IsOnlyAt number self.old.sessions self.new.sessions }
         ensures kept { is_pending (session_of self.old number) ≡ false
@@ -140,7 +147,11 @@ impl Driver {
         vault: &mut V,
     ) -> Result<ReplyAnswer, Halt>
         requires { IsOf (V.keys vault.old) self.old.kept }
-        ensures replied { (beside : Devices) → Replies result (held.replied (session_of self.old number) reply.now) (session_of self.old number) (session_of self.new number) (with_vault beside (V.keys vault.old) (V.faults vault.old) (V.names vault.old)) (with_vault beside (V.keys vault.new) (V.faults vault.new) (V.names vault.new)) }
+        ensures replied { (beside : Devices)
+            → Replies result (held.replied (session_of self.old number) reply.now)
+            (session_of self.old number) (session_of self.new number)
+            (with_vault beside (V.keys vault.old) (V.faults vault.old) (V.names vault.old))
+            (with_vault beside (V.keys vault.new) (V.faults vault.new) (V.names vault.new)) }
         ensures others { IsOnlyAt number self.old.sessions self.new.sessions }
         ensures kept { opens_keys (session_of self.old number) reply.now ≡ false
             → self.new.kept ≡ self.old.kept }

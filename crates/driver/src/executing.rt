@@ -9,12 +9,12 @@ ghost use Rattle.conversation.specs.declared.faults.DriverFault.{DriverFault};
 ghost use Rattle.conversation.specs.Devices.{Leads, devices};
 ghost use Rattle.conversation.specs.Pending.{uses_in, uses_of};
 ghost use Rattle.conversation.specs.Talk.{Talk};
-ghost use Rattle.conversation.specs.Turns.{on, sealing, sealing_one};
+ghost use Rattle.conversation.specs.Turns.{on_result, sealing, sealing_one};
 ghost use Rattle.ae_base.specs.Names.{all_differ};
 ghost use Rattle.conversation.specs.declared.sessions.Session.{Session};
 ghost use Rattle.driver.specs.Calls.{Executes, IsSent, is_pending};
 ghost use Rattle.driver.specs.Listed.{IsListed, AreListed};
-ghost use Rattle.driver.specs.Sealed.{with_atom, sent, sent_names, use_names};
+ghost use Rattle.driver.specs.Sealed.{with_atom, sending, sent_names, use_names};
 
 use crate::asking::statement;
 use crate::sealing::seal_value;
@@ -68,8 +68,15 @@ fn seal_param<'r, V: Vault, E: Entropy>(
     requires listed { IsListed metas.now enc.now }
     requires of_vault { IsOf (V.keys vault.old) store.old }
     requires fits { value_is_within param.now.value param.now.declaration.ty ≡ true }
-    ensures leads { (k : SentParam → Talk) (fails : DriverFault → Talk) → Leads result (sealing_one metas.now (record { param = param.now; enc = enc.now }) k fails) (on k fails) (devices (E.to_come entropy.old) (E.faults entropy.old) (E.names entropy.old) (V.keys vault.old) (V.faults vault.old) (V.names vault.old)) (devices (E.to_come entropy.new) (E.faults entropy.new) (E.names entropy.new) (V.keys vault.new) (V.faults vault.new) (V.names vault.new)) }
-    ensures named { IfOk result (λ sealed. IfOk sealed (λ sent. sent.name ≡ param.now.declaration.name)) }
+    ensures leads { (k : SentParam → Talk) (fails : DriverFault → Talk)
+        → Leads result (sealing_one metas.now (record { param = param.now; enc = enc.now }) k fails)
+        (on_result k fails)
+        (devices (E.to_come entropy.old) (E.faults entropy.old) (E.names entropy.old)
+        (V.keys vault.old) (V.faults vault.old) (V.names vault.old))
+        (devices (E.to_come entropy.new) (E.faults entropy.new) (E.names entropy.new)
+        (V.keys vault.new) (V.faults vault.new) (V.names vault.new)) }
+    ensures named { IfOk result
+        (λ sealed. IfOk sealed (λ sending. sending.name ≡ param.now.declaration.name)) }
     ensures of_vault { IsOf (V.keys vault.new) store.new }
 {
     let name = match param.declaration.name.copy() {
@@ -104,8 +111,15 @@ fn seal_params<'r, V: Vault, E: Entropy>(
     requires listed { AreListed metas.now (map (λ u. u.enc) (uses_in params.now encs.now)) }
     requires of_vault { IsOf (V.keys vault.old) store.old }
     requires fits { first_unfit params.now ≡ None }
-    ensures leads { (k : List SentParam → Talk) (fails : DriverFault → Talk) → Leads result (sealing metas.now (uses_in params.now encs.now) k fails) (on k fails) (devices (E.to_come entropy.old) (E.faults entropy.old) (E.names entropy.old) (V.keys vault.old) (V.faults vault.old) (V.names vault.old)) (devices (E.to_come entropy.new) (E.faults entropy.new) (E.names entropy.new) (V.keys vault.new) (V.faults vault.new) (V.names vault.new)) }
-    ensures named { IfOk result (λ sealed. IfOk sealed (λ sent. sent_names sent ≡ use_names (uses_in params.now encs.now))) }
+    ensures leads { (k : List SentParam → Talk) (fails : DriverFault → Talk)
+        → Leads result (sealing metas.now (uses_in params.now encs.now) k fails) (on_result k fails)
+        (devices (E.to_come entropy.old) (E.faults entropy.old) (E.names entropy.old)
+        (V.keys vault.old) (V.faults vault.old) (V.names vault.old))
+        (devices (E.to_come entropy.new) (E.faults entropy.new) (E.names entropy.new)
+        (V.keys vault.new) (V.faults vault.new) (V.names vault.new)) }
+    ensures named { IfOk result
+        (λ sealed. IfOk sealed
+        (λ sending. sent_names sending ≡ use_names (uses_in params.now encs.now))) }
     ensures of_vault { IsOf (V.keys vault.new) store.new }
 {
     let mut sent = Seq::new(alloc);
@@ -149,7 +163,12 @@ fn seal<'r, V: Vault, E: Entropy>(
     pending: &Pending,
 ) -> Result<Result<SentParams<'r>, DriverFault>, Halt>
     requires { IsOf (V.keys vault.old) store.old }
-    ensures leads { (k : List SentParam → Talk) (fails : DriverFault → Talk) → Leads result (sealing pending.now.keys (uses_of pending.now) k fails) (on k fails) (devices (E.to_come entropy.old) (E.faults entropy.old) (E.names entropy.old) (V.keys vault.old) (V.faults vault.old) (V.names vault.old)) (devices (E.to_come entropy.new) (E.faults entropy.new) (E.names entropy.new) (V.keys vault.new) (V.faults vault.new) (V.names vault.new)) }
+    ensures leads { (k : List SentParam → Talk) (fails : DriverFault → Talk)
+        → Leads result (sealing pending.now.keys (uses_of pending.now) k fails) (on_result k fails)
+        (devices (E.to_come entropy.old) (E.faults entropy.old) (E.names entropy.old)
+        (V.keys vault.old) (V.faults vault.old) (V.names vault.old))
+        (devices (E.to_come entropy.new) (E.faults entropy.new) (E.names entropy.new)
+        (V.keys vault.new) (V.faults vault.new) (V.names vault.new)) }
     ensures of_vault { IsOf (V.keys vault.new) store.new }
 {
     let sealed = match seal_params(
@@ -175,7 +194,7 @@ fn sent<'r>(
     pending: Pending,
     sealed: Result<SentParams<'r>, DriverFault>,
 ) -> Turn<Result<Request<'r>, DriverFault>>
-    ensures { result ≡ sent number pending sealed.entry }
+    ensures { result ≡ sending number pending sealed.entry }
 {
     match sealed {
         Ok(params) => {
@@ -206,7 +225,11 @@ fn execute_pending<'r, V: Vault, E: Entropy>(
     number: SessionId,
 ) -> Turn<Result<Result<Request<'r>, DriverFault>, Halt>>
     requires { IsOf (V.keys vault.old) store.old }
-    ensures executes { Executes result.answer number (Session.Pending pending) result.after (devices (E.to_come entropy.old) (E.faults entropy.old) (E.names entropy.old) (V.keys vault.old) (V.faults vault.old) (V.names vault.old)) (devices (E.to_come entropy.new) (E.faults entropy.new) (E.names entropy.new) (V.keys vault.new) (V.faults vault.new) (V.names vault.new)) }
+    ensures executes { Executes result.answer number (Session.Pending pending) result.after
+        (devices (E.to_come entropy.old) (E.faults entropy.old) (E.names entropy.old)
+        (V.keys vault.old) (V.faults vault.old) (V.names vault.old))
+        (devices (E.to_come entropy.new) (E.faults entropy.new) (E.names entropy.new)
+        (V.keys vault.new) (V.faults vault.new) (V.names vault.new)) }
     ensures sent { IsSent result.answer result.after }
     ensures of_vault { IsOf (V.keys vault.new) store.new }
 {
@@ -245,7 +268,11 @@ pub fn execute<'r, V: Vault, E: Entropy>(
     number: SessionId,
 ) -> Turn<Result<Result<Request<'r>, DriverFault>, Halt>>
     requires { IsOf (V.keys vault.old) store.old }
-    ensures executes { Executes result.answer number session result.after (devices (E.to_come entropy.old) (E.faults entropy.old) (E.names entropy.old) (V.keys vault.old) (V.faults vault.old) (V.names vault.old)) (devices (E.to_come entropy.new) (E.faults entropy.new) (E.names entropy.new) (V.keys vault.new) (V.faults vault.new) (V.names vault.new)) }
+    ensures executes { Executes result.answer number session result.after
+        (devices (E.to_come entropy.old) (E.faults entropy.old) (E.names entropy.old)
+        (V.keys vault.old) (V.faults vault.old) (V.names vault.old))
+        (devices (E.to_come entropy.new) (E.faults entropy.new) (E.names entropy.new)
+        (V.keys vault.new) (V.faults vault.new) (V.names vault.new)) }
     ensures sent { IsSent result.answer result.after }
     ensures kept { is_pending session ≡ false → store.new ≡ store.old }
     ensures of_vault { IsOf (V.keys vault.new) store.new }

@@ -8,9 +8,9 @@ ghost use Rattle.conversation.specs.declared.faults.DriverFault.{DriverFault};
 ghost use Rattle.conversation.specs.Devices.{Devices, KeyLeads, with_vault};
 ghost use Rattle.conversation.specs.Keys.{refused_as, meta_of};
 ghost use Rattle.conversation.specs.Talk.{Talk, Opens};
-ghost use Rattle.conversation.specs.Turns.{on, opening_one, opening};
+ghost use Rattle.conversation.specs.Turns.{on_result, opening_one, opening};
 ghost use Rattle.driver.specs.Listed.{IsListed, AreListed};
-ghost use Rattle.driver.specs.Opened.{not_opened, answered, keyed};
+ghost use Rattle.driver.specs.Opened.{not_opened, opening_answer, some_keys};
 
 use crate::describing::meta_of;
 use ae_base::keys::KeyMeta;
@@ -43,7 +43,7 @@ fn not_opened(fault: OpenFault) -> Result<Result<CellKeys, DriverFault>, Halt>
 }
 
 fn answered(opened: Result<CellKeys, OpenFault>) -> Result<Result<CellKeys, DriverFault>, Halt>
-    ensures { result ≡ answered opened }
+    ensures { result ≡ opening_answer opened }
 {
     match opened {
         Ok(keys) => Ok(Ok(keys)),
@@ -58,7 +58,10 @@ pub fn open_key<V: Vault>(
     meta: &KeyMeta,
 ) -> Result<Result<CellKeys, DriverFault>, Halt>
     requires { IsOf (V.keys vault.old) store.old }
-    ensures leads { (beside : Devices) (f : Result Keys DriverFault → Talk) → KeyLeads result (Opens meta.now f) f (with_vault beside (V.keys vault.old) (V.faults vault.old) (V.names vault.old)) (with_vault beside (V.keys vault.new) (V.faults vault.new) (V.names vault.new)) }
+    ensures leads { (beside : Devices) (f : Result Keys DriverFault → Talk)
+        → KeyLeads result (Opens meta.now f) f
+        (with_vault beside (V.keys vault.old) (V.faults vault.old) (V.names vault.old))
+        (with_vault beside (V.keys vault.new) (V.faults vault.new) (V.names vault.new)) }
     ensures of_vault { IsOf (V.keys vault.new) store.new }
 {
     answered(store.column_key(vault, meta))
@@ -67,7 +70,7 @@ pub fn open_key<V: Vault>(
 fn keyed(
     opened: Result<Result<CellKeys, DriverFault>, Halt>,
 ) -> Result<Result<Option<CellKeys>, DriverFault>, Halt>
-    ensures { result ≡ keyed opened }
+    ensures { result ≡ some_keys opened }
 {
     match opened? {
         Ok(keys) => Ok(Ok(Some(keys))),
@@ -83,7 +86,11 @@ fn open_listed<V: Vault>(
 ) -> Result<Result<Option<CellKeys>, DriverFault>, Halt>
     requires listed { IsTrue (list_any (λ meta. meta.id == id) metas.now) }
     requires of_vault { IsOf (V.keys vault.old) store.old }
-    ensures leads { (beside : Devices) (k : Option Keys → Talk) (fails : DriverFault → Talk) → KeyLeads result (Opens (meta_of metas.now id) (on (λ keys. k (Some keys)) fails)) (on k fails) (with_vault beside (V.keys vault.old) (V.faults vault.old) (V.names vault.old)) (with_vault beside (V.keys vault.new) (V.faults vault.new) (V.names vault.new)) }
+    ensures leads { (beside : Devices) (k : Option Keys → Talk) (fails : DriverFault → Talk)
+        → KeyLeads result (Opens (meta_of metas.now id) (on_result (λ keys. k (Some keys)) fails))
+        (on_result k fails)
+        (with_vault beside (V.keys vault.old) (V.faults vault.old) (V.names vault.old))
+        (with_vault beside (V.keys vault.new) (V.faults vault.new) (V.names vault.new)) }
     ensures of_vault { IsOf (V.keys vault.new) store.new }
 {
     keyed(open_key(store, vault, meta_of(metas, id)))
@@ -97,7 +104,10 @@ fn open_one<V: Vault>(
 ) -> Result<Result<Option<CellKeys>, DriverFault>, Halt>
     requires listed { IsListed metas.now enc }
     requires of_vault { IsOf (V.keys vault.old) store.old }
-    ensures leads { (beside : Devices) (k : Option Keys → Talk) (fails : DriverFault → Talk) → KeyLeads result (opening_one metas.now enc k fails) (on k fails) (with_vault beside (V.keys vault.old) (V.faults vault.old) (V.names vault.old)) (with_vault beside (V.keys vault.new) (V.faults vault.new) (V.names vault.new)) }
+    ensures leads { (beside : Devices) (k : Option Keys → Talk) (fails : DriverFault → Talk)
+        → KeyLeads result (opening_one metas.now enc k fails) (on_result k fails)
+        (with_vault beside (V.keys vault.old) (V.faults vault.old) (V.names vault.old))
+        (with_vault beside (V.keys vault.new) (V.faults vault.new) (V.names vault.new)) }
     ensures of_vault { IsOf (V.keys vault.new) store.new }
 {
     match enc {
@@ -117,7 +127,10 @@ pub fn open_columns<V: Vault>(
 ) -> Result<Result<Seq<Option<CellKeys>>, DriverFault>, Halt>
     requires listed { AreListed metas.now (map (λ c. c.enc) columns.now) }
     requires of_vault { IsOf (V.keys vault.old) store.old }
-    ensures leads { (beside : Devices) (k : List (Option Keys) → Talk) (fails : DriverFault → Talk) → KeyLeads result (opening metas.now columns.now k fails) (on k fails) (with_vault beside (V.keys vault.old) (V.faults vault.old) (V.names vault.old)) (with_vault beside (V.keys vault.new) (V.faults vault.new) (V.names vault.new)) }
+    ensures leads { (beside : Devices) (k : List (Option Keys) → Talk) (fails : DriverFault → Talk)
+        → KeyLeads result (opening metas.now columns.now k fails) (on_result k fails)
+        (with_vault beside (V.keys vault.old) (V.faults vault.old) (V.names vault.old))
+        (with_vault beside (V.keys vault.new) (V.faults vault.new) (V.names vault.new)) }
     ensures of_vault { IsOf (V.keys vault.new) store.new }
 {
     let mut keys = Seq::new(alloc);

@@ -31,13 +31,14 @@ fn titles_of(alloc: Global, columns: &[SentColumn<'_>]) -> Result<Seq<Title>, Al
 {
     let mut titles = Seq::new(alloc);
     for column in columns {
-        titles.push(column.title.to_title(alloc)?)?;
+        titles.push(column.title.to_ruled(alloc)?)?;
     }
     Ok(titles)
 }
 
 fn types_of(alloc: Global, columns: &[SentColumn<'_>]) -> Result<Seq<ColumnType>, AllocError>
-    ensures { IfOk result (λ types. types ≡ map (λ c. record { ty = c.ty; enc = c.enc }) columns.now) }
+    ensures { IfOk result
+        (λ types. types ≡ map (λ c. record { ty = c.ty; enc = c.enc }) columns.now) }
 {
     let mut types = Seq::new(alloc);
     for column in columns {
@@ -78,7 +79,10 @@ fn show<V: Vault>(
     header: &Header<'_>,
 ) -> Result<Turn<ReplyAnswer>, Halt>
     requires { IsOf (V.keys vault.old) store.old }
-    ensures shows { (beside : Devices) → ShowsTurn result header.now (with_vault beside (V.keys vault.old) (V.faults vault.old) (V.names vault.old)) (with_vault beside (V.keys vault.new) (V.faults vault.new) (V.names vault.new)) }
+    ensures shows { (beside : Devices)
+        → ShowsTurn result header.now
+        (with_vault beside (V.keys vault.old) (V.faults vault.old) (V.names vault.old))
+        (with_vault beside (V.keys vault.new) (V.faults vault.new) (V.names vault.new)) }
     ensures of_vault { IsOf (V.keys vault.new) store.new }
 {
     let heading = match heading_of(alloc, header) {
@@ -124,7 +128,8 @@ fn halted(halt: Halt, session: Session) -> Turn<Result<ReplyAnswer, Halt>>
 }
 
 fn sent_refused(fault: &SqlFault) -> Turn<Result<ReplyAnswer, Halt>>
-    ensures { TellsAs result.answer (held.replied Session.Sent (reply.Refused fault.now)) Session.Sent result.after }
+    ensures { TellsAs result.answer (held.replied Session.Sent (reply.Refused fault.now))
+        Session.Sent result.after }
 {
     match fault.copy() {
         Ok(fault) => Turn {
@@ -136,7 +141,8 @@ fn sent_refused(fault: &SqlFault) -> Turn<Result<ReplyAnswer, Halt>>
 }
 
 fn sent_ended(done: Done) -> Turn<Result<ReplyAnswer, Halt>>
-    ensures { TellsAs result.answer (held.replied Session.Sent (reply.Ended done)) Session.Sent result.after }
+    ensures { TellsAs result.answer (held.replied Session.Sent (reply.Ended done)) Session.Sent
+        result.after }
 {
     match done {
         Done::Defined => Turn {
@@ -157,7 +163,9 @@ fn row_told(
     keys: Seq<Option<CellKeys>>,
     read: RowRead,
 ) -> Turn<Result<ReplyAnswer, Halt>>
-    ensures { (old : Session) → TellsAs result.answer (held.row_read columns keys read.number read.values) old result.after }
+    ensures { (old : Session)
+        → TellsAs result.answer (held.row_read columns keys read.number read.values) old
+        result.after }
 {
     let RowRead { number, values } = read;
     match values {
@@ -189,7 +197,9 @@ fn read_next(
     count: u64,
     row: &RowParts<'_>,
 ) -> Turn<Result<ReplyAnswer, Halt>>
-    ensures { TellsAs result.answer (held.replied (Session.Reading columns keys count) (reply.Row row.now)) (Session.Reading columns keys count) result.after }
+    ensures { TellsAs result.answer
+        (held.replied (Session.Reading columns keys count) (reply.Row row.now))
+        (Session.Reading columns keys count) result.after }
 {
     match next_row(alloc, columns.as_slice(), keys.as_slice(), count, row) {
         Ok(read) => row_told(columns, keys, read),
@@ -209,7 +219,9 @@ fn skip_next(
     count: u64,
     row: &RowParts<'_>,
 ) -> Turn<Result<ReplyAnswer, Halt>>
-    ensures { TellsAs result.answer (held.replied (Session.Skipping columns count) (reply.Row row.now)) (Session.Skipping columns count) result.after }
+    ensures { TellsAs result.answer
+        (held.replied (Session.Skipping columns count) (reply.Row row.now))
+        (Session.Skipping columns count) result.after }
 {
     if !is_row_of(columns.as_slice(), row.atoms()) {
         return halted(Halt::BadReply, Session::Skipping { columns, count });
@@ -243,7 +255,8 @@ fn reading_replied(
     count: u64,
     reply: &Reply<'_>,
 ) -> Turn<Result<ReplyAnswer, Halt>>
-    ensures { TellsAs result.answer (held.replied (Session.Reading columns keys count) reply.now) (Session.Reading columns keys count) result.after }
+    ensures { TellsAs result.answer (held.replied (Session.Reading columns keys count) reply.now)
+        (Session.Reading columns keys count) result.after }
 {
     match reply {
         Reply::Row(row) => read_next(alloc, columns, keys, count, row),
@@ -281,7 +294,8 @@ fn skipping_replied(
     count: u64,
     reply: &Reply<'_>,
 ) -> Turn<Result<ReplyAnswer, Halt>>
-    ensures { TellsAs result.answer (held.replied (Session.Skipping columns count) reply.now) (Session.Skipping columns count) result.after }
+    ensures { TellsAs result.answer (held.replied (Session.Skipping columns count) reply.now)
+        (Session.Skipping columns count) result.after }
 {
     match reply {
         Reply::Row(row) => skip_next(columns, count, row),
@@ -308,7 +322,10 @@ fn shown<V: Vault>(
     header: &Header<'_>,
 ) -> Turn<Result<ReplyAnswer, Halt>>
     requires { IsOf (V.keys vault.old) store.old }
-    ensures replies { (beside : Devices) → Replies result.answer (held.replied Session.Sent (reply.Columns header.now)) Session.Sent result.after (with_vault beside (V.keys vault.old) (V.faults vault.old) (V.names vault.old)) (with_vault beside (V.keys vault.new) (V.faults vault.new) (V.names vault.new)) }
+    ensures replies { (beside : Devices)
+        → Replies result.answer (held.replied Session.Sent (reply.Columns header.now)) Session.Sent
+        result.after (with_vault beside (V.keys vault.old) (V.faults vault.old) (V.names vault.old))
+        (with_vault beside (V.keys vault.new) (V.faults vault.new) (V.names vault.new)) }
     ensures of_vault { IsOf (V.keys vault.new) store.new }
 {
     match show(alloc, store, vault, header) {
@@ -327,7 +344,10 @@ fn sent_replied<V: Vault>(
     reply: &Reply<'_>,
 ) -> Turn<Result<ReplyAnswer, Halt>>
     requires { IsOf (V.keys vault.old) store.old }
-    ensures replies { (beside : Devices) → Replies result.answer (held.replied Session.Sent reply.now) Session.Sent result.after (with_vault beside (V.keys vault.old) (V.faults vault.old) (V.names vault.old)) (with_vault beside (V.keys vault.new) (V.faults vault.new) (V.names vault.new)) }
+    ensures replies { (beside : Devices)
+        → Replies result.answer (held.replied Session.Sent reply.now) Session.Sent result.after
+        (with_vault beside (V.keys vault.old) (V.faults vault.old) (V.names vault.old))
+        (with_vault beside (V.keys vault.new) (V.faults vault.new) (V.names vault.new)) }
     ensures of_vault { IsOf (V.keys vault.new) store.new }
     ensures kept { opens_keys Session.Sent reply.now ≡ false → store.new ≡ store.old }
 {
@@ -350,7 +370,10 @@ pub fn replied<V: Vault>(
     reply: &Reply<'_>,
 ) -> Turn<Result<ReplyAnswer, Halt>>
     requires { IsOf (V.keys vault.old) store.old }
-    ensures replies { (beside : Devices) → Replies result.answer (held.replied session reply.now) session result.after (with_vault beside (V.keys vault.old) (V.faults vault.old) (V.names vault.old)) (with_vault beside (V.keys vault.new) (V.faults vault.new) (V.names vault.new)) }
+    ensures replies { (beside : Devices)
+        → Replies result.answer (held.replied session reply.now) session result.after
+        (with_vault beside (V.keys vault.old) (V.faults vault.old) (V.names vault.old))
+        (with_vault beside (V.keys vault.new) (V.faults vault.new) (V.names vault.new)) }
     ensures of_vault { IsOf (V.keys vault.new) store.new }
     ensures kept { opens_keys session reply.now ≡ false → store.new ≡ store.old }
 {

@@ -8,7 +8,7 @@ ghost use Rattle.conversation.specs.Cells.{det_atom};
 ghost use Rattle.conversation.specs.declared.faults.DriverFault.{DriverFault};
 ghost use Rattle.conversation.specs.Devices.{Devices, KeyLeads, Leads, devices, with_vault, with_entropy};
 ghost use Rattle.conversation.specs.Talk.{Talk, Opens, Draws};
-ghost use Rattle.conversation.specs.Turns.{on, drawing, sealing_value};
+ghost use Rattle.conversation.specs.Turns.{on_result, drawing, sealing_value};
 ghost use Rattle.driver.specs.Listed.{IsListed};
 
 use crate::describing::meta_of;
@@ -27,7 +27,10 @@ use wire_parts::atoms::AtomPart;
 
 /// Draws 16 bytes.
 fn draw<E: Entropy>(entropy: &mut E) -> Result<[u8; 16], Halt>
-    ensures { (beside : Devices) (f : List ℕ → Talk) → Leads result (Draws f) f (with_entropy beside (E.to_come entropy.old) (E.faults entropy.old) (E.names entropy.old)) (with_entropy beside (E.to_come entropy.new) (E.faults entropy.new) (E.names entropy.new)) }
+    ensures { (beside : Devices) (f : List ℕ → Talk)
+        → Leads result (Draws f) f
+        (with_entropy beside (E.to_come entropy.old) (E.faults entropy.old) (E.names entropy.old))
+        (with_entropy beside (E.to_come entropy.new) (E.faults entropy.new) (E.names entropy.new)) }
 {
     match entropy.draw() {
         Draw::Drawn(bytes) => Ok(bytes),
@@ -45,7 +48,12 @@ fn seal_always<'r, V: Vault>(
 ) -> Result<Result<AtomPart<'r>, DriverFault>, Halt>
     requires of_vault { IsOf (V.keys vault.old) store.old }
     requires fits { value_is_within value.now ty.now ≡ true }
-    ensures leads { (beside : Devices) (k : AtomOf (List ℕ) → Talk) (fails : DriverFault → Talk) → KeyLeads result (Opens meta.now (on (λ keys. k (det_atom keys ty.now value.now)) fails)) (on k fails) (with_vault beside (V.keys vault.old) (V.faults vault.old) (V.names vault.old)) (with_vault beside (V.keys vault.new) (V.faults vault.new) (V.names vault.new)) }
+    ensures leads { (beside : Devices) (k : AtomOf (List ℕ) → Talk) (fails : DriverFault → Talk)
+        → KeyLeads result
+        (Opens meta.now (on_result (λ keys. k (det_atom keys ty.now value.now)) fails))
+        (on_result k fails)
+        (with_vault beside (V.keys vault.old) (V.faults vault.old) (V.names vault.old))
+        (with_vault beside (V.keys vault.new) (V.faults vault.new) (V.names vault.new)) }
     ensures of_vault { IsOf (V.keys vault.new) store.new }
 {
     let opened = match open_key(store, vault, meta) {
@@ -71,7 +79,10 @@ fn seal_drawn<'r, E: Entropy>(
     value: &Value,
 ) -> Result<AtomPart<'r>, Halt>
     requires { value_is_within value.now ty.now ≡ true }
-    ensures { (beside : Devices) (k : AtomOf (List ℕ) → Talk) → Leads result (drawing keys.now ty.now value.now k) k (with_entropy beside (E.to_come entropy.old) (E.faults entropy.old) (E.names entropy.old)) (with_entropy beside (E.to_come entropy.new) (E.faults entropy.new) (E.names entropy.new)) }
+    ensures { (beside : Devices) (k : AtomOf (List ℕ) → Talk)
+        → Leads result (drawing keys.now ty.now value.now k) k
+        (with_entropy beside (E.to_come entropy.old) (E.faults entropy.old) (E.names entropy.old))
+        (with_entropy beside (E.to_come entropy.new) (E.faults entropy.new) (E.names entropy.new)) }
 {
     let datum = match value {
         Value::Null => return Ok(AtomPart::null()),
@@ -98,7 +109,13 @@ fn seal_randomly<'r, V: Vault, E: Entropy>(
 ) -> Result<Result<AtomPart<'r>, DriverFault>, Halt>
     requires of_vault { IsOf (V.keys vault.old) store.old }
     requires fits { value_is_within value.now ty.now ≡ true }
-    ensures leads { (k : AtomOf (List ℕ) → Talk) (fails : DriverFault → Talk) → Leads result (Opens meta.now (on (λ keys. drawing keys ty.now value.now k) fails)) (on k fails) (devices (E.to_come entropy.old) (E.faults entropy.old) (E.names entropy.old) (V.keys vault.old) (V.faults vault.old) (V.names vault.old)) (devices (E.to_come entropy.new) (E.faults entropy.new) (E.names entropy.new) (V.keys vault.new) (V.faults vault.new) (V.names vault.new)) }
+    ensures leads { (k : AtomOf (List ℕ) → Talk) (fails : DriverFault → Talk)
+        → Leads result (Opens meta.now (on_result (λ keys. drawing keys ty.now value.now k) fails))
+        (on_result k fails)
+        (devices (E.to_come entropy.old) (E.faults entropy.old) (E.names entropy.old)
+        (V.keys vault.old) (V.faults vault.old) (V.names vault.old))
+        (devices (E.to_come entropy.new) (E.faults entropy.new) (E.names entropy.new)
+        (V.keys vault.new) (V.faults vault.new) (V.names vault.new)) }
     ensures of_vault { IsOf (V.keys vault.new) store.new }
 {
     let opened = match open_key(store, vault, meta) {
@@ -129,7 +146,12 @@ pub fn seal_value<'r, V: Vault, E: Entropy>(
     requires listed { IsListed metas.now enc }
     requires of_vault { IsOf (V.keys vault.old) store.old }
     requires fits { value_is_within value.now ty.now ≡ true }
-    ensures leads { (k : AtomOf (List ℕ) → Talk) (fails : DriverFault → Talk) → Leads result (sealing_value metas.now enc ty.now value.now k fails) (on k fails) (devices (E.to_come entropy.old) (E.faults entropy.old) (E.names entropy.old) (V.keys vault.old) (V.faults vault.old) (V.names vault.old)) (devices (E.to_come entropy.new) (E.faults entropy.new) (E.names entropy.new) (V.keys vault.new) (V.faults vault.new) (V.names vault.new)) }
+    ensures leads { (k : AtomOf (List ℕ) → Talk) (fails : DriverFault → Talk)
+        → Leads result (sealing_value metas.now enc ty.now value.now k fails) (on_result k fails)
+        (devices (E.to_come entropy.old) (E.faults entropy.old) (E.names entropy.old)
+        (V.keys vault.old) (V.faults vault.old) (V.names vault.old))
+        (devices (E.to_come entropy.new) (E.faults entropy.new) (E.names entropy.new)
+        (V.keys vault.new) (V.faults vault.new) (V.names vault.new)) }
     ensures of_vault { IsOf (V.keys vault.new) store.new }
 {
     match enc {

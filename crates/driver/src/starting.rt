@@ -2,7 +2,7 @@
 
 ghost use Rattle.std.specs.Prelude.{◌≡◌, IfOk, Ok, Err};
 ghost use Rattle.conversation.specs.Sessions as held;
-ghost use Rattle.conversation.specs.Batches.{fitted};
+ghost use Rattle.conversation.specs.Batches.{fit_batch};
 ghost use Rattle.conversation.specs.declared.sessions.Session.{Session};
 ghost use Rattle.driver.specs.Calls.{Comes, Describes, is_idle};
 ghost use Rattle.driver.specs.Found.{FindsAs};
@@ -73,7 +73,7 @@ fn begun<'r>(
     number: SessionId,
     batch: Batch,
 ) -> Result<Turn<Result<Request<'r>, DriverFault>>, AllocError>
-    ensures { IfOk result (λ turn. turn ≡ held.begun number (fitted batch)) }
+    ensures { IfOk result (λ turn. turn ≡ held.begun number (fit_batch batch)) }
 {
     match FitBatch::check(batch)? {
         Ok(batch) => asked(alloc, number, batch),
@@ -135,7 +135,9 @@ fn begun_described(
     batch: FitBatch,
     description: &Description<'_>,
 ) -> Turn<Result<DescribeAnswer, Halt>>
-    ensures { Describes result.answer (held.described (Session.Begun batch) (reply.Described description.now)) (Session.Begun batch) result.after }
+    ensures { Describes result.answer
+        (held.described (Session.Begun batch) (reply.Described description.now))
+        (Session.Begun batch) result.after }
 {
     match find(alloc, &batch, description) {
         Ok(found) => Turn {
@@ -150,7 +152,9 @@ fn begun_described(
 }
 
 fn begun_refused(batch: FitBatch, fault: &SqlFault) -> Turn<Result<DescribeAnswer, Halt>>
-    ensures { Describes result.answer (held.described (Session.Begun batch) (reply.Refused fault.now)) (Session.Begun batch) result.after }
+    ensures { Describes result.answer
+        (held.described (Session.Begun batch) (reply.Refused fault.now)) (Session.Begun batch)
+        result.after }
 {
     match fault.copy() {
         Ok(fault) => {
@@ -172,7 +176,8 @@ fn begun_replied(
     batch: FitBatch,
     reply: &Reply<'_>,
 ) -> Turn<Result<DescribeAnswer, Halt>>
-    ensures { Describes result.answer (held.described (Session.Begun batch) reply.now) (Session.Begun batch) result.after }
+    ensures { Describes result.answer (held.described (Session.Begun batch) reply.now)
+        (Session.Begun batch) result.after }
 {
     match reply {
         Reply::Refused(fault) => begun_refused(batch, fault),

@@ -30,7 +30,8 @@ impl Exchange {
         request: &Request<'_>,
         replies: &[Reply<'_>],
     ) -> Result<Exchange, AllocError>
-        ensures { IfOk result (λ exchange. exchange ≡ record { request = request.now; replies = replies.now }) }
+        ensures { IfOk result
+            (λ exchange. exchange ≡ record { request = request.now; replies = replies.now }) }
     {
         let request = request.to_own(alloc)?;
         Ok(Exchange {

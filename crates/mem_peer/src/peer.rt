@@ -91,7 +91,10 @@ impl MemPeer {
         request: &Request<'_>,
     ) -> Result<Seq<Reply<'static>>, AllocError>
         ensures { MatchResult result
-            (λ replies. (replies ≡ syntax_refusal) × (self.new ≡ record self.old { exchanges = self.old.exchanges ++ record { request = request.now; replies = replies } ∷ [] }))
+            (λ replies. (replies ≡ syntax_refusal) × (self.new ≡ record self.old {
+              exchanges =
+                  self.old.exchanges ++ record { request = request.now; replies = replies } ∷ [];
+            }))
             (λ _. self.new ≡ self.old) }
     {
         let replies = refusal(alloc)?;

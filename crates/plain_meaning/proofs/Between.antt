@@ -1,32 +1,31 @@
 -- The worlds and the sessions between steps.
-use Rattle.std.proofs.Common.{◌≡◌, inl, inr, ℕ, zero, suc, ◌-◌, ◌≤◌, List, [], ◌∷◌, length, replicate, Option, Some, None, Ok, refl, sym, subst, arith}
-use Rattle.std.specs.Prelude.{slice_set}
+use Rattle.std.proofs.Common.{◌≡◌, inl, inr, ℕ, zero, suc, ◌-◌, ◌≤◌, List, [], ◌∷◌, length, replicate, Option, Some, None, Ok, refl, sym, ap, subst, arith}
+use Rattle.std.specs.Prelude.{map, slice_index_or, slice_set}
 use Rattle.std.specs.List.{All, AllZip}
 use Rattle.std.proofs.lemmas.List.Elements.{All-nil, All-cons, All-weaker}
+use Rattle.ae_base.specs.Atoms.{Atom}
 use Rattle.ae_base.specs.declared.batches.Param.{Param}
 use Rattle.ae_edge.specs.Vaults.{KeyMap}
+use Rattle.blind_laws.proofs.Interface.{contents_wider}
 use Rattle.catalog.specs.Catalogs.{Catalog}
 use Rattle.catalog.specs.Laws.{DefinitionsKeepCatalogs}
+use Rattle.scalar.specs.Classes.{Class, Pairing}
 use Rattle.enc_types.specs.UsedAlone.{used_among, is_used}
 use Rattle.transactions.specs.Correspond.{CountedCorrespond, SessionsCorrespond, StoresCorrespond}
 use Rattle.transactions.specs.Counted.{Counted}
 use Rattle.transactions.specs.Stores.{Transaction, transaction_at, seen_by}
-use Rattle.transactions.proofs.Interface.{zip_at, zip_set}
-use Rattle.transactions.proofs.Interface.{all_at, all_set}
-use Rattle.transactions.proofs.Interface.{IsOwnCatalog, IsSlotOf}
+use Rattle.transactions.proofs.Interface.{zip_at, zip_set, all_at, all_set, IsOwnCatalog, IsSlotOf}
 use Rattle.server_core.specs.Describing.{Meant, understood, keys_of}
 use Rattle.server_core.specs.Serve.{State, empty_state, catalog_of}
 use Rattle.server_core.specs.States.{IsState}
-use Rattle.server_core.proofs.Interface.{no_sessions}
-use Rattle.server_core.proofs.Interface.{empty_is_state}
+use Rattle.server_core.proofs.Interface.{no_sessions, empty_is_state}
 use Rattle.conversation.specs.Pending.{Pending}
-use Rattle.conversation.specs.Sessions.{nobody, session_at, with_session}
 use Rattle.conversation.specs.declared.sessions.Session.{Session}
 use Rattle.ae_base.specs.declared.keys.KeyMeta.{KeyMeta}
-use Rattle.plain_meaning.specs.Reference.{declared}
+use Rattle.plain_meaning.specs.Reference.{declarations_of, nothing_held, held_at, with_held}
 use Rattle.conversation.specs.declared.sessions.Session.TheVariants as session
 use Rattle.plain_meaning.proofs.History.{Known, IsTold}
-use Rattle.plain_meaning.proofs.Pairs.{Extends, Standing, contents_longer}
+use Rattle.plain_meaning.proofs.Pairs.{Extends, Standing, stands_longer}
 use Rattle.plain_meaning.proofs.Sealed.{IsSendable}
 use Rattle.plain_meaning.proofs.Sending.{Each, told_among}
 use Rattle.plain_meaning.proofs.Versions.{Newer}
@@ -54,7 +53,7 @@ seen_told keys history state plainly number st =
 
 pub record DescribedAs (catalog : Catalog) (p : Pending) : Type 0 where
   pub meant : Meant
-  pub understood : understood catalog p.batch.text (declared p.batch) ≡ Ok meant
+  pub understood : understood catalog p.batch.text (declarations_of p.batch) ≡ Ok meant
   pub long : length meant.encs ≡ length p.batch.params
   pub encs : p.encs ≡ told_among (is_used meant.bound) 0 meant.encs
   pub metas : p.keys ≡ keys_of catalog (used_among (is_used meant.bound) 0 meant.encs)
@@ -67,13 +66,9 @@ pub record HoldsBatch (catalog : Catalog) (p : Pending) : Type 0 where
   pub sendable : Each IsSendableParam p.batch.params
   pub same : p.version ≡ catalog.version → DescribedAs catalog p
 
-abbrev pub Holds : Catalog → Session → Type 0
-Holds catalog session.Idle = Unit {0}
-Holds catalog (session.Pending p) = HoldsBatch catalog p
-Holds catalog (session.Begun batch) = ⊥
-Holds catalog session.Sent = ⊥
-Holds catalog (session.Reading columns keys count) = ⊥
-Holds catalog (session.Skipping columns count) = ⊥
+abbrev pub Holds : Catalog → Option Pending → Type 0
+Holds catalog None = Unit {0}
+Holds catalog (Some p) = HoldsBatch catalog p
 
 batch_newer : (old new : Catalog) → Newer old new → (p : Pending) → HoldsBatch old p → HoldsBatch new p
 batch_newer old new (inl e) p h = subst (λ c. HoldsBatch c p) (sym e) h
@@ -83,55 +78,74 @@ batch_newer old new (inr lt) p h = record {
   same = λ e. let q = h.past in absurd (omega (arith, e, lt, q));
 }
 
-holds_newer : (old new : Catalog) → Newer old new → (s : Session) → Holds old s → Holds new s
-holds_newer old new n session.Idle h = tt
-holds_newer old new n (session.Pending p) h = batch_newer old new n p h
-holds_newer old new n (session.Begun batch) h = absurd h
-holds_newer old new n session.Sent h = absurd h
-holds_newer old new n (session.Reading columns keys count) h = absurd h
-holds_newer old new n (session.Skipping columns count) h = absurd h
+holds_newer : (old new : Catalog) → Newer old new → (s : Option Pending) → Holds old s → Holds new s
+holds_newer old new n None h = tt
+holds_newer old new n (Some p) h = batch_newer old new n p h
 
 -- a session's batch is held in the world that the session sees: what it waits for, no other session can change but by a definition
-abbrev pub HoldsIn : Counted → Option Transaction → Session → Type 0
+abbrev pub HoldsIn : Counted → Option Transaction → Option Pending → Type 0
 HoldsIn shared o s = Holds (seen_by shared o).world.catalog s
 
-abbrev pub AllHold : State → List Session → Type 0
-AllHold state sessions = AllZip (HoldsIn state.shared) state.sessions sessions
+abbrev pub AllHold : State → List (Option Pending) → Type 0
+AllHold state holds = AllZip (HoldsIn state.shared) state.sessions holds
 
-zip_newer : (old new : Counted) → Newer old.world.catalog new.world.catalog → (os : List (Option Transaction)) (ss : List Session) → AllZip (HoldsIn old) os ss → AllZip (HoldsIn new) os ss
+zip_newer : (old new : Counted) → Newer old.world.catalog new.world.catalog → (os : List (Option Transaction)) (ss : List (Option Pending)) → AllZip (HoldsIn old) os ss → AllZip (HoldsIn new) os ss
 zip_newer old new n [] [] h = tt
-zip_newer old new n [] (s ∷ ss) h = absurd h
-zip_newer old new n (o ∷ os) [] h = absurd h
 zip_newer old new n (None ∷ os) (s ∷ ss) h = (holds_newer old.world.catalog new.world.catalog n s h.0, zip_newer old new n os ss h.1)
 zip_newer old new n (Some t ∷ os) (s ∷ ss) h = (h.0, zip_newer old new n os ss h.1)
+zip_newer old new n os ss h = absurd h
 
 -- one session goes on
-pub all_go : (state now : State) (number : ℕ) (sessions : List Session) (after : Session) (slot : Option Transaction) → Newer state.shared.world.catalog now.shared.world.catalog → now.sessions ≡ slice_set state.sessions (number - 1) slot
-    → HoldsIn now.shared slot after → AllHold state sessions → AllHold now (with_session sessions number after)
-all_go state now number sessions after slot newer is h all =
-    subst (λ os. AllZip (HoldsIn now.shared) os (with_session sessions number after)) (sym is)
-    (zip_set (HoldsIn now.shared) state.sessions sessions (number - 1) slot after (zip_newer state.shared now.shared newer state.sessions sessions all) h)
+pub all_go : (state now : State) (number : ℕ) (holds : List (Option Pending)) (after : Option Pending) (slot : Option Transaction) → Newer state.shared.world.catalog now.shared.world.catalog → now.sessions ≡ slice_set state.sessions (number - 1) slot
+    → HoldsIn now.shared slot after → AllHold state holds → AllHold now (with_held holds number after)
+all_go state now number holds after slot newer is h all =
+    subst (λ os. AllZip (HoldsIn now.shared) os (with_held holds number after)) (sym is)
+    (zip_set (HoldsIn now.shared) state.sessions holds (number - 1) slot after (zip_newer state.shared now.shared newer state.sessions holds all) h)
 
-pub hold_place : (state : State) (number : ℕ) (sessions : List Session) → AllHold state sessions → HoldsIn state.shared (transaction_at state number) (session_at sessions number)
-hold_place state number sessions h = zip_at (HoldsIn state.shared) state.sessions sessions (number - 1) None session.Idle h tt
+pub hold_place : (state : State) (number : ℕ) (holds : List (Option Pending)) → AllHold state holds → HoldsIn state.shared (transaction_at state number) (held_at holds number)
+hold_place state number holds h = zip_at (HoldsIn state.shared) state.sessions holds (number - 1) None None h tt
+
+-- ---- the driver's sessions between steps
+
+-- idle, or with a described batch
+abbrev pub resting : Option Pending → Session
+resting None = session.Idle
+resting (Some p) = session.Pending p
+
+abbrev pub all_resting : List (Option Pending) → List Session
+all_resting holds = map resting holds
+
+pub at_resting : (holds : List (Option Pending)) (k : ℕ) → slice_index_or (all_resting holds) k session.Idle ≡ resting (slice_index_or holds k None)
+at_resting [] k = refl
+at_resting (o ∷ os) zero = refl
+at_resting (o ∷ os) (suc k) = at_resting os k
+
+pub set_resting : (holds : List (Option Pending)) (k : ℕ) (o : Option Pending) → slice_set (all_resting holds) k (resting o) ≡ all_resting (slice_set holds k o)
+set_resting [] k o = refl
+set_resting (x ∷ os) zero o = refl
+set_resting (x ∷ os) (suc k) o = ap (λ ss. resting x ∷ ss) (set_resting os k o)
 
 -- ---- with more keys
 
+module _ (P Q : Pairing) (more : (c : Class) (a b : Atom) → P c a b → Q c a b) where
+  counted_wider : (c d : Counted) → CountedCorrespond P c d → CountedCorrespond Q c d
+  counted_wider c d h = record { worlds = record { catalog = h.worlds.catalog; contents = contents_wider P Q more c.world.catalog.tables c.world.contents d.world.contents h.worlds.contents }; counts = h.counts }
+
+  slots_wider : (os us : List (Option Transaction)) → AllZip (SessionsCorrespond P) os us → AllZip (SessionsCorrespond Q) os us
+  slots_wider [] [] h = tt
+  slots_wider (None ∷ os) (None ∷ us) h = (tt, slots_wider os us h.1)
+  slots_wider (Some t ∷ os) (Some u ∷ us) h = (record { own = counted_wider t.own u.own h.0.own; version = h.0.version; used = h.0.used; changed = h.0.changed }, slots_wider os us h.1)
+  slots_wider (None ∷ os) (Some u ∷ us) h = absurd h.0
+  slots_wider (Some t ∷ os) (None ∷ us) h = absurd h.0
+  slots_wider os us h = absurd h
+
+  -- states that correspond do so under more pairs
+  pub stores_wider : (s o : State) → StoresCorrespond P s o → StoresCorrespond Q s o
+  stores_wider s o h = record { shared = counted_wider s.shared o.shared h.shared; sessions = slots_wider s.sessions o.sessions h.sessions }
+
 module _ (keys : KeyMap) (old new : List KeyMeta) (x : Extends old new) where
-  counted_longer : (c d : Counted) → CountedCorrespond (Standing keys old) c d → CountedCorrespond (Standing keys new) c d
-  counted_longer c d h = record { worlds = record { catalog = h.worlds.catalog; contents = contents_longer keys old new x c.world.catalog.tables c.world.contents d.world.contents h.worlds.contents }; counts = h.counts }
-
-  sessions_longer : (os us : List (Option Transaction)) → AllZip (SessionsCorrespond (Standing keys old)) os us → AllZip (SessionsCorrespond (Standing keys new)) os us
-  sessions_longer [] [] h = tt
-  sessions_longer [] (u ∷ us) h = absurd h
-  sessions_longer (o ∷ os) [] h = absurd h
-  sessions_longer (None ∷ os) (None ∷ us) h = (tt, sessions_longer os us h.1)
-  sessions_longer (None ∷ os) (Some u ∷ us) h = absurd h.0
-  sessions_longer (Some t ∷ os) (None ∷ us) h = absurd h.0
-  sessions_longer (Some t ∷ os) (Some u ∷ us) h = (record { own = counted_longer t.own u.own h.0.own; version = h.0.version; used = h.0.used; changed = h.0.changed }, sessions_longer os us h.1)
-
   pub stores_longer : (s o : State) → StoresCorrespond (Standing keys old) s o → StoresCorrespond (Standing keys new) s o
-  stores_longer s o h = record { shared = counted_longer s.shared o.shared h.shared; sessions = sessions_longer s.sessions o.sessions h.sessions }
+  stores_longer s o h = stores_wider (Standing keys old) (Standing keys new) (stands_longer keys old new x) s o h
 
   told_longer : (o : Option Transaction) → IsTransactionTold old o → IsTransactionTold new o
   told_longer None h = tt
@@ -151,11 +165,11 @@ sessions_told history state now number s h all =
 
 -- ---- from the beginning
 
-none_held : (n : ℕ) → AllZip (HoldsIn empty_state.shared) (replicate n None) (replicate n session.Idle)
+none_held : (n : ℕ) → AllZip (HoldsIn empty_state.shared) (replicate n None) (replicate n None)
 none_held zero = tt
 none_held (suc n) = (tt, none_held n)
 
-pub all_held : AllHold empty_state nobody
+pub all_held : AllHold empty_state nothing_held
 all_held = none_held 64
 
 nothing_told : (n : ℕ) → All (IsTransactionTold []) (replicate n None)

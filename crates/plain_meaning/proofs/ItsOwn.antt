@@ -52,6 +52,9 @@ cell_of (Sealed cell) (Plain value) h = absurd cc
 cell_of Null b h = absurd cc
 cell_of (Plain value) b h = absurd cc
 
+pub own_cells : (c : Class) (a b : Atom) → Related own_cell c a b → (x : List ℕ) × (a ≡ Sealed x)
+own_cells c a b h = let p = cell_of a b h in (p.cell, p.left)
+
 pub own_is_one_to_one : IsOneToOne (Related own_cell)
 own_is_one_to_one = record {
   left_there = λ c a b h. let p = cell_of a b h in subst IsNotNull (sym p.left) tt;

@@ -6,11 +6,12 @@ mod History
 pub mod Interface
 mod ItsOwn
 mod Pairs
+mod Rows
 mod Sealed
 mod Sending
-mod Talk
 mod Told
 mod Understood
 mod Used
 mod Versions
+mod Walk
 mod Worked

@@ -11,9 +11,9 @@ use Rattle.ae_base.specs.declared.types.Ty.TheVariants as ty
 use Rattle.sql_tree.specs.Bound.{Bound}
 use Rattle.sql_tree.specs.Statements.{Statement}
 use Rattle.sql_tree.specs.Uses.{uses}
-use Rattle.sql_grammar.specs.Texts.{parsed}
+use Rattle.sql_grammar.specs.Texts.{statement_in}
 use Rattle.catalog.specs.Catalogs.{Catalog}
-use Rattle.enc_types.specs.Least.{inferred}
+use Rattle.enc_types.specs.Least.{inferred_encs}
 use Rattle.enc_types.specs.UsedAlone.{used_among, place_among, is_used, alone}
 use Rattle.enc_types.proofs.Interface.{found_among}
 use Rattle.resolve.specs.Bind.{bind}
@@ -27,8 +27,8 @@ pub use Rattle.server_core.proofs.Interface.{Parts, parts_of}
 abbrev pub followed : {A B E : Type 0} → Result A E → (A → Result B E) → Result B E
 followed r f = r >>= f
 
-pub understood_as : (catalog : Catalog) (text : List ℕ) (declarations : List ParamDecl) (statement : Statement) (b : Bound) (encs : List Enc) → parsed (encode_utf8_all text) ≡ Ok statement
-    → bind catalog statement declarations ≡ Ok b → inferred b ≡ Ok encs → understood catalog text declarations ≡ Ok (record { bound = b; encs = encs })
+pub understood_as : (catalog : Catalog) (text : List ℕ) (declarations : List ParamDecl) (statement : Statement) (b : Bound) (encs : List Enc) → statement_in (encode_utf8_all text) ≡ Ok statement
+    → bind catalog statement declarations ≡ Ok b → inferred_encs b ≡ Ok encs → understood catalog text declarations ≡ Ok (record { bound = b; encs = encs })
 unfolding understood
 understood_as catalog text declarations statement b encs p n i = rw (p, n, i) refl
 

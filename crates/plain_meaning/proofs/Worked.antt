@@ -1,5 +1,5 @@
 -- The plaintext meaning over a protected column whose key unwraps: what is inserted is found by its value, and shown.
-use Rattle.std.proofs.Common.{◌≡◌, ℕ, List, [], ◌∷◌, Some, refl, ap, ◌∙◌}
+use Rattle.std.proofs.Common.{◌≡◌, ℕ, List, [], ◌∷◌, Some, None, refl, ap, ◌∙◌}
 use Rattle.std.specs.Prelude.{pos, codes}
 use lib.Utf8.{encode}
 use Rattle.ae_base.specs.declared.atoms.AtomOf.TheVariants as atom
@@ -8,20 +8,18 @@ use Rattle.ae_base.specs.declared.values.Value.TheVariants as value
 use Rattle.ae_edge.specs.Vaults.{KeyMap}
 use Rattle.key_store.specs.Opening.{opened}
 use Rattle.sql_grammar.specs.Parse.{operand_in, inner_in}
-use Rattle.sql_grammar.specs.Texts.{tree_of, parsed}
-use Rattle.semantic_checks.specs.Checks.{checked}
+use Rattle.sql_grammar.specs.Texts.{tree_of, statement_in}
+use Rattle.semantic_checks.specs.Checks.{check_of}
 use Rattle.resolve.specs.Bind.{bind}
-use Rattle.enc_types.specs.Least.{inferred, least, has_typing, clash_behind}
+use Rattle.enc_types.specs.Least.{inferred_encs, least, has_typing, clash_behind}
 use Rattle.enc_types.specs.Rules.{rules}
 use Rattle.server_core.specs.Describing.{understood}
 use Rattle.server_core.specs.Serve.{State}
-use Rattle.conversation.specs.Sessions.{nobody, with_session}
 use Rattle.conversation.specs.declared.outcomes.Outcome.{Outcome}
 use Rattle.conversation.specs.declared.outcomes.Outcome.TheVariants.{Rows, Changed}
-use Rattle.conversation.specs.declared.sessions.Session.TheVariants as session
 use Rattle.script_lang.specs.declared.steps.Step.{Step}
 use Rattle.plain_meaning.specs.MeaningWorked.{number, whole, keyed, keyed_with}
-use Rattle.plain_meaning.specs.Reference.{Came, came, means, reference}
+use Rattle.plain_meaning.specs.Reference.{Came, came, means, nothing_held, with_held, reference}
 
 abbrev pub vault : List ℕ → KeyMap
 vault master = (codes "main", master) ∷ []
@@ -42,20 +40,20 @@ abbrev one_number : List ℕ → ℕ → Outcome
 one_number title n = Rows (record { titles = title ∷ []; rows = (value.Is (Num (pos n)) ∷ []) ∷ [] })
 
 module _ (master wrapped key : List ℕ) (unwraps : opened (vault master) (codes "main") wrapped ≡ Some key) where
-  inserted : means (vault master) insertion session.Idle (keyed wrapped) ≡ came (Changed 1) session.Idle (filled wrapped)
-  unfolding understood parsed tree_of operand_in inner_in bind checked inferred least has_typing clash_behind rules encode
+  inserted : means (vault master) insertion None (keyed wrapped) ≡ came (Changed 1) None (filled wrapped)
+  unfolding understood statement_in tree_of operand_in inner_in bind check_of inferred_encs least has_typing clash_behind rules encode
   inserted = rw unwraps refl
 
-  found : means (vault master) selection session.Idle (filled wrapped) ≡ came (one_number (codes "b") 7) session.Idle (filled wrapped)
-  unfolding understood parsed tree_of operand_in inner_in bind checked inferred least has_typing clash_behind rules encode
+  found : means (vault master) selection None (filled wrapped) ≡ came (one_number (codes "b") 7) None (filled wrapped)
+  unfolding understood statement_in tree_of operand_in inner_in bind check_of inferred_encs least has_typing clash_behind rules encode
   found = rw unwraps refl
 
-  listed : means (vault master) listing session.Idle (filled wrapped) ≡ came (one_number (codes "a") 5) session.Idle (filled wrapped)
-  unfolding understood parsed tree_of operand_in inner_in bind checked inferred least has_typing clash_behind rules encode
+  listed : means (vault master) listing None (filled wrapped) ≡ came (one_number (codes "a") 5) None (filled wrapped)
+  unfolding understood statement_in tree_of operand_in inner_in bind check_of inferred_encs least has_typing clash_behind rules encode
   listed = rw unwraps refl
 
-  pub an_opened_column : reference (vault master) (insertion ∷ selection ∷ listing ∷ []) nobody (keyed wrapped) ≡ Changed 1 ∷ one_number (codes "b") 7 ∷ one_number (codes "a") 5 ∷ []
+  pub an_opened_column : reference (vault master) (insertion ∷ selection ∷ listing ∷ []) nothing_held (keyed wrapped) ≡ Changed 1 ∷ one_number (codes "b") 7 ∷ one_number (codes "a") 5 ∷ []
   an_opened_column =
-      ap (λ (c : Came). c.comes ∷ reference (vault master) (selection ∷ listing ∷ []) (with_session nobody 1 c.session) c.state) inserted
-      ∙ ap (λ (c : Came). Changed 1 ∷ c.comes ∷ reference (vault master) (listing ∷ []) (with_session nobody 1 c.session) c.state) found
+      ap (λ (c : Came). c.comes ∷ reference (vault master) (selection ∷ listing ∷ []) (with_held nothing_held 1 c.held) c.state) inserted
+      ∙ ap (λ (c : Came). Changed 1 ∷ c.comes ∷ reference (vault master) (listing ∷ []) (with_held nothing_held 1 c.held) c.state) found
       ∙ ap (λ (c : Came). Changed 1 ∷ one_number (codes "b") 7 ∷ c.comes ∷ []) listed

@@ -10,22 +10,21 @@ use Rattle.ae_base.specs.declared.types.Ty.TheVariants as ty
 use Rattle.ae_base.specs.declared.values.Datum.TheVariants.{Num}
 use Rattle.ae_base.specs.declared.values.Value.TheVariants as value
 use Rattle.sql_grammar.specs.Parse.{operand_in, inner_in}
-use Rattle.sql_grammar.specs.Texts.{tree_of, parsed}
-use Rattle.semantic_checks.specs.Checks.{checked}
+use Rattle.sql_grammar.specs.Texts.{tree_of, statement_in}
+use Rattle.semantic_checks.specs.Checks.{check_of}
 use Rattle.catalog.specs.Catalogs.{Catalog}
 use Rattle.resolve.specs.Bind.{bind}
-use Rattle.enc_types.specs.Least.{inferred, least, has_typing, clash_behind}
+use Rattle.enc_types.specs.Least.{inferred_encs, least, has_typing, clash_behind}
 use Rattle.enc_types.specs.Rules.{rules}
 use Rattle.server_core.specs.Describing.{understood}
 use Rattle.server_core.specs.Serve.{State, empty_state}
-use Rattle.conversation.specs.Sessions.{nobody}
 use Rattle.conversation.specs.declared.faults.DriverFault.TheVariants.{StillPending, NothingPending, DoesNotFit, NoMasterKey}
 use Rattle.conversation.specs.declared.outcomes.NamedEnc.TheVariants as named
 use Rattle.conversation.specs.declared.outcomes.Outcome.{Outcome}
 use Rattle.conversation.specs.declared.outcomes.Outcome.TheVariants.{Rows, Changed, Defined, Described, Refused, Failed}
 use Rattle.script_lang.specs.declared.steps.Step.{Step}
 use Rattle.script_lang.specs.declared.steps.Step.TheVariants.{Whole, Half, Execute}
-use Rattle.plain_meaning.specs.Reference.{reference}
+use Rattle.plain_meaning.specs.Reference.{nothing_held, reference}
 
 abbrev pub number : List ℕ → ℕ → Param
 number name n = record { declaration = record { name = name; ty = ty.Int }; value = value.Is (Num (pos n)) }
@@ -37,7 +36,7 @@ abbrev pub half : ℕ → List ℕ → List Param → Step
 half session text params = Half session (record { text = text; params = params })
 
 abbrev pub meaning : List Step → List Outcome
-meaning steps = reference [] steps nobody empty_state
+meaning steps = reference [] steps nothing_held empty_state
 
 pub the_plain_table :
     meaning (
@@ -46,7 +45,7 @@ pub the_plain_table :
     ∷ whole 2 (codes "SELECT a FROM t WHERE a < @p") (number (codes "q") 1 ∷ number (codes "p") 6 ∷ [])
     ∷ [])
     ≡ Defined ∷ Changed 3 ∷ Rows (record { titles = codes "a" ∷ []; rows = (value.Is (Num (pos 5)) ∷ []) ∷ [] }) ∷ []
-unfolding understood parsed tree_of operand_in inner_in bind checked inferred least has_typing clash_behind rules encode
+unfolding understood statement_in tree_of operand_in inner_in bind check_of inferred_encs least has_typing clash_behind rules encode
 the_plain_table = refl
 
 pub a_batch_that_waits :
@@ -65,7 +64,7 @@ pub a_batch_that_waits :
     ∷ Refused (Moved (record { seen = 1; now = 2 }))
     ∷ Failed NothingPending
     ∷ []
-unfolding understood parsed tree_of operand_in inner_in bind checked inferred least has_typing clash_behind rules encode
+unfolding understood statement_in tree_of operand_in inner_in bind check_of inferred_encs least has_typing clash_behind rules encode
 a_batch_that_waits = refl
 
 abbrev pub rows_of_a : List ℕ → Outcome
@@ -83,7 +82,7 @@ pub a_transaction_in_conflict :
     ∷ whole 1 (codes "SELECT a FROM t") []
     ∷ [])
     ≡ Defined ∷ Defined ∷ Changed 1 ∷ Changed 1 ∷ rows_of_a (1 ∷ []) ∷ Refused (Conflict (codes "t") (record { seen = 0; now = 1 })) ∷ rows_of_a (2 ∷ []) ∷ []
-unfolding understood parsed tree_of operand_in inner_in bind checked inferred least has_typing clash_behind rules encode
+unfolding understood statement_in tree_of operand_in inner_in bind check_of inferred_encs least has_typing clash_behind rules encode
 a_transaction_in_conflict = refl
 
 -- where the other session only reads, it can; and then it is over
@@ -98,7 +97,7 @@ pub a_transaction_that_is_committed :
     ∷ whole 2 (codes "SELECT a FROM t") []
     ∷ [])
     ≡ Defined ∷ Defined ∷ Changed 1 ∷ rows_of_a [] ∷ Defined ∷ Refused NoTransaction ∷ rows_of_a (1 ∷ []) ∷ []
-unfolding understood parsed tree_of operand_in inner_in bind checked inferred least has_typing clash_behind rules encode
+unfolding understood statement_in tree_of operand_in inner_in bind check_of inferred_encs least has_typing clash_behind rules encode
 a_transaction_that_is_committed = refl
 
 pub a_value_that_does_not_fit :
@@ -136,12 +135,12 @@ pub a_protected_column : (wrapped : List ℕ) →
     ∷ whole 1 (codes "INSERT INTO t (a, b) VALUES (NULL, 7)") []
     ∷ whole 1 (codes "SELECT b FROM t") []
     ∷ whole 1 (codes "SELECT a FROM t") []
-    ∷ []) nobody (keyed wrapped)
+    ∷ []) nothing_held (keyed wrapped)
     ≡ Described (record { name = codes "p"; enc = named.Det (codes "K") } ∷ [])
     ∷ Failed (NoMasterKey (codes "main"))
     ∷ Changed 1
     ∷ Rows (record { titles = codes "b" ∷ []; rows = (value.Is (Num (pos 7)) ∷ []) ∷ [] })
     ∷ Failed (NoMasterKey (codes "main"))
     ∷ []
-unfolding understood parsed tree_of operand_in inner_in bind checked inferred least has_typing clash_behind rules encode
+unfolding understood statement_in tree_of operand_in inner_in bind check_of inferred_encs least has_typing clash_behind rules encode
 a_protected_column wrapped = refl

@@ -1,5 +1,5 @@
 -- The plaintext meaning of a script: what its steps come to over plain values. No cell, no random byte, no request and no reply is in it.
-use Rattle.std.specs.Prelude.{ℕ, List, [], ◌∷◌, map, Option, Some, None, Result, Ok, Err, ◌==◌, if◌then◌else◌, unwrap_or}
+use Rattle.std.specs.Prelude.{ℕ, ◌-◌, List, [], ◌∷◌, map, replicate, slice_index_or, slice_set, Option, Some, None, Result, Ok, Err, ◌==◌, if◌then◌else◌, unwrap_or}
 use Rattle.ae_base.specs.Atoms.{Atom, plain_atom, value_of_atom}
 use Rattle.ae_base.specs.declared.batches.Batch.{Batch}
 use Rattle.ae_base.specs.declared.keys.KeyMeta.{KeyMeta}
@@ -23,26 +23,34 @@ use Rattle.server_core.specs.Serve.{State, catalog_of}
 use Rattle.conversation.specs.Batches.{why_unfit}
 use Rattle.conversation.specs.Keys.{open_key, meta_of}
 use Rattle.conversation.specs.Pending.{Pending, uses_of}
-use Rattle.conversation.specs.Sessions.{encs_of, described_params, session_at, with_session}
+use Rattle.conversation.specs.Sessions.{encs_of, described_params}
 use Rattle.conversation.specs.declared.faults.DriverFault.{DriverFault}
 use Rattle.conversation.specs.declared.faults.DriverFault.TheVariants.{StillPending, NothingPending}
 use Rattle.conversation.specs.declared.outcomes.Listing.{Listing}
 use Rattle.conversation.specs.declared.outcomes.Outcome.{Outcome}
 use Rattle.conversation.specs.declared.outcomes.Outcome.TheVariants as outcome
-use Rattle.conversation.specs.declared.sessions.Session.{Session}
-use Rattle.conversation.specs.declared.sessions.Session.TheVariants as session
 use Rattle.script_lang.specs.declared.steps.Step.{Step}
 use Rattle.script_lang.specs.declared.steps.Step.TheVariants.{Whole, Half, Execute}
 use Rattle.plain_meaning.specs.Steps.{number_of}
 
--- what a step comes to, and its session and the plain state after it
+-- what a step comes to, and what its session holds after it, nothing or a described batch, and the plain state
 pub record Came : Type 0 where
   pub comes : Outcome
-  pub session : Session
+  pub held : Option Pending
   pub state : State
 
-abbrev pub came : Outcome → Session → State → Came
-came comes after state = record { comes = comes; session = after; state = state }
+abbrev pub came : Outcome → Option Pending → State → Came
+came comes held state = record { comes = comes; held = held; state = state }
+
+-- what each session of a client holds between steps, by its number from 1 to 64
+abbrev pub nothing_held : List (Option Pending)
+nothing_held = replicate 64 None
+
+abbrev pub held_at : List (Option Pending) → ℕ → Option Pending
+held_at holds number = slice_index_or holds (number - 1) None
+
+abbrev pub with_held : List (Option Pending) → ℕ → Option Pending → List (Option Pending)
+with_held holds number held = slice_set holds (number - 1) held
 
 -- ---- keys
 
@@ -84,26 +92,26 @@ answered keys catalog (Err f) = outcome.Refused f
 
 -- ---- a described batch is executed
 
-abbrev pub declared : Batch → List ParamDecl
-declared batch = map (λ p. p.declaration) batch.params
+abbrev pub declarations_of : Batch → List ParamDecl
+declarations_of batch = map (λ p. p.declaration) batch.params
 
 -- the statement is bound over all declarations, and takes all values as they are
 abbrev pub stepped : KeyMap → State → ℕ → Batch → Result Meant SqlFault → Came
 stepped keys state number batch (Ok meant) =
     let done = transact state number (ask_of (execution meant.bound meant.encs (map (λ p. plain_atom p.value) batch.params))) in
-    came (answered keys (catalog_of state number) done.answer) session.Idle done.after
-stepped keys state number batch (Err f) = came (outcome.Refused f) session.Idle state
+    came (answered keys (catalog_of state number) done.answer) None done.after
+stepped keys state number batch (Err f) = came (outcome.Refused f) None state
 
 -- a key that isn't opened is the driver's fault; Moved where the catalog isn't that of the description
 abbrev pub executed_with : KeyMap → State → ℕ → Pending → Option DriverFault → Came
-executed_with keys state number p (Some f) = came (outcome.Failed f) session.Idle state
+executed_with keys state number p (Some f) = came (outcome.Failed f) None state
 executed_with keys state number p None =
     if p.version == (catalog_of state number).version
-    then stepped keys state number p.batch (understood (catalog_of state number) p.batch.text (declared p.batch))
-    else came (outcome.Refused (Moved (record { seen = p.version; now = (catalog_of state number).version }))) session.Idle state
+    then stepped keys state number p.batch (understood (catalog_of state number) p.batch.text (declarations_of p.batch))
+    else came (outcome.Refused (Moved (record { seen = p.version; now = (catalog_of state number).version }))) None state
 
-abbrev pub executed : KeyMap → State → ℕ → Pending → Came
-executed keys state number p = executed_with keys state number p (why_unopened keys p.keys (map (λ u. u.enc) (uses_of p)))
+abbrev pub execution_of : KeyMap → State → ℕ → Pending → Came
+execution_of keys state number p = executed_with keys state number p (why_unopened keys p.keys (map (λ u. u.enc) (uses_of p)))
 
 -- ---- a batch is described
 
@@ -117,45 +125,37 @@ pending batch description = record {
 
 abbrev pub described : State → Batch → (Pending → Came) → Result Description SqlFault → Came
 described state batch ready (Ok description) = ready (pending batch description)
-described state batch ready (Err f) = came (outcome.Refused f) session.Idle state
+described state batch ready (Err f) = came (outcome.Refused f) None state
 
 -- a value that doesn't fit and a text that is too long don't leave the driver
 abbrev pub begun : State → ℕ → Batch → (Pending → Came) → Option DriverFault → Came
-begun state number batch ready (Some f) = came (outcome.Failed f) session.Idle state
-begun state number batch ready None = described state batch ready (describe (catalog_of state number) batch.text (declared batch))
+begun state number batch ready (Some f) = came (outcome.Failed f) None state
+begun state number batch ready None = described state batch ready (describe (catalog_of state number) batch.text (declarations_of batch))
 
 -- ---- a step
 
 -- a session that has a batch begins no other
-abbrev pub begins : State → ℕ → Batch → (Pending → Came) → Session → Came
-begins state number batch ready session.Idle = begun state number batch ready (why_unfit batch)
-begins state number batch ready (session.Begun other) = came (outcome.Failed StillPending) (session.Begun other) state
-begins state number batch ready (session.Pending p) = came (outcome.Failed StillPending) (session.Pending p) state
-begins state number batch ready session.Sent = came (outcome.Failed StillPending) session.Sent state
-begins state number batch ready (session.Reading columns keys count) = came (outcome.Failed StillPending) (session.Reading columns keys count) state
-begins state number batch ready (session.Skipping columns count) = came (outcome.Failed StillPending) (session.Skipping columns count) state
+abbrev pub begins : State → ℕ → Batch → (Pending → Came) → Option Pending → Came
+begins state number batch ready None = begun state number batch ready (why_unfit batch)
+begins state number batch ready (Some p) = came (outcome.Failed StillPending) (Some p) state
 
 -- one without a described batch executes nothing
-abbrev pub executes : KeyMap → State → ℕ → Session → Came
-executes keys state number (session.Pending p) = executed keys state number p
-executes keys state number session.Idle = came (outcome.Failed NothingPending) session.Idle state
-executes keys state number (session.Begun batch) = came (outcome.Failed NothingPending) (session.Begun batch) state
-executes keys state number session.Sent = came (outcome.Failed NothingPending) session.Sent state
-executes keys state number (session.Reading columns ks count) = came (outcome.Failed NothingPending) (session.Reading columns ks count) state
-executes keys state number (session.Skipping columns count) = came (outcome.Failed NothingPending) (session.Skipping columns count) state
+abbrev pub executes : KeyMap → State → ℕ → Option Pending → Came
+executes keys state number (Some p) = execution_of keys state number p
+executes keys state number None = came (outcome.Failed NothingPending) None state
 
 -- half a batch waits as it was described
 abbrev pub waits : State → Pending → Came
-waits state p = came (outcome.Described (described_params p.keys (uses_of p))) (session.Pending p) state
+waits state p = came (outcome.Described (described_params p.keys (uses_of p))) (Some p) state
 
-abbrev pub means : KeyMap → Step → Session → State → Came
-means keys (Whole number batch) before state = begins state number batch (executed keys state number) before
+abbrev pub means : KeyMap → Step → Option Pending → State → Came
+means keys (Whole number batch) before state = begins state number batch (execution_of keys state number) before
 means keys (Half number batch) before state = begins state number batch (waits state) before
 means keys (Execute number) before state = executes keys state number before
 
 -- what the steps come to, one after another
-abbrev pub reference : KeyMap → List Step → List Session → State → List Outcome
-reference keys [] sessions state = []
-reference keys (step ∷ steps) sessions state =
-    let c = means keys step (session_at sessions (number_of step)) state in
-    c.comes ∷ reference keys steps (with_session sessions (number_of step) c.session) c.state
+abbrev pub reference : KeyMap → List Step → List (Option Pending) → State → List Outcome
+reference keys [] holds state = []
+reference keys (step ∷ steps) holds state =
+    let c = means keys step (held_at holds (number_of step)) state in
+    c.comes ∷ reference keys steps (with_held holds (number_of step) c.held) c.state

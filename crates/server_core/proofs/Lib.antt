@@ -14,5 +14,6 @@ mod Suiting
 mod Told
 mod Typings
 mod Understanding
+mod Untyped
 mod Used
 mod Versions

@@ -15,7 +15,7 @@ use Rattle.catalog.specs.Laws.{KeysAreTold}
 use Rattle.catalog.specs.declared.keys.ColumnKey.{ColumnKey}
 use Rattle.catalog.specs.declared.keys.MasterKey.{MasterKey}
 use Rattle.wire_messages.specs.KeyLists.{keys_used, ids_of, AreTheKeysOf}
-use Rattle.server_core.specs.Describing.{told, keys_of}
+use Rattle.server_core.specs.Describing.{meta_list, keys_of}
 
 abbrev pub IsThere : Catalog → ℕ → Type 0
 IsThere catalog id = IsSome (key_of catalog id)
@@ -148,14 +148,14 @@ meta_found : (catalog : Catalog) (id : ℕ) (o : Option ColumnKey) → ((k : Col
 meta_found catalog id None h meta e = absurd cc
 meta_found catalog id (Some key) h meta e = meta_named key (master_named catalog key.master) meta e ∙ h key refl
 
-told_one : (o : Option KeyMeta) (id : ℕ) (ids : List ℕ) (rest : List KeyMeta) → IsSome o → ((m : KeyMeta) → o ≡ Some m → m.id ≡ id) → ids_of rest ≡ ids → ids_of (told o ++ rest) ≡ id ∷ ids
+told_one : (o : Option KeyMeta) (id : ℕ) (ids : List ℕ) (rest : List KeyMeta) → IsSome o → ((m : KeyMeta) → o ≡ Some m → m.id ≡ id) → ids_of rest ≡ ids → ids_of (meta_list o ++ rest) ≡ id ∷ ids
 told_one None id ids rest s h e = absurd cc
 told_one (Some m) id ids rest s h e = let f = h m refl in rw (f, e) refl
 
-told_ids : (catalog : Catalog) → IsCatalog catalog → KeysAreTold → (ids : List ℕ) → All (IsThere catalog) ids → ids_of (flat_map (λ id. told (key_meta catalog id)) ids) ≡ ids
+told_ids : (catalog : Catalog) → IsCatalog catalog → KeysAreTold → (ids : List ℕ) → All (IsThere catalog) ids → ids_of (flat_map (λ id. meta_list (key_meta catalog id)) ids) ≡ ids
 told_ids catalog c law [] a = refl
 told_ids catalog c law (id ∷ ids) a =
-    told_one (key_meta catalog id) id ids (flat_map (λ id. told (key_meta catalog id)) ids) (law catalog id c (All-head (IsThere catalog) id ids a))
+    told_one (key_meta catalog id) id ids (flat_map (λ id. meta_list (key_meta catalog id)) ids) (law catalog id c (All-head (IsThere catalog) id ids a))
     (λ m e. meta_found catalog id (key_of catalog id) (λ k f. found_id catalog.keys id k f) m e) (told_ids catalog c law ids (All-tail (IsThere catalog) id ids a))
 
 pub are_the_keys : (catalog : Catalog) → IsCatalog catalog → KeysAreTold → (encs : List Enc) → All (IsKeyThere catalog) encs → AreTheKeysOf encs (keys_of catalog encs)

@@ -30,7 +30,6 @@ use Rattle.resolve.specs.Bind.{type_of}
 use Rattle.wire_parts.specs.AtomBounds.{IsSendable}
 use Rattle.wire_messages.specs.declared.params.SentParam.{SentParam}
 use Rattle.engine.specs.Worlds.{World}
-use Rattle.engine.proofs.Interface.{has_master}
 use Rattle.transactions.specs.Answers.{Transacts}
 use Rattle.transactions.specs.Counted.{execution, step_of}
 use Rattle.transactions.specs.Forgotten.{IsUndone}
@@ -53,8 +52,7 @@ unfolding IsReady
 bound_on catalog declarations meant atoms law r = record {
   placed = r.understood.bound.placed;
   tables = r.understood.bound.tables;
-  master = has_master catalog meant.bound.statement r.understood.bound.master;
-  keys = r.understood.bound.keys;
+  definable = r.understood.bound.definable;
   encs = (law meant.bound meant.encs r.understood.typed).0;
   values = r.count;
 }

@@ -13,7 +13,7 @@ use Rattle.resolve.specs.Laws.{IsBoundOver, BoundStatementsAre}
 use Rattle.resolve.specs.Bind.{bind}
 use Rattle.sql_tree.specs.Statements.{Statement}
 use Rattle.enc_types.specs.declared.typed.Typed.{Typed}
-use Rattle.enc_types.specs.Least.{inferred}
+use Rattle.enc_types.specs.Least.{inferred_encs}
 use Rattle.enc_types.specs.Rules.{at_of, rules}
 use Rattle.enc_types.specs.declared.rules.Rule.{Rule}
 use Rattle.inference.specs.Infers.{IsClashOf}
@@ -23,20 +23,20 @@ use Rattle.server_core.specs.Describing.{typed, with_encs}
 use Rattle.server_core.specs.Understood.{IsNamed, IsUnderstood}
 use Rattle.server_core.specs.Explaining.{Shows}
 
-pub typed_where : (b : Bound) (encs : List Enc) → inferred b ≡ Ok encs → typed b ≡ Ok (record { bound = b; encs = encs })
+pub typed_where : (b : Bound) (encs : List Enc) → inferred_encs b ≡ Ok encs → typed b ≡ Ok (record { bound = b; encs = encs })
 typed_where b encs e = ap (with_encs b) e
 
 pub clash_where : (b : Bound) (clash : EncryptionClash) → IsClashOf b.params b.columns (rules b) clash → typed b ≡ Err (fault.EncryptionClash clash.at)
-unfolding inferred
+unfolding inferred_encs
 clash_where b clash c = ap (with_encs b) c.inferred
 
 -- what is shown of a statement
-pub shows_nothing : (b : Bound) (encs : List Enc) → inferred b ≡ Ok encs → Shows b (inferred b) []
+pub shows_nothing : (b : Bound) (encs : List Enc) → inferred_encs b ≡ Ok encs → Shows b (inferred_encs b) []
 shows_nothing b encs e = subst (λ r. Shows b r []) (sym e) refl
 
 pub shows_chain : (b : Bound) (clash : EncryptionClash) (places : List ℕ) → IsClashOf b.params b.columns (rules b) clash → places ≡ map at_of clash.chain
-    → Shows b (inferred b) places
-unfolding inferred
+    → Shows b (inferred_encs b) places
+unfolding inferred_encs
 shows_chain b clash places c e = subst (λ r. Shows b r places) (sym c.inferred) (record { chain = clash.chain; clashes = c.clashes; told = e })
 
 -- what is bound is named so
@@ -55,6 +55,6 @@ understood_so catalog declarations bound (Err f) b e = tt
 
 -- the places that are told of a clash
 pub shows_places : {E : Type 0} (b : Bound) (clash : EncryptionClash) (chain : List Rule) (result : Result (List ℕ) E) → IsClashOf b.params b.columns (rules b) clash → chain ≡ clash.chain
-    → IfOk result (λ places. places ≡ map at_of chain) → IfOk result (Shows b (inferred b))
+    → IfOk result (λ places. places ≡ map at_of chain) → IfOk result (Shows b (inferred_encs b))
 shows_places b clash chain (Ok places) c e p = shows_chain b clash places c (subst (λ (rs : List Rule). places ≡ map at_of rs) e p)
 shows_places b clash chain (Err f) c e p = tt

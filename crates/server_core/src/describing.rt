@@ -64,7 +64,8 @@ fn of_typed(
     requires few { length declarations.now ≤ 128 }
     requires differ { IsTrue (all_differ (map (λ d. d.name) declarations.now)) }
     requires understood { IsUnderstood catalog.now declarations.now (meant_of typed) }
-    ensures { IfOk result (λ d. d ≡ spec.description catalog.now declarations.now (meant_of typed)) }
+    ensures { IfOk result
+        (λ d. d ≡ spec.description catalog.now declarations.now (meant_of typed)) }
 {
     let made = description(alloc, catalog, declarations, &typed);
     drop(typed);
@@ -81,7 +82,8 @@ fn description(
     requires few { length declarations.now ≤ 128 }
     requires differ { IsTrue (all_differ (map (λ d. d.name) declarations.now)) }
     requires understood { IsUnderstood catalog.now declarations.now (meant_of typed.now) }
-    ensures { IfOk result (λ d. d ≡ spec.description catalog.now declarations.now (meant_of typed.now)) }
+    ensures { IfOk result
+        (λ d. d ≡ spec.description catalog.now declarations.now (meant_of typed.now)) }
 {
     keys_are_told();
     typings_are_of_columns();

@@ -49,9 +49,13 @@ pub fn execute(
     params: &[SentParam<'_>],
 ) -> Result<Seq<Reply<'static>>, Refusal>
     requires { IsState store.old }
-    ensures served { ServesOrFails result (spec.executed store.old session (spec.prepared (spec.catalog_of store.old session) version text.now params.now)) store.old store.new }
+    ensures served { ServesOrFails result
+        (spec.executed store.old session
+        (spec.prepared (spec.catalog_of store.old session) version text.now params.now)) store.old
+        store.new }
     ensures state { IsState store.new }
-    ensures kinds { IfOk result (λ replies. (number : ℕ) → HasKinds (Execute number version text.now params.now) replies) }
+    ensures kinds { IfOk result (λ replies. (number : ℕ)
+        → HasKinds (Execute number version text.now params.now) replies) }
 {
     let ready = prepared(alloc, store.catalog(session), version, text, params)?;
     step(alloc, store, session, ready)
@@ -66,8 +70,11 @@ fn step(
     ready: Ready,
 ) -> Result<Seq<Reply<'static>>, Refusal>
     requires state { IsState store.old }
-    requires ready { (declarations : List ParamDecl) × IsReady (spec.catalog_of store.old session) declarations (meant_of ready.typed) ready.atoms }
-    ensures served { ServesOrFails result (spec.stepped store.old session (ready_of ready)) store.old store.new }
+    requires ready { (declarations : List ParamDecl)
+        × IsReady (spec.catalog_of store.old session) declarations (meant_of ready.typed)
+        ready.atoms }
+    ensures served { ServesOrFails result (spec.stepped store.old session (ready_of ready))
+        store.old store.new }
     ensures state { IsState store.new }
     ensures kinds { IfOk result AreExecuteKinds }
 {
@@ -93,8 +100,11 @@ fn step_in(
     requires empty { room.items ≡ [] }
     requires room { vec_len room < vec_capacity room }
     requires state { IsState store.old }
-    requires ready { (declarations : List ParamDecl) × IsReady (spec.catalog_of store.old session) declarations (meant_of ready.typed) ready.atoms }
-    ensures served { ServesOrFails result (spec.stepped store.old session (ready_of ready)) store.old store.new }
+    requires ready { (declarations : List ParamDecl)
+        × IsReady (spec.catalog_of store.old session) declarations (meant_of ready.typed)
+        ready.atoms }
+    ensures served { ServesOrFails result (spec.stepped store.old session (ready_of ready))
+        store.old store.new }
     ensures state { IsState store.new }
     ensures kinds { IfOk result AreExecuteKinds }
 {
@@ -131,7 +141,8 @@ fn shown(
     requires few { IsFew columns }
     requires keys { All (λ column. IsKeyThere catalog.now column.enc) columns }
     requires rows { AreResults is_short columns rows }
-    ensures value { IfOk result (λ replies. replies ≡ spec.replies_of catalog.now (engine.Rows columns rows)) }
+    ensures value { IfOk result
+        (λ replies. replies ≡ spec.replies_of catalog.now (engine.Rows columns rows)) }
     ensures kinds { IfOk result AreExecuteKinds }
 {
     rows_replies(alloc, catalog, columns, rows)
@@ -146,11 +157,17 @@ fn done(
     ready: Ready,
 ) -> Result<Answer<Cell>, Refusal>
     requires state { IsState store.old }
-    requires ready { (declarations : List ParamDecl) × IsReady (spec.catalog_of store.old session) declarations (meant_of ready.typed) ready.atoms }
-    ensures exact { Transacts result store.old store.new (transact store.old session (spec.ask_of (ready_of ready))) }
+    requires ready { (declarations : List ParamDecl)
+        × IsReady (spec.catalog_of store.old session) declarations (meant_of ready.typed)
+        ready.atoms }
+    ensures exact { Transacts result store.old store.new
+        (transact store.old session (spec.ask_of (ready_of ready))) }
     ensures state { IsState store.new }
-    ensures rows { IfOk result (λ answer. CanBeSent (spec.catalog_of store.old session) (spec.catalog_of store.new session) (answer_of answer)) }
-    ensures undone { IfOk result (λ answer. IsUndone store.old session store.new (answer_of answer)) }
+    ensures rows { IfOk result
+        (λ answer. CanBeSent (spec.catalog_of store.old session) (spec.catalog_of store.new session)
+        (answer_of answer)) }
+    ensures undone { IfOk result
+        (λ answer. IsUndone store.old session store.new (answer_of answer)) }
 {
     typings_are_of_columns();
     transactions_keep_stores();

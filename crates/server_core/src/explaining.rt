@@ -2,7 +2,7 @@
 
 ghost use Rattle.std.specs.Prelude.{◌≡◌, IfOk, map};
 ghost use Rattle.sql_tree.specs.Bound.{bound_of};
-ghost use Rattle.enc_types.specs.Least.{inferred};
+ghost use Rattle.enc_types.specs.Least.{inferred_encs};
 ghost use Rattle.enc_types.specs.Rules.{at_of};
 ghost use Rattle.server_core.specs.Describing as spec;
 ghost use Rattle.server_core.specs.Explaining.{Explains, Shows};
@@ -26,7 +26,7 @@ pub fn explain(
     text: &StatementPart<'_>,
     declarations: &[ParamDecl],
 ) -> Result<Seq<u32>, AllocError>
-    ensures { IfOk result (Explains (spec.named catalog.now text.now declarations.now)) }
+    ensures { IfOk result (Explains (spec.binding_of catalog.now text.now declarations.now)) }
 {
     match named(alloc, catalog, text, declarations) {
         Ok(bound) => chain_of(alloc, bound),
@@ -40,7 +40,7 @@ pub fn explain(
 
 #[tactic(auto, using(crate::proofs::Typings::shows_nothing))]
 fn chain_of(alloc: Global, bound: Bound) -> Result<Seq<u32>, AllocError>
-    ensures { IfOk result (Shows (bound_of bound) (inferred (bound_of bound))) }
+    ensures { IfOk result (Shows (bound_of bound) (inferred_encs (bound_of bound))) }
 {
     match infer(alloc, bound) {
         Ok(typed) => {

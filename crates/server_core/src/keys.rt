@@ -6,7 +6,7 @@ ghost use Rattle.ae_base.specs.declared.types.Enc.{Enc};
 ghost use Rattle.ae_base.specs.declared.types.Enc.TheVariants as enc;
 ghost use Rattle.catalog.specs.Catalogs.{key_meta};
 ghost use Rattle.wire_messages.specs.KeyLists.{keys_used};
-ghost use Rattle.server_core.specs.Describing.{told};
+ghost use Rattle.server_core.specs.Describing.{meta_list};
 ghost use Rattle.server_core.specs.Describing as spec;
 
 use ae_base::keys::KeyMeta;
@@ -41,7 +41,8 @@ fn used_keys<T: Encrypted>(alloc: Global, items: &[T]) -> Result<Seq<KeyId>, All
 
 /// Puts the key of one more encryption behind those that were used before it, where it is new.
 fn note(ids: &mut Seq<KeyId>, enc: Enc) -> Result<(), AllocError>
-    ensures { OnOk result ((encs : List Enc) → ids.old ++ keys_used ids.old (enc ∷ encs) ≡ ids.new ++ keys_used ids.new encs) }
+    ensures { OnOk result ((encs : List Enc) → ids.old ++ keys_used ids.old (enc ∷ encs) ≡ ids.new
+        ++ keys_used ids.new encs) }
 {
     match enc {
         Enc::Plain => Ok(()),
@@ -50,7 +51,8 @@ fn note(ids: &mut Seq<KeyId>, enc: Enc) -> Result<(), AllocError>
 }
 
 fn note_key(ids: &mut Seq<KeyId>, key: KeyId) -> Result<(), AllocError>
-    ensures { OnOk result ((encs : List Enc) → ids.old ++ keys_used ids.old (enc.Det key ∷ encs) ≡ ids.new ++ keys_used ids.new encs) }
+    ensures { OnOk result ((encs : List Enc) → ids.old ++ keys_used ids.old (enc.Det key ∷ encs)
+        ≡ ids.new ++ keys_used ids.new encs) }
 {
     if is_among(key, ids.as_slice()) {
         Ok(())
@@ -70,7 +72,8 @@ fn told_keys(
     catalog: &Catalog,
     ids: &[KeyId],
 ) -> Result<Seq<KeyPart<'static>>, AllocError>
-    ensures { IfOk result (λ keys. keys ≡ flat_map (λ id. told (key_meta catalog.now id)) ids.now) }
+    ensures { IfOk result
+        (λ keys. keys ≡ flat_map (λ id. meta_list (key_meta catalog.now id)) ids.now) }
 {
     let mut keys = Seq::new(alloc);
     for id in ids {
@@ -80,7 +83,7 @@ fn told_keys(
 }
 
 fn tell(keys: &mut Seq<KeyPart<'static>>, meta: Option<KeyMeta>) -> Result<(), AllocError>
-    ensures { OnOk result (keys.new ≡ keys.old ++ told meta) }
+    ensures { OnOk result (keys.new ≡ keys.old ++ meta_list meta) }
 {
     match meta {
         Some(meta) => keys.push(KeyPart::own(meta)),

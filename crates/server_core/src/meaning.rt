@@ -29,8 +29,10 @@ pub fn understood(
     text: &StatementPart<'_>,
     declarations: &[ParamDecl],
 ) -> Result<Typed, Refusal>
-    ensures exact { AnswersAs meant_of result (spec.understood catalog.now text.now declarations.now) }
-    ensures meant { IfOk result (λ typed. IsUnderstood catalog.now declarations.now (meant_of typed)) }
+    ensures exact { AnswersAs meant_of result
+        (spec.understood catalog.now text.now declarations.now) }
+    ensures meant { IfOk result
+        (λ typed. IsUnderstood catalog.now declarations.now (meant_of typed)) }
 {
     let bound = named(alloc, catalog, text, declarations)?;
     typed(alloc, bound)
@@ -43,7 +45,8 @@ pub fn named(
     text: &StatementPart<'_>,
     declarations: &[ParamDecl],
 ) -> Result<Bound, Refusal>
-    ensures exact { AnswersAs bound_of result (spec.named catalog.now text.now declarations.now) }
+    ensures exact { AnswersAs bound_of result
+        (spec.binding_of catalog.now text.now declarations.now) }
     ensures bound { IfOk result (λ bound. IsNamed catalog.now declarations.now (bound_of bound)) }
 {
     bound_statements_are();

@@ -44,7 +44,7 @@ fn declaration(alloc: Global, param: &SentParam<'_>) -> Result<ParamDecl, AllocE
     ensures { IfOk result (λ copy. copy ≡ declaration_of param.now) }
 {
     Ok(ParamDecl {
-        name: param.name.to_param_name(alloc)?,
+        name: param.name.to_ruled(alloc)?,
         ty: param.ty,
     })
 }
@@ -57,7 +57,8 @@ pub fn used_params(
     declarations: &[ParamDecl],
 ) -> Result<Seq<UsedParam<'static>>, AllocError>
     requires { length typed.now.encs ≡ length declarations.now }
-    ensures { IfOk result (λ used. used ≡ used_from 0 (bound_of typed.now.bound) declarations.now typed.now.encs) }
+    ensures { IfOk result
+        (λ used. used ≡ used_from 0 (bound_of typed.now.bound) declarations.now typed.now.encs) }
 {
     let encs = typed.encs();
     let mut used = Seq::new(alloc);
@@ -79,7 +80,9 @@ fn add_where(
     declaration: &ParamDecl,
     enc: Enc,
 ) -> Result<(), AllocError>
-    ensures { OnOk result ((rest : List UsedParam) → used.new ++ rest ≡ used.old ++ (if is_used then record { name = declaration.now.name; enc = enc } ∷ rest else rest)) }
+    ensures { OnOk result ((rest : List UsedParam)
+        → used.new ++ rest ≡ used.old
+        ++ (if is_used then record { name = declaration.now.name; enc = enc } ∷ rest else rest)) }
 {
     if is_used {
         used.push(used_param(declaration, enc)?)

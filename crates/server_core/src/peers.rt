@@ -33,10 +33,14 @@ pub trait Peer {
         ensures same { names self.new ≡ names self.old }
         ensures answer { IfOk result (λ replies. HasKinds request.now replies) }
         ensures log { MatchResult result
-            (λ replies. Adds (record { request = request.now; replies = replies } ∷ []) (log self.old) (log self.new))
+            (λ replies. Adds (record { request = request.now; replies = replies } ∷ [])
+            (log self.old) (log self.new))
             (λ _. log self.new ≡ log self.old) }
         ensures state { MatchResult result
-            (λ replies. WhereTold (λ old new. serve old request.now ≡ record { replies = replies; after = new }) (state self.old) (state self.new))
+            (λ replies. WhereTold (λ old new. serve old request.now ≡ record {
+              replies = replies;
+              after = new;
+            }) (state self.old) (state self.new))
             (λ _. state self.new ≡ state self.old) };
 }
 

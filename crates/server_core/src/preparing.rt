@@ -41,8 +41,11 @@ pub fn prepared(
     text: &StatementPart<'_>,
     params: &[SentParam<'_>],
 ) -> Result<Ready, Refusal>
-    ensures exact { AnswersAs ready_of result (spec.prepared catalog.now version text.now params.now) }
-    ensures ready { IfOk result (λ ready. IsReady catalog.now (map declaration_of params.now) (meant_of ready.typed) ready.atoms) }
+    ensures exact { AnswersAs ready_of result
+        (spec.prepared catalog.now version text.now params.now) }
+    ensures ready { IfOk result
+        (λ ready. IsReady catalog.now (map declaration_of params.now) (meant_of ready.typed)
+        ready.atoms) }
 {
     typings_are_of_columns();
     let typed = understood_at(alloc, catalog, version, text, params)?;
@@ -63,8 +66,10 @@ fn understood_at(
     text: &StatementPart<'_>,
     params: &[SentParam<'_>],
 ) -> Result<Typed, Refusal>
-    ensures exact { AnswersAs meant_of result (spec.understood_at catalog.now version text.now params.now) }
-    ensures meant { IfOk result (λ typed. IsUnderstood catalog.now (map declaration_of params.now) (meant_of typed)) }
+    ensures exact { AnswersAs meant_of result
+        (spec.understood_at catalog.now version text.now params.now) }
+    ensures meant { IfOk result
+        (λ typed. IsUnderstood catalog.now (map declaration_of params.now) (meant_of typed)) }
 {
     if let Some(versions) = Versions::that_differ(version, catalog.version()) {
         return Err(Refusal::Fault(SqlFault::Moved(versions)));

@@ -84,7 +84,10 @@ fn described(
     declarations: &DeclarationParts<'_>,
 ) -> Result<Seq<Reply<'static>>, Refusal>
     requires { IsState store.now }
-    ensures served { ServesOrFails result (spec.described store.now (describe (spec.catalog_of store.now session) text.now declarations.now)) store.now store.now }
+    ensures served { ServesOrFails result
+        (spec.described store.now
+        (describe (spec.catalog_of store.now session) text.now declarations.now)) store.now
+        store.now }
     ensures kinds { IfOk result AreDescribeKinds }
 {
     let description = describe(alloc, store.catalog(session), text, declarations)?;

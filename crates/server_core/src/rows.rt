@@ -47,7 +47,8 @@ fn carried(
     rows: Rows<Cell>,
 ) -> Result<Seq<Reply<'static>>, AllocError>
     requires { All (λ row. IsFew row × All IsSendable row) rows }
-    ensures { IfOk result (λ replies. replies ≡ Columns header.entry ∷ map Row rows ++ Ended (Answered (length rows)) ∷ []) }
+    ensures { IfOk result (λ replies. replies ≡ Columns header.entry ∷ map Row rows
+        ++ Ended (Answered (length rows)) ∷ []) }
 {
     let count = rows.len() as u64;
     let mut replies = one_reply(alloc, Reply::Columns(header))?;

@@ -4,7 +4,7 @@ ghost use Rattle.std.specs.Prelude.{◌≡◌, IfOk};
 ghost use Rattle.wire_messages.specs.Exchanges.{HasKinds};
 ghost use Rattle.server_core.specs.Calls.{Serves};
 ghost use Rattle.server_core.specs.Correspond.{IsServedAlike};
-ghost use Rattle.server_core.specs.Describing.{named};
+ghost use Rattle.server_core.specs.Describing.{binding_of};
 ghost use Rattle.server_core.specs.Explaining.{Explains};
 ghost use Rattle.server_core.specs.Serve.{empty_state};
 
@@ -62,7 +62,8 @@ impl Server {
     ) -> Result<Seq<Reply<'static>>, AllocError>
         ensures served { Serves result request.now self.old self.new }
         ensures kinds { IfOk result (λ replies. HasKinds request.now replies) }
-        ensures alike { IfOk result (λ replies. IsServedAlike self.old request.now replies self.new) }
+        ensures alike { IfOk result
+            (λ replies. IsServedAlike self.old request.now replies self.new) }
     {
         requests_are_served_alike();
         serve(alloc, &mut self.store, request)
@@ -76,7 +77,8 @@ impl Server {
         text: &StatementPart<'_>,
         declarations: &Declarations,
     ) -> Result<Seq<u32>, AllocError>
-        ensures { IfOk result (Explains (named self.now.shared.world.catalog text.now declarations.now)) }
+        ensures { IfOk result
+            (Explains (binding_of self.now.shared.world.catalog text.now declarations.now)) }
     {
         explain(
             alloc,

@@ -57,7 +57,7 @@ fn clash(alloc: Global, name: &ParamNamePart<'_>) -> Result<Atom<Cell>, Refusal>
     ensures exact { Answers result (Err (fault.ParamClash name.now)) }
     ensures short { IfOk result IsSendable }
 {
-    let name = name.to_param_name(alloc)?;
+    let name = name.to_ruled(alloc)?;
     Err(Refusal::Fault(SqlFault::ParamClash(name)))
 }
 
@@ -65,7 +65,7 @@ fn bad_cell(alloc: Global, name: &ParamNamePart<'_>) -> Result<Atom<Cell>, Refus
     ensures exact { Answers result (Err (fault.BadCell name.now)) }
     ensures short { IfOk result IsSendable }
 {
-    let name = name.to_param_name(alloc)?;
+    let name = name.to_ruled(alloc)?;
     Err(Refusal::Fault(SqlFault::BadCell(name)))
 }
 
