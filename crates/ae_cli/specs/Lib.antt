@@ -1,6 +1,3 @@
-pub mod Checks
-pub mod Files
-pub mod Gens
-pub mod Serves
-pub mod Words
-pub mod Wraps
+pub mod Does
+pub mod Endings
+pub mod Seen

@@ -1,28 +1,24 @@
 //! The program `ae`: Always Encrypted SQL, both ends in one process.
 #![tactic(auto)]
 
-mod checking;
 mod commands;
-mod files;
-mod generating;
-mod serving;
+mod endings;
 #[cfg(test)]
 mod tests;
-mod wrapping;
 
-ghost use Rattle.std.specs.Prelude.{◌≡◌, ℕ, List, Bool, None, false};
-ghost use Rattle.ae_cli.specs.Words.{Are, IsOfRun, IsRefused};
-ghost use Rattle.command_words.specs.Words.{are_taken, command_in};
-ghost use Rattle.command_words.specs.declared.commands.Command.TheVariants.{Drive, Run};
+ghost use Rattle.std.specs.Prelude.{◌≡◌, ◌⊎◌, ℕ, List, Some};
+ghost use Rattle.ae_cli.specs.Does.{Does};
+ghost use Rattle.ae_cli.specs.Seen.{Seen};
+ghost use Rattle.server_core.specs.Serve.{empty_state};
 
 use ae_base::lists::Seq;
 use ae_base::texts::Txt;
 use ae_edge::adapters::entropy::RngEntropy;
+use ae_edge::adapters::file::{FileSink, FileSource};
 use ae_edge::adapters::folder::FolderVault;
 use ae_edge::adapters::sink::StdSink;
 use ae_edge::adapters::source::StdSource;
 use commands::ae_main;
-use files::{FileSink, FileSource};
 use rand::rngs::SysRng;
 use script_run::status::Status;
 use server_core::server::Server;
@@ -53,7 +49,7 @@ fn words_of(rt: &HostRuntime) -> io::Result<Seq<Txt>> {
 
 /// The status of words of which one isn't UTF-8.
 fn not_utf8(alloc: Global) -> Status
-    ensures { IsRefused result }
+    ensures { ((text : List ℕ) × (result ≡ Status.Usage text)) ⊎ (result ≡ Status.OutOfMemory) }
 {
     match Txt::copied(alloc, "error: a word is not UTF-8\n") {
         Ok(text) => Status::Usage(text),
@@ -61,13 +57,11 @@ fn not_utf8(alloc: Global) -> Status
     }
 }
 
+/// Does what the words ask for, with the devices of the system.
 fn status_of(rt: &HostRuntime, words: &[Txt]) -> Status
-    ensures usage { command_in words.now ≡ None → IsRefused result }
-    ensures refused { (text : List ℕ) → result ≡ Status.Usage text → are_taken words.now ≡ false }
-    ensures run { (summary : Bool) → Are words.now (Run summary) → IsOfRun result }
-    ensures driven { Are words.now Drive → IsOfRun result }
-    // The server in this process gives no reply that isn't awaited.
-    ensures awaited { (summary : Bool) → Are words.now (Run summary) → (place : ℕ) → ¬ (result ≡ Status.BadReply place) }
+    // What is seen of the devices isn't told, but for the peer: it serves from the empty state.
+    ensures { (old new : Seen) × (old.peer.state ≡ Some empty_state)
+        × Does words.now result old new }
 {
     let alloc = rt.alloc();
     let Ok(mut vault) = FolderVault::new(alloc, rt, "keys") else {

@@ -1,11 +1,15 @@
 //! The commands through the top call, over devices in memory.
 
+ghost use Rattle.std.specs.Prelude.{[], None};
+
 use crate::commands::ae_main;
+use ae_base::blobs::Blob;
 use ae_base::texts::Txt;
 use ae_edge::memory::entropy::MemEntropy;
 use ae_edge::memory::sink::MemSink;
 use ae_edge::memory::source::MemSource;
 use ae_edge::memory::vault::MemVault;
+use ae_edge::sources::{Source, Taken};
 use script_run::status::Status;
 use server_core::server::Server;
 use std::alloc::{AllocError, Global};
@@ -20,7 +24,7 @@ DECLARE @p INT = 6
 SELECT a FROM t WHERE a < @p
 ";
 
-/// What a command over devices in memory and an empty world leaves.
+/// What a command over an empty world leaves.
 #[derive(Drop)]
 struct Left {
     status: Status,
@@ -34,34 +38,37 @@ const MAIN: [u8; 32] = [
     26, 27, 28, 29, 30, 31,
 ];
 
-fn left_by(
-    alloc: Global,
-    words: &[Txt],
-    script: Vec<u8>,
-    replies: Vec<u8>,
-) -> Result<Left, AllocError> {
-    let drawn = vec![in alloc; 7u8; 16_000]?;
-    let mut keys = Vec::new(alloc);
-    keys.push((Txt::copied(alloc, "main")?, MAIN))?;
-    let mut script = MemSource::new(script, 10, Vec::new(alloc));
-    let mut vault = MemVault::new(keys, Vec::new(alloc));
-    let mut entropy = MemEntropy::new(drawn, Vec::new(alloc));
-    let mut replies = MemSource::new(replies, 10, Vec::new(alloc));
-    let mut out = MemSink::new(alloc, Vec::new(alloc));
-    let mut tap = MemSink::new(alloc, Vec::new(alloc));
-    let mut peer = Server::new(alloc);
-    let status = ae_main(
-        alloc,
-        words,
-        &mut script,
-        &mut vault,
-        &mut entropy,
-        &mut replies,
-        &mut out,
-        &mut tap,
-        &mut peer,
-    );
-    Ok(Left { status, out, tap })
+/// A source without an end: its bytes, and then again those from a place on.
+#[derive(Drop)]
+struct Endless {
+    bytes: Vec<u8>,
+    back: usize,
+    at: usize,
+}
+
+impl Source for Endless {
+    ghost left = { λ s. None };
+
+    ghost faults = { λ s. 0 };
+
+    ghost names = { λ s. [] };
+
+    fn take(&mut self, alloc: Global, max: usize) -> Taken {
+        if self.at >= self.bytes.len() {
+            self.at = self.back;
+        }
+        if self.at >= self.bytes.len() {
+            return Taken::End;
+        }
+        let count = max.min(self.bytes.len() - self.at);
+        match Vec::from_slice(alloc, &self.bytes[self.at..self.at + count]) {
+            Ok(piece) => {
+                self.at += count;
+                Taken::Bytes(Blob::from_vec(piece))
+            }
+            Err(_) => Taken::OutOfMemory,
+        }
+    }
 }
 
 fn words_of(alloc: Global, words: &[&str]) -> Result<Vec<Txt>, AllocError> {
@@ -70,6 +77,67 @@ fn words_of(alloc: Global, words: &[&str]) -> Result<Vec<Txt>, AllocError> {
         texts.push(Txt::copied(alloc, word)?)?;
     }
     Ok(texts)
+}
+
+/// The calls of a device that fail: the first, if it is the one that fails.
+fn failing(alloc: Global, device: &str, failing: &str) -> Result<Vec<u64>, AllocError> {
+    let mut calls = Vec::new(alloc);
+    if device == failing {
+        calls.push(0)?;
+    }
+    Ok(calls)
+}
+
+fn vault(alloc: Global, fails: &str) -> Result<MemVault, AllocError> {
+    let mut keys = Vec::new(alloc);
+    keys.push((Txt::copied(alloc, "main")?, MAIN))?;
+    Ok(MemVault::new(keys, failing(alloc, "vault", fails)?))
+}
+
+/// What the words come to over a script and replies, where the first call of one device fails.
+fn come_to<S: Source, L: Source>(
+    alloc: Global,
+    words: &[&str],
+    script: &mut S,
+    replies: &mut L,
+    fails: &str,
+) -> Result<Left, AllocError> {
+    let words = words_of(alloc, words)?;
+    let drawn = vec![in alloc; 7u8; 16_000]?;
+    let mut entropy = MemEntropy::new(drawn, failing(alloc, "entropy", fails)?);
+    let mut vault = vault(alloc, fails)?;
+    let mut out = MemSink::new(alloc, failing(alloc, "out", fails)?);
+    let mut tap = MemSink::new(alloc, failing(alloc, "tap", fails)?);
+    let mut peer = Server::new(alloc);
+    let status = ae_main(
+        alloc,
+        words.as_slice(),
+        script,
+        &mut vault,
+        &mut entropy,
+        replies,
+        &mut out,
+        &mut tap,
+        &mut peer,
+    );
+    Ok(Left { status, out, tap })
+}
+
+/// What the words come to over the bytes of a script, where the first call of one device fails.
+fn left_where(
+    alloc: Global,
+    words: &[&str],
+    script: &[u8],
+    fails: &str,
+) -> Result<Left, AllocError> {
+    let calls = failing(alloc, "script", fails)?;
+    let mut script = MemSource::new(script.to_vec(alloc)?, 10, calls);
+    let mut replies = MemSource::new(Vec::new(alloc), 10, Vec::new(alloc));
+    come_to(alloc, words, &mut script, &mut replies, fails)
+}
+
+fn left_by(alloc: Global, words: &[&str], script: &[u8]) -> Result<Left, AllocError> {
+    left_where(alloc, words, script, "")
 }
 
 /// The frames of a definition: Describe and Execute, and their replies, Described and Done.
@@ -81,9 +149,7 @@ const REPLIES: &[u8] =
 
 // The plain table under some words.
 fn left_under(alloc: Global, words: &[&str]) -> Result<Left, AllocError> {
-    let words = words_of(alloc, words)?;
-    let script = PLAIN_TABLE.as_bytes().to_vec(alloc)?;
-    left_by(alloc, words.as_slice(), script, Vec::new(alloc))
+    left_by(alloc, words, PLAIN_TABLE.as_bytes())
 }
 
 #[test]
@@ -110,10 +176,10 @@ fn run_with_a_summary_counts(rt: HostRuntime) -> Result<(), Fail> {
 
 // The definition driven over some replies.
 fn driven(alloc: Global, replies: &[u8]) -> Result<Left, AllocError> {
-    let words = words_of(alloc, &["ae", "drive"])?;
-    let script = b"CREATE TABLE t (a INT)".to_vec(alloc)?;
-    let replies = replies.to_vec(alloc)?;
-    left_by(alloc, words.as_slice(), script, replies)
+    let bytes = b"CREATE TABLE t (a INT)".to_vec(alloc)?;
+    let mut script = MemSource::new(bytes, 10, Vec::new(alloc));
+    let mut replies = MemSource::new(replies.to_vec(alloc)?, 10, Vec::new(alloc));
+    come_to(alloc, &["ae", "drive"], &mut script, &mut replies, "")
 }
 
 #[test]
@@ -188,13 +254,138 @@ fn gen_writes_a_script_of_one_row(rt: HostRuntime) -> Result<(), Fail> {
 #[test]
 fn a_thousand_generated_rows_are_counted(rt: HostRuntime) -> Result<(), Fail> {
     let made = left_under(rt.alloc(), &["ae", "gen", "1000"])?;
-    let script = made.out.bytes().to_vec(rt.alloc())?;
-    let words = words_of(rt.alloc(), &["ae", "run", "--summary"])?;
-    let left = left_by(rt.alloc(), words.as_slice(), script, Vec::new(rt.alloc()))?;
+    let left = left_by(rt.alloc(), &["ae", "run", "--summary"], made.out.bytes())?;
     assert_eq!(rt; left.status.number(), 0);
     assert_eq!(rt;
         left.out.bytes(),
         b"steps 1005\nerrors 0\nrows 11\nrequests 2010\n".as_slice()
     );
+    Ok(())
+}
+
+/// The key of RFC 3394, section 4.6, which ONE_ROW has wrapped.
+const KEY: &str = "00112233445566778899AABBCCDDEEFF000102030405060708090A0B0C0D0E0F\n";
+
+#[test]
+fn wrap_puts_the_wrapped_key(rt: HostRuntime) -> Result<(), Fail> {
+    let left = left_by(rt.alloc(), &["ae", "wrap", "main"], KEY.as_bytes())?;
+    assert_eq!(rt; left.status.number(), 0);
+    assert_eq!(rt;
+        left.out.bytes(),
+        b"28c9f404c4b810f4cbccb35cfb87f8263f5786e2d80ed326cbc7f0e71a99f43bfb988b9b7a02dd21\n".as_slice()
+    );
+    Ok(())
+}
+
+#[test]
+fn serve_answers_requests(rt: HostRuntime) -> Result<(), Fail> {
+    let left = left_by(rt.alloc(), &["ae", "serve"], REQUESTS)?;
+    assert_eq!(rt; left.status.number(), 0);
+    assert_eq!(rt; left.out.bytes(), REPLIES);
+    assert!(rt; left.tap.bytes().is_empty());
+    Ok(())
+}
+
+#[test]
+fn check_describes_what_is_no_definition(rt: HostRuntime) -> Result<(), Fail> {
+    let left = left_under(rt.alloc(), &["ae", "check"])?;
+    assert_eq!(rt; left.status.number(), 0);
+    assert_eq!(rt;
+        left.out.bytes(),
+        b"ok\ndescribed\n@p plain\ndescribed\n@p plain\n".as_slice()
+    );
+    assert!(rt; left.tap.bytes().is_empty());
+    Ok(())
+}
+
+// The first 20 bytes of the requests end in the frame that begins at 0.
+#[test]
+fn each_fault_has_its_status(rt: HostRuntime) -> Result<(), Fail> {
+    let plain = PLAIN_TABLE.as_bytes();
+    let row = ONE_ROW.as_bytes();
+    let cases: [(&[&str], &[u8], &str, u8); 9] = [
+        (&["ae", "run"], plain, "script", 3),
+        (&["ae", "run"], plain, "out", 4),
+        (&["ae", "run"], plain, "tap", 4),
+        (&["ae", "run"], row, "entropy", 6),
+        (&["ae", "run"], row, "vault", 7),
+        (&["ae", "check"], b":what\n", "", 8),
+        (&["ae", "wrap", "main"], b"\n", "", 8),
+        (&["ae", "serve"], &REQUESTS[..20], "", 10),
+        (&["ae", "wrap", "other"], KEY.as_bytes(), "", 12),
+    ];
+    for (words, script, fails, number) in cases {
+        let left = left_where(rt.alloc(), words, script, fails)?;
+        assert_eq!(rt; left.status.number(), number);
+    }
+    Ok(())
+}
+
+// What the words come to over a script without an end.
+fn left_past(alloc: Global, words: &[&str], bytes: Vec<u8>) -> Result<Left, AllocError> {
+    let mut script = Endless {
+        bytes,
+        back: 0,
+        at: 0,
+    };
+    let mut replies = MemSource::new(Vec::new(alloc), 10, Vec::new(alloc));
+    come_to(alloc, words, &mut script, &mut replies, "")
+}
+
+#[test]
+fn a_script_past_its_limit_does_nothing(rt: HostRuntime) -> Result<(), Fail> {
+    let spaces = vec![in rt.alloc(); b' '; 65_536]?;
+    let left = left_past(rt.alloc(), &["ae", "run"], spaces)?;
+    assert_eq!(rt; left.status.number(), 9);
+    assert!(rt; left.out.bytes().is_empty() && left.tap.bytes().is_empty());
+    Ok(())
+}
+
+/// A frame of Describe, whose text is so many marks that no token begins with.
+fn long_request(alloc: Global, marks: usize) -> Result<Vec<u8>, AllocError> {
+    let mut frame = b"\x01\x01\x00\x01\x00\x07\x00\x01\x00\x01\x00\x00".to_vec(alloc)?;
+    for _ in 0..marks {
+        frame.push(b'?')?;
+    }
+    frame.push(0)?;
+    Ok(frame)
+}
+
+#[test]
+fn serve_answers_up_to_its_limit(rt: HostRuntime) -> Result<(), Fail> {
+    let request = long_request(rt.alloc(), 65_536)?;
+    let left = left_past(rt.alloc(), &["ae", "serve"], request)?;
+    assert_eq!(rt; left.status.number(), 9);
+    // 1,073,741,824 bytes have so many whole frames of 65,549; each is refused in 7 bytes.
+    assert_eq!(rt; left.out.bytes().len(), 16_380 * 7);
+    Ok(())
+}
+
+/// The frames of Described, and of Columns with one column under a key that the vault doesn't have.
+const FIRST_REPLIES: &[u8] =
+    b"\x01\x81\x00\x00\x00\x0a\x00\x00\x00\x00\x00\x00\x00\x00\x00\x00\x01\x82\x00\x00\x00\x1f\x01\x00\x00\x00\x01\x00\x01k\x00\x05other\x00\x01w\x00\x01\x00\x01a\x04\x1f\x40\x01\x00\x00\x00\x01";
+
+/// The first replies, and a frame of Row with the longest cell.
+fn long_replies(alloc: Global, cell: usize) -> Result<Vec<u8>, AllocError> {
+    let mut replies = FIRST_REPLIES.to_vec(alloc)?;
+    replies.extend_from_slice(b"\x01\x83\x00\x00\x40\x05\x00\x01\x04\x40\x00")?;
+    for _ in 0..cell {
+        replies.push(1)?;
+    }
+    Ok(replies)
+}
+
+#[test]
+fn drive_takes_replies_up_to_their_limit(rt: HostRuntime) -> Result<(), Fail> {
+    let alloc = rt.alloc();
+    let script = b"SELECT a FROM t".to_vec(alloc)?;
+    let mut script = MemSource::new(script, 10, Vec::new(alloc));
+    let mut replies = Endless {
+        bytes: long_replies(alloc, 16_384)?,
+        back: FIRST_REPLIES.len(),
+        at: 0,
+    };
+    let left = come_to(alloc, &["ae", "drive"], &mut script, &mut replies, "")?;
+    assert_eq!(rt; left.status.number(), 9);
     Ok(())
 }

@@ -9,10 +9,10 @@ use Rattle.ae_base.specs.declared.faults.SqlFault.TheVariants as fault
 use Rattle.ae_base.specs.declared.types.Enc.{Enc}
 use Rattle.catalog.specs.Catalogs.{Catalog}
 use Rattle.sql_tree.specs.Bound.{Bound}
-use Rattle.enc_types.specs.Least.{inferred}
+use Rattle.enc_types.specs.Least.{inferred_encs}
 use Rattle.transactions.specs.Stores.{Transaction, Transacted, seen_by}
 use Rattle.wire_messages.specs.Messages.{Description}
-use Rattle.server_core.specs.Describing.{Meant, named, typed, with_encs, understood, describe, description}
+use Rattle.server_core.specs.Describing.{Meant, binding_of, typed, with_encs, understood, describe, description}
 use Rattle.server_core.specs.Explaining.{Explains, Shows}
 use Rattle.server_core.specs.Serve.{State, catalog_of}
 use Rattle.conversation.specs.Batches.{why_unfit}
@@ -20,8 +20,7 @@ use Rattle.conversation.specs.Pending.{Pending, Use, uses_of}
 use Rattle.conversation.specs.declared.faults.DriverFault.{DriverFault}
 use Rattle.conversation.specs.declared.outcomes.Outcome.{Outcome}
 use Rattle.conversation.specs.declared.outcomes.Outcome.TheVariants as outcome
-use Rattle.conversation.specs.declared.sessions.Session.TheVariants.{Idle}
-use Rattle.plain_meaning.specs.Reference.{Came, came, declared, pending}
+use Rattle.plain_meaning.specs.Reference.{Came, came, declarations_of, pending}
 use Rattle.plain_meaning.specs.Reference as plain
 use Rattle.check_command.specs.Asked.{is_clash}
 use Rattle.check_command.specs.Check.{HasNoTransaction, checked, described_only, defines, Chains}
@@ -41,13 +40,13 @@ module _ (state : State) (number : ℕ) where
   abbrev here : Catalog
   here = catalog_of state number
 
-  stepped_stays : (batch : Batch) → defines batch.text ≡ true → (r : Result Meant SqlFault) → understood here batch.text (declared batch) ≡ r → Stays state (plain.stepped [] state number batch r)
+  stepped_stays : (batch : Batch) → defines batch.text ≡ true → (r : Result Meant SqlFault) → understood here batch.text (declarations_of batch) ≡ r → Stays state (plain.stepped [] state number batch r)
   stepped_stays batch d (Ok meant) u = λ f e. done_stays state here _ (definition_done state number batch meant d u) f e
   stepped_stays batch d (Err g) u = λ f e. refl
 
   version_stays : (p : Pending) → defines p.batch.text ≡ true → (b : Bool)
-      → Stays state (cond b (plain.stepped [] state number p.batch (understood here p.batch.text (declared p.batch))) (came (outcome.Refused (fault.Moved (record { seen = p.version; now = here.version }))) Idle state))
-  version_stays p d true = stepped_stays p.batch d (understood here p.batch.text (declared p.batch)) refl
+      → Stays state (cond b (plain.stepped [] state number p.batch (understood here p.batch.text (declarations_of p.batch))) (came (outcome.Refused (fault.Moved (record { seen = p.version; now = here.version }))) None state))
+  version_stays p d true = stepped_stays p.batch d (understood here p.batch.text (declarations_of p.batch)) refl
   version_stays p d false = λ f e. refl
 
   opened_stays : (p : Pending) → defines p.batch.text ≡ true → (o : Option DriverFault) → Stays state (plain.executed_with [] state number p o)
@@ -64,7 +63,7 @@ module _ (state : State) (number : ℕ) where
 
   begun_stays : (batch : Batch) (o : Option DriverFault) → Stays state (plain.begun state number batch (described_only state number (defines batch.text)) o)
   begun_stays batch (Some g) = λ f e. absurd cc
-  begun_stays batch None = described_stays batch (describe here batch.text (declared batch))
+  begun_stays batch None = described_stays batch (describe here batch.text (declarations_of batch))
 
   checked_stays : (batch : Batch) → Stays state (checked state number batch)
   checked_stays batch = begun_stays batch (why_unfit batch)
@@ -94,7 +93,7 @@ clash_stays state number batch comes e c = let r = refused_by comes c in checked
 
 -- ---- without a clash there is nothing to explain
 
-named_understood : (catalog : Catalog) (batch : Batch) (r : Result Bound SqlFault) → named catalog batch.text (declared batch) ≡ r → understood catalog batch.text (declared batch) ≡ r >>= typed
+named_understood : (catalog : Catalog) (batch : Batch) (r : Result Bound SqlFault) → binding_of catalog batch.text (declarations_of batch) ≡ r → understood catalog batch.text (declarations_of batch) ≡ r >>= typed
 unfolding understood
 named_understood catalog batch r e = rw e refl
 
@@ -102,25 +101,25 @@ module _ (state : State) (number : ℕ) (batch : Batch) (other : is_clash (check
   abbrev catalog : Catalog
   catalog = catalog_of state number
 
-  shows_nothing : (b : Bound) → understood catalog batch.text (declared batch) ≡ typed b → (i : Result (List Enc) ℕ) → inferred b ≡ i → Shows b i []
+  shows_nothing : (b : Bound) → understood catalog batch.text (declarations_of batch) ≡ typed b → (i : Result (List Enc) ℕ) → inferred_encs b ≡ i → Shows b i []
   shows_nothing b u (Ok encs) i = refl
   shows_nothing b u (Err at) i =
-      let t : understood catalog batch.text (declared batch) ≡ Err (fault.EncryptionClash at) = u ∙ ap (with_encs b) i in
-      let d : describe catalog batch.text (declared batch) ≡ Err (fault.EncryptionClash at) = ap (λ r. r >>= λ meant. Ok (description catalog (declared batch) meant)) t in
+      let t : understood catalog batch.text (declarations_of batch) ≡ Err (fault.EncryptionClash at) = u ∙ ap (with_encs b) i in
+      let d : describe catalog batch.text (declarations_of batch) ≡ Err (fault.EncryptionClash at) = ap (λ r. r >>= λ meant. Ok (description catalog (declarations_of batch) meant)) t in
       let c : (checked state number batch).comes ≡ outcome.Refused (fault.EncryptionClash at) = rw (fit, d) refl in
       let clash : true ≡ false = sym (ap is_clash c) ∙ other in
       absurd cc
 
-  explains_nothing : (r : Result Bound SqlFault) → named catalog batch.text (declared batch) ≡ r → Explains r []
-  explains_nothing (Ok b) e = shows_nothing b (named_understood catalog batch (Ok b) e) (inferred b) refl
+  explains_nothing : (r : Result Bound SqlFault) → binding_of catalog batch.text (declarations_of batch) ≡ r → Explains r []
+  explains_nothing (Ok b) e = shows_nothing b (named_understood catalog batch (Ok b) e) (inferred_encs b) refl
   explains_nothing (Err f) e = refl
 
-pub no_chain : (state : State) (number : ℕ) (batch : Batch) (comes : Outcome) → (checked state number batch).comes ≡ comes → is_clash comes ≡ false → Chains (why_unfit batch) (named (catalog_of state number) batch.text (declared batch)) []
+pub no_chain : (state : State) (number : ℕ) (batch : Batch) (comes : Outcome) → (checked state number batch).comes ≡ comes → is_clash comes ≡ false → Chains (why_unfit batch) (binding_of (catalog_of state number) batch.text (declarations_of batch)) []
 no_chain state number batch comes e other = at (why_unfit batch) refl
   where
-    at : (o : Option DriverFault) → why_unfit batch ≡ o → Chains o (named (catalog_of state number) batch.text (declared batch)) []
+    at : (o : Option DriverFault) → why_unfit batch ≡ o → Chains o (binding_of (catalog_of state number) batch.text (declarations_of batch)) []
     at (Some f) i = refl
-    at None i = explains_nothing state number batch (ap is_clash e ∙ other) i (named (catalog_of state number) batch.text (declared batch)) refl
+    at None i = explains_nothing state number batch (ap is_clash e ∙ other) i (binding_of (catalog_of state number) batch.text (declarations_of batch)) refl
 
 abbrev no_transaction : Option Transaction
 no_transaction = None
@@ -137,10 +136,10 @@ shared_seen state number h =
 
 -- with a clash there is a chain
 pub chains_so : (state now : State) (number : ℕ) (batch : Batch) (comes : Outcome) (r : Result (List ℕ) AllocError) → HasNoTransaction now → (checked state number batch).comes ≡ comes → (checked state number batch).state ≡ now
-    → is_clash comes ≡ true → IfOk r (Explains (named now.shared.world.catalog batch.text (declared batch))) → IfOk r (Chains (why_unfit batch) (named (catalog_of state number) batch.text (declared batch)))
+    → is_clash comes ≡ true → IfOk r (Explains (binding_of now.shared.world.catalog batch.text (declarations_of batch))) → IfOk r (Chains (why_unfit batch) (binding_of (catalog_of state number) batch.text (declarations_of batch)))
 chains_so state now number batch comes (Ok chain) alone e v c h =
     let fit = clash_fits state number batch comes e c in
     let same : state ≡ now = sym (clash_stays state number batch comes e c) ∙ v in
     let seen : catalog_of state number ≡ now.shared.world.catalog = ap (λ (x : State). catalog_of x number) same ∙ shared_seen now number alone in
-    rw fit (subst (λ (x : Catalog). Explains (named x batch.text (declared batch)) chain) (sym seen) h)
+    rw fit (subst (λ (x : Catalog). Explains (binding_of x batch.text (declarations_of batch)) chain) (sym seen) h)
 chains_so state now number batch comes (Err e) alone f v c h = tt

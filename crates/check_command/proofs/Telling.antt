@@ -26,7 +26,7 @@ use Rattle.conversation.specs.declared.sessions.Session.{Session}
 use Rattle.conversation.specs.declared.sessions.Session.TheVariants as session
 use Rattle.conversation.specs.declared.sessions.Turn.{Turn}
 use Rattle.script_lang.specs.Limits.{HasParams}
-use Rattle.plain_meaning.specs.Reference.{declared, pending}
+use Rattle.plain_meaning.specs.Reference.{declarations_of, pending}
 use Rattle.plain_meaning.proofs.Interface.{told_among, encs_found}
 use Rattle.plain_meaning.proofs.Interface.{parts_of}
 use Rattle.check_command.proofs.Following.{bind_ok}
@@ -43,29 +43,29 @@ IsHeardAs state number batch None = ⊥
 
 module _ (bound : BoundStatementsAre) (typings : TypingsAreOfColumns) (state : State) (number : ℕ) (batch : Batch) (params : HasParams batch) where
   -- each declared parameter has an encryption, where it is used
-  found : (meant : Meant) → understood (catalog_of state number) batch.text (declared batch) ≡ Ok meant
-      → encs_of batch.params (description (catalog_of state number) (declared batch) meant).params ≡ Some (told_among (is_used meant.bound) 0 meant.encs)
+  found : (meant : Meant) → understood (catalog_of state number) batch.text (declarations_of batch) ≡ Ok meant
+      → encs_of batch.params (description (catalog_of state number) (declarations_of batch) meant).params ≡ Some (told_among (is_used meant.bound) 0 meant.encs)
   found meant e =
-      let parts = parts_of (catalog_of state number) batch.text (declared batch) meant e in
-      let over_all = bound (catalog_of state number) parts.statement (declared batch) meant.bound parts.binds in
+      let parts = parts_of (catalog_of state number) batch.text (declarations_of batch) meant e in
+      let over_all = bound (catalog_of state number) parts.statement (declarations_of batch) meant.bound parts.binds in
       let long : length meant.encs ≡ length batch.params =
-      (typings meant.bound meant.encs parts.infers).0 ∙ ap length over_all.params ∙ length-map (declared batch) type_of ∙ length-map batch.params (λ (q : Param). q.declaration) in
+      (typings meant.bound meant.encs parts.infers).0 ∙ ap length over_all.params ∙ length-map (declarations_of batch) type_of ∙ length-map batch.params (λ (q : Param). q.declaration) in
       encs_found meant.bound 0 batch.params meant.encs long params.1
 
-  told_encs : (d : Description) → describe (catalog_of state number) batch.text (declared batch) ≡ Ok d → (es : List (Option Enc)) × (encs_of batch.params d.params ≡ Some es)
+  told_encs : (d : Description) → describe (catalog_of state number) batch.text (declarations_of batch) ≡ Ok d → (es : List (Option Enc)) × (encs_of batch.params d.params ≡ Some es)
   told_encs d e =
-      let h = bind_ok (understood (catalog_of state number) batch.text (declared batch)) (λ meant. Ok (description (catalog_of state number) (declared batch) meant)) d e in
-      let is : description (catalog_of state number) (declared batch) h.0 ≡ d = cc in
+      let h = bind_ok (understood (catalog_of state number) batch.text (declarations_of batch)) (λ meant. Ok (description (catalog_of state number) (declarations_of batch) meant)) d e in
+      let is : description (catalog_of state number) (declarations_of batch) h.0 ≡ d = cc in
       (told_among (is_used h.0.bound) 0 h.0.encs, ap (λ (x : Description). encs_of batch.params x.params) (sym is) ∙ found h.0 h.1)
 
-  described_so : (d : Description) → describe (catalog_of state number) batch.text (declared batch) ≡ Ok d → (o : Option (List (Option Enc))) → encs_of batch.params d.params ≡ o → (es : List (Option Enc)) → o ≡ Some es
+  described_so : (d : Description) → describe (catalog_of state number) batch.text (declarations_of batch) ≡ Ok d → (o : Option (List (Option Enc))) → encs_of batch.params d.params ≡ o → (es : List (Option Enc)) → o ≡ Some es
       → IsHeardAs state number batch (described_as batch d o)
   described_so d e (Some xs) i es s =
       let p : record { batch = batch; version = d.version; keys = d.keys; encs = xs } ≡ pending batch d = ap (λ (o : Option (List (Option Enc))). let v : Pending = record { batch = batch; version = d.version; keys = d.keys; encs = unwrap_or o [] } in v) (sym i) in
       (d, e, ap session.Pending p, ap (λ (v : Pending). described_params d.keys (uses_of v)) p)
   described_so d e None i es s = absurd cc
 
-  pub hears : (r : Result Description SqlFault) → describe (catalog_of state number) batch.text (declared batch) ≡ r → (x : Reply) → x ∷ [] ≡ (described state r).replies → IsHeardAs state number batch (held.described (session.Begun batch) x)
+  pub hears : (r : Result Description SqlFault) → describe (catalog_of state number) batch.text (declarations_of batch) ≡ r → (x : Reply) → x ∷ [] ≡ (described state r).replies → IsHeardAs state number batch (held.described (session.Begun batch) x)
   hears (Ok d) e x h =
       let i : x ≡ reply.Described d = cc in
       let t = told_encs d e in
@@ -80,7 +80,7 @@ one_reply state (Ok d) = refl
 one_reply state (Err f) = refl
 
 pub told_one : (s : Session) (replies : List Reply) → IsToldOf s replies → length replies ≡ 1
-told_one s replies t = ap length t.told ∙ one_reply t.state (describe (catalog_of t.state t.number) t.batch.text (declared t.batch))
+told_one s replies t = ap length t.told ∙ one_reply t.state (describe (catalog_of t.state t.number) t.batch.text (declarations_of t.batch))
 
 answers_of : (state : State) (number : ℕ) (batch : Batch) (o : Option (Turn DescribeAnswer)) (r : Result DescribeAnswer Halt) (old after : Session) → IsHeardAs state number batch o → Describes r o old after → AnswersOf state number batch r after
 answers_of state number batch (Some turn) (Ok x) old after h e =
@@ -96,7 +96,7 @@ pub told_answers : BoundStatementsAre → TypingsAreOfColumns → (state : State
     → (r : Result DescribeAnswer Halt) (after : Session) → Describes r (held.described s x) s after → AnswersOf state number batch r after
 told_answers bound typings state number batch params s b x t r after h =
     answers_of state number batch (held.described s x) r s after
-    (subst (λ y. IsHeardAs state number batch (held.described y x)) (sym b) (hears bound typings state number batch params (describe (catalog_of state number) batch.text (declared batch)) refl x t)) h
+    (subst (λ y. IsHeardAs state number batch (held.described y x)) (sym b) (hears bound typings state number batch params (describe (catalog_of state number) batch.text (declarations_of batch)) refl x t)) h
 
 -- what is asked of a batch
 pub ready_is : (state : State) (number : ℕ) (batch : Batch) (p : Pending) (params : List DescribedParam) → why_unfit batch ≡ None → TellsAs state number batch (Ready params) (session.Pending p) → IsAsked state number batch (asked.Ready p params)

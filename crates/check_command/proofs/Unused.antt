@@ -13,18 +13,20 @@ use Rattle.sql_tree.specs.Bound.{BoundStatement, Bound}
 use Rattle.sql_tree.specs.Bound as bound
 use Rattle.sql_tree.specs.Statements.{Statement}
 use Rattle.sql_tree.specs.Statements as tree
+use Rattle.sql_tree.specs.Sorts as sorts
+use Rattle.sql_tree.specs.Sorts.{is_definition, sort_written, target}
 use Rattle.sql_tree.specs.Uses.{uses}
-use Rattle.semantic_checks.specs.Checks.{checked}
-use Rattle.catalog.specs.Catalogs.{Catalog, with_master, with_key, with_table, without_master, without_key, without_table}
+use Rattle.semantic_checks.specs.Checks.{check_of}
+use Rattle.catalog.specs.Catalogs.{Catalog}
+use Rattle.catalog.specs.Definitions.{defined_by}
 use Rattle.enc_types.specs.UsedAlone.{used_among, is_used, alone}
-use Rattle.resolve.specs.Bind.{bind, bound_over, table_sites}
+use Rattle.resolve.specs.Bind.{bind, bound_over}
 use Rattle.resolve.specs.Bind as binding
-use Rattle.resolve.specs.Definitions.{key_path, wrapped_key, master_for, bind_table}
+use Rattle.resolve.specs.Definitions.{bind_definition, new_sites}
 use Rattle.resolve.specs.Laws.{PreparedAlone}
 use Rattle.engine.specs.Step.{Answer, Defined, outcome, done_by, step}
 use Rattle.engine.specs.Worlds.{World}
-use Rattle.transactions.specs.Counted.{Counted, CountedOutcome, Execution, target, changed_by, counted, raised_at, execution}
-use Rattle.transactions.specs.Counted as transactions
+use Rattle.transactions.specs.Counted.{Counted, CountedOutcome, Execution, changed_by, counted, raised_at, execution}
 use Rattle.transactions.specs.Stores.{Ask, Executes, ask_by, ask_of, Transaction, Transacted, transaction_at, transacted, transact}
 use Rattle.wire_messages.specs.Messages.{Description}
 use Rattle.wire_messages.specs.declared.params.UsedParam.{UsedParam}
@@ -39,23 +41,17 @@ use Rattle.conversation.specs.declared.outcomes.Outcome.TheVariants as outcome_o
 use Rattle.std.specs.declared.alloc.AllocError.{AllocError}
 use Rattle.conversation.specs.Pending.{Pending, Use, uses_in, uses_of}
 use Rattle.conversation.specs.Sessions.{encs_of, with_enc}
-use Rattle.conversation.specs.declared.sessions.Session.TheVariants.{Idle}
-use Rattle.plain_meaning.specs.Reference.{Came, came, declared, pending}
+use Rattle.plain_meaning.specs.Reference.{Came, came, declarations_of, pending}
 use Rattle.plain_meaning.specs.Reference as plain
 use Rattle.plain_meaning.proofs.Interface.{parts_of, understood_alone, transact_alone}
 use Rattle.check_command.proofs.Following.{bind_ok}
 use Rattle.check_command.specs.Asked.{AnswersAs, ComesTo, IsDefinition}
-use Rattle.check_command.specs.Check.{defines, is_definition, reads_definition}
+use Rattle.check_command.specs.Check.{defines, reads_definition}
 
 -- ---- the bound statement
 
 abbrev pub IsDefining : BoundStatement → Type 0
-IsDefining (bound.CreateMaster name path) = Unit {0}
-IsDefining (bound.CreateKey name master wrapped) = Unit {0}
-IsDefining (bound.CreateTable table) = Unit {0}
-IsDefining (bound.DropTable name) = Unit {0}
-IsDefining (bound.DropMaster name) = Unit {0}
-IsDefining (bound.DropKey name) = Unit {0}
+IsDefining (bound.Definition d) = Unit {0}
 IsDefining (bound.Insert insert) = ⊥
 IsDefining (bound.Update update) = ⊥
 IsDefining (bound.Delete delete) = ⊥
@@ -65,42 +61,27 @@ IsDefining (bound.Control control) = ⊥
 bound_so : (b c : Bound) → (let r : Result Bound SqlFault = Ok b in r ≡ Ok c) → IsDefining b.statement → IsDefining c.statement
 bound_so b c e h = let i : b ≡ c = cc in subst (λ (x : Bound). IsDefining x.statement) i h
 
-named_defines : (catalog : Catalog) (s : Statement) (declarations : List ParamDecl) (b : Bound) → is_definition s ≡ true → binding.named catalog s declarations ≡ Ok b → IsDefining b.statement
-named_defines catalog (tree.CreateMaster name path) declarations b d e =
-    let p = bind_ok (key_path path) (λ p. Ok (bound_over declarations [] (bound.CreateMaster name p))) b e in
+named_defines : (catalog : Catalog) (s : Statement) (declarations : List ParamDecl) (b : Bound) → sorts.defines (sort_written s) ≡ true → binding.resolution catalog s declarations ≡ Ok b → IsDefining b.statement
+named_defines catalog (tree.Definition definition) declarations b d e =
+    let p = bind_ok (bind_definition catalog definition) (λ made. Ok (bound_over declarations (new_sites made) (bound.Definition made))) b e in
     bound_so _ b p.2 tt
-named_defines catalog (tree.CreateKey name master wrapped) declarations b d e =
-    let p = bind_ok (wrapped_key wrapped) (λ w. master_for catalog master >>= λ there. Ok (bound_over declarations [] (bound.CreateKey name master w))) b e in
-    let q = bind_ok (master_for catalog master) (λ there. Ok (bound_over declarations [] (bound.CreateKey name master p.0))) b p.2 in
-    bound_so _ b q.2 tt
-named_defines catalog (tree.CreateTable table columns uniques) declarations b d e =
-    let p = bind_ok (bind_table catalog table columns uniques) (λ made. Ok (bound_over declarations (table_sites made.def) (bound.CreateTable made))) b e in
-    bound_so _ b p.2 tt
-named_defines catalog (tree.DropTable name) declarations b d e = bound_so _ b e tt
-named_defines catalog (tree.DropMaster name) declarations b d e = bound_so _ b e tt
-named_defines catalog (tree.DropKey name) declarations b d e = bound_so _ b e tt
 named_defines catalog (tree.Insert table columns rows) declarations b d e = absurd cc
 named_defines catalog (tree.Update table assignments filter) declarations b d e = absurd cc
 named_defines catalog (tree.Delete table filter) declarations b d e = absurd cc
 named_defines catalog (tree.Select query) declarations b d e = absurd cc
 named_defines catalog (tree.Control control) declarations b d e = absurd cc
 
-bind_defines : (catalog : Catalog) (s : Statement) (declarations : List ParamDecl) (b : Bound) → is_definition s ≡ true → bind catalog s declarations ≡ Ok b → IsDefining b.statement
+bind_defines : (catalog : Catalog) (s : Statement) (declarations : List ParamDecl) (b : Bound) → sorts.defines (sort_written s) ≡ true → bind catalog s declarations ≡ Ok b → IsDefining b.statement
 unfolding bind
 bind_defines catalog s declarations b d e =
-    let p = bind_ok (binding.named catalog s declarations) (λ bound. checked bound >>= λ fine. Ok bound) b e in
-    let q = bind_ok (checked p.0) (λ fine. Ok p.0) b p.2 in
+    let p = bind_ok (binding.resolution catalog s declarations) (λ bound. check_of bound >>= λ fine. Ok bound) b e in
+    let q = bind_ok (check_of p.0) (λ fine. Ok p.0) b p.2 in
     bound_so p.0 b q.2 (named_defines catalog s declarations p.0 d p.1)
 
 -- ---- it uses no parameter
 
 unused : (s : BoundStatement) (b : Bound) → b.statement ≡ s → IsDefining s → (place : ℕ) → uses place b ≡ false
-unused (bound.CreateMaster name path) b e h place = rw e refl
-unused (bound.CreateKey name master wrapped) b e h place = rw e refl
-unused (bound.CreateTable table) b e h place = rw e refl
-unused (bound.DropTable name) b e h place = rw e refl
-unused (bound.DropMaster name) b e h place = rw e refl
-unused (bound.DropKey name) b e h place = rw e refl
+unused (bound.Definition d) b e h place = rw e refl
 unused (bound.Insert insert) b e h place = absurd h
 unused (bound.Update update) b e h place = absurd h
 unused (bound.Delete delete) b e h place = absurd h
@@ -127,12 +108,7 @@ no_uses ps used e = let h = no_encs ps in let i = h.1 in rw e (rw i (h.2))
 -- ---- it is executed as a statement outside transactions, or refused in one
 
 asks_so : (s : BoundStatement) (e : Execution) → IsDefining s → ask_by s e ≡ Executes e
-asks_so (bound.CreateMaster name path) e h = refl
-asks_so (bound.CreateKey name master wrapped) e h = refl
-asks_so (bound.CreateTable table) e h = refl
-asks_so (bound.DropTable name) e h = refl
-asks_so (bound.DropMaster name) e h = refl
-asks_so (bound.DropKey name) e h = refl
+asks_so (bound.Definition d) e h = refl
 asks_so (bound.Insert insert) e h = absurd h
 asks_so (bound.Update update) e h = absurd h
 asks_so (bound.Delete delete) e h = absurd h
@@ -140,13 +116,8 @@ asks_so (bound.Select query) e h = absurd h
 asks_so (bound.Control control) e h = absurd h
 
 -- it changes no rows
-no_rows : (s : BoundStatement) → IsDefining s → (target s ≡ None) × (transactions.is_definition s ≡ true)
-no_rows (bound.CreateMaster name path) h = (refl, refl)
-no_rows (bound.CreateKey name master wrapped) h = (refl, refl)
-no_rows (bound.CreateTable table) h = (refl, refl)
-no_rows (bound.DropTable name) h = (refl, refl)
-no_rows (bound.DropMaster name) h = (refl, refl)
-no_rows (bound.DropKey name) h = (refl, refl)
+no_rows : (s : BoundStatement) → IsDefining s → (target s ≡ None) × (is_definition s ≡ true)
+no_rows (bound.Definition d) h = (refl, refl)
 no_rows (bound.Insert insert) h = absurd h
 no_rows (bound.Update update) h = absurd h
 no_rows (bound.Delete delete) h = absurd h
@@ -162,12 +133,7 @@ made w (Ok catalog) g = inl refl
 made w (Err f) g = inr (f, refl)
 
 done_so : (w : World) (b : Bound) (es : List Enc) (xs : List Atom) (s : BoundStatement) → IsDefining s → AnswersDone (outcome w (done_by w b es s xs)).answer
-done_so w b es xs (bound.CreateMaster name path) h = made w (with_master w.catalog name path) _
-done_so w b es xs (bound.CreateKey name master wrapped) h = made w (with_key w.catalog name master wrapped) _
-done_so w b es xs (bound.CreateTable table) h = made w (with_table w.catalog table.def) _
-done_so w b es xs (bound.DropTable name) h = made w (without_table w.catalog name) _
-done_so w b es xs (bound.DropMaster name) h = made w (without_master w.catalog name) _
-done_so w b es xs (bound.DropKey name) h = made w (without_key w.catalog name) _
+done_so w b es xs (bound.Definition d) h = made w (defined_by w.catalog d) _
 done_so w b es xs (bound.Insert insert) h = absurd h
 done_so w b es xs (bound.Update update) h = absurd h
 done_so w b es xs (bound.Delete delete) h = absurd h
@@ -204,15 +170,15 @@ transacts_so state number e h =
 -- ---- what it comes to
 
 -- a definition that is understood is one that is bound
-pub defining_of : (catalog : Catalog) (batch : Batch) (meant : Meant) → defines batch.text ≡ true → understood catalog batch.text (declared batch) ≡ Ok meant → IsDefining meant.bound.statement
+pub defining_of : (catalog : Catalog) (batch : Batch) (meant : Meant) → defines batch.text ≡ true → understood catalog batch.text (declarations_of batch) ≡ Ok meant → IsDefining meant.bound.statement
 defining_of catalog batch meant defining e =
-    let parts = parts_of catalog batch.text (declared batch) meant e in
-    bind_defines catalog parts.statement (declared batch) meant.bound (ap reads_definition (sym parts.reads) ∙ defining) parts.binds
+    let parts = parts_of catalog batch.text (declarations_of batch) meant e in
+    bind_defines catalog parts.statement (declarations_of batch) meant.bound (ap reads_definition (sym parts.reads) ∙ defining) parts.binds
 
 abbrev pub atoms_of : Batch → List Atom
 atoms_of batch = map (λ (q : Param). plain_atom q.value) batch.params
 
-pub definition_done : (state : State) (number : ℕ) (batch : Batch) (meant : Meant) → defines batch.text ≡ true → understood (catalog_of state number) batch.text (declared batch) ≡ Ok meant
+pub definition_done : (state : State) (number : ℕ) (batch : Batch) (meant : Meant) → defines batch.text ≡ true → understood (catalog_of state number) batch.text (declarations_of batch) ≡ Ok meant
     → IsDone state (transact state number (ask_of (execution meant.bound meant.encs (atoms_of batch))))
 definition_done state number batch meant defining e = transacts_so state number (execution meant.bound meant.encs (atoms_of batch)) (defining_of (catalog_of state number) batch meant defining e)
 
@@ -230,12 +196,12 @@ answers_so catalog state t d = elim d.done [
 ]
 
 module _ (law : PreparedAlone) (state : State) (number : ℕ) (batch : Batch) (meant : Meant) (defining : defines batch.text ≡ true)
-    (e : understood (catalog_of state number) batch.text (declared batch) ≡ Ok meant) where
+    (e : understood (catalog_of state number) batch.text (declarations_of batch) ≡ Ok meant) where
   abbrev here : Catalog
   here = catalog_of state number
 
   abbrev d : Description
-  d = description here (declared batch) meant
+  d = description here (declarations_of batch) meant
 
   abbrev p : Pending
   p = pending batch d
@@ -244,12 +210,12 @@ module _ (law : PreparedAlone) (state : State) (number : ℕ) (batch : Batch) (m
   none_used = unused meant.bound.statement meant.bound refl (defining_of here batch meant defining e)
 
   no_use : uses_of p ≡ []
-  no_use = no_uses batch.params d.params (none_told meant.bound none_used 0 (declared batch) meant.encs)
+  no_use = no_uses batch.params d.params (none_told meant.bound none_used 0 (declarations_of batch) meant.encs)
 
   alone_is : understood here batch.text [] ≡ Ok (record { bound = alone meant.bound; encs = [] })
   alone_is =
-      let u = understood_alone law here batch.text (declared batch) meant (parts_of here batch.text (declared batch) meant e) in
-      ap (understood here batch.text) (sym (used_none meant.bound none_used 0 (declared batch))) ∙ u
+      let u = understood_alone law here batch.text (declarations_of batch) meant (parts_of here batch.text (declarations_of batch) meant e) in
+      ap (understood here batch.text) (sym (used_none meant.bound none_used 0 (declarations_of batch))) ∙ u
       ∙ ap (λ (es : List Enc). let v : Meant = record { bound = alone meant.bound; encs = es } in Ok v) (used_none meant.bound none_used 0 meant.encs)
 
   abbrev did : Transacted
@@ -270,13 +236,13 @@ module _ (law : PreparedAlone) (state : State) (number : ℕ) (batch : Batch) (m
       let a = alone_is in
       rw (v, a) (ap (λ (t : Transacted). answered here t.answer t.after) alone_does)
 
-  means_so : plain.executed [] state number p ≡ came (plain.answered [] here did.answer) Idle did.after
+  means_so : plain.execution_of [] state number p ≡ came (plain.answered [] here did.answer) None did.after
   means_so =
       let v = eq-eqb here.version here.version refl in
       ap (λ us. plain.executed_with [] state number p (plain.why_unopened [] p.keys (map (λ (u : Use). u.enc) us))) no_use
       ∙ rw (v, e) refl
 
-  runs_so : ExecutesAs state number p (plain.executed [] state number p)
+  runs_so : ExecutesAs state number p (plain.execution_of [] state number p)
   runs_so =
       let done = definition_done state number batch meant defining e in
       let a = answers_so here state did done in
@@ -288,12 +254,12 @@ module _ (law : PreparedAlone) (state : State) (number : ℕ) (batch : Batch) (m
         sessions = done.sessions;
       })
 
-pub runs_definition : PreparedAlone → (state : State) (number : ℕ) (p : Pending) → IsDefinition state number p → ExecutesAs state number p (plain.executed [] state number p)
+pub runs_definition : PreparedAlone → (state : State) (number : ℕ) (p : Pending) → IsDefinition state number p → ExecutesAs state number p (plain.execution_of [] state number p)
 runs_definition law state number p h =
     let here = catalog_of state number in
-    let q = bind_ok (understood here h.batch.text (declared h.batch)) (λ meant. Ok (description here (declared h.batch) meant)) h.description h.described in
-    let is : description here (declared h.batch) q.0 ≡ h.description = cc in
-    subst (λ (x : Pending). ExecutesAs state number x (plain.executed [] state number x)) (ap (pending h.batch) is ∙ sym h.is) (runs_so law state number h.batch q.0 h.defines q.1)
+    let q = bind_ok (understood here h.batch.text (declarations_of h.batch)) (λ meant. Ok (description here (declarations_of h.batch) meant)) h.description h.described in
+    let is : description here (declarations_of h.batch) q.0 ≡ h.description = cc in
+    subst (λ (x : Pending). ExecutesAs state number x (plain.execution_of [] state number x)) (ap (pending h.batch) is ∙ sym h.is) (runs_so law state number h.batch q.0 h.defines q.1)
 
 -- ---- its one reply
 

@@ -24,14 +24,14 @@ use Rattle.conversation.specs.declared.outcomes.Outcome.TheVariants as outcome
 use Rattle.conversation.specs.declared.sessions.Session.{Session}
 use Rattle.conversation.specs.declared.sessions.Session.TheVariants as session
 use Rattle.script_lang.specs.Limits.{HasParams}
-use Rattle.plain_meaning.specs.Reference.{Came, declared, pending}
+use Rattle.plain_meaning.specs.Reference.{Came, declarations_of, pending}
 use Rattle.check_command.specs.Check.{defines}
 use Rattle.check_command.specs.declared.describing.Asked.{Asked}
 use Rattle.check_command.specs.declared.describing.Asked.TheVariants as asked
 
 -- it asks for the description of this batch, in this session
 abbrev pub AsksFor : ℕ → Batch → Request → Type 0
-AsksFor number batch r = r ≡ request.Describe number batch.text (declared batch)
+AsksFor number batch r = r ≡ request.Describe number batch.text (declarations_of batch)
 
 -- the batch that is begun is asked to be described
 pub record AsksOf (r : Request) (s : Session) : Type 0 where
@@ -44,7 +44,7 @@ pub record AsksOf (r : Request) (s : Session) : Type 0 where
 
 -- what a server in this state replies to this session
 abbrev pub said_of : State → ℕ → Batch → List Reply
-said_of state number batch = (described state (describe (catalog_of state number) batch.text (declared batch))).replies
+said_of state number batch = (described state (describe (catalog_of state number) batch.text (declarations_of batch))).replies
 
 -- the replies are those to the batch that is begun, over a server that binds and types as the laws say
 pub record IsToldOf (s : Session) (replies : List Reply) : Type 0 where
@@ -61,16 +61,16 @@ pub record IsToldOf (s : Session) (replies : List Reply) : Type 0 where
 -- it is described, and its parameters are told; or the server refuses; or it may not be sent
 abbrev pub IsAsked : State → ℕ → Batch → Asked → Type 0
 IsAsked state number batch (asked.Ready p params) =
-    (why_unfit batch ≡ None) × ((d : Description) × (describe (catalog_of state number) batch.text (declared batch) ≡ Ok d) × (p ≡ pending batch d)) × (params ≡ described_params p.keys (uses_of p))
-IsAsked state number batch (asked.Refused f) = (why_unfit batch ≡ None) × (describe (catalog_of state number) batch.text (declared batch) ≡ Err f)
+    (why_unfit batch ≡ None) × ((d : Description) × (describe (catalog_of state number) batch.text (declarations_of batch) ≡ Ok d) × (p ≡ pending batch d)) × (params ≡ described_params p.keys (uses_of p))
+IsAsked state number batch (asked.Refused f) = (why_unfit batch ≡ None) × (describe (catalog_of state number) batch.text (declarations_of batch) ≡ Err f)
 IsAsked state number batch (asked.Unfit f) = why_unfit batch ≡ Some f
 
 -- what the driver's answer to a description says of a batch, and the session after it
 abbrev pub TellsAs : State → ℕ → Batch → DescribeAnswer → Session → Type 0
 TellsAs state number batch (answer.Ready params) after =
-    (d : Description) × (describe (catalog_of state number) batch.text (declared batch) ≡ Ok d) × (after ≡ session.Pending (pending batch d))
+    (d : Description) × (describe (catalog_of state number) batch.text (declarations_of batch) ≡ Ok d) × (after ≡ session.Pending (pending batch d))
     × (params ≡ described_params d.keys (uses_of (pending batch d)))
-TellsAs state number batch (answer.Refused f) after = describe (catalog_of state number) batch.text (declared batch) ≡ Err f
+TellsAs state number batch (answer.Refused f) after = describe (catalog_of state number) batch.text (declarations_of batch) ≡ Err f
 
 -- the reply is awaited
 abbrev pub AnswersOf : State → ℕ → Batch → Result DescribeAnswer Halt → Session → Type 0
@@ -84,7 +84,7 @@ AnswersOf state number batch (Err halt.VaultFault) after = ⊥
 pub record IsDefinition (state : State) (number : ℕ) (p : Pending) : Type 0 where
   pub batch : Batch
   pub description : Description
-  pub described : describe (catalog_of state number) batch.text (declared batch) ≡ Ok description
+  pub described : describe (catalog_of state number) batch.text (declarations_of batch) ≡ Ok description
   pub is : p ≡ pending batch description
   pub defines : defines batch.text ≡ true
 

@@ -6,55 +6,41 @@ use Rattle.ae_base.specs.declared.faults.SqlFault.{SqlFault}
 use Rattle.ae_edge.specs.Devices.{IsFront}
 use Rattle.sql_tree.specs.Bound.{Bound}
 use Rattle.sql_tree.specs.Statements.{Statement}
-use Rattle.sql_tree.specs.Statements as tree
-use Rattle.sql_grammar.specs.Texts.{parsed}
-use Rattle.server_core.specs.Describing.{named}
+use Rattle.sql_tree.specs.Sorts as sorts
+use Rattle.sql_tree.specs.Sorts.{sort_written}
+use Rattle.sql_grammar.specs.Texts.{statement_in}
+use Rattle.server_core.specs.Describing.{binding_of}
 use Rattle.server_core.specs.Explaining.{Explains}
 use Rattle.server_core.specs.Serve.{State, catalog_of}
 use Rattle.conversation.specs.Batches.{why_unfit}
 use Rattle.conversation.specs.Pending.{Pending}
 use Rattle.conversation.specs.declared.faults.DriverFault.{DriverFault}
 use Rattle.conversation.specs.declared.outcomes.Outcome.{Outcome}
-use Rattle.conversation.specs.declared.sessions.Session.TheVariants.{Idle}
 use Rattle.script_lang.specs.declared.steps.Step.{Step}
 use Rattle.script_lang.specs.declared.steps.Step.TheVariants.{Whole, Half, Execute}
-use Rattle.plain_meaning.specs.Reference.{Came, begins, declared, executed, waits}
+use Rattle.plain_meaning.specs.Reference.{Came, begins, declarations_of, execution_of, waits}
 use Rattle.outcome_text.specs.Printing.{line, printed_outcome}
 
 -- ---- which batches are executed
 
--- what creates or drops a key or a table
-abbrev pub is_definition : Statement → Bool
-is_definition (tree.CreateMaster name path) = true
-is_definition (tree.CreateKey name master wrapped) = true
-is_definition (tree.CreateTable table columns uniques) = true
-is_definition (tree.DropTable name) = true
-is_definition (tree.DropMaster name) = true
-is_definition (tree.DropKey name) = true
-is_definition (tree.Insert table columns rows) = false
-is_definition (tree.Update table assignments filter) = false
-is_definition (tree.Delete table filter) = false
-is_definition (tree.Select query) = false
-is_definition (tree.Control control) = false
-
 abbrev pub reads_definition : Result Statement SqlFault → Bool
-reads_definition (Ok statement) = is_definition statement
+reads_definition (Ok statement) = sorts.defines (sort_written statement)
 reads_definition (Err f) = false
 
 -- the text of a batch is that of a definition
 abbrev pub defines : List ℕ → Bool
-defines text = reads_definition (parsed (encode_utf8_all text))
+defines text = reads_definition (statement_in (encode_utf8_all text))
 
 -- ---- what a batch comes to
 
 -- once it is described, a definition is executed; every other batch ends there. No key is there to open.
 abbrev pub described_only : State → ℕ → Bool → Pending → Came
-described_only state number true = executed [] state number
+described_only state number true = execution_of [] state number
 described_only state number false = waits state
 
 -- a batch of this session, which is idle
 abbrev pub checked : State → ℕ → Batch → Came
-checked state number batch = begins state number batch (described_only state number (defines batch.text)) Idle
+checked state number batch = begins state number batch (described_only state number (defines batch.text)) None
 
 -- no session has a transaction
 abbrev pub HasNoTransaction : State → Type 0
@@ -73,7 +59,7 @@ Chains (Some f) bound places = places ≡ []
 -- the lines of a batch: what it comes to, and for each rule of a chain `because at` its place
 pub record AreLinesOf (state : State) (number : ℕ) (batch : Batch) (lines : List ℕ) : Type 0 where
   pub chain : List ℕ
-  pub chains : Chains (why_unfit batch) (named (catalog_of state number) batch.text (declared batch)) chain
+  pub chains : Chains (why_unfit batch) (binding_of (catalog_of state number) batch.text (declarations_of batch)) chain
   pub is : lines ≡ printed_outcome (checked state number batch).comes ++ flat_map because chain
 
 -- ---- a script

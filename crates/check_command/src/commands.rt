@@ -1,31 +1,16 @@
 //! The command `check`.
 
-ghost use Rattle.std.specs.Prelude.{◌≡◌, ◌≤◌, ℕ, List, IfSome, length};
+ghost use Rattle.std.specs.Prelude.{◌≡◌, ℕ, List, IfSome};
 ghost use Rattle.ae_edge.specs.Devices.{Rose, WhereTold};
-ghost use Rattle.check_command.specs.Ends.{ChecksScript, IsRead, Takes, most_script_bytes};
+ghost use Rattle.script_source.specs.Scripts.{TakesScript};
+ghost use Rattle.check_command.specs.Ends.{ChecksScript, read_by};
 
 pub use crate::steps::Checked;
 use crate::steps::check_steps;
-use ae_base::blobs::Blob;
-use ae_base::limits::MOST_SCRIPT_BYTES;
 use ae_edge::sinks::Sink;
 use ae_edge::sources::Source;
-use ae_edge::streams::{ReadAll, read_all};
-use script_lang::scripts::{ScriptFault, read_script};
+use script_source::{Unread, read_steps};
 use std::alloc::Global;
-
-fn check_bytes<W: Sink>(alloc: Global, script: &Blob, out: &mut W) -> Checked
-    requires { length script.now ≤ most_script_bytes }
-    ensures content { ChecksScript result script.now (W.held out.old) (W.held out.new) }
-    ensures read { IsRead result }
-    ensures write { result ≡ Checked.WriteFault → Rose (W.faults out.old) (W.faults out.new) }
-{
-    match read_script(alloc, script.as_slice()) {
-        Ok(steps) => check_steps(alloc, steps.as_slice(), out),
-        Err(ScriptFault::BadLine(line)) => Checked::BadLine(line),
-        Err(ScriptFault::OutOfMemory) => Checked::OutOfMemory,
-    }
-}
 
 /// Reads a script to its end, executes its definitions over a server of its own, describes every
 /// other batch without executing it, and puts what each comes to. `:describe` ends a batch as `GO`
@@ -35,17 +20,20 @@ fn check_bytes<W: Sink>(alloc: Global, script: &Blob, out: &mut W) -> Checked
 /// ends, a front of the whole is put.
 pub fn check<S: Source, W: Sink>(alloc: Global, script: &mut S, out: &mut W) -> Checked
     // There are bytes, the script's where it tells them, of which this is the check.
-    ensures content { (bytes : List ℕ) × IfSome (S.left script.old) (λ left. bytes ≡ left) × ChecksScript result bytes (W.held out.old) (W.held out.new) }
+    ensures content { (bytes : List ℕ) × IfSome (S.left script.old) (λ left. bytes ≡ left)
+        × ChecksScript result bytes (W.held out.old) (W.held out.new) }
     // What was taken of the script.
-    ensures taken { WhereTold (Takes result) (S.left script.old) (S.left script.new) }
+    ensures taken { WhereTold (TakesScript (read_by result)) (S.left script.old)
+        (S.left script.new) }
     // The faults of the outside come only where a count rose.
     ensures read { result ≡ Checked.ReadFault → Rose (S.faults script.old) (S.faults script.new) }
     ensures write { result ≡ Checked.WriteFault → Rose (W.faults out.old) (W.faults out.new) }
 {
-    match read_all(script, alloc, MOST_SCRIPT_BYTES) {
-        ReadAll::Whole(bytes) => check_bytes(alloc, &bytes, out),
-        ReadAll::TooLong => Checked::TooLong,
-        ReadAll::ReadFault => Checked::ReadFault,
-        ReadAll::OutOfMemory => Checked::OutOfMemory,
+    match read_steps(alloc, script) {
+        Ok(steps) => check_steps(alloc, steps.as_slice(), out),
+        Err(Unread::ReadFault) => Checked::ReadFault,
+        Err(Unread::TooLong) => Checked::TooLong,
+        Err(Unread::BadLine(line)) => Checked::BadLine(line),
+        Err(Unread::OutOfMemory) => Checked::OutOfMemory,
     }
 }

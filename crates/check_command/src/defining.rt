@@ -2,7 +2,7 @@
 
 ghost use Rattle.std.specs.Prelude.{◌≡◌, ◌≤◌, [], IfOk, length, encode_utf8_all};
 ghost use Rattle.conversation.specs.declared.outcomes.Outcome.{Outcome};
-ghost use Rattle.plain_meaning.specs.Reference.{executed};
+ghost use Rattle.plain_meaning.specs.Reference.{execution_of};
 ghost use Rattle.wire_parts.specs.Texts.{IsStatementText};
 ghost use Rattle.wire_messages.specs.declared.requests.Request.TheVariants as request;
 ghost use Rattle.check_command.specs.Asked.{AnswersAs, ComesTo, IsDefinition};
@@ -29,7 +29,7 @@ pub fn defined(
     pending: Pending,
 ) -> Result<Outcome, AllocError>
     requires { IsDefinition server.old number pending }
-    ensures comes { IfOk result (ComesTo (executed [] server.old number pending) server.new) }
+    ensures comes { IfOk result (ComesTo (execution_of [] server.old number pending) server.new) }
     ensures sessions { server.new.sessions ≡ server.old.sessions }
 {
     prepared_alone();

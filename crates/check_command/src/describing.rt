@@ -68,7 +68,8 @@ fn heard(
     session: Session,
 ) -> Result<Asked, AllocError>
     requires { AsksOf request session }
-    ensures asked { (number : ℕ) (batch : Batch) → session ≡ session_of.Begun batch → AsksFor number batch request.entry → IfOk result (IsAsked server.old number batch) }
+    ensures asked { (number : ℕ) (batch : Batch) → session ≡ session_of.Begun batch
+        → AsksFor number batch request.entry → IfOk result (IsAsked server.old number batch) }
     ensures same { server.new ≡ server.old }
 {
     bound_statements_are();
@@ -87,7 +88,8 @@ fn heard(
 /// What the replies to a description tell: there is one.
 fn told(alloc: Global, session: Session, replies: &[Reply<'static>]) -> Result<Asked, AllocError>
     requires { IsToldOf session replies.now }
-    ensures { (state : State) (number : ℕ) (batch : Batch) → session ≡ session_of.Begun batch → replies.now ≡ said_of state number batch → IfOk result (IsAsked state number batch) }
+    ensures { (state : State) (number : ℕ) (batch : Batch) → session ≡ session_of.Begun batch
+        → replies.now ≡ said_of state number batch → IfOk result (IsAsked state number batch) }
 {
     let [reply] = replies else { unreachable!() };
     answered(described(alloc, session, reply))
@@ -95,8 +97,11 @@ fn told(alloc: Global, session: Session, replies: &[Reply<'static>]) -> Result<A
 
 /// What the driver's answer to a description says.
 fn answered(turn: Turn<Result<DescribeAnswer, Halt>>) -> Result<Asked, AllocError>
-    requires { (state : State) × (number : ℕ) × (batch : Batch) × AnswersOf state number batch turn.answer turn.after }
-    ensures { (state : State) (number : ℕ) (batch : Batch) → why_unfit batch ≡ None → AnswersOf state number batch turn.answer turn.after → IfOk result (IsAsked state number batch) }
+    requires { (state : State) × (number : ℕ) × (batch : Batch)
+        × AnswersOf state number batch turn.answer turn.after }
+    ensures { (state : State) (number : ℕ) (batch : Batch) → why_unfit batch ≡ None
+        → AnswersOf state number batch turn.answer turn.after
+        → IfOk result (IsAsked state number batch) }
 {
     let Turn { answer, after } = turn;
     match answer {

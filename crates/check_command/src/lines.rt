@@ -3,9 +3,9 @@
 ghost use Rattle.std.specs.Prelude.{◌≡◌, ◌++◌, IfOk, OnOk, None, flat_map, map, string_bytes};
 ghost use Rattle.ae_base.specs.declared.batches.Param.{Param};
 ghost use Rattle.conversation.specs.Batches.{why_unfit};
-ghost use Rattle.plain_meaning.specs.Reference.{declared};
+ghost use Rattle.plain_meaning.specs.Reference.{declarations_of};
 ghost use Rattle.outcome_text.specs.Printing.{printed_outcome};
-ghost use Rattle.server_core.specs.Describing.{named};
+ghost use Rattle.server_core.specs.Describing.{binding_of};
 ghost use Rattle.server_core.specs.Explaining.{Explains};
 ghost use Rattle.wire_parts.specs.Texts.{IsStatementText};
 ghost use Rattle.check_command.specs.Asked.{is_clash};
@@ -26,7 +26,8 @@ use wire_parts::texts::StatementPart;
 
 /// The printed lines of what a batch came to, and for each place of a chain `because at` it.
 pub fn text_with(alloc: Global, outcome: &Outcome, chain: &[u32]) -> Result<String, AllocError>
-    ensures { IfOk result (λ text. string_bytes text ≡ printed_outcome outcome.now ++ flat_map because chain.now) }
+    ensures { IfOk result (λ text. string_bytes text ≡ printed_outcome outcome.now
+        ++ flat_map because chain.now) }
 {
     let mut text = text_of(alloc, outcome)?;
     for place in chain {
@@ -53,7 +54,9 @@ pub fn is_clash(outcome: &Outcome) -> bool
 /// The places of the rules of a chain for which a batch has no encryption typing.
 pub fn chain_of(alloc: Global, server: &Server, batch: &Batch) -> Result<Seq<u32>, AllocError>
     requires { why_unfit batch.now ≡ None }
-    ensures { IfOk result (Explains (named server.now.shared.world.catalog batch.now.text (declared batch.now))) }
+    ensures { IfOk result
+        (Explains (binding_of server.now.shared.world.catalog batch.now.text
+        (declarations_of batch.now))) }
 {
     let declarations = declared(alloc, &batch.params)?;
     let text = statement(&batch.text);

@@ -4,9 +4,9 @@ ghost use Rattle.std.specs.Prelude.{◌≡◌, ◌||◌, ℕ, IfOk};
 ghost use Rattle.std.specs.List.{All};
 ghost use Rattle.ae_edge.specs.Devices.{Rose};
 ghost use Rattle.conversation.specs.Batches.{why_unfit};
-ghost use Rattle.plain_meaning.specs.Reference.{declared};
+ghost use Rattle.plain_meaning.specs.Reference.{declarations_of};
 ghost use Rattle.script_lang.specs.Limits.{HasParams, IsWithinLimits};
-ghost use Rattle.server_core.specs.Describing.{named};
+ghost use Rattle.server_core.specs.Describing.{binding_of};
 ghost use Rattle.server_core.specs.Serve.{State, catalog_of, empty_state};
 ghost use Rattle.check_command.specs.Asked.{ComesTo};
 ghost use Rattle.check_command.specs.Check as check;
@@ -66,9 +66,14 @@ fn chain_behind(
     batch: &Batch,
     outcome: &Outcome,
 ) -> Result<Seq<u32>, AllocError>
-    requires comes { (state : State) × (number : ℕ) × ComesTo (check.checked state number batch.now) server.now outcome.now }
+    requires comes { (state : State) × (number : ℕ)
+        × ComesTo (check.checked state number batch.now) server.now outcome.now }
     requires alone { HasNoTransaction server.now }
-    ensures { (state : State) (number : ℕ) → ComesTo (check.checked state number batch.now) server.now outcome.now → IfOk result (Chains (why_unfit batch.now) (named (catalog_of state number) batch.now.text (declared batch.now))) }
+    ensures { (state : State) (number : ℕ)
+        → ComesTo (check.checked state number batch.now) server.now outcome.now
+        → IfOk result
+        (Chains (why_unfit batch.now)
+        (binding_of (catalog_of state number) batch.now.text (declarations_of batch.now))) }
 {
     if !is_clash(outcome) {
         return Ok(Seq::new(alloc));
@@ -82,9 +87,12 @@ fn lines_for(
     batch: &Batch,
     outcome: &Outcome,
 ) -> Result<Lines, AllocError>
-    requires comes { (state : State) × (number : ℕ) × ComesTo (check.checked state number batch.now) server.now outcome.now }
+    requires comes { (state : State) × (number : ℕ)
+        × ComesTo (check.checked state number batch.now) server.now outcome.now }
     requires alone { HasNoTransaction server.now }
-    ensures { (state : State) (number : ℕ) → ComesTo (check.checked state number batch.now) server.now outcome.now → IfOk result (AreLines state server.now number batch.now) }
+    ensures { (state : State) (number : ℕ)
+        → ComesTo (check.checked state number batch.now) server.now outcome.now
+        → IfOk result (AreLines state server.now number batch.now) }
 {
     let chain = chain_behind(alloc, server, batch, outcome)?;
     Ok(Lines {
@@ -121,7 +129,8 @@ fn check_batch<W: Sink>(
 ) -> Result<bool, Unput>
     requires params { HasParams batch.now }
     requires alone { HasNoTransaction server.old }
-    ensures puts { PutsBatch result server.old server.new number batch.now (W.held out.old) (W.held out.new) }
+    ensures puts { PutsBatch result server.old server.new number batch.now (W.held out.old)
+        (W.held out.new) }
     ensures sessions { server.new.sessions ≡ server.old.sessions }
     ensures counts { CountsPut result (W.faults out.old) (W.faults out.new) }
 {
@@ -146,7 +155,8 @@ fn check_step<W: Sink>(
     requires limits { IsWithinLimits step.now }
     requires alone { HasNoTransaction server.old }
     ensures sessions { server.new.sessions ≡ server.old.sessions }
-    ensures puts { PutsStep result server.old server.new step.now (W.held out.old) (W.held out.new) }
+    ensures puts { PutsStep result server.old server.new step.now (W.held out.old)
+        (W.held out.new) }
     ensures counts { CountsPut result (W.faults out.old) (W.faults out.new) }
 {
     match step {

@@ -50,7 +50,8 @@ pub fn command_of(alloc: Global, words: &[Txt]) -> Result<Command, Refusal<Txt>>
 
 /// The words in UTF-8.
 fn texts_of<'a>(alloc: Global, words: &'a [Txt]) -> Result<Vec<&'a str>, AllocError>
-    ensures { IfOk result (λ texts. map (λ text. text.now) texts.items ≡ map encode_utf8_all words.now) }
+    ensures { IfOk result
+        (λ texts. map (λ text. text.now) texts.items ≡ map encode_utf8_all words.now) }
 {
     let mut texts = Vec::new(alloc);
     for word in words {

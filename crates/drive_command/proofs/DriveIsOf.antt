@@ -19,8 +19,7 @@ use Rattle.run_effects.specs.declared.stops.Stop.TheVariants as stop
 use Rattle.outcome_text.specs.declared.tallies.Tally.{Tally}
 use Rattle.script_run.specs.declared.runs.Ran.{Ran}
 use Rattle.script_run.specs.declared.runs.Ran.TheVariants as ran
-use Rattle.script_run.specs.declared.runs.Unread.TheVariants as unread
-use Rattle.script_run.specs.Ends.{IsScript}
+use Rattle.script_source.specs.Scripts.{IsScript}
 use Rattle.script_run.proofs.Interface.{one_script}
 use Rattle.drive_command.specs.DriveOf.{IsDriveOf, told_of}
 use Rattle.drive_command.specs.Drives.{DrivesWhole, DrivesTaken, DrivesPast, DrivesBytes, TakesWithin, IsBadAt, IsDone}
@@ -163,17 +162,14 @@ module _ (path : PathIsDriven) (one : HasOneReading SpellsReply) (once : IsReadO
   module _ (script : List ℕ) (old new : DriveDevices) (steps : List Step) (s : IsScript script steps) (keys : KeyMap) (opens : old.keys ≡ Some keys) (bytes : List ℕ) (left : old.replies ≡ Some bytes) where
     drives_so : (r : Ran) → DrivesSteps r script old new → DrivesBytes r keys steps bytes new.replies (told_of old) (told_of new)
     drives_so r h =
-        subst (λ (ss : List Step). DrivesBytes r keys ss bytes new.replies (told_of old) (told_of new)) (one_script script steps h.steps s h.script)
+        subst (λ (ss : List Step). DrivesBytes r keys ss bytes new.replies (told_of old) (told_of new)) (one_script script steps h.steps s h.script.script)
         (steps_drive keys h.steps bytes old new opens left r h.drives)
 
     script_drives : (r : Ran) → DrivesScript r script old new → DrivesBytes r keys steps bytes new.replies (told_of old) (told_of new)
     script_drives ran.Done h = drives_so ran.Done h
     script_drives ran.Refusals h = drives_so ran.Refusals h
     script_drives (ran.Stopped why) h = drives_so (ran.Stopped why) h
-    script_drives (ran.Unread unread.ReadFault) h = ap told_of h
-    script_drives (ran.Unread unread.TooLong) h = ap told_of h.1
-    script_drives (ran.Unread (unread.BadLine line)) h = ap told_of h.2
-    script_drives (ran.Unread unread.OutOfMemory) h = ap told_of h
+    script_drives (ran.Unread why) h = ap told_of h.1
 
   pub drive_of : (r : Ran) (script : List ℕ) (old new : DriveDevices) → DrivesScript r script old new → IsDriveOf r script old new
   drive_of r script old new h = record { content = h; exact = λ steps s keys opens bytes left. script_drives script old new steps s keys opens bytes left r h }

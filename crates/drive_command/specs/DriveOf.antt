@@ -2,7 +2,7 @@
 use Rattle.std.specs.Prelude.{◌≡◌, ℕ, List, Some}
 use Rattle.ae_edge.specs.Vaults.{KeyMap}
 use Rattle.script_lang.specs.declared.steps.Step.{Step}
-use Rattle.script_run.specs.Ends.{IsScript}
+use Rattle.script_source.specs.Scripts.{IsScript}
 use Rattle.script_run.specs.declared.runs.Ran.{Ran}
 use Rattle.drive_command.specs.Drives.{Told, DrivesBytes}
 use Rattle.drive_command.specs.Ends.{DriveDevices, DrivesScript}

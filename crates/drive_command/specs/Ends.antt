@@ -1,5 +1,5 @@
 -- How driving a script ends, in words of what it was lent.
-use Rattle.std.specs.Prelude.{◌≡◌, ℕ, ◌<◌, ◌≤◌, List, [], length, Option, Some, None, Result, Ok, Err, true, false, IfOk, IfSome}
+use Rattle.std.specs.Prelude.{◌≡◌, ℕ, List, [], Option, Some, None, Result, Ok, Err, true, false, IfOk, IfSome}
 use Rattle.std.specs.Borrow.{GName}
 use Rattle.ae_edge.specs.Vaults.{KeyMap}
 use Rattle.conversation.specs.declared.sessions.Session.{Session}
@@ -11,12 +11,10 @@ use Rattle.run_effects.specs.Ways.{Advances}
 use Rattle.run_effects.specs.declared.stops.Stop.{Stop}
 use Rattle.outcome_text.specs.declared.tallies.Tally.{Tally}
 use Rattle.script_lang.specs.declared.steps.Step.{Step}
-use Rattle.script_lang.specs.Script.{steps_of}
+use Rattle.script_source.specs.Scripts.{AreScriptSteps, HasNoSteps}
 use Rattle.plain_meaning.specs.Steps.{talk}
 use Rattle.script_run.specs.declared.runs.Ran.{Ran}
 use Rattle.script_run.specs.declared.runs.Ran.TheVariants as ran
-use Rattle.script_run.specs.declared.runs.Unread.TheVariants as unread
-use Rattle.script_run.specs.Ends.{IsScript, most_script_bytes}
 
 -- what is told of all that driving is lent: text and tap, the random bytes to come, the keys, the replies that are left, and the counts of
 -- faults
@@ -87,7 +85,7 @@ DrivesTo (ran.Unread why) steps old new = ⊥
 
 pub record DrivesSteps (r : Ran) (bytes : List ℕ) (old new : DriveDevices) : Type 0 where
   pub steps : List Step
-  pub script : IsScript bytes steps
+  pub script : AreScriptSteps bytes steps
   pub drives : DrivesTo r steps old new
 
 -- what driving a script's bytes leaves, by how it ended; a script that is refused or can't be read leaves everything as it was
@@ -95,7 +93,4 @@ abbrev pub DrivesScript : Ran → List ℕ → DriveDevices → DriveDevices →
 DrivesScript ran.Done bytes old new = DrivesSteps ran.Done bytes old new
 DrivesScript ran.Refusals bytes old new = DrivesSteps ran.Refusals bytes old new
 DrivesScript (ran.Stopped stop) bytes old new = DrivesSteps (ran.Stopped stop) bytes old new
-DrivesScript (ran.Unread unread.ReadFault) bytes old new = new ≡ old
-DrivesScript (ran.Unread unread.TooLong) bytes old new = (most_script_bytes < length bytes) × (new ≡ old)
-DrivesScript (ran.Unread (unread.BadLine line)) bytes old new = (length bytes ≤ most_script_bytes) × (steps_of bytes ≡ Err line) × (new ≡ old)
-DrivesScript (ran.Unread unread.OutOfMemory) bytes old new = new ≡ old
+DrivesScript (ran.Unread why) bytes old new = HasNoSteps why bytes × (new ≡ old)

@@ -1,49 +1,25 @@
 //! The command `drive`: a script is read whole, and its steps are run against recorded replies.
 
-ghost use Rattle.std.specs.Prelude.{◌≡◌, ◌≤◌, ◌⊎◌, ℕ, List, IfSome, length};
+ghost use Rattle.std.specs.Prelude.{◌≡◌, ◌⊎◌, ℕ, List, IfSome};
 ghost use Rattle.ae_edge.specs.Devices.{Rose, WhereTold};
 ghost use Rattle.run_effects.specs.declared.stops.Stop.TheVariants as stop;
 ghost use Rattle.script_run.specs.declared.runs.Ran.TheVariants as ran;
-ghost use Rattle.script_run.specs.declared.runs.Unread.TheVariants as unread;
-ghost use Rattle.script_run.specs.Ends.{IsRead, TakesScript, most_script_bytes};
+ghost use Rattle.script_run.specs.Ends.{read_by};
+ghost use Rattle.script_source.specs.Scripts.{TakesScript};
+ghost use Rattle.script_source.specs.declared.Unread.TheVariants as unread;
 ghost use Rattle.drive_command.specs.DriveOf.{IsDriveOf};
 ghost use Rattle.drive_command.specs.Ends.{DrivesScript};
 
 use crate::drives::drive_over;
-use ae_base::blobs::Blob;
-use ae_base::limits::MOST_SCRIPT_BYTES;
 use ae_edge::entropies::Entropy;
 use ae_edge::sinks::Sink;
 use ae_edge::sources::Source;
-use ae_edge::streams::{ReadAll, read_all};
 use ae_edge::vaults::Vault;
 use conversation::laws::path_is_driven;
-use script_lang::scripts::{ScriptFault, read_script};
-use script_run::runs::{Ran, Unread};
+use script_run::runs::Ran;
+use script_source::read_steps;
 use std::alloc::Global;
 use wire_frames::{frames_are_read_back, one_reading, streams_are_read_once};
-
-fn drive_bytes<V: Vault, E: Entropy, L: Source, W: Sink, T: Sink>(
-    alloc: Global,
-    script: &Blob,
-    vault: &mut V,
-    entropy: &mut E,
-    replies: &mut L,
-    out: &mut W,
-    tap: &mut T,
-) -> Ran
-    requires within { length script.now ≤ most_script_bytes }
-    ensures content { DrivesScript result script.now
-        (record { out = W.held out.old; tap = T.held tap.old; entropy = E.to_come entropy.old; keys = V.keys vault.old; replies = L.left replies.old; out_faults = W.faults out.old; tap_faults = T.faults tap.old; entropy_faults = E.faults entropy.old; vault_faults = V.faults vault.old; reply_faults = L.faults replies.old })
-        (record { out = W.held out.new; tap = T.held tap.new; entropy = E.to_come entropy.new; keys = V.keys vault.new; replies = L.left replies.new; out_faults = W.faults out.new; tap_faults = T.faults tap.new; entropy_faults = E.faults entropy.new; vault_faults = V.faults vault.new; reply_faults = L.faults replies.new }) }
-    ensures read { IsRead result }
-{
-    match read_script(alloc, script.as_slice()) {
-        Ok(steps) => drive_over(alloc, steps.as_slice(), vault, entropy, replies, out, tap),
-        Err(ScriptFault::BadLine(line)) => Ran::Unread(Unread::BadLine(line)),
-        Err(ScriptFault::OutOfMemory) => Ran::Unread(Unread::OutOfMemory),
-    }
-}
 
 /// Reads a script and drives it.
 fn drive_source<S: Source, V: Vault, E: Entropy, L: Source, W: Sink, T: Sink>(
@@ -55,21 +31,48 @@ fn drive_source<S: Source, V: Vault, E: Entropy, L: Source, W: Sink, T: Sink>(
     out: &mut W,
     tap: &mut T,
 ) -> Ran
-    ensures content { (bytes : List ℕ) × IfSome (S.left script.old) (λ left. bytes ≡ left) × DrivesScript result bytes
-        (record { out = W.held out.old; tap = T.held tap.old; entropy = E.to_come entropy.old; keys = V.keys vault.old; replies = L.left replies.old; out_faults = W.faults out.old; tap_faults = T.faults tap.old; entropy_faults = E.faults entropy.old; vault_faults = V.faults vault.old; reply_faults = L.faults replies.old })
-        (record { out = W.held out.new; tap = T.held tap.new; entropy = E.to_come entropy.new; keys = V.keys vault.new; replies = L.left replies.new; out_faults = W.faults out.new; tap_faults = T.faults tap.new; entropy_faults = E.faults entropy.new; vault_faults = V.faults vault.new; reply_faults = L.faults replies.new }) }
-    ensures taken { WhereTold (TakesScript result) (S.left script.old) (S.left script.new) }
-    ensures read { result ≡ ran.Unread unread.ReadFault → Rose (S.faults script.old) (S.faults script.new) }
-    ensures read_replies { result ≡ ran.Stopped stop.ReadFault → Rose (L.faults replies.old) (L.faults replies.new) }
-    ensures write { result ≡ ran.Stopped stop.WriteFault → Rose (W.faults out.old) (W.faults out.new) ⊎ Rose (T.faults tap.old) (T.faults tap.new) }
-    ensures entropy { result ≡ ran.Stopped stop.EntropyFault → Rose (E.faults entropy.old) (E.faults entropy.new) }
-    ensures vault { result ≡ ran.Stopped stop.VaultFault → Rose (V.faults vault.old) (V.faults vault.new) }
+    ensures content { (bytes : List ℕ) × IfSome (S.left script.old) (λ left. bytes ≡ left)
+        × DrivesScript result bytes
+        (record {
+          out = W.held out.old;
+          tap = T.held tap.old;
+          entropy = E.to_come entropy.old;
+          keys = V.keys vault.old;
+          replies = L.left replies.old;
+          out_faults = W.faults out.old;
+          tap_faults = T.faults tap.old;
+          entropy_faults = E.faults entropy.old;
+          vault_faults = V.faults vault.old;
+          reply_faults = L.faults replies.old;
+        })
+        (record {
+          out = W.held out.new;
+          tap = T.held tap.new;
+          entropy = E.to_come entropy.new;
+          keys = V.keys vault.new;
+          replies = L.left replies.new;
+          out_faults = W.faults out.new;
+          tap_faults = T.faults tap.new;
+          entropy_faults = E.faults entropy.new;
+          vault_faults = V.faults vault.new;
+          reply_faults = L.faults replies.new;
+        }) }
+    ensures taken { WhereTold (TakesScript (read_by result)) (S.left script.old)
+        (S.left script.new) }
+    ensures read { result ≡ ran.Unread unread.ReadFault
+        → Rose (S.faults script.old) (S.faults script.new) }
+    ensures read_replies { result ≡ ran.Stopped stop.ReadFault
+        → Rose (L.faults replies.old) (L.faults replies.new) }
+    ensures write { result ≡ ran.Stopped stop.WriteFault
+        → Rose (W.faults out.old) (W.faults out.new) ⊎ Rose (T.faults tap.old) (T.faults tap.new) }
+    ensures entropy { result ≡ ran.Stopped stop.EntropyFault
+        → Rose (E.faults entropy.old) (E.faults entropy.new) }
+    ensures vault { result ≡ ran.Stopped stop.VaultFault
+        → Rose (V.faults vault.old) (V.faults vault.new) }
 {
-    match read_all(script, alloc, MOST_SCRIPT_BYTES) {
-        ReadAll::Whole(bytes) => drive_bytes(alloc, &bytes, vault, entropy, replies, out, tap),
-        ReadAll::TooLong => Ran::Unread(Unread::TooLong),
-        ReadAll::ReadFault => Ran::Unread(Unread::ReadFault),
-        ReadAll::OutOfMemory => Ran::Unread(Unread::OutOfMemory),
+    match read_steps(alloc, script) {
+        Ok(steps) => drive_over(alloc, steps.as_slice(), vault, entropy, replies, out, tap),
+        Err(why) => Ran::Unread(why),
     }
 }
 
@@ -90,23 +93,55 @@ pub fn drive<S: Source, V: Vault, E: Entropy, L: Source, W: Sink, T: Sink>(
     out: &mut W,
     tap: &mut T,
 ) -> Ran
-    // There are bytes, the script's where it tells them, of which this is what driving comes to. Over any replies: how far its conversation
-    // was followed, what stands at the text, at the tap and at the other devices of it, how the replies were read, and why no further
-    // (`content`). Over replies that tell their bytes, with keys that are told: the text and the tap are those of what is driven over the
-    // replies that these bytes spell, with the random bytes that were drawn. It goes to the end, with every reply taken and no byte left;
-    // or to a bad reply, whose place is that of its first byte, or where none comes or bytes are left. Where the replies can't be read or
-    // are past their limit, it is so over those that were taken; where a device fails or memory ends, fronts stand (`exact`).
-    ensures drive { (bytes : List ℕ) × IfSome (S.left script.old) (λ left. bytes ≡ left) × IsDriveOf result bytes
-        (record { out = W.held out.old; tap = T.held tap.old; entropy = E.to_come entropy.old; keys = V.keys vault.old; replies = L.left replies.old; out_faults = W.faults out.old; tap_faults = T.faults tap.old; entropy_faults = E.faults entropy.old; vault_faults = V.faults vault.old; reply_faults = L.faults replies.old })
-        (record { out = W.held out.new; tap = T.held tap.new; entropy = E.to_come entropy.new; keys = V.keys vault.new; replies = L.left replies.new; out_faults = W.faults out.new; tap_faults = T.faults tap.new; entropy_faults = E.faults entropy.new; vault_faults = V.faults vault.new; reply_faults = L.faults replies.new }) }
+    // There are bytes, the script's where it tells them, of which this is what driving comes to. Over
+    // any replies: how far its conversation was followed, what stands at the text, at the tap and at
+    // the other devices of it, how the replies were read, and why no further (`content`). Over
+    // replies that tell their bytes, with keys that are told: the text and the tap are those of what
+    // is driven over the replies that these bytes spell, with the random bytes that were drawn. It
+    // goes to the end, with every reply taken and no byte left; or to a bad reply, whose place is that
+    // of its first byte, or where none comes or bytes are left. Where the replies can't be read or
+    // are past their limit, it is so over those that were taken; where a device fails or memory ends,
+    // fronts stand (`exact`).
+    ensures drive { (bytes : List ℕ) × IfSome (S.left script.old) (λ left. bytes ≡ left)
+        × IsDriveOf result bytes
+        (record {
+          out = W.held out.old;
+          tap = T.held tap.old;
+          entropy = E.to_come entropy.old;
+          keys = V.keys vault.old;
+          replies = L.left replies.old;
+          out_faults = W.faults out.old;
+          tap_faults = T.faults tap.old;
+          entropy_faults = E.faults entropy.old;
+          vault_faults = V.faults vault.old;
+          reply_faults = L.faults replies.old;
+        })
+        (record {
+          out = W.held out.new;
+          tap = T.held tap.new;
+          entropy = E.to_come entropy.new;
+          keys = V.keys vault.new;
+          replies = L.left replies.new;
+          out_faults = W.faults out.new;
+          tap_faults = T.faults tap.new;
+          entropy_faults = E.faults entropy.new;
+          vault_faults = V.faults vault.new;
+          reply_faults = L.faults replies.new;
+        }) }
     // What was taken of the script, by how it ended.
-    ensures taken { WhereTold (TakesScript result) (S.left script.old) (S.left script.new) }
+    ensures taken { WhereTold (TakesScript (read_by result)) (S.left script.old)
+        (S.left script.new) }
     // The faults of the outside come only where a count rose.
-    ensures read { result ≡ ran.Unread unread.ReadFault → Rose (S.faults script.old) (S.faults script.new) }
-    ensures read_replies { result ≡ ran.Stopped stop.ReadFault → Rose (L.faults replies.old) (L.faults replies.new) }
-    ensures write { result ≡ ran.Stopped stop.WriteFault → Rose (W.faults out.old) (W.faults out.new) ⊎ Rose (T.faults tap.old) (T.faults tap.new) }
-    ensures entropy { result ≡ ran.Stopped stop.EntropyFault → Rose (E.faults entropy.old) (E.faults entropy.new) }
-    ensures vault { result ≡ ran.Stopped stop.VaultFault → Rose (V.faults vault.old) (V.faults vault.new) }
+    ensures read { result ≡ ran.Unread unread.ReadFault
+        → Rose (S.faults script.old) (S.faults script.new) }
+    ensures read_replies { result ≡ ran.Stopped stop.ReadFault
+        → Rose (L.faults replies.old) (L.faults replies.new) }
+    ensures write { result ≡ ran.Stopped stop.WriteFault
+        → Rose (W.faults out.old) (W.faults out.new) ⊎ Rose (T.faults tap.old) (T.faults tap.new) }
+    ensures entropy { result ≡ ran.Stopped stop.EntropyFault
+        → Rose (E.faults entropy.old) (E.faults entropy.new) }
+    ensures vault { result ≡ ran.Stopped stop.VaultFault
+        → Rose (V.faults vault.old) (V.faults vault.new) }
 {
     one_reading();
     streams_are_read_once();

@@ -77,7 +77,8 @@ impl Model for Holding {
 
     ghost view = { λ h. record { at = h.at; held = h.feed.held } };
 
-    ghost invariant = { λ h. (h.feed.way ≡ ToDriver) × (h.feed.failed ≡ false) × (h.feed.at ≡ h.at) × (h.came ≡ h.at + length h.feed.held) × (h.came ≤ most_stream_bytes + 1) };
+    ghost invariant = { λ h. (h.feed.way ≡ ToDriver) × (h.feed.failed ≡ false) × (h.feed.at ≡ h.at)
+        × (h.came ≡ h.at + length h.feed.held) × (h.came ≤ most_stream_bytes + 1) };
 }
 
 impl Holding {
@@ -138,7 +139,9 @@ impl Holding {
     /// The reply that stands first. It borrows from the bytes.
     pub fn front(&self, alloc: Global) -> Result<Front<'_>, AllocError>
         requires { (reply : Reply) × Begins reply self.now.held }
-        ensures { IfOk result (λ front. Begins (reply_of front.reply) self.now.held × (front.behind ≡ self.now.at + length (reply_frame (reply_of front.reply))) × (front.behind < 2 ^ 64)) }
+        ensures { IfOk result (λ front. Begins (reply_of front.reply) self.now.held
+            × (front.behind ≡ self.now.at + length (reply_frame (reply_of front.reply)))
+            × (front.behind < 2 ^ 64)) }
     {
         match self.feed.front(alloc) {
             Next::One {
@@ -160,7 +163,9 @@ impl Holding {
     /// Takes the reply that stands first; `behind` is the place behind its frame.
     pub fn take(&mut self, behind: u64)
         requires { IsBehind behind self.old }
-        ensures { (reply : Reply) → (b : Begins reply self.old.held) → behind ≡ self.old.at + length (reply_frame reply) → self.new ≡ record { at = behind; held = b.rest } }
+        ensures { (reply : Reply) → (b : Begins reply self.old.held)
+            → behind ≡ self.old.at + length (reply_frame reply)
+            → self.new ≡ record { at = behind; held = b.rest } }
     {
         self.feed.advance((behind - self.at) as usize);
         self.at = behind;

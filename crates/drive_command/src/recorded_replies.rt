@@ -31,7 +31,8 @@ fn read_more<L: Source>(
     source: &mut L,
     holding: &mut Holding,
 ) -> Result<bool, ReplyFault>
-    ensures reads { ReadsMore result holding.old holding.new (L.left source.old) (L.left source.new) (L.faults source.old) (L.faults source.new) }
+    ensures reads { ReadsMore result holding.old holding.new (L.left source.old) (L.left source.new)
+        (L.faults source.old) (L.faults source.new) }
     ensures same { L.names source.new ≡ L.names source.old }
 {
     let room = holding.room();
@@ -54,7 +55,8 @@ fn fetch_reply<L: Source>(
     source: &mut L,
     holding: &mut Holding,
 ) -> Result<(), ReplyFault>
-    ensures reads { FetchesReply result holding.old holding.new (L.left source.old) (L.left source.new) (L.faults source.old) (L.faults source.new) }
+    ensures reads { FetchesReply result holding.old holding.new (L.left source.old)
+        (L.left source.new) (L.faults source.old) (L.faults source.new) }
     ensures same { L.names source.new ≡ L.names source.old }
 {
     streams_are_read_once();
@@ -80,7 +82,8 @@ fn finish_replies<L: Source>(
     source: &mut L,
     holding: &mut Holding,
 ) -> Result<(), ReplyFault>
-    ensures reads { FinishesReplies result holding.old holding.new (L.left source.old) (L.left source.new) (L.faults source.old) (L.faults source.new) }
+    ensures reads { FinishesReplies result holding.old holding.new (L.left source.old)
+        (L.left source.new) (L.faults source.old) (L.faults source.new) }
     ensures same { L.names source.new ≡ L.names source.old }
 {
     if !holding.is_empty() {
@@ -96,7 +99,8 @@ fn finish_replies<L: Source>(
 impl<T: Sink, L: Source> Connection for RecordedReplies<'_, T, L> {
     ghost use Rattle.drive_command.specs.Reading.{wire_of};
 
-    ghost wire = { λ l. wire_of (T.names l.tap) (L.names l.source) (T.held l.tap) (T.faults l.tap) (L.left l.source) (L.faults l.source) l.holding.now };
+    ghost wire = { λ l. wire_of (T.names l.tap) (L.names l.source) (T.held l.tap) (T.faults l.tap)
+        (L.left l.source) (L.faults l.source) l.holding.now };
 
     fn ask(&mut self, alloc: Global, request: &Request<'_>) -> Sent {
         let mut frame = Vec::new(alloc);

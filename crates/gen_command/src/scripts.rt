@@ -44,7 +44,8 @@ pub(crate) fn script(alloc: Global, size: u32) -> Result<String, AllocError>
 }
 
 fn push_rows(text: &mut String, size: u32) -> Result<(), AllocError>
-    ensures { OnOk result (string_bytes text.new ≡ string_bytes text.old ++ script_of.text_of (script_of.all_row_lines size size)) }
+    ensures { OnOk result (string_bytes text.new ≡ string_bytes text.old
+        ++ script_of.text_of (script_of.all_row_lines size size)) }
 {
     let mut number = u64::from(size);
     for row in 0..size {
@@ -56,7 +57,8 @@ fn push_rows(text: &mut String, size: u32) -> Result<(), AllocError>
 
 /// The batch that inserts a row with a number.
 fn push_row(text: &mut String, row: u64, number: u64) -> Result<(), AllocError>
-    ensures { OnOk result (string_bytes text.new ≡ string_bytes text.old ++ script_of.text_of (script_of.row_lines row number)) }
+    ensures { OnOk result (string_bytes text.new ≡ string_bytes text.old
+        ++ script_of.text_of (script_of.row_lines row number)) }
 {
     let digit = number / 65_536 % 10;
     write!(text, "DECLARE @c NVARCHAR(8) = N'c{digit}'\n")?;

@@ -3,7 +3,7 @@ use Rattle.std.specs.Prelude.{ℕ, ◌/◌, ◌%◌, List, [], ◌∷◌, ◌++�
 use Rattle.std.specs.Fmt.{signed_decimal}
 use Rattle.std.specs.Char.{digit_char}
 use Rattle.std.specs.List.{list_any}
-use Rattle.ae_base.specs.Faults.{printed}
+use Rattle.ae_base.specs.Faults.{fault_line}
 use Rattle.ae_base.specs.declared.values.Value.{Value}
 use Rattle.ae_base.specs.declared.values.Value.TheVariants as value
 use Rattle.ae_base.specs.declared.values.Datum.TheVariants.{Num, Text, Bin}
@@ -66,7 +66,7 @@ printed_outcome (outcome.Broken l why) = printed_listing l ++ printed_why why
 printed_outcome (outcome.Changed count) = line (codes "(" ++ decimal count ++ codes " affected)")
 printed_outcome outcome.Defined = line (codes "ok")
 printed_outcome (outcome.Described params) = line (codes "described") ++ flat_map printed_param params
-printed_outcome (outcome.Refused f) = line (printed f)
+printed_outcome (outcome.Refused f) = line (fault_line f)
 printed_outcome (outcome.Failed f) = line (printed_fault f)
 
 -- the printed text of a run

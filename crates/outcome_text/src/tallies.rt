@@ -100,7 +100,8 @@ impl Tally {
 
     /// The text of one more outcome, and what is counted with it.
     pub fn page_of(&self, alloc: Global, outcome: &Outcome) -> Result<Page, AllocError>
-        ensures text { IfOk result (λ page. string_bytes page.text ≡ printing.printed_outcome outcome.now) }
+        ensures text { IfOk result
+            (λ page. string_bytes page.text ≡ printing.printed_outcome outcome.now) }
         ensures tally { IfOk result (λ page. page.tally ≡ counting.printed outcome.now self.now) }
     {
         let tally = self.printed(outcome)?;
@@ -110,8 +111,10 @@ impl Tally {
 
     /// The text of a listing that broke off, and what is counted with it.
     pub fn page_of_listing(&self, alloc: Global, listing: &Listing) -> Result<Page, AllocError>
-        ensures text { IfOk result (λ page. string_bytes page.text ≡ printing.printed_listing listing.now) }
-        ensures tally { IfOk result (λ page. page.tally ≡ counting.printed (outcome_of.Broken listing.now None) self.now) }
+        ensures text { IfOk result
+            (λ page. string_bytes page.text ≡ printing.printed_listing listing.now) }
+        ensures tally { IfOk result
+            (λ page. page.tally ≡ counting.printed (outcome_of.Broken listing.now None) self.now) }
     {
         let rows = plus(self.rows, listing.rows.len() as u64)?;
         let text = listing_text(alloc, listing)?;

@@ -52,7 +52,8 @@ pub fn listing_text(alloc: Global, listing: &Listing) -> Result<String, AllocErr
 }
 
 fn rows_text(alloc: Global, listing: &Listing) -> Result<String, AllocError>
-    ensures { IfOk result (λ text. string_bytes text ≡ printing.printed_outcome (outcome.Rows listing.now)) }
+    ensures { IfOk result
+        (λ text. string_bytes text ≡ printing.printed_outcome (outcome.Rows listing.now)) }
 {
     let mut text = listing_text(alloc, listing)?;
     let count = listing.rows.len();
@@ -65,7 +66,9 @@ fn broken_text(
     listing: &Listing,
     why: &Option<DriverFault>,
 ) -> Result<String, AllocError>
-    ensures { IfOk result (λ text. string_bytes text ≡ printing.printed_outcome (outcome.Broken listing.now why.now)) }
+    ensures { IfOk result
+        (λ text. string_bytes text
+        ≡ printing.printed_outcome (outcome.Broken listing.now why.now)) }
 {
     let mut text = listing_text(alloc, listing)?;
     if let Some(fault) = why {
@@ -75,7 +78,8 @@ fn broken_text(
 }
 
 fn described_text(alloc: Global, params: &[DescribedParam]) -> Result<String, AllocError>
-    ensures { IfOk result (λ text. string_bytes text ≡ printing.printed_outcome (outcome.Described params.now)) }
+    ensures { IfOk result
+        (λ text. string_bytes text ≡ printing.printed_outcome (outcome.Described params.now)) }
 {
     let mut text = String::new(alloc);
     text.push_str("described\n")?;
@@ -86,7 +90,8 @@ fn described_text(alloc: Global, params: &[DescribedParam]) -> Result<String, Al
 }
 
 fn push_param(text: &mut String, param: &DescribedParam) -> Result<(), AllocError>
-    ensures { OnOk result (string_bytes text.new ≡ string_bytes text.old ++ printing.printed_param param.now) }
+    ensures { OnOk result (string_bytes text.new ≡ string_bytes text.old
+        ++ printing.printed_param param.now) }
 {
     text.push('@')?;
     text.push_str(param.name.as_str())?;
@@ -97,7 +102,8 @@ fn push_param(text: &mut String, param: &DescribedParam) -> Result<(), AllocErro
 }
 
 fn push_enc(text: &mut String, enc: &NamedEnc) -> Result<(), AllocError>
-    ensures { OnOk result (string_bytes text.new ≡ string_bytes text.old ++ printing.printed_enc enc.now) }
+    ensures { OnOk result (string_bytes text.new ≡ string_bytes text.old
+        ++ printing.printed_enc enc.now) }
 {
     match enc {
         NamedEnc::Plain => text.push_str("plain")?,
@@ -109,7 +115,8 @@ fn push_enc(text: &mut String, enc: &NamedEnc) -> Result<(), AllocError>
 
 /// The titles with tabs between, and LF.
 fn push_titles(text: &mut String, titles: &[Title]) -> Result<(), AllocError>
-    ensures { OnOk result (string_bytes text.new ≡ string_bytes text.old ++ printing.line (printing.joined_by_tabs (map encode_utf8_all titles.now))) }
+    ensures { OnOk result (string_bytes text.new ≡ string_bytes text.old
+        ++ printing.line (printing.joined_by_tabs (map encode_utf8_all titles.now))) }
 {
     if let [first, rest @ ..] = titles {
         text.push_str(first.as_str())?;
@@ -123,7 +130,8 @@ fn push_titles(text: &mut String, titles: &[Title]) -> Result<(), AllocError>
 }
 
 fn push_rows(text: &mut String, rows: &[Seq<Value>]) -> Result<(), AllocError>
-    ensures { OnOk result (string_bytes text.new ≡ string_bytes text.old ++ flat_map printing.printed_row rows.now) }
+    ensures { OnOk result (string_bytes text.new ≡ string_bytes text.old
+        ++ flat_map printing.printed_row rows.now) }
 {
     for row in rows {
         push_row(text, row.as_slice())?;
@@ -132,7 +140,8 @@ fn push_rows(text: &mut String, rows: &[Seq<Value>]) -> Result<(), AllocError>
 }
 
 fn push_row(text: &mut String, values: &[Value]) -> Result<(), AllocError>
-    ensures { OnOk result (string_bytes text.new ≡ string_bytes text.old ++ printing.printed_row values.now) }
+    ensures { OnOk result (string_bytes text.new ≡ string_bytes text.old
+        ++ printing.printed_row values.now) }
 {
     if let [first, rest @ ..] = values {
         push_value(text, first)?;
@@ -146,7 +155,8 @@ fn push_row(text: &mut String, values: &[Value]) -> Result<(), AllocError>
 }
 
 fn push_value(text: &mut String, value: &Value) -> Result<(), AllocError>
-    ensures { OnOk result (string_bytes text.new ≡ string_bytes text.old ++ printing.printed_value value.now) }
+    ensures { OnOk result (string_bytes text.new ≡ string_bytes text.old
+        ++ printing.printed_value value.now) }
 {
     match value {
         Value::Null => text.push_str("NULL")?,
@@ -159,7 +169,8 @@ fn push_value(text: &mut String, value: &Value) -> Result<(), AllocError>
 
 /// N'..' with each ' doubled. What stands between two of them is put whole.
 fn push_characters(text: &mut String, characters: &str) -> Result<(), AllocError>
-    ensures { OnOk result (string_bytes text.new ≡ string_bytes text.old ++ codes "N'" ++ encode_utf8_all (printing.doubled (chars characters.now)) ++ codes "'") }
+    ensures { OnOk result (string_bytes text.new ≡ string_bytes text.old ++ codes "N'"
+        ++ encode_utf8_all (printing.doubled (chars characters.now)) ++ codes "'") }
 {
     text.push_str("N'")?;
     let mut rest = characters;
@@ -175,7 +186,8 @@ fn push_characters(text: &mut String, characters: &str) -> Result<(), AllocError
 
 /// 0x and two lower-case digits for each byte, which are put whole.
 fn push_bytes(text: &mut String, bytes: &[u8]) -> Result<(), AllocError>
-    ensures { OnOk result (string_bytes text.new ≡ string_bytes text.old ++ codes "0x" ++ flat_map printing.hex_digits bytes.now) }
+    ensures { OnOk result (string_bytes text.new ≡ string_bytes text.old ++ codes "0x"
+        ++ flat_map printing.hex_digits bytes.now) }
 {
     let digits = hex::encode(*text.allocator(), bytes)?;
     text.push_str("0x")?;

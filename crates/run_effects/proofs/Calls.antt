@@ -26,84 +26,43 @@ use Rattle.run_effects.proofs.Going.{client_still, comes_still, stay, client_fro
 
 -- ---- events of the driver by itself leave text, tap and replies
 
-module _ (f : Event → List ℕ) (draws : (bytes : List ℕ) → f (Drew bytes) ≡ []) (opens : (meta : KeyMeta) (key : _) → f (Opened meta key) ≡ []) where
-  none_of : (xs : List Event) → AreOwn xs → flat_map f xs ≡ []
-  none_of [] h = refl
-  none_of (Drew bytes ∷ xs) h = rw (draws bytes) (none_of xs h)
-  none_of (Opened meta key ∷ xs) h = rw (opens meta key) (none_of xs h)
-  none_of (Asked request replies ∷ xs) h = absurd h
-  none_of (Took reply ∷ xs) h = absurd h
-  none_of (Strayed next ∷ xs) h = absurd h
-  none_of (Printed comes ∷ xs) h = absurd h
+-- what holds of no event, and still with a draw or an opened key before, holds of the driver's own events
+of_own : (P : List Event → Type 0) → P [] → ((bytes : List ℕ) (xs : List Event) → P xs → P (Drew bytes ∷ xs))
+    → ((meta : KeyMeta) (key : _) (xs : List Event) → P xs → P (Opened meta key ∷ xs)) → (xs : List Event) → AreOwn xs → P xs
+of_own P none draws opens [] h = none
+of_own P none draws opens (Drew bytes ∷ xs) h = draws bytes xs (of_own P none draws opens xs h)
+of_own P none draws opens (Opened meta key ∷ xs) h = opens meta key xs (of_own P none draws opens xs h)
+of_own P none draws opens (Asked request replies ∷ xs) h = absurd h
+of_own P none draws opens (Took reply ∷ xs) h = absurd h
+of_own P none draws opens (Strayed next ∷ xs) h = absurd h
+of_own P none draws opens (Printed comes ∷ xs) h = absurd h
 
 no_text : (xs : List Event) → AreOwn xs → flat_map text_of xs ≡ []
-no_text = none_of text_of (λ bytes. refl) (λ meta key. refl)
+no_text = of_own (λ xs. flat_map text_of xs ≡ []) refl (λ bytes xs h. h) (λ meta key xs h. h)
 
 no_frames : (xs : List Event) → AreOwn xs → flat_map frames_of xs ≡ []
-no_frames = none_of frames_of (λ bytes. refl) (λ meta key. refl)
+no_frames = of_own (λ xs. flat_map frames_of xs ≡ []) refl (λ bytes xs h. h) (λ meta key xs h. h)
 
 no_exchanges : (xs : List Event) → AreOwn xs → flat_map exchanges_of xs ≡ []
-no_exchanges [] h = refl
-no_exchanges (Drew bytes ∷ xs) h = no_exchanges xs h
-no_exchanges (Opened meta key ∷ xs) h = no_exchanges xs h
-no_exchanges (Asked request replies ∷ xs) h = absurd h
-no_exchanges (Took reply ∷ xs) h = absurd h
-no_exchanges (Strayed next ∷ xs) h = absurd h
-no_exchanges (Printed comes ∷ xs) h = absurd h
+no_exchanges = of_own (λ xs. flat_map exchanges_of xs ≡ []) refl (λ bytes xs h. h) (λ meta key xs h. h)
 
 own_uncounted : (xs : List Event) → AreOwn xs → (t : Tally) → counted xs t ≡ t
-own_uncounted [] h t = refl
-own_uncounted (Drew bytes ∷ xs) h t = own_uncounted xs h t
-own_uncounted (Opened meta key ∷ xs) h t = own_uncounted xs h t
-own_uncounted (Asked request replies ∷ xs) h t = absurd h
-own_uncounted (Took reply ∷ xs) h t = absurd h
-own_uncounted (Strayed next ∷ xs) h t = absurd h
-own_uncounted (Printed comes ∷ xs) h t = absurd h
+own_uncounted = of_own (λ xs. (t : Tally) → counted xs t ≡ t) (λ t. refl) (λ bytes xs h. h) (λ meta key xs h. h)
 
 none_taken : (xs : List Event) → AreOwn xs → flat_map taken_in xs ≡ []
-none_taken [] h = refl
-none_taken (Drew bytes ∷ xs) h = none_taken xs h
-none_taken (Opened meta key ∷ xs) h = none_taken xs h
-none_taken (Asked request replies ∷ xs) h = absurd h
-none_taken (Took reply ∷ xs) h = absurd h
-none_taken (Strayed next ∷ xs) h = absurd h
-none_taken (Printed comes ∷ xs) h = absurd h
+none_taken = of_own (λ xs. flat_map taken_in xs ≡ []) refl (λ bytes xs h. h) (λ meta key xs h. h)
 
 own_serves : (xs : List Event) → AreOwn xs → (x : State) → AreServed xs x x
-own_serves [] h x = refl
-own_serves (Drew bytes ∷ xs) h x = own_serves xs h x
-own_serves (Opened meta key ∷ xs) h x = own_serves xs h x
-own_serves (Asked request replies ∷ xs) h x = absurd h
-own_serves (Took reply ∷ xs) h x = absurd h
-own_serves (Strayed next ∷ xs) h x = absurd h
-own_serves (Printed comes ∷ xs) h x = absurd h
+own_serves = of_own (λ xs. (x : State) → AreServed xs x x) (λ x. refl) (λ bytes xs h. h) (λ meta key xs h. h)
 
 own_waits : (xs : List Event) → AreOwn xs → (x : List Reply) → Waits xs x x
-own_waits [] h x = refl
-own_waits (Drew bytes ∷ xs) h x = own_waits xs h x
-own_waits (Opened meta key ∷ xs) h x = own_waits xs h x
-own_waits (Asked request replies ∷ xs) h x = absurd h
-own_waits (Took reply ∷ xs) h x = absurd h
-own_waits (Strayed next ∷ xs) h x = absurd h
-own_waits (Printed comes ∷ xs) h x = absurd h
+own_waits = of_own (λ xs. (x : List Reply) → Waits xs x x) (λ x. refl) (λ bytes xs h. h) (λ meta key xs h. h)
 
 none_come : (xs : List Event) → AreOwn xs → flat_map replies_to xs ≡ []
-none_come [] h = refl
-none_come (Drew bytes ∷ xs) h = none_come xs h
-none_come (Opened meta key ∷ xs) h = none_come xs h
-none_come (Asked request replies ∷ xs) h = absurd h
-none_come (Took reply ∷ xs) h = absurd h
-none_come (Strayed next ∷ xs) h = absurd h
-none_come (Printed comes ∷ xs) h = absurd h
+none_come = of_own (λ xs. flat_map replies_to xs ≡ []) refl (λ bytes xs h. h) (λ meta key xs h. h)
 
 own_streams : (xs : List Event) → AreOwn xs → (x : List ℕ) → Streams xs x x
-own_streams [] h x = refl
-own_streams (Drew bytes ∷ xs) h x = own_streams xs h x
-own_streams (Opened meta key ∷ xs) h x = own_streams xs h x
-own_streams (Asked request replies ∷ xs) h x = absurd h
-own_streams (Took reply ∷ xs) h x = absurd h
-own_streams (Strayed next ∷ xs) h x = absurd h
-own_streams (Printed comes ∷ xs) h x = absurd h
+own_streams = of_own (λ xs. (x : List ℕ) → Streams xs x x) (λ x. refl) (λ bytes xs h. h) (λ meta key xs h. h)
 
 added_none : {A : Type 0} (xs : List A) (a : Option (List A)) → xs ≡ [] → Adds xs a a
 added_none xs a e = subst (λ w. Adds w a a) (sym e) (adds_none a)

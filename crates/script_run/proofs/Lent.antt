@@ -1,11 +1,8 @@
 -- What a run leaves of what it was lent.
-use Rattle.std.proofs.Common.{◌≡◌, ℕ, List, [], ◌∷◌, ◌++◌, Option, Result, Ok, Err, ◌⊎◌, length, sym, ◌∙◌, ap, subst, append-nil, arith}
-use Rattle.std.specs.List.{All}
+use Rattle.std.proofs.Common.{◌≡◌, ℕ, List, [], ◌∷◌, Option, Result, Ok, Err, ◌⊎◌, length, ◌∙◌, subst}
 use Rattle.std.specs.Borrow.{GName}
 use Rattle.ae_edge.specs.Devices.{Rose, WhereTold}
 use Rattle.ae_edge.proofs.Interface.{told_map}
-use Rattle.ae_edge.specs.Streams.{ReadsAll}
-use Rattle.ae_edge.specs.declared.streams.ReadAll.TheVariants as read
 use Rattle.conversation.specs.Paths.{Event}
 use Rattle.conversation.specs.Sessions.{nobody}
 use Rattle.conversation.specs.Talk.{Talk}
@@ -18,12 +15,12 @@ use Rattle.run_effects.specs.declared.stops.Stop.TheVariants as stop
 use Rattle.outcome_text.specs.declared.tallies.Tally.{Tally}
 use Rattle.run_effects.proofs.Interface.{stay, breaks_between}
 use Rattle.script_lang.specs.declared.steps.Step.{Step}
-use Rattle.script_lang.specs.Limits.{IsProperStep, IsWithinLimits}
+use Rattle.script_source.specs.Scripts.{AreScriptSteps, TakesScript}
+use Rattle.script_source.specs.declared.Unread.{Unread}
 use Rattle.script_run.specs.declared.runs.Count.{Count}
 use Rattle.script_run.specs.declared.runs.Ran.{Ran}
 use Rattle.script_run.specs.declared.runs.Ran.TheVariants as ran
-use Rattle.script_run.specs.declared.runs.Unread.TheVariants as unread
-use Rattle.script_run.specs.Ends.{RunDevices, outside, CameTo, RunsTo, RunsScript, TakesScript, IsScript, IsOfPeer, IsRead, most_script_bytes}
+use Rattle.script_run.specs.Ends.{RunDevices, outside, CameTo, RunsTo, RunsScript, IsOfPeer, read_by}
 
 -- ---- the same is lent after it
 
@@ -67,12 +64,6 @@ leads_same (Err s) t onward old new f = fails_same s t old new f
 pub only_same : (a b : GName) → a ∷ [] ≡ b ∷ [] → a ≡ b
 only_same a b e = cc
 
-pub tap_same : (a b c d : GName) → (a ∷ []) ∷ (c ∷ []) ∷ [] ≡ (b ∷ []) ∷ (d ∷ []) ∷ [] → a ≡ b
-tap_same a b c d e = cc
-
-pub peer_same : (a b c d : GName) → (a ∷ []) ∷ (c ∷ []) ∷ [] ≡ (b ∷ []) ∷ (d ∷ []) ∷ [] → c ≡ d
-peer_same a b c d e = cc
-
 -- ---- how it ended
 
 -- it ended before it began
@@ -95,37 +86,23 @@ unstarted steps lent = record {
 
 -- ---- a script
 
-pub runs_script : (r : Ran) (count : Count) (bytes : List ℕ) (steps : List Step) (old new : RunDevices) → IsScript bytes steps → All IsWithinLimits steps → All IsProperStep steps → count.steps ≡ length steps
-    → RunsTo r count.tally steps old new → RunsScript r count bytes old new
-runs_script ran.Done count bytes steps old new s l p n h = record { steps = steps; script = s; limits = l; proper = p; counts = n; runs = h }
-runs_script ran.Refusals count bytes steps old new s l p n h = record { steps = steps; script = s; limits = l; proper = p; counts = n; runs = h }
-runs_script (ran.Stopped why) count bytes steps old new s l p n h = record { steps = steps; script = s; limits = l; proper = p; counts = n; runs = h }
-runs_script (ran.Unread why) count bytes steps old new s l p n h = absurd h
+pub runs_script : (r : Ran) (count : Count) (bytes : List ℕ) (steps : List Step) (old new : RunDevices) → AreScriptSteps bytes steps → count.steps ≡ length steps → RunsTo r count.tally steps old new
+    → RunsScript r count bytes old new
+runs_script ran.Done count bytes steps old new s n h = record { steps = steps; script = s; counts = n; runs = h }
+runs_script ran.Refusals count bytes steps old new s n h = record { steps = steps; script = s; counts = n; runs = h }
+runs_script (ran.Stopped why) count bytes steps old new s n h = record { steps = steps; script = s; counts = n; runs = h }
+runs_script (ran.Unread why) count bytes steps old new s n h = absurd h
 
-pub was_read : (r : Ran) (tally : Tally) (steps : List Step) (old new : RunDevices) → RunsTo r tally steps old new → IsRead r
-was_read ran.Done tally steps old new h = tt
-was_read ran.Refusals tally steps old new h = tt
-was_read (ran.Stopped why) tally steps old new h = tt
-was_read (ran.Unread why) tally steps old new h = absurd h
+-- it was read, and so all of it was taken
+pub takes_all : (r : Ran) (tally : Tally) (steps read : List Step) (old new : RunDevices) (xs left : Option (List ℕ)) → RunsTo r tally steps old new → WhereTold (TakesScript (Ok read)) xs left → WhereTold (TakesScript (read_by r)) xs left
+takes_all ran.Done tally steps read old new xs left h t = told_map (TakesScript (Ok read)) (TakesScript (read_by ran.Done)) (λ x y p. p) xs left t
+takes_all ran.Refusals tally steps read old new xs left h t = told_map (TakesScript (Ok read)) (TakesScript (read_by ran.Refusals)) (λ x y p. p) xs left t
+takes_all (ran.Stopped why) tally steps read old new xs left h t = told_map (TakesScript (Ok read)) (TakesScript (read_by (ran.Stopped why))) (λ x y p. p) xs left t
+takes_all (ran.Unread why) tally steps read old new xs left h t = absurd h
 
--- ---- what was taken of it
-
-takes : (r : Ran) (bytes xs left : List ℕ) → IsRead r → ReadsAll most_script_bytes (read.Whole bytes) xs left → TakesScript r xs left
-takes ran.Done bytes xs left w h = h.1
-takes ran.Refusals bytes xs left w h = h.1
-takes (ran.Stopped why) bytes xs left w h = h.1
-takes (ran.Unread unread.ReadFault) bytes xs left w h = absurd w
-takes (ran.Unread unread.TooLong) bytes xs left w h = absurd w
-takes (ran.Unread (unread.BadLine line)) bytes xs left w h = h.1
-takes (ran.Unread unread.OutOfMemory) bytes xs left w h =
-    let l = h.2 in
-    (xs, sym (append-nil xs) ∙ ap (λ w. xs ++ w) (sym h.1), omega arith)
-
-pub takes_whole : (r : Ran) (bytes : List ℕ) (old new : Option (List ℕ)) → IsRead r → WhereTold (ReadsAll most_script_bytes (read.Whole bytes)) old new → WhereTold (TakesScript r) old new
-takes_whole r bytes old new w h = told_map (ReadsAll most_script_bytes (read.Whole bytes)) (TakesScript r) (λ x y p. takes r bytes x y w p) old new h
-
-pub read_it : (r : Ran) → IsRead r → r ≡ ran.Unread unread.ReadFault → ⊥
-read_it r w e = subst IsRead e w
+-- it wasn't read
+pub takes_none : (why : Unread) (xs left : Option (List ℕ)) → WhereTold (TakesScript {A = List Step} (Err why)) xs left → WhereTold (TakesScript (read_by (ran.Unread why))) xs left
+takes_none why xs left t = told_map (TakesScript {A = List Step} (Err why)) (TakesScript (read_by (ran.Unread why))) (λ x y p. p) xs left t
 
 -- a peer has no stream of replies
 pub of_peer : (r : Ran) (count : Count) (bytes : List ℕ) (old new : RunDevices) → RunsScript r count bytes old new → IsOfPeer r
@@ -142,21 +119,25 @@ of_peer (ran.Unread why) count bytes old new h = tt
 
 -- ---- a count rose
 
-stopped_rose : (P : RunDevices → RunDevices → Type 0) (s : Stop) (r : Ran) (count : Count) (bytes : List ℕ) (old new : RunDevices) → ((steps : List Step) → CameTo (Err s) count.tally steps old new → P old new)
-    → RunsScript r count bytes old new → r ≡ ran.Stopped s → P old new
-stopped_rose P s r count bytes old new f h e = let c = subst (λ w. RunsScript w count bytes old new) e h in f c.steps c.runs
+stopped_rose : (P : RunDevices → RunDevices → Type 0) (s : Stop) (r : Ran) (tally : Tally) (steps : List Step) (old new : RunDevices) → (CameTo (Err s) tally steps old new → P old new)
+    → RunsTo r tally steps old new → r ≡ ran.Stopped s → P old new
+stopped_rose P s r tally steps old new f h e = f (subst (λ w. RunsTo w tally steps old new) e h)
 
-pub write_rose : (r : Ran) (count : Count) (bytes : List ℕ) (old new : RunDevices) → RunsScript r count bytes old new → r ≡ ran.Stopped stop.WriteFault → Rose old.out_faults new.out_faults ⊎ Rose old.tap_faults new.tap_faults
-write_rose r count bytes old new =
-    stopped_rose (λ x y. Rose x.out_faults y.out_faults ⊎ Rose x.tap_faults y.tap_faults) stop.WriteFault r count bytes old new
-    (λ steps (c : CameTo (Err stop.WriteFault) count.tally steps old new). c.leads.1)
+module _ (r : Ran) (tally : Tally) (steps : List Step) (old new : RunDevices) (h : RunsTo r tally steps old new) where
+  pub write_rose : r ≡ ran.Stopped stop.WriteFault → Rose old.out_faults new.out_faults ⊎ Rose old.tap_faults new.tap_faults
+  write_rose =
+      stopped_rose (λ x y. Rose x.out_faults y.out_faults ⊎ Rose x.tap_faults y.tap_faults) stop.WriteFault r tally steps old new
+      (λ (c : CameTo (Err stop.WriteFault) tally steps old new). c.leads.1) h
 
-pub entropy_rose : (r : Ran) (count : Count) (bytes : List ℕ) (old new : RunDevices) → RunsScript r count bytes old new → r ≡ ran.Stopped stop.EntropyFault → Rose old.entropy_faults new.entropy_faults
-entropy_rose r count bytes old new =
-    stopped_rose (λ x y. Rose x.entropy_faults y.entropy_faults) stop.EntropyFault r count bytes old new
-    (λ steps (c : CameTo (Err stop.EntropyFault) count.tally steps old new). c.leads.1)
+  pub entropy_rose : r ≡ ran.Stopped stop.EntropyFault → Rose old.entropy_faults new.entropy_faults
+  entropy_rose =
+      stopped_rose (λ x y. Rose x.entropy_faults y.entropy_faults) stop.EntropyFault r tally steps old new
+      (λ (c : CameTo (Err stop.EntropyFault) tally steps old new). c.leads.1) h
 
-pub vault_rose : (r : Ran) (count : Count) (bytes : List ℕ) (old new : RunDevices) → RunsScript r count bytes old new → r ≡ ran.Stopped stop.VaultFault → Rose old.vault_faults new.vault_faults
-vault_rose r count bytes old new =
-    stopped_rose (λ x y. Rose x.vault_faults y.vault_faults) stop.VaultFault r count bytes old new
-    (λ steps (c : CameTo (Err stop.VaultFault) count.tally steps old new). c.leads.1)
+  pub vault_rose : r ≡ ran.Stopped stop.VaultFault → Rose old.vault_faults new.vault_faults
+  vault_rose =
+      stopped_rose (λ x y. Rose x.vault_faults y.vault_faults) stop.VaultFault r tally steps old new
+      (λ (c : CameTo (Err stop.VaultFault) tally steps old new). c.leads.1) h
+
+  pub not_unread : (why : Unread) → r ≡ ran.Unread why → ⊥
+  not_unread why e = subst (λ w. RunsTo w tally steps old new) e h

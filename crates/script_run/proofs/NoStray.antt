@@ -19,8 +19,9 @@ use Rattle.run_effects.specs.declared.stops.Stop.TheVariants as stop
 use Rattle.script_run.specs.declared.runs.Count.{Count}
 use Rattle.script_run.specs.declared.runs.Ran.{Ran}
 use Rattle.script_run.specs.declared.runs.Ran.TheVariants as ran
-use Rattle.script_run.specs.declared.runs.Unread.TheVariants as unread
-use Rattle.script_run.specs.Ends.{RunDevices, outside, IsScript, RunsScript}
+use Rattle.script_source.specs.declared.Unread.TheVariants as unread
+use Rattle.script_source.specs.Scripts.{IsScript}
+use Rattle.script_run.specs.Ends.{RunDevices, outside, RunsScript}
 use Rattle.script_run.specs.Plain.{IsDoneOrFault}
 use Rattle.script_run.proofs.Plainly.{served}
 use Rattle.script_run.proofs.Queued.{waits_of, stuck_queue}
@@ -79,7 +80,7 @@ none_bad steps a place old new w q n h =
 pub runs_awaited : (law : RepliesAreAwaited) (place : ℕ) (count : Count) (bytes : List ℕ) (old new : RunDevices) → old.state ≡ Some empty_state → RunsScript (ran.Stopped (stop.BadReply place)) count bytes old new → ⊥
 runs_awaited law place count bytes old new w h =
     let c = h.runs in
-    none_bad h.steps (law h.steps h.limits) place (outside c.out c.entropy c.vault c.wire nothing [] 0 old)
+    none_bad h.steps (law h.steps h.script.limits) place (outside c.out c.entropy c.vault c.wire nothing [] 0 old)
     (outside c.out_after c.entropy_after c.vault_after c.wire_after count.tally c.waiting c.taken new) w refl refl c.leads
 
 pub never_bad : (law : RepliesAreAwaited) (r : Ran) (place : ℕ) (count : Count) (bytes : List ℕ) (old new : RunDevices) → old.state ≡ Some empty_state → RunsScript r count bytes old new
@@ -100,5 +101,5 @@ runs_whole law (ran.Stopped stop.WriteFault) count bytes steps old new w s h = t
 runs_whole law (ran.Stopped stop.OutOfMemory) count bytes steps old new w s h = tt
 runs_whole law (ran.Unread unread.ReadFault) count bytes steps old new w s h = tt
 runs_whole law (ran.Unread unread.TooLong) count bytes steps old new w s h = let a = s.within in let b = h.0 in absurd (omega arith)
-runs_whole law (ran.Unread (unread.BadLine line)) count bytes steps old new w s h = let a = s.read in let b = h.1 in cc
+runs_whole law (ran.Unread (unread.BadLine line)) count bytes steps old new w s h = let a = s.read in let b = h.0.1 in cc
 runs_whole law (ran.Unread unread.OutOfMemory) count bytes steps old new w s h = tt

@@ -31,8 +31,8 @@ use Rattle.run_effects.proofs.Interface.{errors_are, rows_are, has_errors_where}
 use Rattle.script_run.specs.declared.runs.Count.{Count}
 use Rattle.script_run.specs.declared.runs.Ran.{Ran}
 use Rattle.script_run.specs.declared.runs.Ran.TheVariants as ran
-use Rattle.script_run.specs.declared.runs.Unread.TheVariants as unread
-use Rattle.script_run.specs.Ends.{RunDevices, outside, CameTo, RunsTo, IsScript, RunsSteps, RunsScript}
+use Rattle.script_source.specs.Scripts.{IsScript}
+use Rattle.script_run.specs.Ends.{RunDevices, outside, CameTo, RunsTo, RunsSteps, RunsScript}
 use Rattle.script_run.specs.Plain.{meaning, PrintsPlain}
 use Rattle.script_run.proofs.Passing.{ahead, path_passes}
 use Rattle.script_run.proofs.Queued.{waits_of, lacks_after, stuck_queue, breaks_follow, never_unread, never_long}
@@ -234,14 +234,11 @@ one_script bytes steps others s o = let a = s.read in let b = o.read in cc
 runs_so : (law : ServedIsPlain) (r : Ran) (count : Count) (keys : KeyMap) (bytes : List ℕ) (steps : List Step) (old new : RunDevices) → old.state ≡ Some empty_state → old.keys ≡ Some keys
     → IsScript bytes steps → RunsSteps r count bytes old new → PrintsPlain r keys steps old.out new.out
 runs_so law r count keys bytes steps old new w k s h =
-    subst (λ ss. PrintsPlain r keys ss old.out new.out) (one_script bytes steps h.steps s h.script) (steps_plain law keys h.steps h.limits h.proper old new w k r count.tally h.runs)
+    subst (λ ss. PrintsPlain r keys ss old.out new.out) (one_script bytes steps h.steps s h.script.script) (steps_plain law keys h.steps h.script.limits h.script.proper old new w k r count.tally h.runs)
 
 pub runs_plain : (law : ServedIsPlain) (r : Ran) (count : Count) (keys : KeyMap) (bytes : List ℕ) (steps : List Step) (old new : RunDevices) → old.state ≡ Some empty_state → old.keys ≡ Some keys
     → IsScript bytes steps → RunsScript r count bytes old new → PrintsPlain r keys steps old.out new.out
 runs_plain law ran.Done count keys bytes steps old new w k s h = runs_so law ran.Done count keys bytes steps old new w k s h
 runs_plain law ran.Refusals count keys bytes steps old new w k s h = runs_so law ran.Refusals count keys bytes steps old new w k s h
 runs_plain law (ran.Stopped why) count keys bytes steps old new w k s h = runs_so law (ran.Stopped why) count keys bytes steps old new w k s h
-runs_plain law (ran.Unread unread.ReadFault) count keys bytes steps old new w k s h = ap (λ (x : RunDevices). x.out) h
-runs_plain law (ran.Unread unread.TooLong) count keys bytes steps old new w k s h = ap (λ (x : RunDevices). x.out) h.1
-runs_plain law (ran.Unread (unread.BadLine line)) count keys bytes steps old new w k s h = ap (λ (x : RunDevices). x.out) h.2
-runs_plain law (ran.Unread unread.OutOfMemory) count keys bytes steps old new w k s h = ap (λ (x : RunDevices). x.out) h
+runs_plain law (ran.Unread why) count keys bytes steps old new w k s h = ap (λ (x : RunDevices). x.out) h.1

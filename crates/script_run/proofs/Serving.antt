@@ -19,7 +19,6 @@ use Rattle.script_lang.specs.declared.steps.Step.{Step}
 use Rattle.script_run.specs.declared.runs.Count.{Count}
 use Rattle.script_run.specs.declared.runs.Ran.{Ran}
 use Rattle.script_run.specs.declared.runs.Ran.TheVariants as ran
-use Rattle.script_run.specs.declared.runs.Unread.TheVariants as unread
 use Rattle.script_run.specs.Ends.{RunDevices, RunsTo, RunsScript}
 use Rattle.script_run.specs.Serially.{IsServedSerially, requests_of}
 use Rattle.script_run.proofs.Tapping.{served_so}
@@ -101,7 +100,4 @@ pub runs_serially : RequestsAreSerial → (r : Ran) (count : Count) (bytes : Lis
 runs_serially law ran.Done count bytes old new h w = steps_serially law ran.Done count.tally h.steps old new h.runs w
 runs_serially law ran.Refusals count bytes old new h w = steps_serially law ran.Refusals count.tally h.steps old new h.runs w
 runs_serially law (ran.Stopped why) count bytes old new h w = steps_serially law (ran.Stopped why) count.tally h.steps old new h.runs w
-runs_serially law (ran.Unread unread.ReadFault) count bytes old new h w = still_serially law old new h w
-runs_serially law (ran.Unread unread.TooLong) count bytes old new h w = still_serially law old new h.1 w
-runs_serially law (ran.Unread (unread.BadLine line)) count bytes old new h w = still_serially law old new h.2 w
-runs_serially law (ran.Unread unread.OutOfMemory) count bytes old new h w = still_serially law old new h w
+runs_serially law (ran.Unread why) count bytes old new h w = still_serially law old new h.1 w

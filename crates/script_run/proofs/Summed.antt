@@ -11,7 +11,8 @@ use Rattle.run_effects.specs.declared.stops.Stop.TheVariants as stop
 use Rattle.script_run.specs.declared.runs.Count.{Count}
 use Rattle.script_run.specs.declared.runs.Ran.{Ran}
 use Rattle.script_run.specs.declared.runs.Ran.TheVariants as ran
-use Rattle.script_run.specs.Ends.{RunDevices, CameTo, IsOfPeer, IsScript, RunsSteps, RunsScript, TakesScript}
+use Rattle.script_source.specs.Scripts.{IsScript, TakesScript}
+use Rattle.script_run.specs.Ends.{RunDevices, CameTo, IsOfPeer, RunsSteps, RunsScript, read_by}
 use Rattle.script_run.specs.SummaryOf.{CountsIn, CountsPlain, IsSummaryOf, PutsText, Sums, silent}
 use Rattle.script_run.proofs.NoStray.{runs_whole}
 use Rattle.script_run.proofs.Plainly.{counts, one_script, runs_plain}
@@ -23,7 +24,7 @@ use Rattle.script_run.proofs.Tapping.{asks, runs_tap}
 came_counts : (law : ServedIsPlain) (r : Ran) (count : Count) (keys : KeyMap) (bytes : List ℕ) (old new : RunDevices) → old.state ≡ Some empty_state → old.keys ≡ Some keys
     → (h : RunsSteps r count bytes old new) → CameTo (Ok tt) count.tally h.steps old new → CountsPlain count keys h.steps old.entropy new.entropy
 came_counts law r count keys bytes old new w k h c =
-    let n = counts law keys h.steps h.limits h.proper old new w k count.tally c in
+    let n = counts law keys h.steps h.script.limits h.script.proper old new w k count.tally c in
     let a = asks keys h.steps old new w k count.tally c in
     record { step_count = h.counts; error_count = n.1; row_count = n.2; drawn = a.0; share = a.1; request_count = a.2 }
 
@@ -32,8 +33,8 @@ module _ (law : ServedIsPlain) (count : Count) (keys : KeyMap) (bytes : List ℕ
   Counts ss = CountsPlain count keys ss old.entropy new.entropy
 
   pub runs_count : (r : Ran) → RunsScript r count bytes old new → CountsIn r count keys steps old.entropy new.entropy
-  runs_count ran.Done h = subst Counts (one_script bytes steps h.steps s h.script) (came_counts law ran.Done count keys bytes old new w k h h.runs.0)
-  runs_count ran.Refusals h = subst Counts (one_script bytes steps h.steps s h.script) (came_counts law ran.Refusals count keys bytes old new w k h h.runs.0)
+  runs_count ran.Done h = subst Counts (one_script bytes steps h.steps s h.script.script) (came_counts law ran.Done count keys bytes old new w k h h.runs.0)
+  runs_count ran.Refusals h = subst Counts (one_script bytes steps h.steps s h.script.script) (came_counts law ran.Refusals count keys bytes old new w k h h.runs.0)
   runs_count (ran.Stopped why) h = tt
   runs_count (ran.Unread why) h = tt
 
@@ -78,9 +79,9 @@ module _ (stopped : Ran) (other : ¬ (ran.Stopped stop.WriteFault ≡ stopped)) 
 pub peer_so : (ended r : Ran) (text : List ℕ) (old new : Option (List ℕ)) (before now : ℕ) → IsOfPeer ended → Sums ended r text old new before now → IsOfPeer r
 peer_so ended r text old new before now h s = by_end IsOfPeer ended r text old new before now (λ g. (tt, tt)) (λ g. (tt, tt)) h s
 
-pub taken_so : (xs left : Option (List ℕ)) (ended r : Ran) (text : List ℕ) (old new : Option (List ℕ)) (before now : ℕ) → WhereTold (TakesScript ended) xs left → Sums ended r text old new before now
-    → WhereTold (TakesScript r) xs left
-taken_so xs left ended r text old new before now h s = by_end (λ r. WhereTold (TakesScript r) xs left) ended r text old new before now (λ g. (g, g)) (λ g. (g, g)) h s
+pub taken_so : (xs left : Option (List ℕ)) (ended r : Ran) (text : List ℕ) (old new : Option (List ℕ)) (before now : ℕ) → WhereTold (TakesScript (read_by ended)) xs left → Sums ended r text old new before now
+    → WhereTold (TakesScript (read_by r)) xs left
+taken_so xs left ended r text old new before now h s = by_end (λ r. WhereTold (TakesScript (read_by r)) xs left) ended r text old new before now (λ g. (g, g)) (λ g. (g, g)) h s
 
 -- the output of the run didn't fail
 never_rose : Rose 0 0 → ⊥

@@ -26,8 +26,8 @@ use Rattle.run_effects.proofs.Interface.{requests_are}
 use Rattle.script_run.specs.declared.runs.Count.{Count}
 use Rattle.script_run.specs.declared.runs.Ran.{Ran}
 use Rattle.script_run.specs.declared.runs.Ran.TheVariants as ran
-use Rattle.script_run.specs.declared.runs.Unread.TheVariants as unread
-use Rattle.script_run.specs.Ends.{RunDevices, outside, CameTo, RunsTo, IsScript, RunsSteps, RunsScript}
+use Rattle.script_source.specs.Scripts.{IsScript}
+use Rattle.script_run.specs.Ends.{RunDevices, outside, CameTo, RunsTo, RunsSteps, RunsScript}
 use Rattle.script_run.specs.Transcript.{exchange_frames, exchanges, transcript, TapsWhole, TapsFront, TapsTranscript}
 use Rattle.script_run.specs.Transcript as transcripts
 use Rattle.script_run.proofs.Passing.{ahead, path_passes}
@@ -200,14 +200,11 @@ module _ (keys : KeyMap) (steps : List Step) (old new : RunDevices) (state : old
 taps_so : (r : Ran) (count : Count) (keys : KeyMap) (bytes : List ℕ) (steps : List Step) (old new : RunDevices) → old.state ≡ Some empty_state → old.keys ≡ Some keys → IsScript bytes steps → RunsSteps r count bytes old new
     → TapsTranscript r keys steps old.entropy new.entropy old.tap new.tap
 taps_so r count keys bytes steps old new w k s h =
-    subst (λ ss. TapsTranscript r keys ss old.entropy new.entropy old.tap new.tap) (one_script bytes steps h.steps s h.script) (steps_tap keys h.steps old new w k r count.tally h.runs)
+    subst (λ ss. TapsTranscript r keys ss old.entropy new.entropy old.tap new.tap) (one_script bytes steps h.steps s h.script.script) (steps_tap keys h.steps old new w k r count.tally h.runs)
 
 pub runs_tap : (r : Ran) (count : Count) (keys : KeyMap) (bytes : List ℕ) (steps : List Step) (old new : RunDevices) → old.state ≡ Some empty_state → old.keys ≡ Some keys → IsScript bytes steps → RunsScript r count bytes old new
     → TapsTranscript r keys steps old.entropy new.entropy old.tap new.tap
 runs_tap ran.Done count keys bytes steps old new w k s h = taps_so ran.Done count keys bytes steps old new w k s h
 runs_tap ran.Refusals count keys bytes steps old new w k s h = taps_so ran.Refusals count keys bytes steps old new w k s h
 runs_tap (ran.Stopped why) count keys bytes steps old new w k s h = taps_so (ran.Stopped why) count keys bytes steps old new w k s h
-runs_tap (ran.Unread unread.ReadFault) count keys bytes steps old new w k s h = ap (λ (x : RunDevices). x.tap) h
-runs_tap (ran.Unread unread.TooLong) count keys bytes steps old new w k s h = ap (λ (x : RunDevices). x.tap) h.1
-runs_tap (ran.Unread (unread.BadLine line)) count keys bytes steps old new w k s h = ap (λ (x : RunDevices). x.tap) h.2
-runs_tap (ran.Unread unread.OutOfMemory) count keys bytes steps old new w k s h = ap (λ (x : RunDevices). x.tap) h
+runs_tap (ran.Unread why) count keys bytes steps old new w k s h = ap (λ (x : RunDevices). x.tap) h.1

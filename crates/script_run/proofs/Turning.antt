@@ -11,7 +11,7 @@ use Rattle.conversation.specs.declared.outcomes.Outcome.TheVariants as outcome
 use Rattle.conversation.specs.declared.sessions.Session.{Session}
 use Rattle.conversation.specs.declared.sessions.Session.TheVariants.{Idle, Begun, Pending, Sent, Reading, Skipping}
 use Rattle.conversation.specs.declared.sessions.Turn.{Turn}
-use Rattle.conversation.specs.Batches.{fitted}
+use Rattle.conversation.specs.Batches.{fit_batch}
 use Rattle.conversation.specs.Pending as told
 use Rattle.conversation.specs.Pending.{uses_of}
 use Rattle.conversation.specs.Sessions.{begin, begun, described_params}
@@ -71,7 +71,7 @@ begun_by number (Ok batch) = tt
 begun_by number (Err f) = tt
 
 begin_asks : (session : Session) (number : ℕ) (batch : Batch) → Asks (begin session number batch)
-begin_asks Idle number batch = begun_by number (fitted batch)
+begin_asks Idle number batch = begun_by number (fit_batch batch)
 begin_asks (Begun other) number batch = tt
 begin_asks (Pending pending) number batch = tt
 begin_asks Sent number batch = tt

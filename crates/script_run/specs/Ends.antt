@@ -1,8 +1,6 @@
 -- How a run ends, in words of what it was lent.
-use Rattle.std.specs.Prelude.{◌≡◌, ℕ, ◌≤◌, ◌<◌, ◌+◌, List, [], length, Option, None, Result, Ok, Err, true, false, IfOk}
-use Rattle.std.specs.List.{All}
+use Rattle.std.specs.Prelude.{◌≡◌, ℕ, List, [], length, Option, None, Result, Ok, Err, true, false, IfOk}
 use Rattle.std.specs.Borrow.{GName}
-use Rattle.ae_edge.specs.Streams.{HasTaken}
 use Rattle.ae_edge.specs.Vaults.{KeyMap}
 use Rattle.wire_messages.specs.Exchanges.{Exchange}
 use Rattle.wire_messages.specs.declared.replies.Reply.{Reply}
@@ -17,14 +15,12 @@ use Rattle.run_effects.specs.declared.stops.Stop.{Stop}
 use Rattle.run_effects.specs.declared.stops.Stop.TheVariants as stop
 use Rattle.outcome_text.specs.declared.tallies.Tally.{Tally}
 use Rattle.script_lang.specs.declared.steps.Step.{Step}
-use Rattle.script_lang.specs.Limits.{IsProperStep, IsWithinLimits}
-use Rattle.script_lang.specs.Script.{steps_of}
+use Rattle.script_source.specs.Scripts.{AreScriptSteps, HasNoSteps}
+use Rattle.script_source.specs.declared.Unread.{Unread}
 use Rattle.plain_meaning.specs.Steps.{talk}
 use Rattle.script_run.specs.declared.runs.Count.{Count}
 use Rattle.script_run.specs.declared.runs.Ran.{Ran}
 use Rattle.script_run.specs.declared.runs.Ran.TheVariants as ran
-use Rattle.script_run.specs.declared.runs.Unread.TheVariants as unread
-pub use Rattle.ae_base.specs.Limits.{most_script_bytes}
 
 -- what is told of all that a run is lent: text and tap, the random bytes to come, the keys, what the peer was asked and answered and the
 -- state that it serves by, and the counts of faults
@@ -84,17 +80,10 @@ RunsTo (ran.Unread why) tally steps old new = ⊥
 
 -- ---- scripts
 
--- the bytes are a script of these steps
-pub record IsScript (bytes : List ℕ) (steps : List Step) : Type 0 where
-  pub within : length bytes ≤ most_script_bytes
-  pub read : steps_of bytes ≡ Ok steps
-
--- each step is of one of the sessions, with few parameters, whose names differ and whose values are proper
+-- the bytes are a script, whose steps ran so
 pub record RunsSteps (r : Ran) (count : Count) (bytes : List ℕ) (old new : RunDevices) : Type 0 where
   pub steps : List Step
-  pub script : IsScript bytes steps
-  pub limits : All IsWithinLimits steps
-  pub proper : All IsProperStep steps
+  pub script : AreScriptSteps bytes steps
   pub counts : count.steps ≡ length steps
   pub runs : RunsTo r count.tally steps old new
 
@@ -104,30 +93,14 @@ abbrev pub RunsScript : Ran → Count → List ℕ → RunDevices → RunDevices
 RunsScript ran.Done count bytes old new = RunsSteps ran.Done count bytes old new
 RunsScript ran.Refusals count bytes old new = RunsSteps ran.Refusals count bytes old new
 RunsScript (ran.Stopped stop) count bytes old new = RunsSteps (ran.Stopped stop) count bytes old new
-RunsScript (ran.Unread unread.ReadFault) count bytes old new = new ≡ old
-RunsScript (ran.Unread unread.TooLong) count bytes old new = (most_script_bytes < length bytes) × (new ≡ old)
-RunsScript (ran.Unread (unread.BadLine line)) count bytes old new = (length bytes ≤ most_script_bytes) × (steps_of bytes ≡ Err line) × (new ≡ old)
-RunsScript (ran.Unread unread.OutOfMemory) count bytes old new = new ≡ old
+RunsScript (ran.Unread why) count bytes old new = HasNoSteps why bytes × (new ≡ old)
 
--- what was taken of a script's bytes: all of them, unless it wasn't read
-abbrev pub TakesScript : Ran → List ℕ → List ℕ → Type 0
-TakesScript ran.Done bytes left = left ≡ []
-TakesScript ran.Refusals bytes left = left ≡ []
-TakesScript (ran.Stopped stop) bytes left = left ≡ []
-TakesScript (ran.Unread unread.ReadFault) bytes left = HasTaken (λ n. n ≤ most_script_bytes) bytes left
-TakesScript (ran.Unread unread.TooLong) bytes left = HasTaken (λ n. n ≡ most_script_bytes + 1) bytes left
-TakesScript (ran.Unread (unread.BadLine line)) bytes left = left ≡ []
-TakesScript (ran.Unread unread.OutOfMemory) bytes left = HasTaken (λ n. n ≤ most_script_bytes + 1) bytes left
-
--- the script was read
-abbrev pub IsRead : Ran → Type 0
-IsRead ran.Done = Unit {0}
-IsRead ran.Refusals = Unit {0}
-IsRead (ran.Stopped stop) = Unit {0}
-IsRead (ran.Unread unread.ReadFault) = ⊥
-IsRead (ran.Unread unread.TooLong) = ⊥
-IsRead (ran.Unread (unread.BadLine line)) = Unit {0}
-IsRead (ran.Unread unread.OutOfMemory) = Unit {0}
+-- whether its script was read
+abbrev pub read_by : Ran → Result (Unit {0}) Unread
+read_by ran.Done = Ok tt
+read_by ran.Refusals = Ok tt
+read_by (ran.Stopped stop) = Ok tt
+read_by (ran.Unread why) = Err why
 
 -- it stopped for no fault of a stream of replies
 abbrev pub IsOfPeer : Ran → Type 0

@@ -3,19 +3,18 @@ use Rattle.std.specs.Prelude.{◌≡◌, ℕ, List, Option, true, false}
 use Rattle.ae_edge.specs.Devices.{Adds, AddsFront}
 use Rattle.ae_edge.specs.Vaults.{KeyMap}
 use Rattle.server_core.specs.Serve.{empty_state}
-use Rattle.conversation.specs.Sessions.{nobody}
 use Rattle.conversation.specs.declared.outcomes.Outcome.{Outcome}
 use Rattle.script_lang.specs.declared.steps.Step.{Step}
-use Rattle.plain_meaning.specs.Reference.{reference}
+use Rattle.plain_meaning.specs.Reference.{nothing_held, reference}
 use Rattle.outcome_text.specs.Printing.{print, has_refusal}
 use Rattle.run_effects.specs.declared.stops.Stop.TheVariants as stop
 use Rattle.script_run.specs.declared.runs.Ran.{Ran}
 use Rattle.script_run.specs.declared.runs.Ran.TheVariants as ran
-use Rattle.script_run.specs.declared.runs.Unread.TheVariants as unread
+use Rattle.script_source.specs.declared.Unread.TheVariants as unread
 
 -- what the steps come to over plain values, from 64 idle sessions and an empty world
 abbrev pub meaning : KeyMap → List Step → List Outcome
-meaning keys steps = reference keys steps nobody empty_state
+meaning keys steps = reference keys steps nothing_held empty_state
 
 -- the text is that of plain values, or a front of it where a device fails or memory ends; no reply is one that isn't awaited
 abbrev pub PrintsPlain : Ran → KeyMap → List Step → Option (List ℕ) → Option (List ℕ) → Type 0

@@ -5,7 +5,8 @@ use Rattle.server_core.specs.Serve.{empty_state}
 use Rattle.script_lang.specs.declared.steps.Step.{Step}
 use Rattle.script_run.specs.declared.runs.Count.{Count}
 use Rattle.script_run.specs.declared.runs.Ran.{Ran}
-use Rattle.script_run.specs.Ends.{RunDevices, IsScript, RunsScript}
+use Rattle.script_source.specs.Scripts.{IsScript}
+use Rattle.script_run.specs.Ends.{RunDevices, RunsScript}
 use Rattle.script_run.specs.Plain.{PrintsPlain, IsDoneOrFault}
 use Rattle.script_run.specs.Serially.{IsServedSerially}
 use Rattle.script_run.specs.Transcript.{TapsTranscript}

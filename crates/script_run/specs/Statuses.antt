@@ -5,7 +5,7 @@ use Rattle.script_run.specs.declared.status.Status.TheVariants as status
 use Rattle.run_effects.specs.declared.stops.Stop.TheVariants as stop
 use Rattle.script_run.specs.declared.runs.Ran.{Ran}
 use Rattle.script_run.specs.declared.runs.Ran.TheVariants as ran
-use Rattle.script_run.specs.declared.runs.Unread.TheVariants as unread
+use Rattle.script_source.specs.declared.Unread.TheVariants as unread
 
 abbrev pub number_of : Status → ℕ
 number_of status.Done = 0

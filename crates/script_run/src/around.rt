@@ -134,7 +134,8 @@ pub trait Around {
             (outside self.new) }
         ensures rows { IfOk result (RowsStay (session_of driver.new number)) }
         ensures more { IfOk result
-            (λ _. ((outside self.old).wire.taken < (outside self.new).wire.taken) × ((outside self.new).wire.taken < 2 ^ 64)) }
+            (λ _. ((outside self.old).wire.taken < (outside self.new).wire.taken)
+            × ((outside self.new).wire.taken < 2 ^ 64)) }
         ensures leaves { IfOk result
             (λ _. Leaves number driver.old driver.new (outside self.new).client.keys) };
 }

@@ -64,7 +64,9 @@ pub trait Connection {
     /// The reply that stands first.
     fn front(&self, alloc: Global) -> Result<Front<'_>, AllocError>
         requires { (reply : Reply) × IsFirst reply (wire self.now) }
-        ensures { IfOk result (λ front. IsFirst (reply_of front.reply) (wire self.now) × (front.behind ≡ (wire self.now).taken + length (reply_frame (reply_of front.reply))) × (front.behind < 2 ^ 64)) };
+        ensures { IfOk result (λ front. IsFirst (reply_of front.reply) (wire self.now)
+            × (front.behind ≡ (wire self.now).taken + length (reply_frame (reply_of front.reply)))
+            × (front.behind < 2 ^ 64)) };
 
     /// How many bytes the frames of the replies have that were taken.
     fn place(&self) -> u64
@@ -73,7 +75,9 @@ pub trait Connection {
     /// Takes the reply that stands first; `behind` is the place behind its frame.
     fn take(&mut self, behind: u64)
         requires { IsBehindFirst behind (wire self.old) }
-        ensures { (reply : Reply) → IsFirst reply (wire self.old) → behind ≡ (wire self.old).taken + length (reply_frame reply) → TakesOne reply (wire self.old) (wire self.new) };
+        ensures { (reply : Reply) → IsFirst reply (wire self.old)
+            → behind ≡ (wire self.old).taken + length (reply_frame reply)
+            → TakesOne reply (wire self.old) (wire self.new) };
 
     /// Looks whether anything is left. Nothing may be.
     fn finish(&mut self, alloc: Global) -> Result<(), ReplyFault>

@@ -232,9 +232,16 @@ impl<W: Sink, E: Entropy, V: Vault, L: Connection> Around for Env<W, E, V, L> {
 impl<W: Sink, E: Entropy, V: Vault, L: Connection> Env<W, E, V, L> {
     /// Puts what an answer came to before it broke off, and says why it did.
     fn break_off(&mut self, alloc: Global, fault: ReplyFault, reads: bool, shown: &Listing) -> Stop
-        ensures off { BreaksOff result (stop_at fault (L.wire self.old.connection).taken) (shown_if (is_shown fault reads) shown.now)
-            (client (W.names self.old.out) (E.names self.old.entropy) (V.names self.old.vault) (W.held self.old.out) (E.to_come self.old.entropy) (V.keys self.old.vault) self.old.tally (W.faults self.old.out) (E.faults self.old.entropy) (V.faults self.old.vault))
-            (client (W.names self.new.out) (E.names self.new.entropy) (V.names self.new.vault) (W.held self.new.out) (E.to_come self.new.entropy) (V.keys self.new.vault) self.new.tally (W.faults self.new.out) (E.faults self.new.entropy) (V.faults self.new.vault)) }
+        ensures off { BreaksOff result (stop_at fault (L.wire self.old.connection).taken)
+            (shown_if (is_shown fault reads) shown.now)
+            (client (W.names self.old.out) (E.names self.old.entropy) (V.names self.old.vault)
+            (W.held self.old.out) (E.to_come self.old.entropy) (V.keys self.old.vault)
+            self.old.tally (W.faults self.old.out) (E.faults self.old.entropy)
+            (V.faults self.old.vault))
+            (client (W.names self.new.out) (E.names self.new.entropy) (V.names self.new.vault)
+            (W.held self.new.out) (E.to_come self.new.entropy) (V.keys self.new.vault)
+            self.new.tally (W.faults self.new.out) (E.faults self.new.entropy)
+            (V.faults self.new.vault)) }
         ensures wire { L.wire self.new.connection ≡ L.wire self.old.connection }
     {
         let why = stop_at(fault, self.connection.place());

@@ -34,7 +34,8 @@ pub struct PeerConnection<'a, T: Sink, P: Peer> {
 
 /// Puts the frame of a request.
 pub fn put_request<T: Sink>(frame: &mut Vec<u8>, tap: &mut T, request: &Request<'_>) -> PutAll
-    ensures puts { PutsBytes result (request_frame request.now) (T.held tap.old) (T.held tap.new) (T.faults tap.old) (T.faults tap.new) }
+    ensures puts { PutsBytes result (request_frame request.now) (T.held tap.old) (T.held tap.new)
+        (T.faults tap.old) (T.faults tap.new) }
     ensures same { T.names tap.new ≡ T.names tap.old }
 {
     frame.clear();
@@ -46,7 +47,8 @@ pub fn put_request<T: Sink>(frame: &mut Vec<u8>, tap: &mut T, request: &Request<
 
 /// Puts the frame of a reply.
 fn put_reply<T: Sink>(frame: &mut Vec<u8>, tap: &mut T, reply: &Reply<'_>) -> PutAll
-    ensures puts { PutsBytes result (reply_frame reply.now) (T.held tap.old) (T.held tap.new) (T.faults tap.old) (T.faults tap.new) }
+    ensures puts { PutsBytes result (reply_frame reply.now) (T.held tap.old) (T.held tap.new)
+        (T.faults tap.old) (T.faults tap.new) }
     ensures same { T.names tap.new ≡ T.names tap.old }
 {
     frame.clear();
@@ -58,7 +60,8 @@ fn put_reply<T: Sink>(frame: &mut Vec<u8>, tap: &mut T, reply: &Reply<'_>) -> Pu
 
 /// Puts the frames of replies, one after another.
 fn put_replies<T: Sink>(frame: &mut Vec<u8>, tap: &mut T, replies: &[Reply<'static>]) -> PutAll
-    ensures puts { PutsBytes result (flat_map reply_frame replies.now) (T.held tap.old) (T.held tap.new) (T.faults tap.old) (T.faults tap.new) }
+    ensures puts { PutsBytes result (flat_map reply_frame replies.now) (T.held tap.old)
+        (T.held tap.new) (T.faults tap.old) (T.faults tap.new) }
     ensures same { T.names tap.new ≡ T.names tap.old }
 {
     for reply in replies {
@@ -78,7 +81,8 @@ fn put_exchange<T: Sink>(
     request: &Request<'_>,
     replies: &[Reply<'static>],
 ) -> PutAll
-    ensures puts { PutsBytes result (request_frame request.now ++ flat_map reply_frame replies.now) (T.held tap.old) (T.held tap.new) (T.faults tap.old) (T.faults tap.new) }
+    ensures puts { PutsBytes result (request_frame request.now ++ flat_map reply_frame replies.now)
+        (T.held tap.old) (T.held tap.new) (T.faults tap.old) (T.faults tap.new) }
     ensures same { T.names tap.new ≡ T.names tap.old }
 {
     let mut frame = Vec::new(alloc);

@@ -3,10 +3,11 @@
 ghost use Rattle.std.specs.Prelude.{◌≡◌, ◌∷◌, [], IfOk, length};
 ghost use Rattle.conversation.specs.Talk.{Ends};
 ghost use Rattle.driver.specs.Clients.{IsOfVault};
-ghost use Rattle.run_effects.specs.Ways.{Advances};
-ghost use Rattle.script_run.specs.Ends.{RunsTo, outside};
+ghost use Rattle.run_effects.specs.Ways.{Advances, IsReadOut};
+ghost use Rattle.script_run.specs.Ends.{RunsTo};
 ghost use Rattle.plain_meaning.specs.Steps.{talk};
 
+use crate::connection::Connection;
 use crate::env::Env;
 use crate::peer_connection::{PeerConnection, Waiting};
 use crate::steps::run_all;
@@ -17,21 +18,10 @@ use driver::Driver;
 use outcome_text::tallies::Tally;
 use run_effects::stops::Stop;
 use script_lang::steps::Step;
+use script_source::Unread;
 use server_core::peers::Peer;
 use std::alloc::Global;
 use std::collections::VecDeque;
-
-/// Why a script wasn't run.
-#[derive(Clone, Copy, PartialEq, Eq, Debug)]
-pub enum Unread {
-    /// A call of its source failed.
-    ReadFault,
-    /// It has more than 16,777,216 bytes.
-    TooLong,
-    /// The first line that no script has, from 1.
-    BadLine(u64),
-    OutOfMemory,
-}
 
 /// How a run ended.
 #[derive(Clone, Copy, PartialEq, Eq, Debug)]
@@ -61,10 +51,10 @@ pub struct Run {
     pub count: Count,
 }
 
-/// The same devices are lent after it.
-fn run_lent<W: Sink, T: Sink, E: Entropy, V: Vault, P: Peer>(
+/// The steps of a script over devices that are lent, which are the same after it.
+pub fn run_lent<W: Sink, E: Entropy, V: Vault, L: Connection>(
     alloc: Global,
-    env: &mut Env<&mut W, &mut E, &mut V, PeerConnection<'_, &mut T, &mut P>>,
+    env: &mut Env<&mut W, &mut E, &mut V, L>,
     driver: &mut Driver,
     steps: &[Step],
 ) -> Result<(), Stop>
@@ -72,16 +62,41 @@ fn run_lent<W: Sink, T: Sink, E: Entropy, V: Vault, P: Peer>(
     ensures same_out { env.new.out.ghost_name ≡ env.old.out.ghost_name }
     ensures same_entropy { env.new.entropy.ghost_name ≡ env.old.entropy.ghost_name }
     ensures same_vault { env.new.vault.ghost_name ≡ env.old.vault.ghost_name }
-    ensures same_tap { env.new.connection.tap.ghost_name ≡ env.old.connection.tap.ghost_name }
-    ensures same_peer { env.new.connection.peer.ghost_name ≡ env.old.connection.peer.ghost_name }
-    ensures read { IfOk result (λ _. env.new.connection.waiting.now.replies.items ≡ []) }
-    ensures leads { Advances result (talk steps.now driver.old.sessions) (λ _. Ends driver.new.sessions)
-        (outside (env.old.out.ghost_name ∷ []) (env.old.entropy.ghost_name ∷ []) (env.old.vault.ghost_name ∷ []) ((env.old.connection.tap.ghost_name ∷ []) ∷ (env.old.connection.peer.ghost_name ∷ []) ∷ [])
-        env.old.tally env.old.connection.waiting.now.replies.items env.old.connection.taken
-        (record { out = W.held env.old.out.now; tap = T.held env.old.connection.tap.now; entropy = E.to_come env.old.entropy.now; keys = V.keys env.old.vault.now; log = P.log env.old.connection.peer.now; state = P.state env.old.connection.peer.now; out_faults = W.faults env.old.out.now; tap_faults = T.faults env.old.connection.tap.now; entropy_faults = E.faults env.old.entropy.now; vault_faults = V.faults env.old.vault.now }))
-        (outside (env.new.out.ghost_name ∷ []) (env.new.entropy.ghost_name ∷ []) (env.new.vault.ghost_name ∷ []) ((env.new.connection.tap.ghost_name ∷ []) ∷ (env.new.connection.peer.ghost_name ∷ []) ∷ [])
-        env.new.tally env.new.connection.waiting.now.replies.items env.new.connection.taken
-        (record { out = W.held env.new.out.now; tap = T.held env.new.connection.tap.now; entropy = E.to_come env.new.entropy.now; keys = V.keys env.new.vault.now; log = P.log env.new.connection.peer.now; state = P.state env.new.connection.peer.now; out_faults = W.faults env.new.out.now; tap_faults = T.faults env.new.connection.tap.now; entropy_faults = E.faults env.new.entropy.now; vault_faults = V.faults env.new.vault.now })) }
+    ensures same_wire { (L.wire env.new.connection).names ≡ (L.wire env.old.connection).names }
+    ensures read { IfOk result (λ _.
+        IsReadOut (L.wire env.new.connection).stream (L.wire env.new.connection).waiting) }
+    ensures leads { Advances result (talk steps.now driver.old.sessions)
+        (λ _. Ends driver.new.sessions)
+        (record {
+          client = record {
+            out_names = env.old.out.ghost_name ∷ [];
+            entropy_names = env.old.entropy.ghost_name ∷ [];
+            vault_names = env.old.vault.ghost_name ∷ [];
+            out = W.held env.old.out.now;
+            entropy = E.to_come env.old.entropy.now;
+            keys = V.keys env.old.vault.now;
+            tally = env.old.tally;
+            out_faults = W.faults env.old.out.now;
+            entropy_faults = E.faults env.old.entropy.now;
+            vault_faults = V.faults env.old.vault.now;
+          };
+          wire = L.wire env.old.connection;
+        })
+        (record {
+          client = record {
+            out_names = env.new.out.ghost_name ∷ [];
+            entropy_names = env.new.entropy.ghost_name ∷ [];
+            vault_names = env.new.vault.ghost_name ∷ [];
+            out = W.held env.new.out.now;
+            entropy = E.to_come env.new.entropy.now;
+            keys = V.keys env.new.vault.now;
+            tally = env.new.tally;
+            out_faults = W.faults env.new.out.now;
+            entropy_faults = E.faults env.new.entropy.now;
+            vault_faults = V.faults env.new.vault.now;
+          };
+          wire = L.wire env.new.connection;
+        }) }
 {
     run_all(alloc, env, driver, steps)
 }
@@ -99,8 +114,30 @@ pub fn run_over<W: Sink, T: Sink, E: Entropy, V: Vault, P: Peer>(
 ) -> Run
     ensures steps { result.count.steps ≡ length steps.now }
     ensures runs { RunsTo result.ran result.count.tally steps.now
-        (record { out = W.held out.old; tap = T.held tap.old; entropy = E.to_come entropy.old; keys = V.keys vault.old; log = P.log peer.old; state = P.state peer.old; out_faults = W.faults out.old; tap_faults = T.faults tap.old; entropy_faults = E.faults entropy.old; vault_faults = V.faults vault.old })
-        (record { out = W.held out.new; tap = T.held tap.new; entropy = E.to_come entropy.new; keys = V.keys vault.new; log = P.log peer.new; state = P.state peer.new; out_faults = W.faults out.new; tap_faults = T.faults tap.new; entropy_faults = E.faults entropy.new; vault_faults = V.faults vault.new }) }
+        (record {
+          out = W.held out.old;
+          tap = T.held tap.old;
+          entropy = E.to_come entropy.old;
+          keys = V.keys vault.old;
+          log = P.log peer.old;
+          state = P.state peer.old;
+          out_faults = W.faults out.old;
+          tap_faults = T.faults tap.old;
+          entropy_faults = E.faults entropy.old;
+          vault_faults = V.faults vault.old;
+        })
+        (record {
+          out = W.held out.new;
+          tap = T.held tap.new;
+          entropy = E.to_come entropy.new;
+          keys = V.keys vault.new;
+          log = P.log peer.new;
+          state = P.state peer.new;
+          out_faults = W.faults out.new;
+          tap_faults = T.faults tap.new;
+          entropy_faults = E.faults entropy.new;
+          vault_faults = V.faults vault.new;
+        }) }
 {
     let mut count = Count {
         steps: steps.len(),

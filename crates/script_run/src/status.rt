@@ -3,9 +3,10 @@
 ghost use Rattle.std.specs.Prelude.{◌≡◌};
 ghost use Rattle.script_run.specs.Statuses.{number_of};
 
-use crate::runs::{Ran, Unread};
+use crate::runs::Ran;
 use ae_base::texts::Txt;
 use run_effects::stops::Stop;
+use script_source::Unread;
 use std::fmt;
 
 /// How a command ended.

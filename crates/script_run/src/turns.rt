@@ -235,7 +235,8 @@ fn answered<A: Around>(
     requires sent { IfOk answer (λ request. session_of driver.old number ≡ Sent) }
     requires of_vault { IsOfVault (A.outside env.old).client.keys driver.old }
     ensures leads { (k : Session → Talk) → Advances result
-        (turns.asked (λ after. Hears after nothing_shown (turns.answered_on k)) k answer.entry (session_of driver.old number))
+        (turns.asked (λ after. Hears after nothing_shown (turns.answered_on k)) k answer.entry
+        (session_of driver.old number))
         (λ _. k (session_of driver.new number)) (A.outside env.old) (A.outside env.new) }
     ensures leaves { IfOk result
         (λ _. Leaves number driver.old driver.new (A.outside env.new).client.keys) }
@@ -333,7 +334,8 @@ fn ask_description<A: Around>(
     requires begun { IfOk answer (λ request. IsBegun (session_of driver.old number)) }
     requires of_vault { IsOfVault (A.outside env.old).client.keys driver.old }
     ensures leads { (ready : told.Pending → Talk) (k : Session → Talk) → Advances result
-        (turns.asked (λ after. Hears after nothing_shown (turns.described_on ready k)) k answer.entry (session_of driver.old number))
+        (turns.asked (λ after. Hears after nothing_shown (turns.described_on ready k)) k
+        answer.entry (session_of driver.old number))
         (ready_on ready k (session_of driver.new number)) (A.outside env.old) (A.outside env.new) }
     ensures ready { IfOk result (IsReady (session_of driver.new number)) }
     ensures leaves { IfOk result

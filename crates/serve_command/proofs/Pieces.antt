@@ -8,7 +8,7 @@ use Rattle.ae_edge.specs.declared.sources.Taken.TheVariants as taken
 use Rattle.ae_edge.proofs.Interface.{told_map, removes_none, removes_then}
 use Rattle.wire_frames.specs.Frames.{Whole, Refused, Rest, IsNotYet, is_request_kind}
 use Rattle.wire_frames.specs.declared.decoding.Way.TheVariants.{ToServer}
-use Rattle.frame_feed.specs.Feeding.{Feeding, unfed}
+use Rattle.frame_feed.specs.Feeding.{Feeding, empty_feed}
 use Rattle.server_core.specs.Laws.{AreServedSerially, RequestsAreSerial}
 use Rattle.server_core.specs.Serve.{State, empty_state}
 use Rattle.wire_messages.specs.declared.requests.Request.{Request}
@@ -27,10 +27,10 @@ pub record Going (count : ℕ) (feed : Feeding) (state : State) (source left out
   pub stands : Stands taken feed state out now
   pub waits : IsNotYet is_request_kind feed.held
 
-pub goes_first : (feed : Feeding) (state : State) (source out : Option (List ℕ)) → feed ≡ unfed ToServer → state ≡ empty_state → Going most_stream_bytes feed state source source out out
+pub goes_first : (feed : Feeding) (state : State) (source out : Option (List ℕ)) → feed ≡ empty_feed ToServer → state ≡ empty_state → Going most_stream_bytes feed state source source out out
 goes_first feed state source out e f =
     subst (λ (x : Feeding). Going most_stream_bytes x state source source out out) (sym e)
-    (subst (λ (x : State). Going most_stream_bytes (unfed ToServer) x source source out out) (sym f)
+    (subst (λ (x : State). Going most_stream_bytes (empty_feed ToServer) x source source out out) (sym f)
     (record { taken = []; lost = removes_none source; few = refl; stands = stands_first out; waits = inl (omega arith) }))
 
 -- ---- what a call on the input takes

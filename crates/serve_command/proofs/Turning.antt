@@ -11,7 +11,7 @@ use Rattle.wire_frames.specs.Frames.{End, Whole, Refused, Rest, EndsSo, IsNotYet
 use Rattle.wire_frames.specs.Laws.{placed_from}
 use Rattle.wire_frames.specs.declared.decoding.Way.{Way}
 use Rattle.wire_frames.specs.declared.decoding.Way.TheVariants.{ToServer}
-use Rattle.frame_feed.specs.Feeding.{Feeding, SpellsMessage, StandsWhole, behind, fed, unfed}
+use Rattle.frame_feed.specs.Feeding.{Feeding, SpellsMessage, StandsWhole, behind, with_piece, empty_feed}
 use Rattle.frame_feed.specs.Steps.{Steps}
 use Rattle.frame_feed.specs.declared.feeds.Next.TheVariants as next
 use Rattle.frame_feed.specs.declared.messages.Message.{Message}
@@ -106,13 +106,13 @@ unless : {A : Type 0} (b : Bool) (x y : A) → b ≡ false → x ≡ (if b then 
 unless true x y e = cc
 unless false x y e = refl
 
-held_fed : (feed : Feeding) (piece : List ℕ) → feed.failed ≡ false → feed.held ++ piece ≡ (fed feed piece).held
+held_fed : (feed : Feeding) (piece : List ℕ) → feed.failed ≡ false → feed.held ++ piece ≡ (with_piece feed piece).held
 held_fed feed piece waits = unless feed.failed (feed.held ++ piece) feed.held waits
 
-pub stands_first : (out : Option (List ℕ)) → Stands [] (unfed ToServer) empty_state out out
+pub stands_first : (out : Option (List ℕ)) → Stands [] (empty_feed ToServer) empty_state out out
 stands_first out = record { answered = []; begins = begins_none []; place = refl; way = refl; waits = refl; left = refl; put = adds_none out }
 
-pub stands_fed : (taken piece : List ℕ) (feed : Feeding) (state : State) (first now : Option (List ℕ)) → Stands taken feed state first now → Stands (taken ++ piece) (fed feed piece) state first now
+pub stands_fed : (taken piece : List ℕ) (feed : Feeding) (state : State) (first now : Option (List ℕ)) → Stands taken feed state first now → Stands (taken ++ piece) (with_piece feed piece) state first now
 stands_fed taken piece feed state first now s = record {
   answered = s.answered;
   begins = subst (λ (l : List ℕ). Begins (taken ++ piece) s.answered l) (held_fed feed piece s.waits) (begins_fed taken s.answered feed.held piece s.begins);

@@ -26,7 +26,8 @@ fn frames_of(alloc: Global, replies: &[Reply<'_>]) -> Result<Vec<u8>, AllocError
 
 /// Puts the frames of replies.
 fn put_replies<W: Sink>(alloc: Global, replies: &[Reply<'_>], out: &mut W) -> PutAll
-    ensures content { PutsAll (flat_map reply_frame replies.now) result (W.held out.old) (W.held out.new) }
+    ensures content { PutsAll (flat_map reply_frame replies.now) result (W.held out.old)
+        (W.held out.new) }
     ensures counts { CountsPutAll result (W.faults out.old) (W.faults out.new) }
 {
     match frames_of(alloc, replies) {
@@ -43,7 +44,8 @@ pub(crate) fn answer<W: Sink>(
     out: &mut W,
 ) -> PutAll
     ensures left { result ≡ PutAll.Whole → server.new ≡ (serve server.old request.now).after }
-    ensures content { PutsAll (flat_map reply_frame (serve server.old request.now).replies) result (W.held out.old) (W.held out.new) }
+    ensures content { PutsAll (flat_map reply_frame (serve server.old request.now).replies) result
+        (W.held out.old) (W.held out.new) }
     ensures counts { CountsPutAll result (W.faults out.old) (W.faults out.new) }
 {
     match server.serve(alloc, request) {

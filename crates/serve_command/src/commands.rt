@@ -2,7 +2,7 @@
 
 ghost use Rattle.std.specs.Prelude.{◌≡◌, ◌++◌, ◌<◌, ◌^◌, List, ℕ, Option, Some, length, take};
 ghost use Rattle.ae_edge.specs.Devices.{Rose};
-ghost use Rattle.frame_feed.specs.Feeding.{unfed};
+ghost use Rattle.frame_feed.specs.Feeding.{empty_feed};
 ghost use Rattle.server_core.specs.Serve.{State, empty_state};
 ghost use Rattle.wire_frames.specs.Frames.{End};
 ghost use Rattle.wire_frames.specs.declared.decoding.Way.TheVariants.{ToServer};
@@ -60,7 +60,10 @@ fn answer_piece<W: Sink>(
 ) -> Came
     requires { feed.old.way ≡ ToServer }
     ensures way { feed.new.way ≡ ToServer }
-    ensures comes { (taken : List ℕ) (first : Option (List ℕ)) → length (taken ++ piece.now) < 2 ^ 64 → Stands taken feed.old server.old first (W.held out.old) → Comes result (taken ++ piece.now) feed.new server.new first (W.held out.new) }
+    ensures comes { (taken : List ℕ) (first : Option (List ℕ))
+        → length (taken ++ piece.now) < 2 ^ 64
+        → Stands taken feed.old server.old first (W.held out.old)
+        → Comes result (taken ++ piece.now) feed.new server.new first (W.held out.new) }
     ensures counts { CountsCame result (W.faults out.old) (W.faults out.new) }
 {
     match feed.feed(piece.as_slice()) {
@@ -77,9 +80,10 @@ fn serve_pieces<S: Source, W: Sink>(
     feed: &mut FrameFeed,
     server: &mut Server,
 ) -> Served
-    requires unfed { feed.old ≡ unfed ToServer }
+    requires unfed { feed.old ≡ empty_feed ToServer }
     requires empty { server.old ≡ empty_state }
-    ensures content { ServesStream result (S.left input.old) (S.left input.new) (W.held out.old) (W.held out.new) }
+    ensures content { ServesStream result (S.left input.old) (S.left input.new) (W.held out.old)
+        (W.held out.new) }
     ensures read { result ≡ Served.ReadFault → Rose (S.faults input.old) (S.faults input.new) }
     ensures write { result ≡ Served.WriteFault → Rose (W.faults out.old) (W.faults out.new) }
 {
@@ -112,10 +116,12 @@ fn serve_pieces<S: Source, W: Sink>(
 /// are answered, before a byte past it is asked for.
 pub fn serve_stream<S: Source, W: Sink>(alloc: Global, input: &mut S, out: &mut W) -> Served
     // What was taken of the input, and what was put for it, by how it ended; and that transactions took effect one after another.
-    ensures content { ServesStream result (S.left input.old) (S.left input.new) (W.held out.old) (W.held out.new) }
+    ensures content { ServesStream result (S.left input.old) (S.left input.new) (W.held out.old)
+        (W.held out.new) }
     // Where the input tells its bytes: by how those within the limit end, and the frames of their replies. So whole frames within
     // the limit end with `Done` and all frames, unless memory or a device fails.
-    ensures exact { (bytes frames : List ℕ) (end : End) (after : State) → S.left input.old ≡ Some bytes → ServeAll (take most_stream_bytes bytes) end frames after
+    ensures exact { (bytes frames : List ℕ) (end : End) (after : State)
+        → S.left input.old ≡ Some bytes → ServeAll (take most_stream_bytes bytes) end frames after
         → IsServed result bytes end frames (W.held out.old) (W.held out.new) }
     // The faults of the outside come only where a count rose.
     ensures read { result ≡ Served.ReadFault → Rose (S.faults input.old) (S.faults input.new) }

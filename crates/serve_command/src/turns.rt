@@ -34,7 +34,8 @@ fn answer_message<W: Sink>(
     out: &mut W,
 ) -> Turn
     requires { IsAsked message.now }
-    ensures answers { Answers result used message.now server.old server.new (W.held out.old) (W.held out.new) }
+    ensures answers { Answers result used message.now server.old server.new (W.held out.old)
+        (W.held out.new) }
     ensures counts { CountsTurn result (W.faults out.old) (W.faults out.new) }
 {
     match message {
@@ -82,7 +83,9 @@ pub(crate) fn answer_held<W: Sink>(
 ) -> Came
     requires { feed.old.way ≡ ToServer }
     ensures way { feed.new.way ≡ ToServer }
-    ensures comes { (taken : List ℕ) (first : Option (List ℕ)) → length taken < 2 ^ 64 → Stands taken feed.old server.old first (W.held out.old) → Comes result taken feed.new server.new first (W.held out.new) }
+    ensures comes { (taken : List ℕ) (first : Option (List ℕ)) → length taken < 2 ^ 64
+        → Stands taken feed.old server.old first (W.held out.old)
+        → Comes result taken feed.new server.new first (W.held out.new) }
     ensures counts { CountsCame result (W.faults out.old) (W.faults out.new) }
 {
     'requests: loop {

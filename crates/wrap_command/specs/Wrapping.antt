@@ -5,7 +5,7 @@ use Rattle.hex.specs.Hex.{decode_of, encode_lower, is_hex_digit}
 use Rattle.ae_edge.specs.Devices.{Adds, AddsFront}
 use Rattle.ae_edge.specs.Streams.{HasTaken}
 use Rattle.ae_edge.specs.Vaults.{KeyMap, key_at}
-use Rattle.key_wrap.specs.Wrap.{wrapped}
+use Rattle.key_wrap.specs.Wrap.{wrapping_of}
 use Rattle.wrap_command.specs.declared.commands.Wrapped.{Wrapped}
 use Rattle.wrap_command.specs.declared.commands.Wrapped.TheVariants as ended
 pub use Rattle.ae_base.specs.Limits.{most_script_bytes}
@@ -42,7 +42,7 @@ EndsLine line bytes =
 
 -- the 80 digits of the key wrapped under a master key, in lower case, and LF
 abbrev pub wrapped_line : List ℕ → List ℕ → List ℕ
-wrapped_line master key = encode_lower (wrapped master key) ++ 10 ∷ []
+wrapped_line master key = encode_lower (wrapping_of master key) ++ 10 ∷ []
 
 -- what is told of the vault and of the output
 pub record WrapDevices : Type 0 where

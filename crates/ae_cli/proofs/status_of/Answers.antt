@@ -1,14 +1,18 @@
 -- Without memory for the vault nothing was read; else the peer serves from the empty state.
-use Rattle.std.proofs.Common.{Some, ap, refl}
-use Rattle.script_run.specs.declared.runs.Ran.TheVariants as ran
-use Rattle.script_run.specs.declared.runs.Unread.TheVariants as unread
+use Rattle.std.proofs.Common.{Some, None, ap, refl}
+use Rattle.server_core.specs.Serve.{empty_state}
+use Rattle.ae_cli.proofs.Doing.{no_memory}
+use Rattle.ae_cli.specs.Seen.{Device, Seen}
 use Rattle.ae_cli.proofs.status_of.Goals as goal
 
-pub returns-in_default-clause-run : goal.returns-in_default-clause-run
-returns-in_default-clause-run c = λ summary are. (ran.Unread unread.OutOfMemory, refl)
+abbrev untold : {A : Type 0} → Device A
+untold = record { content = None; faults = 0 }
 
-pub returns-in_default-clause-driven : goal.returns-in_default-clause-driven
-returns-in_default-clause-driven c = λ are. (ran.Unread unread.OutOfMemory, refl)
+abbrev untouched : Seen
+untouched = record { script = untold; vault = untold; entropy = untold; replies = untold; out = untold; tap = untold; peer = record { log = None; state = Some empty_state } }
 
-pub returns-clause-awaited : goal.returns-clause-awaited
-returns-clause-awaited c = λ summary are. c.ae_main.ensures.awaited summary are (ap Some c.new-peer.ensures)
+pub returns-in_default : goal.returns-in_default
+returns-in_default c = (untouched, untouched, refl, no_memory _ _)
+
+pub returns : goal.returns
+returns c = (_, _, ap Some c.new-peer.ensures, c.ae_main.ensures.does)

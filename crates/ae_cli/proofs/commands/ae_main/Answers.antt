@@ -1,49 +1,37 @@
--- Without memory to read the words nothing is done.
-use Rattle.std.proofs.Common.{refl, inl, inr}
-use Rattle.script_run.specs.declared.runs.Ran.TheVariants as ran
-use Rattle.script_run.specs.declared.runs.Unread.TheVariants as unread
-use Rattle.check_command.specs.declared.steps.Checked.TheVariants as checked
-use Rattle.gen_command.specs.declared.commands.Generated.TheVariants as generated
-use Rattle.serve_command.specs.declared.commands.Served.TheVariants as served
-use Rattle.wrap_command.specs.declared.commands.Wrapped.TheVariants as wrapped
-use Rattle.ae_cli.proofs.Unread.{adds_front, check_kept, key_kept, not_driven, not_run, not_served, not_summed, script_kept, some_bytes}
+-- What each command did is what the words ask for.
+use Rattle.std.proofs.Common.{Some, ap, ◌∙◌}
+use Rattle.command_words.specs.declared.commands.Command.TheVariants as command
+use Rattle.ae_cli.proofs.Doing.{did_check, did_drive, did_gen, did_run, did_serve, did_summary, did_wrap, unasked}
 use Rattle.ae_cli.proofs.commands.ae_main.Goals as goal
 
-pub returns-in-Err-OutOfMemory-clause-named : goal.returns-in-Err-OutOfMemory-clause-named
-returns-in-Err-OutOfMemory-clause-named g c = λ summary are. (ran.Unread unread.OutOfMemory, refl)
+pub returns-in-Ok-Run-false-clause-does : goal.returns-in-Ok-Run-false-clause-does
+returns-in-Ok-Run-false-clause-does g c =
+    let e = c.run.ensures in
+    did_run c.args.words.now _ _ _ (c.in-Ok-Run-false.ensures ∙ ap Some (c.in-Ok-Run-false.field-0-is ∙ ap command.Run c.in-Ok-Run-false.field-0-0-test)) _ c.from-in-Ok-Run-false.ensures e.run e.taken e.awaited e.of_peer
+    e.read e.write e.entropy e.vault
 
-pub returns-in-Err-OutOfMemory-clause-run : goal.returns-in-Err-OutOfMemory-clause-run
-returns-in-Err-OutOfMemory-clause-run g c = λ are. let t = some_bytes (g.S.Source.left c.args.script.now) in (ran.Unread unread.OutOfMemory, refl, t.0, t.1, not_run c.requests_are_serial.ensures t.0 _)
+pub returns-in-Ok-Run-true-clause-does : goal.returns-in-Ok-Run-true-clause-does
+returns-in-Ok-Run-true-clause-does g c =
+    let e = c.summarize.ensures in
+    did_summary c.args.words.now _ _ _ (c.in-Ok-Run-true.ensures ∙ ap Some (c.in-Ok-Run-true.field-0-is ∙ ap command.Run c.in-Ok-Run-true.field-0-0-test)) _ c.from.ensures e.summary e.taken e.awaited e.of_peer e.read
+    e.write e.entropy e.vault
 
-pub returns-in-Err-OutOfMemory-clause-taken : goal.returns-in-Err-OutOfMemory-clause-taken
-returns-in-Err-OutOfMemory-clause-taken g c = λ summary are. (ran.Unread unread.OutOfMemory, refl, script_kept (g.S.Source.left c.args.script.now))
+pub returns-in-Ok-Drive-clause-does : goal.returns-in-Ok-Drive-clause-does
+returns-in-Ok-Drive-clause-does g c =
+    let e = c.drive.ensures in
+    did_drive c.args.words.now _ _ _ (c.in-Ok-Drive.ensures ∙ ap Some c.in-Ok-Drive.field-0-is) _ c.from-in-Ok-Drive.ensures e.drive e.taken e.read e.read_replies e.write e.entropy e.vault
 
-pub returns-in-Err-OutOfMemory-clause-summed : goal.returns-in-Err-OutOfMemory-clause-summed
-returns-in-Err-OutOfMemory-clause-summed g c = λ are. let t = some_bytes (g.S.Source.left c.args.script.now) in (ran.Unread unread.OutOfMemory, refl, t.0, t.1, not_summed c.requests_are_serial.ensures t.0 _)
+pub returns-in-Ok-Check-clause-does : goal.returns-in-Ok-Check-clause-does
+returns-in-Ok-Check-clause-does g c = let e = c.check.ensures in did_check c.args.words.now _ _ _ (c.in-Ok-Check.ensures ∙ ap Some c.in-Ok-Check.field-0-is) _ c.of_checking.ensures e.content e.taken e.read e.write
 
-pub returns-in-Err-OutOfMemory-clause-driven : goal.returns-in-Err-OutOfMemory-clause-driven
-returns-in-Err-OutOfMemory-clause-driven g c = λ are. let t = some_bytes (g.S.Source.left c.args.script.now) in (ran.Unread unread.OutOfMemory, refl, t.0, t.1, not_driven t.0 _)
+pub returns-in-Ok-Serve-clause-does : goal.returns-in-Ok-Serve-clause-does
+returns-in-Ok-Serve-clause-does g c = let e = c.serve_stream.ensures in did_serve c.args.words.now _ _ _ (c.in-Ok-Serve.ensures ∙ ap Some c.in-Ok-Serve.field-0-is) _ c.of_serving.ensures e.content e.exact e.read e.write
 
-pub returns-in-Err-OutOfMemory-clause-driven_taken : goal.returns-in-Err-OutOfMemory-clause-driven_taken
-returns-in-Err-OutOfMemory-clause-driven_taken g c = λ are. (ran.Unread unread.OutOfMemory, refl, script_kept (g.S.Source.left c.args.script.now))
+pub returns-in-Ok-Wrap-clause-does : goal.returns-in-Ok-Wrap-clause-does
+returns-in-Ok-Wrap-clause-does g c = let e = c.wrap-wrapped.ensures in did_wrap c.args.words.now _ _ _ _ (c.in-Ok-Wrap.ensures ∙ ap Some c.in-Ok-Wrap.field-0-is) _ c.of_wrapping.ensures e.content e.taken e.read e.vault e.write
 
-pub returns-in-Err-OutOfMemory-clause-wrapped : goal.returns-in-Err-OutOfMemory-clause-wrapped
-returns-in-Err-OutOfMemory-clause-wrapped g c = λ path are. let t = some_bytes (g.S.Source.left c.args.script.now) in (wrapped.OutOfMemory, refl, t.0, t.1, inr refl)
+pub returns-in-Ok-Gen-clause-does : goal.returns-in-Ok-Gen-clause-does
+returns-in-Ok-Gen-clause-does g c = did_gen c.args.words.now _ _ _ _ (c.in-Ok-Gen.ensures ∙ ap Some c.in-Ok-Gen.field-0-is) _ c.of_generating.ensures c.generate.ensures.content c.generate.ensures.write
 
-pub returns-in-Err-OutOfMemory-clause-wrapped_taken : goal.returns-in-Err-OutOfMemory-clause-wrapped_taken
-returns-in-Err-OutOfMemory-clause-wrapped_taken g c = λ path are. (wrapped.OutOfMemory, refl, key_kept (g.S.Source.left c.args.script.now))
-
-pub returns-in-Err-OutOfMemory-clause-generated : goal.returns-in-Err-OutOfMemory-clause-generated
-returns-in-Err-OutOfMemory-clause-generated g c = λ size are. (generated.OutOfMemory, refl, adds_front _ (g.W.Sink.held c.args.out.now))
-
-pub returns-in-Err-OutOfMemory-clause-checked : goal.returns-in-Err-OutOfMemory-clause-checked
-returns-in-Err-OutOfMemory-clause-checked g c = λ are. let t = some_bytes (g.S.Source.left c.args.script.now) in (checked.OutOfMemory, refl, t.0, t.1, inl refl)
-
-pub returns-in-Err-OutOfMemory-clause-checked_taken : goal.returns-in-Err-OutOfMemory-clause-checked_taken
-returns-in-Err-OutOfMemory-clause-checked_taken g c = λ are. (checked.OutOfMemory, refl, check_kept (g.S.Source.left c.args.script.now))
-
-pub returns-in-Err-OutOfMemory-clause-served : goal.returns-in-Err-OutOfMemory-clause-served
-returns-in-Err-OutOfMemory-clause-served g c = λ are. (served.OutOfMemory, refl, not_served c.requests_are_serial.ensures (g.S.Source.left c.args.script.now) (g.W.Sink.held c.args.out.now))
-
-pub returns-in-Err-OutOfMemory-clause-served_exactly : goal.returns-in-Err-OutOfMemory-clause-served_exactly
-returns-in-Err-OutOfMemory-clause-served_exactly g c = λ are bytes frames end after told serves. (served.OutOfMemory, refl, adds_front frames (g.W.Sink.held c.args.out.now))
+pub returns-in-Err-clause-does : goal.returns-in-Err-clause-does
+returns-in-Err-clause-does g c = unasked c.args.words.now _ _ _ c.in-Err.ensures c.of_refusal.ensures

@@ -1,80 +1,40 @@
--- As its bytes run, or they weren't read.
+-- As its steps run, or it wasn't read.
 use Rattle.std.proofs.Common.{refl}
-use Rattle.ae_edge.proofs.Interface.{some_bytes, too_many_bytes, whole_bytes}
-use Rattle.script_run.proofs.Lent.{takes_whole, read_it, write_rose, entropy_rose, vault_rose}
+use Rattle.script_run.proofs.Lent.{runs_script, takes_all, takes_none, write_rose, entropy_rose, vault_rose, not_unread}
 use Rattle.script_run.proofs.commands.run_source.Goals as goal
 
-pub run_bytes-requires : goal.run_bytes-requires
-run_bytes-requires g c = record { within = c.in-Whole.ensures.within }
+pub returns-in-Ok-clause-content : goal.returns-in-Ok-clause-content
+returns-in-Ok-clause-content g c = let t = c.as_slice.ensures in let n = c.run_over.ensures.steps in let h = c.run_over.ensures.runs in let b = c.in-Ok.ensures.reads in (b.0, b.1, runs_script _ _ _ _ _ _ b.2 (rw t at n) (rw t at h))
 
-pub returns-in-Whole-clause-content : goal.returns-in-Whole-clause-content
-returns-in-Whole-clause-content g c = (_, whole_bytes _ _ _ _ c.in-Whole.ensures.content, c.run_bytes.ensures.content)
+pub returns-in-Ok-clause-taken : goal.returns-in-Ok-clause-taken
+returns-in-Ok-clause-taken g c = takes_all _ _ _ c.in-Ok.steps _ _ _ _ c.run_over.ensures.runs c.in-Ok.ensures.taken
 
-pub returns-in-Whole-clause-taken : goal.returns-in-Whole-clause-taken
-returns-in-Whole-clause-taken g c = takes_whole _ _ _ _ c.run_bytes.ensures.read c.in-Whole.ensures.content
+pub returns-in-Ok-clause-read : goal.returns-in-Ok-clause-read
+returns-in-Ok-clause-read g c = λ e. absurd (not_unread _ _ _ _ _ c.run_over.ensures.runs _ e)
 
-pub returns-in-Whole-clause-read : goal.returns-in-Whole-clause-read
-returns-in-Whole-clause-read g c = λ e. absurd (read_it _ c.run_bytes.ensures.read e)
+pub returns-in-Ok-clause-write : goal.returns-in-Ok-clause-write
+returns-in-Ok-clause-write g c = λ e. write_rose _ _ _ _ _ c.run_over.ensures.runs e
 
-pub returns-in-Whole-clause-write : goal.returns-in-Whole-clause-write
-returns-in-Whole-clause-write g c = λ e. write_rose _ _ _ _ _ c.run_bytes.ensures.content e
+pub returns-in-Ok-clause-entropy : goal.returns-in-Ok-clause-entropy
+returns-in-Ok-clause-entropy g c = λ e. entropy_rose _ _ _ _ _ c.run_over.ensures.runs e
 
-pub returns-in-Whole-clause-entropy : goal.returns-in-Whole-clause-entropy
-returns-in-Whole-clause-entropy g c = λ e. entropy_rose _ _ _ _ _ c.run_bytes.ensures.content e
+pub returns-in-Ok-clause-vault : goal.returns-in-Ok-clause-vault
+returns-in-Ok-clause-vault g c = λ e. vault_rose _ _ _ _ _ c.run_over.ensures.runs e
 
-pub returns-in-Whole-clause-vault : goal.returns-in-Whole-clause-vault
-returns-in-Whole-clause-vault g c = λ e. vault_rose _ _ _ _ _ c.run_bytes.ensures.content e
+pub returns-in-Err-clause-content : goal.returns-in-Err-clause-content
+returns-in-Err-clause-content g c = let b = c.in-Err.ensures.reads in let u = c.unread.ensures in (b.0, b.1, rw u (b.2, refl))
 
-pub returns-in-TooLong-clause-content : goal.returns-in-TooLong-clause-content
-returns-in-TooLong-clause-content g c = let t = too_many_bytes _ _ _ c.in-TooLong.ensures.content in let u = c.unread.ensures in rw u (t.0, t.1, (t.2, refl))
+pub returns-in-Err-clause-taken : goal.returns-in-Err-clause-taken
+returns-in-Err-clause-taken g c = let u = c.unread.ensures in rw u (takes_none _ _ _ c.in-Err.ensures.taken)
 
-pub returns-in-TooLong-clause-taken : goal.returns-in-TooLong-clause-taken
-returns-in-TooLong-clause-taken g c = let u = c.unread.ensures in rw u c.in-TooLong.ensures.content
+pub returns-in-Err-clause-read : goal.returns-in-Err-clause-read
+returns-in-Err-clause-read g c = let u = c.unread.ensures in λ e. c.in-Err.ensures.fault cc
 
-pub returns-in-TooLong-clause-read : goal.returns-in-TooLong-clause-read
-returns-in-TooLong-clause-read g c = let u = c.unread.ensures in λ e. cc
+pub returns-in-Err-clause-write : goal.returns-in-Err-clause-write
+returns-in-Err-clause-write g c = let u = c.unread.ensures in λ e. cc
 
-pub returns-in-TooLong-clause-write : goal.returns-in-TooLong-clause-write
-returns-in-TooLong-clause-write g c = let u = c.unread.ensures in λ e. cc
+pub returns-in-Err-clause-entropy : goal.returns-in-Err-clause-entropy
+returns-in-Err-clause-entropy g c = let u = c.unread.ensures in λ e. cc
 
-pub returns-in-TooLong-clause-entropy : goal.returns-in-TooLong-clause-entropy
-returns-in-TooLong-clause-entropy g c = let u = c.unread.ensures in λ e. cc
-
-pub returns-in-TooLong-clause-vault : goal.returns-in-TooLong-clause-vault
-returns-in-TooLong-clause-vault g c = let u = c.unread.ensures in λ e. cc
-
-pub returns-in-ReadFault-clause-content : goal.returns-in-ReadFault-clause-content
-returns-in-ReadFault-clause-content g c = let t = some_bytes _ in let u = c.unread-in-ReadFault.ensures in rw u (t.0, t.1, refl)
-
-pub returns-in-ReadFault-clause-taken : goal.returns-in-ReadFault-clause-taken
-returns-in-ReadFault-clause-taken g c = let u = c.unread-in-ReadFault.ensures in rw u c.in-ReadFault.ensures.content
-
-pub returns-in-ReadFault-clause-read : goal.returns-in-ReadFault-clause-read
-returns-in-ReadFault-clause-read g c = λ e. c.in-ReadFault.ensures.fault refl
-
-pub returns-in-ReadFault-clause-write : goal.returns-in-ReadFault-clause-write
-returns-in-ReadFault-clause-write g c = let u = c.unread-in-ReadFault.ensures in λ e. cc
-
-pub returns-in-ReadFault-clause-entropy : goal.returns-in-ReadFault-clause-entropy
-returns-in-ReadFault-clause-entropy g c = let u = c.unread-in-ReadFault.ensures in λ e. cc
-
-pub returns-in-ReadFault-clause-vault : goal.returns-in-ReadFault-clause-vault
-returns-in-ReadFault-clause-vault g c = let u = c.unread-in-ReadFault.ensures in λ e. cc
-
-pub returns-in-OutOfMemory-clause-content : goal.returns-in-OutOfMemory-clause-content
-returns-in-OutOfMemory-clause-content g c = let t = some_bytes _ in let u = c.unread-in-OutOfMemory.ensures in rw u (t.0, t.1, refl)
-
-pub returns-in-OutOfMemory-clause-taken : goal.returns-in-OutOfMemory-clause-taken
-returns-in-OutOfMemory-clause-taken g c = let u = c.unread-in-OutOfMemory.ensures in rw u c.in-OutOfMemory.ensures.content
-
-pub returns-in-OutOfMemory-clause-read : goal.returns-in-OutOfMemory-clause-read
-returns-in-OutOfMemory-clause-read g c = let u = c.unread-in-OutOfMemory.ensures in λ e. cc
-
-pub returns-in-OutOfMemory-clause-write : goal.returns-in-OutOfMemory-clause-write
-returns-in-OutOfMemory-clause-write g c = let u = c.unread-in-OutOfMemory.ensures in λ e. cc
-
-pub returns-in-OutOfMemory-clause-entropy : goal.returns-in-OutOfMemory-clause-entropy
-returns-in-OutOfMemory-clause-entropy g c = let u = c.unread-in-OutOfMemory.ensures in λ e. cc
-
-pub returns-in-OutOfMemory-clause-vault : goal.returns-in-OutOfMemory-clause-vault
-returns-in-OutOfMemory-clause-vault g c = let u = c.unread-in-OutOfMemory.ensures in λ e. cc
+pub returns-in-Err-clause-vault : goal.returns-in-Err-clause-vault
+returns-in-Err-clause-vault g c = let u = c.unread.ensures in λ e. cc

@@ -1,5 +1,5 @@
 -- The same is lent after it.
-use Rattle.script_run.proofs.Lent.{leads_same, only_same, tap_same, peer_same}
+use Rattle.script_run.proofs.Lent.{leads_same, only_same}
 use Rattle.script_run.proofs.runs.run_lent.Goals as goal
 
 pub run_all-requires : goal.run_all-requires
@@ -20,8 +20,5 @@ returns-clause-same_entropy g c = let l = leads_same _ _ _ _ _ c.run_all.ensures
 pub returns-clause-same_vault : goal.returns-clause-same_vault
 returns-clause-same_vault g c = let l = leads_same _ _ _ _ _ c.run_all.ensures.leads in only_same _ _ l.vault
 
-pub returns-clause-same_tap : goal.returns-clause-same_tap
-returns-clause-same_tap g c = let l = leads_same _ _ _ _ _ c.run_all.ensures.leads in tap_same _ _ _ _ l.wire
-
-pub returns-clause-same_peer : goal.returns-clause-same_peer
-returns-clause-same_peer g c = let l = leads_same _ _ _ _ _ c.run_all.ensures.leads in peer_same _ _ _ _ l.wire
+pub returns-clause-same_wire : goal.returns-clause-same_wire
+returns-clause-same_wire g c = let l = leads_same _ _ _ _ _ c.run_all.ensures.leads in l.wire

@@ -1,0 +1,118 @@
+-- The statuses that faults of devices come with, and their causes.
+use Rattle.std.proofs.Common.{◌≡◌, ◌⊎◌, ℕ, List, Some, Bool, true, refl, sym, ◌∙◌, inl, inr}
+use Rattle.std.specs.Prelude.{IsTrue}
+use Rattle.ae_edge.specs.Devices.{Rose}
+use Rattle.command_words.specs.declared.commands.Command.TheVariants as command
+use Rattle.check_command.specs.declared.steps.Checked.{Checked}
+use Rattle.check_command.specs.declared.steps.Checked.TheVariants as checked
+use Rattle.gen_command.specs.declared.commands.Generated.{Generated}
+use Rattle.gen_command.specs.declared.commands.Generated.TheVariants as generated
+use Rattle.serve_command.specs.declared.commands.Served.{Served}
+use Rattle.serve_command.specs.declared.commands.Served.TheVariants as served
+use Rattle.wrap_command.specs.declared.commands.Wrapped.{Wrapped}
+use Rattle.wrap_command.specs.declared.commands.Wrapped.TheVariants as wrapped
+use Rattle.run_effects.specs.declared.stops.Stop.{Stop}
+use Rattle.run_effects.specs.declared.stops.Stop.TheVariants as stop
+use Rattle.script_source.specs.declared.Unread.{Unread}
+use Rattle.script_source.specs.declared.Unread.TheVariants as unread
+use Rattle.script_run.specs.declared.runs.Ran.{Ran}
+use Rattle.script_run.specs.declared.runs.Ran.TheVariants as ran
+use Rattle.script_run.specs.declared.status.Status.TheVariants as status
+use Rattle.script_run.specs.Ends.{IsOfPeer}
+use Rattle.ae_cli.specs.Does.{IsCaused, uses}
+use Rattle.ae_cli.specs.Endings.{status_of, status_of_checking, status_of_generating, status_of_serving, status_of_wrapping}
+use Rattle.ae_cli.specs.Seen.{Seen}
+
+-- one of two that are used
+of_two : {X Y : Type 0} → X ⊎ Y → (IsTrue true × X) ⊎ (IsTrue true × Y)
+of_two (inl x) = inl (refl, x)
+of_two (inr y) = inr (refl, y)
+
+module _ (old new : Seen) where
+  abbrev Rises : Type 0
+  Rises = Rose old.out.faults new.out.faults ⊎ Rose old.tap.faults new.tap.faults
+
+  pub run_caused : (summary : Bool) (r : Ran) → IsOfPeer r → (r ≡ ran.Unread unread.ReadFault → Rose old.script.faults new.script.faults) → (r ≡ ran.Stopped stop.WriteFault → Rises)
+      → (r ≡ ran.Stopped stop.EntropyFault → Rose old.entropy.faults new.entropy.faults) → (r ≡ ran.Stopped stop.VaultFault → Rose old.vault.faults new.vault.faults)
+      → IsCaused (uses (Some (command.Run summary))) (status_of r) old new
+  run_caused summary ran.Done p s w e v = tt
+  run_caused summary ran.Refusals p s w e v = tt
+  run_caused summary (ran.Stopped (stop.BadReply place)) p s w e v = tt
+  run_caused summary (ran.Stopped stop.ReadFault) p s w e v = absurd p
+  run_caused summary (ran.Stopped stop.TooLong) p s w e v = tt
+  run_caused summary (ran.Stopped stop.EntropyFault) p s w e v = (refl, e refl)
+  run_caused summary (ran.Stopped stop.VaultFault) p s w e v = (refl, v refl)
+  run_caused summary (ran.Stopped stop.WriteFault) p s w e v = of_two (w refl)
+  run_caused summary (ran.Stopped stop.OutOfMemory) p s w e v = tt
+  run_caused summary (ran.Unread unread.ReadFault) p s w e v = inl (refl, s refl)
+  run_caused summary (ran.Unread unread.TooLong) p s w e v = tt
+  run_caused summary (ran.Unread (unread.BadLine line)) p s w e v = tt
+  run_caused summary (ran.Unread unread.OutOfMemory) p s w e v = tt
+
+  pub drive_caused : (r : Ran) → (r ≡ ran.Unread unread.ReadFault → Rose old.script.faults new.script.faults) → (r ≡ ran.Stopped stop.ReadFault → Rose old.replies.faults new.replies.faults)
+      → (r ≡ ran.Stopped stop.WriteFault → Rises) → (r ≡ ran.Stopped stop.EntropyFault → Rose old.entropy.faults new.entropy.faults)
+      → (r ≡ ran.Stopped stop.VaultFault → Rose old.vault.faults new.vault.faults) → IsCaused (uses (Some command.Drive)) (status_of r) old new
+  drive_caused ran.Done s l w e v = tt
+  drive_caused ran.Refusals s l w e v = tt
+  drive_caused (ran.Stopped (stop.BadReply place)) s l w e v = tt
+  drive_caused (ran.Stopped stop.ReadFault) s l w e v = inr (refl, l refl)
+  drive_caused (ran.Stopped stop.TooLong) s l w e v = tt
+  drive_caused (ran.Stopped stop.EntropyFault) s l w e v = (refl, e refl)
+  drive_caused (ran.Stopped stop.VaultFault) s l w e v = (refl, v refl)
+  drive_caused (ran.Stopped stop.WriteFault) s l w e v = of_two (w refl)
+  drive_caused (ran.Stopped stop.OutOfMemory) s l w e v = tt
+  drive_caused (ran.Unread unread.ReadFault) s l w e v = inl (refl, s refl)
+  drive_caused (ran.Unread unread.TooLong) s l w e v = tt
+  drive_caused (ran.Unread (unread.BadLine line)) s l w e v = tt
+  drive_caused (ran.Unread unread.OutOfMemory) s l w e v = tt
+
+  pub check_caused : (c : Checked) → (c ≡ checked.ReadFault → Rose old.script.faults new.script.faults) → (c ≡ checked.WriteFault → Rose old.out.faults new.out.faults)
+      → IsCaused (uses (Some command.Check)) (status_of_checking c) old new
+  check_caused checked.Done s w = tt
+  check_caused checked.Refusals s w = tt
+  check_caused checked.ReadFault s w = inl (refl, s refl)
+  check_caused checked.WriteFault s w = inl (refl, w refl)
+  check_caused checked.OutOfMemory s w = tt
+  check_caused (checked.BadLine line) s w = tt
+  check_caused checked.TooLong s w = tt
+
+  pub serve_caused : (s : Served) → (s ≡ served.ReadFault → Rose old.script.faults new.script.faults) → (s ≡ served.WriteFault → Rose old.out.faults new.out.faults)
+      → IsCaused (uses (Some command.Serve)) (status_of_serving s) old new
+  serve_caused served.Done s w = tt
+  serve_caused served.ReadFault s w = inl (refl, s refl)
+  serve_caused served.WriteFault s w = inl (refl, w refl)
+  serve_caused served.OutOfMemory s w = tt
+  serve_caused served.TooLong s w = tt
+  serve_caused (served.BadFrame place) s w = tt
+
+  pub wrap_caused : (path : List ℕ) (r : Wrapped) → (r ≡ wrapped.ReadFault → Rose old.script.faults new.script.faults) → (r ≡ wrapped.VaultFault → Rose old.vault.faults new.vault.faults)
+      → (r ≡ wrapped.WriteFault → Rose old.out.faults new.out.faults) → IsCaused (uses (Some (command.Wrap path))) (status_of_wrapping path r) old new
+  wrap_caused path wrapped.Done s v w = tt
+  wrap_caused path wrapped.ReadFault s v w = inl (refl, s refl)
+  wrap_caused path wrapped.WriteFault s v w = inl (refl, w refl)
+  wrap_caused path wrapped.OutOfMemory s v w = tt
+  wrap_caused path wrapped.VaultFault s v w = (refl, v refl)
+  wrap_caused path wrapped.BadLine s v w = tt
+  wrap_caused path wrapped.TooLong s v w = tt
+  wrap_caused path wrapped.NoMasterKey s v w = tt
+
+  pub gen_caused : (size : ℕ) (r : Generated) → (r ≡ generated.WriteFault → Rose old.out.faults new.out.faults) → IsCaused (uses (Some (command.Gen size))) (status_of_generating r) old new
+  gen_caused size generated.Done w = tt
+  gen_caused size generated.WriteFault w = inl (refl, w refl)
+  gen_caused size generated.OutOfMemory w = tt
+
+-- that status comes of no other end
+pub bad_reply : (r : Ran) (place : ℕ) → status_of r ≡ status.BadReply place → r ≡ ran.Stopped (stop.BadReply place)
+bad_reply ran.Done place e = absurd cc
+bad_reply ran.Refusals place e = absurd cc
+bad_reply (ran.Stopped (stop.BadReply p)) place e = cc
+bad_reply (ran.Stopped stop.ReadFault) place e = absurd cc
+bad_reply (ran.Stopped stop.TooLong) place e = absurd cc
+bad_reply (ran.Stopped stop.EntropyFault) place e = absurd cc
+bad_reply (ran.Stopped stop.VaultFault) place e = absurd cc
+bad_reply (ran.Stopped stop.WriteFault) place e = absurd cc
+bad_reply (ran.Stopped stop.OutOfMemory) place e = absurd cc
+bad_reply (ran.Unread unread.ReadFault) place e = absurd cc
+bad_reply (ran.Unread unread.TooLong) place e = absurd cc
+bad_reply (ran.Unread (unread.BadLine line)) place e = absurd cc
+bad_reply (ran.Unread unread.OutOfMemory) place e = absurd cc

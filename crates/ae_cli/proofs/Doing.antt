@@ -1,0 +1,133 @@
+-- What a command did is what the words ask for.
+use Rattle.std.proofs.Common.{◌≡◌, ◌⊎◌, ℕ, List, Option, Some, None, Err, Bool, true, false, refl, sym, ◌∙◌, subst, inl, inr}
+use Rattle.std.specs.Prelude.{IfSome, if◌then◌else◌, take}
+use Rattle.ae_base.specs.declared.refusals.Refusal.{Refusal}
+use Rattle.ae_base.specs.declared.refusals.Refusal.TheVariants.{Fault, OutOfMemory}
+use Rattle.ae_edge.specs.Devices.{Rose, WhereTold}
+use Rattle.command_words.specs.Words.{Reads, are_taken, command_in}
+use Rattle.command_words.specs.declared.commands.Command.{Command}
+use Rattle.command_words.specs.declared.commands.Command.TheVariants as command
+use Rattle.server_core.specs.Serve.{State, empty_state}
+use Rattle.wire_frames.specs.Frames.{End}
+use Rattle.script_source.specs.Scripts.{TakesScript}
+use Rattle.script_source.specs.declared.Unread.TheVariants as unread
+use Rattle.run_effects.specs.declared.stops.Stop.TheVariants as stop
+use Rattle.script_run.specs.declared.runs.Ran.{Ran}
+use Rattle.script_run.specs.declared.runs.Ran.TheVariants as ran
+use Rattle.script_run.specs.declared.status.Status.{Status}
+use Rattle.script_run.specs.declared.status.Status.TheVariants as status
+use Rattle.script_run.specs.Ends as runs
+use Rattle.script_run.specs.Ends.{IsOfPeer}
+use Rattle.script_run.specs.RunOf.{IsRunOf}
+use Rattle.script_run.specs.SummaryOf.{IsSummaryOf}
+use Rattle.drive_command.specs.DriveOf.{IsDriveOf}
+use Rattle.check_command.specs.Ends as checks
+use Rattle.check_command.specs.Ends.{ChecksScript}
+use Rattle.check_command.specs.declared.steps.Checked.{Checked}
+use Rattle.check_command.specs.declared.steps.Checked.TheVariants as checked
+use Rattle.serve_command.specs.ServeAll.{ServeAll}
+use Rattle.serve_command.specs.Serving.{IsServed, ServesStream, most_stream_bytes}
+use Rattle.serve_command.specs.declared.commands.Served.{Served}
+use Rattle.serve_command.specs.declared.commands.Served.TheVariants as served
+use Rattle.wrap_command.specs.Wrapping.{Takes, Wraps}
+use Rattle.wrap_command.specs.declared.commands.Wrapped.{Wrapped}
+use Rattle.wrap_command.specs.declared.commands.Wrapped.TheVariants as wrapped
+use Rattle.gen_command.specs.Generating.{PutsScript}
+use Rattle.gen_command.specs.declared.commands.Generated.{Generated}
+use Rattle.gen_command.specs.declared.commands.Generated.TheVariants as generated
+use Rattle.ae_cli.specs.Does.{Did, DidAsked, DidRun, Does, IsCaused, uses}
+use Rattle.ae_cli.specs.Endings.{status_of, status_of_checking, status_of_generating, status_of_refusal, status_of_serving, status_of_wrapping}
+use Rattle.ae_cli.specs.Seen.{Seen, drive_devices, run_devices, wrap_devices}
+use Rattle.ae_cli.proofs.Causes.{bad_reply, check_caused, drive_caused, gen_caused, run_caused, serve_caused, wrap_caused}
+
+-- ---- words that are no command
+
+none_of : {A : Type 0} (taken : Bool) (found : Option A) → taken ≡ false → (if taken then found else None) ≡ None
+none_of true found e = absurd cc
+none_of false found e = refl
+
+-- words that are refused, and words that there is no memory to read
+pub unasked : (words : List (List ℕ)) (r : Refusal (List ℕ)) (end : Status) (old : Seen) → Reads words (Err r) → end ≡ status_of_refusal r → Does words end old old
+unfolding Does
+unasked words (Fault text) end old e u =
+    let is : command_in words ≡ None = none_of (are_taken words) _ e in
+    inl (subst (λ (x : Option Command). DidAsked x words end old old) (sym is) (record { text = text; usage = u; untaken = e; untouched = refl }))
+unasked words OutOfMemory end old e u = inr (u, refl)
+
+-- ---- commands
+
+module _ (words : List (List ℕ)) (end : Status) (old new : Seen) where
+  did_asked : (c : Command) → command_in words ≡ Some c → (s : Status) → end ≡ s → Did c end old new → IsCaused (uses (Some c)) s old new → Does words end old new
+  unfolding Does
+  did_asked c is s e did cause =
+      inl (subst (λ (x : Option Command). DidAsked x words end old new) (sym is) (did, subst (λ (x : Status). IsCaused (uses (Some c)) x old new) (sym e) cause))
+
+  -- of some bytes, the script's where it tells them
+  abbrev OfBytes : (List ℕ → Type 0) → Type 0
+  OfBytes P = (bytes : List ℕ) × IfSome old.script.content (λ left. bytes ≡ left) × P bytes
+
+  abbrev Taken : (List ℕ → List ℕ → Type 0) → Type 0
+  Taken P = WhereTold P old.script.content new.script.content
+
+  abbrev ReadRose : Type 0
+  ReadRose = Rose old.script.faults new.script.faults
+
+  abbrev WriteRose : Type 0
+  WriteRose = Rose old.out.faults new.out.faults
+
+  abbrev PutRose : Type 0
+  PutRose = WriteRose ⊎ Rose old.tap.faults new.tap.faults
+
+  abbrev EntropyRose : Type 0
+  EntropyRose = Rose old.entropy.faults new.entropy.faults
+
+  abbrev VaultRose : Type 0
+  VaultRose = Rose old.vault.faults new.vault.faults
+
+  abbrev Awaited : Ran → Type 0
+  Awaited r = old.peer.state ≡ Some empty_state → (place : ℕ) → ¬ (r ≡ ran.Stopped (stop.BadReply place))
+
+  ran_so : (P : Ran → List ℕ → Type 0) (r : Ran) → end ≡ status_of r → OfBytes (P r) → Taken (TakesScript (runs.read_by r)) → Awaited r → DidRun P end old new
+  ran_so P r e h t a = record {
+    run = record { how = r; ends = e; bytes = h.0; told = h.1; did = h.2; taken = t };
+    awaited = λ w place b. a w place (bad_reply r place (sym e ∙ b));
+  }
+
+  pub did_run : command_in words ≡ Some (command.Run false) → (r : Ran) → end ≡ status_of r → OfBytes (λ bytes. IsRunOf r bytes (run_devices old) (run_devices new)) → Taken (TakesScript (runs.read_by r)) → Awaited r → IsOfPeer r
+      → (r ≡ ran.Unread unread.ReadFault → ReadRose) → (r ≡ ran.Stopped stop.WriteFault → PutRose) → (r ≡ ran.Stopped stop.EntropyFault → EntropyRose) → (r ≡ ran.Stopped stop.VaultFault → VaultRose) → Does words end old new
+  did_run is r e h t a p s w d v =
+      did_asked (command.Run false) is (status_of r) e (ran_so (λ x bytes. IsRunOf x bytes (run_devices old) (run_devices new)) r e h t a) (run_caused old new false r p s w d v)
+
+  pub did_summary : command_in words ≡ Some (command.Run true) → (r : Ran) → end ≡ status_of r → OfBytes (λ bytes. IsSummaryOf r bytes (run_devices old) (run_devices new)) → Taken (TakesScript (runs.read_by r)) → Awaited r → IsOfPeer r
+      → (r ≡ ran.Unread unread.ReadFault → ReadRose) → (r ≡ ran.Stopped stop.WriteFault → PutRose) → (r ≡ ran.Stopped stop.EntropyFault → EntropyRose) → (r ≡ ran.Stopped stop.VaultFault → VaultRose) → Does words end old new
+  did_summary is r e h t a p s w d v =
+      did_asked (command.Run true) is (status_of r) e (ran_so (λ x bytes. IsSummaryOf x bytes (run_devices old) (run_devices new)) r e h t a) (run_caused old new true r p s w d v)
+
+  pub did_drive : command_in words ≡ Some command.Drive → (r : Ran) → end ≡ status_of r → OfBytes (λ bytes. IsDriveOf r bytes (drive_devices old) (drive_devices new)) → Taken (TakesScript (runs.read_by r))
+      → (r ≡ ran.Unread unread.ReadFault → ReadRose) → (r ≡ ran.Stopped stop.ReadFault → Rose old.replies.faults new.replies.faults) → (r ≡ ran.Stopped stop.WriteFault → PutRose)
+      → (r ≡ ran.Stopped stop.EntropyFault → EntropyRose) → (r ≡ ran.Stopped stop.VaultFault → VaultRose) → Does words end old new
+  did_drive is r e h t s l w d v =
+      did_asked command.Drive is (status_of r) e (record { how = r; ends = e; bytes = h.0; told = h.1; did = h.2; taken = t }) (drive_caused old new r s l w d v)
+
+  pub did_check : command_in words ≡ Some command.Check → (c : Checked) → end ≡ status_of_checking c → OfBytes (λ bytes. ChecksScript c bytes old.out.content new.out.content) → Taken (TakesScript (checks.read_by c))
+      → (c ≡ checked.ReadFault → ReadRose) → (c ≡ checked.WriteFault → WriteRose) → Does words end old new
+  did_check is c e h t s w =
+      did_asked command.Check is (status_of_checking c) e (record { how = c; ends = e; bytes = h.0; told = h.1; did = h.2; taken = t }) (check_caused old new c s w)
+
+  pub did_wrap : (path : List ℕ) → command_in words ≡ Some (command.Wrap path) → (r : Wrapped) → end ≡ status_of_wrapping path r → OfBytes (λ bytes. Wraps r path bytes (wrap_devices old) (wrap_devices new)) → Taken (Takes r)
+      → (r ≡ wrapped.ReadFault → ReadRose) → (r ≡ wrapped.VaultFault → VaultRose) → (r ≡ wrapped.WriteFault → WriteRose) → Does words end old new
+  did_wrap path is r e h t s v w =
+      did_asked (command.Wrap path) is (status_of_wrapping path r) e (record { how = r; ends = e; bytes = h.0; told = h.1; did = h.2; taken = t }) (wrap_caused old new path r s v w)
+
+  pub did_serve : command_in words ≡ Some command.Serve → (s : Served) → end ≡ status_of_serving s → ServesStream s old.script.content new.script.content old.out.content new.out.content
+      → ((bytes frames : List ℕ) (stream_end : End) (after : State) → old.script.content ≡ Some bytes → ServeAll (take most_stream_bytes bytes) stream_end frames after → IsServed s bytes stream_end frames old.out.content new.out.content)
+      → (s ≡ served.ReadFault → ReadRose) → (s ≡ served.WriteFault → WriteRose) → Does words end old new
+  did_serve is s e h x r w = did_asked command.Serve is (status_of_serving s) e (record { how = s; ends = e; serves = h; exact = x }) (serve_caused old new s r w)
+
+  pub did_gen : (size : ℕ) → command_in words ≡ Some (command.Gen size) → (r : Generated) → end ≡ status_of_generating r → PutsScript r size old.out.content new.out.content → (r ≡ generated.WriteFault → WriteRose) → Does words end old new
+  did_gen size is r e h w = did_asked (command.Gen size) is (status_of_generating r) e (record { how = r; ends = e; puts = h }) (gen_caused old new size r w)
+
+-- without memory
+pub no_memory : (words : List (List ℕ)) (old : Seen) → Does words status.OutOfMemory old old
+unfolding Does
+no_memory words old = inr (refl, refl)

@@ -1,0 +1,63 @@
+-- What is seen of all that the program is lent.
+use Rattle.std.specs.Prelude.{ℕ, List, Option}
+use Rattle.ae_edge.specs.Vaults.{KeyMap}
+use Rattle.wire_messages.specs.Exchanges.{Exchange}
+use Rattle.server_core.specs.Serve.{State}
+use Rattle.script_run.specs.Ends.{RunDevices}
+use Rattle.drive_command.specs.Ends.{DriveDevices}
+use Rattle.wrap_command.specs.Wrapping.{WrapDevices}
+
+-- of a device: its content, where it tells that, and how many of its calls have failed
+pub record Device (A : Type 0) : Type 0 where
+  pub content : Option A
+  pub faults : ℕ
+
+abbrev pub seen : {D A : Type 0} → (D → Option A) → (D → ℕ) → D → Device A
+seen content faults device = record { content = content device; faults = faults device }
+
+-- of the peer: what it was asked and answered, and the state that it serves by, where it tells them
+pub record PeerSeen : Type 0 where
+  pub log : Option (List Exchange)
+  pub state : Option State
+
+pub record Seen : Type 0 where
+  pub script : Device (List ℕ)
+  pub vault : Device KeyMap
+  pub entropy : Device (List ℕ)
+  pub replies : Device (List ℕ)
+  pub out : Device (List ℕ)
+  pub tap : Device (List ℕ)
+  pub peer : PeerSeen
+
+-- ---- what a command is told of it
+
+abbrev pub run_devices : Seen → RunDevices
+run_devices s = record {
+  out = s.out.content;
+  tap = s.tap.content;
+  entropy = s.entropy.content;
+  keys = s.vault.content;
+  log = s.peer.log;
+  state = s.peer.state;
+  out_faults = s.out.faults;
+  tap_faults = s.tap.faults;
+  entropy_faults = s.entropy.faults;
+  vault_faults = s.vault.faults;
+}
+
+abbrev pub drive_devices : Seen → DriveDevices
+drive_devices s = record {
+  out = s.out.content;
+  tap = s.tap.content;
+  entropy = s.entropy.content;
+  keys = s.vault.content;
+  replies = s.replies.content;
+  out_faults = s.out.faults;
+  tap_faults = s.tap.faults;
+  entropy_faults = s.entropy.faults;
+  vault_faults = s.vault.faults;
+  reply_faults = s.replies.faults;
+}
+
+abbrev pub wrap_devices : Seen → WrapDevices
+wrap_devices s = record { keys = s.vault.content; out = s.out.content }
