@@ -284,7 +284,7 @@ checks_blame made =
     (λ kinds. both (none_at fault.NotGrouped (least (ungrouped_places made))) _ (at_places fault.NotGrouped (least (ungrouped_places made)) not_grouped)
     (λ grouped. unless (is_too_long made) (Ok tt) fault.TooLong too_long tt))
 
-bind_blames : (catalog : Catalog) (statement : tree.Statement) (ds : List ParamDecl) → Blames (bind catalog statement ds)
+pub bind_blames : (catalog : Catalog) (statement : tree.Statement) (ds : List ParamDecl) → IfErr (bind catalog statement ds) IsStatementFault
 unfolding bind
 bind_blames catalog statement ds =
     both (resolution catalog statement ds) _ (named_blame catalog statement ds) (λ made. alone (check_of made) _ (checks_blame made))

@@ -1,5 +1,6 @@
 pub mod BoundStatements
 pub mod Causes
+pub mod Interface
 pub mod Joins
 pub mod Kept
 pub mod KeptWhole

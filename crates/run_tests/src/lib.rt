@@ -1,6 +1,6 @@
 //! Tests of the commands `run`, `serve` and `drive`: frames byte by byte, recorded runs, cells that are
-//! renamed, replies that are changed, the cells of a key that is made again, and two sessions of a
-//! driver in turn.
+//! renamed, replies that are changed, the cells of a key that is made again, two sessions of a driver
+//! in turn, and the sorts of texts.
 #![tactic(auto)]
 
 #[cfg(test)]
@@ -17,5 +17,7 @@ mod recorded;
 mod renamed;
 #[cfg(test)]
 mod runs;
+#[cfg(test)]
+mod sorts;
 #[cfg(test)]
 mod streams;

@@ -1,5 +1,5 @@
 -- Requests that correspond, to states that do, are served with replies and states that do.
-use Rattle.std.proofs.Common.{◌≡◌, ◌⊎◌, inl, inr, ℕ, zero, suc, Option, None, List, [], ◌∷◌, ◌++◌, length, map, Result, Ok, Err, Bool, true, false, refl, sym, ap, ◌∙◌, subst, arith}
+use Rattle.std.proofs.Common.{◌≡◌, ◌⊎◌, inl, inr, ℕ, zero, suc, None, List, [], ◌∷◌, ◌++◌, length, map, Result, Ok, Err, Bool, true, false, refl, sym, ap, ◌∙◌, subst, arith}
 use Rattle.std.specs.Prelude.{◌≤◌, ◌&&◌, ◌==◌, if◌then◌else◌, slice_index, IfOk, replicate}
 use Rattle.std.specs.List.{All, AllZip}
 use Rattle.std.proofs.lemmas.List.Elements.{All-nil, All-cons, All-head, All-tail}
@@ -29,7 +29,6 @@ use Rattle.transactions.specs.Stores.{transact, world_of}
 use Rattle.transactions.specs.WellKept.{MayAsk}
 use Rattle.transactions.proofs.Interface.{transact_alike}
 use Rattle.transactions.proofs.Interface as asking
-use Rattle.transactions.proofs.Interface.{transact_keeps}
 use Rattle.transactions.proofs.Interface.{seen_alike}
 use Rattle.engine.specs.Correspond.{IsWithinClass, ArePairsWithin, AnswersCorrespond, class_of_result}
 use Rattle.engine.specs.Laws.{StepKeepsWorlds, TypedStatementsAreAdmitted}
@@ -57,10 +56,12 @@ use Rattle.server_core.specs.Describing.{Meant, understood, describe}
 use Rattle.server_core.specs.Laws.{RequestsAreServedAlike, ServedAlike}
 use Rattle.server_core.specs.Params.{declaration_of, is_of, is_shaped, suited_atom, suited}
 use Rattle.server_core.specs.Serve.{State, empty_state, refused, sent_column, replies_of, answered, described, understood_at, prepared, ask_of, catalog_of, stepped, executed, serve, serve_all}
-use Rattle.server_core.specs.States.{is_short}
+use Rattle.server_core.specs.States.{is_short, IsState}
 use Rattle.server_core.specs.Understood.{IsUnderstood, IsReady}
 use Rattle.server_core.proofs.Beginning.{empty_is_state}
+use Rattle.server_core.proofs.Cells.{call_leaves}
 use Rattle.server_core.proofs.Readiness.{bound_on, is_ready, sent_count}
+use Rattle.server_core.proofs.Serial.{answered_after}
 use Rattle.server_core.proofs.Suiting.{is_suited}
 use Rattle.server_core.proofs.Understanding.{is_understood}
 
@@ -90,7 +91,7 @@ module _ (R : Pairing) where
   rows_correspond classes (row ∷ rows) [] count h = absurd h
   rows_correspond classes (row ∷ rows) (other ∷ others) count h = (h.0, rows_correspond classes rows others count h.1)
 
-  pub answers_correspond : (catalog : Catalog) (classes : List Class) (x y : Result Answer SqlFault) → BothAnswer (AnswersCorrespond R) x y → RepliesCorrespond R classes (said catalog x) (said catalog y)
+  answers_correspond : (catalog : Catalog) (classes : List Class) (x y : Result Answer SqlFault) → BothAnswer (AnswersCorrespond R) x y → RepliesCorrespond R classes (said catalog x) (said catalog y)
   answers_correspond catalog classes (Ok (engine.Rows columns rows)) (Ok (engine.Rows others more)) h =
       let long = AllZip-long (RowsCorrespond R (map class_of_result columns)) rows more h.1 in
       let same : others ≡ columns = h.0 in
@@ -110,6 +111,13 @@ module _ (R : Pairing) where
   answers_correspond catalog classes (Ok engine.Defined) (Ok (engine.Changed count)) h = absurd h
   answers_correspond catalog classes (Ok x) (Err g) h = absurd h
   answers_correspond catalog classes (Err f) (Ok y) h = absurd h
+
+  -- and so do the replies that are served for them
+  pub answers_told : (catalog : Catalog) (new now : State) (classes : List Class) (x y : Result Answer SqlFault) → BothAnswer (AnswersCorrespond R) x y → RepliesCorrespond R classes (answered catalog x new).replies (answered catalog y now).replies
+  answers_told catalog new now classes (Ok x) (Ok y) h = answers_correspond catalog classes (Ok x) (Ok y) h
+  answers_told catalog new now classes (Err f) (Err g) h = rw h (refl, tt)
+  answers_told catalog new now classes (Ok x) (Err g) h = absurd h
+  answers_told catalog new now classes (Err f) (Ok y) h = absurd h
 
   -- one list of replies after another, whatever columns were told
   replies_append : (classes : List Class) (xs us ys vs : List Reply) → RepliesCorrespond R classes xs ys → ((others : List Class) → RepliesCorrespond R others us vs) → RepliesCorrespond R classes (xs ++ us) (ys ++ vs)
@@ -273,11 +281,11 @@ module _ (R : Pairing) (r : IsOneToOne R) (cells : PairsCells R) (within : ArePa
   described_alike w v (Ok description) st = record { replies = λ classes. (refl, tt); states = st }
   described_alike w v (Err f) st = refused_alike w v f st
 
-  pub answered_alike : (catalog : Catalog) (new now : State) (x y : Result Answer SqlFault) → StatesCorrespond R new now → BothAnswer (AnswersCorrespond R) x y → Alike (answered catalog x new) (answered catalog y now)
-  answered_alike catalog new now (Ok x) (Ok y) next h = record { replies = λ classes. answers_correspond R catalog classes (Ok x) (Ok y) h; states = next }
-  answered_alike catalog new now (Err f) (Err g) next h = subst (λ x. Alike (refused new f) (refused now x)) (sym h) (refused_alike new now f next)
-  answered_alike catalog new now (Ok x) (Err g) next h = absurd h
-  answered_alike catalog new now (Err f) (Ok y) next h = absurd h
+  answered_alike : (catalog : Catalog) (new now : State) (x y : Result Answer SqlFault) → StatesCorrespond R new now → BothAnswer (AnswersCorrespond R) x y → Alike (answered catalog x new) (answered catalog y now)
+  answered_alike catalog new now x y next h = record {
+    replies = λ classes. answers_told R catalog new now classes x y h;
+    states = subst (λ s. StatesCorrespond R s (answered catalog y now).after) (sym (answered_after catalog x new)) (subst (λ t. StatesCorrespond R new t) (sym (answered_after catalog y now)) next);
+  }
 
   -- what is ready may be asked
   may_ask : (catalog : Catalog) (world : World) (declarations : List ParamDecl) (meant : Meant) (atoms : List Atom) → world.catalog ≡ catalog → IsReady catalog declarations meant atoms → MayAsk is_short world (ask_of (meant, atoms))
@@ -297,18 +305,24 @@ module _ (R : Pairing) (r : IsOneToOne R) (cells : PairsCells R) (within : ArePa
   abbrev catalog_at : State → ℕ → Catalog
   catalog_at state n = catalog_of state n
 
+  ready_leaves : (state : State) (n : ℕ) (meant : Meant) (declarations : List ParamDecl) (atoms : List Atom) → IsState state → IsReady (catalog_of state n) declarations meant atoms
+      → MayAsk is_short (world_of state n).world (ask_of (meant, atoms)) → IsState (transact state n (ask_of (meant, atoms))).after
+  unfolding IsReady
+  ready_leaves state n meant declarations atoms s ready may =
+      call_leaves state n meant.bound meant.encs atoms (laws.typings meant.bound meant.encs ready.understood.typed).0 ready.values ready.cells s may
+
   stepped_alike : (w v : State) (n : ℕ) (meant : Meant) (declarations others : List ParamDecl) (atoms more : List Atom) → StatesCorrespond R w v → IsReady (catalog_of w n) declarations meant atoms → IsReady (catalog_of v n) others meant more
       → RowsCorrespond R (param_classes meant.bound.params meant.encs) atoms more → Alike (stepped w n (meant, atoms)) (stepped v n (meant, more))
   stepped_alike w v n meant declarations others atoms more st left right pairs =
       let may = may_ask (catalog_of w n) (world_of w n).world declarations meant atoms refl left in
       let may_other = may_ask (catalog_of v n) (world_of v n).world others meant more refl right in
-      let sim = transact_alike R r within is_short w v n (ask_of (meant, atoms)) (ask_of (meant, more)) st.left st.stores (asks_alike meant atoms more pairs) may in
+      let sim = transact_alike R r within is_short w v n (ask_of (meant, atoms)) (ask_of (meant, more)) st.left.store st.stores (asks_alike meant atoms more pairs) may in
       let did = transact w n (ask_of (meant, atoms)) in
       let other = transact v n (ask_of (meant, more)) in
       let c : catalog_of v n ≡ catalog_of w n = (seen_alike R w v n st.stores).worlds.catalog in
       subst (λ k. Alike (stepped w n (meant, atoms)) (answered k other.answer other.after)) (sym c)
       (answered_alike (catalog_of w n) did.after other.after did.answer other.answer
-      (record { left = (transact_keeps is_short w n (ask_of (meant, atoms)) st.left may).0; right = (transact_keeps is_short v n (ask_of (meant, more)) st.right may_other).0; stores = sim.stores })
+      (record { left = ready_leaves w n meant declarations atoms st.left left may; right = ready_leaves v n meant others more st.right right may_other; stores = sim.stores })
       sim.answers)
 
   module _ (w v : State) (n : ℕ) (st : StatesCorrespond R w v) (text : List ℕ) (ps qs : List SentParam) (short : AreSendable ps) (h : AllZip (ParamsCorrespond R) ps qs) where

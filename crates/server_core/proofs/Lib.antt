@@ -1,5 +1,6 @@
 mod Alike
 mod Beginning
+mod Cells
 mod Headers
 pub mod Interface
 mod Listing
@@ -9,6 +10,7 @@ mod Readiness
 mod ReplyKinds
 mod Sendable
 mod Serial
+mod Sorting
 mod Steps
 mod Suiting
 mod Told

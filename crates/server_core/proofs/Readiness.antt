@@ -1,6 +1,6 @@
 -- What is ready may be executed, and what is answered may be sent.
-use Rattle.std.proofs.Common.{◌≡◌, ℕ, ◌⊎◌, inl, inr, List, [], ◌∷◌, length, map, Result, Ok, Err, refl, sym, ap, ◌∙◌, subst}
-use Rattle.std.specs.Prelude.{IsTrue, Contains, IfOk}
+use Rattle.std.proofs.Common.{◌≡◌, ℕ, ◌⊎◌, inl, inr, List, [], ◌∷◌, length, map, Result, Ok, Err, sym, ap, ◌∙◌, subst}
+use Rattle.std.specs.Prelude.{Contains, IfOk}
 use Rattle.std.specs.List.{All}
 use Rattle.std.proofs.lemmas.List.{length-map}
 use Rattle.std.proofs.lemmas.List.Elements.{All-nil, All-cons, All-head, All-tail, All-contains, All-map}
@@ -13,8 +13,7 @@ use Rattle.ae_base.specs.declared.types.Enc.{Enc}
 use Rattle.ae_base.specs.declared.types.Enc.TheVariants.{Plain}
 use Rattle.sql_tree.specs.declared.bound.ColumnSite.{ColumnSite}
 use Rattle.sql_tree.specs.declared.bound.Bound as parts
-use Rattle.sql_tree.specs.Bound.{Bound, bound_of}
-use Rattle.sql_tree.specs.Bound as bound
+use Rattle.sql_tree.specs.Bound.{bound_of}
 use Rattle.catalog.specs.Catalogs.{Catalog}
 use Rattle.catalog.specs.WellFormed.{IsCatalog, IsKeyThere}
 use Rattle.enc_types.specs.Laws.{TypingsAreOfColumns}
@@ -38,7 +37,8 @@ use Rattle.transactions.specs.Stores as stores
 use Rattle.transactions.specs.Stores.{Transacted, transact, world_of}
 use Rattle.transactions.proofs.Interface.{may_ask, rows_by_step}
 use Rattle.transactions.proofs.Interface.{seen_well}
-use Rattle.server_core.proofs.Suiting.{are_suited}
+use Rattle.server_core.proofs.Cells.{call_leaves}
+use Rattle.server_core.proofs.Suiting.{are_suited, suited_protected}
 use Rattle.server_core.specs.Calls.{meant_of}
 use Rattle.server_core.specs.Describing.{Meant}
 use Rattle.server_core.specs.Params.{declaration_of, suited}
@@ -77,6 +77,7 @@ is_ready catalog params meant atoms law u s short =
       understood = u;
       count = a.count ∙ sym (length-map params declaration_of) ∙ sym (length-map (map declaration_of params) type_of) ∙ sym (ap length p);
       values = subst (λ tys. AreValuesOf is_short tys meant.encs atoms) (sym p) a.values;
+      cells = suited_protected meant.encs params atoms s (sent_count catalog params meant law u);
     }
 
 -- ---- keys
@@ -158,16 +159,17 @@ done_well laws old session new declarations meant atoms result s r g undone =
     let world = (world_of old session).world in
     let b = bound_on (catalog_of old session) declarations meant atoms laws.typings r in
     let may = may_ask is_short world meant.bound.statement e (record { bound = b; typed = laws.admitted meant.bound meant.encs b.placed r.understood.typed; values = r.values }) in
-    let k = laws.keeps is_short old session (ask_of (meant, atoms)) s may in
+    let k = laws.keeps is_short old session (ask_of (meant, atoms)) s.store may in
+    let left = call_leaves old session meant.bound meant.encs atoms b.encs r.values r.cells s may in
     record {
-      state = keeps result old new (transact old session (ask_of (meant, atoms))) g s k.0;
-      sent = sendable old session declarations meant laws.typings r.understood result new (transact old session (ask_of (meant, atoms))) (seen_well is_short old session s).world.catalog g k.1
+      state = keeps result old new (transact old session (ask_of (meant, atoms))) g s left;
+      sent = sendable old session declarations meant laws.typings r.understood result new (transact old session (ask_of (meant, atoms))) (seen_well is_short old session s.store).world.catalog g k.1
           (λ columns rows f. ((step_of (world_of old session) e).world, laws.shown world meant.bound meant.encs atoms columns rows b (rows_by_step old session e columns rows meant.bound.statement f))) undone;
     }
 
 -- the catalog that a session sees is one
 pub seen_catalog : (state : State) (session : ℕ) → IsState state → IsCatalog (catalog_of state session)
-seen_catalog state session s = (seen_well is_short state session s).world.catalog
+seen_catalog state session s = (seen_well is_short state session s.store).world.catalog
 
 -- ---- over the parts of what is ready
 

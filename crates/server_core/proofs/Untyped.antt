@@ -3,7 +3,6 @@ use Rattle.std.proofs.Common.{◌≡◌, ℕ, List, Result, Ok, Err, refl, sym, 
 use Rattle.ae_base.specs.Results.{◌>>=◌}
 use Rattle.ae_base.specs.declared.batches.ParamDecl.{ParamDecl}
 use Rattle.ae_base.specs.declared.faults.SqlFault.{SqlFault}
-use Rattle.ae_base.specs.declared.faults.SqlFault.TheVariants as fault
 use Rattle.ae_base.specs.declared.types.Enc.{Enc}
 use Rattle.sql_tree.specs.Bound.{Bound}
 use Rattle.catalog.specs.Catalogs.{Catalog}

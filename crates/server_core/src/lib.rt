@@ -16,4 +16,5 @@ mod replies;
 mod requests;
 mod rows;
 pub mod server;
+pub mod sorts;
 mod values;

@@ -1,19 +1,23 @@
 //! The server: one state, and requests that are served whole.
 
-ghost use Rattle.std.specs.Prelude.{◌≡◌, IfOk};
+ghost use Rattle.std.specs.Prelude.{◌≡◌, ◌↔◌, IfOk, IsTrue, None, is_some, replicate};
 ghost use Rattle.wire_messages.specs.Exchanges.{HasKinds};
 ghost use Rattle.server_core.specs.Calls.{Serves};
 ghost use Rattle.server_core.specs.Correspond.{IsServedAlike};
 ghost use Rattle.server_core.specs.Describing.{binding_of};
 ghost use Rattle.server_core.specs.Explaining.{Explains};
 ghost use Rattle.server_core.specs.Serve.{empty_state};
+ghost use Rattle.server_core.specs.Sorts as sorts;
+ghost use Rattle.transactions.specs.Stores.{transaction_at};
 
 use crate::explaining::explain;
 use crate::laws::requests_are_served_alike;
 use crate::requests::serve;
+use crate::sorts::{Sort, sort_of};
 use ae_base::batches::Declarations;
 use ae_base::cells::Cell;
 use ae_base::lists::Seq;
+use ae_base::sessions::SessionId;
 use catalog::laws::definitions_keep_catalogs;
 use std::alloc::{AllocError, Global};
 use std::marker::Model;
@@ -86,5 +90,27 @@ impl Server {
             text,
             declarations.as_slice(),
         )
+    }
+
+    /// What sort a text is, by the grammar alone, whatever is defined: NoStatement exactly where it
+    /// doesn't parse.
+    pub fn sort_of(&self, alloc: Global, text: &StatementPart<'_>) -> Result<Sort, AllocError>
+        ensures { IfOk result (λ sort. sort ≡ sorts.sort_of text.now) }
+    {
+        sort_of(alloc, text)
+    }
+
+    /// Whether a session has a transaction.
+    pub fn has_transaction(&self, session: SessionId) -> bool
+        ensures { result ≡ is_some (transaction_at self.now session) }
+    {
+        self.store.has_transaction(session)
+    }
+
+    /// Whether no session has a transaction.
+    pub fn is_idle(&self) -> bool
+        ensures { IsTrue result ↔ (self.now.sessions ≡ replicate 64 None) }
+    {
+        self.store.is_idle()
     }
 }

@@ -1,6 +1,6 @@
 -- Rows come only where nothing is changed but the notes of used tables.
-use Rattle.std.proofs.Common.{◌≡◌, ℕ, zero, suc, ◌-◌, List, [], ◌∷◌, ◌++◌, length, take, get_or, set, refl, ap, sym, subst, ◌∙◌, Option, Some, None, Result, Ok, Err, false}
-use Rattle.std.specs.Prelude.{if◌then◌else◌, IfOk, map, filter, count_by, not}
+use Rattle.std.proofs.Common.{◌≡◌, ℕ, zero, suc, ◌-◌, List, [], ◌∷◌, ◌++◌, length, take, get_or, set, refl, ap, sym, subst, ◌∙◌, Option, Some, None, Result, Ok, Err, Bool, true, false}
+use Rattle.std.specs.Prelude.{if◌then◌else◌, IfOk, map, filter, count_by, not, is_some, ◌||◌}
 use Rattle.ae_base.specs.Atoms.{Atom}
 use Rattle.ae_base.specs.Results.{◌>>=◌}
 use Rattle.ae_base.specs.declared.faults.SqlFault.{SqlFault}
@@ -85,6 +85,18 @@ module _ (c : Counted) (columns : List ResultColumn) (rows : List (List Atom)) w
 changed_none : (s : BoundStatement) (a : Result Answer SqlFault) → target s ≡ None → changed_by s a ≡ None
 changed_none s (Ok answer) n = n
 changed_none s (Err f) n = refl
+
+-- a change or a definition is not answered by rows
+pub changes_show_no_rows : (store : Store) (session : ℕ) (e : Execution) (columns : List ResultColumn) (rows : List (List Atom)) → (is_definition e.bound.statement || is_some (target e.bound.statement)) ≡ true
+    → (transact store session (Executes e)).answer ≡ Ok (Rows columns rows) → ⊥
+changes_show_no_rows store session e columns rows changes h =
+    let r = read_only (world_of store session) columns rows e (answered_by_step store session e (Rows columns rows) h) in
+    neither (is_definition e.bound.statement) (target e.bound.statement) r.0 r.1 changes
+  where
+    neither : (b : Bool) (o : Option (List ℕ)) → b ≡ false → o ≡ None → (b || is_some o) ≡ true → ⊥
+    neither true o d n h = cc
+    neither false (Some x) d n h = cc
+    neither false None d n h = cc
 
 -- ---- what is forgotten of a state
 

@@ -5,8 +5,13 @@ pub use Rattle.transactions.proofs.Alike.{transact_alike, zip_at, zip_set}
 -- What a statement asks, for all that is said of requests: crates above cite these lemmas.
 pub use Rattle.transactions.proofs.Asking.{asks_alike, asks_renamed, may_ask, rows_by_step}
 pub use Rattle.transactions.proofs.Asking.{same_execution}
+-- A change or a definition is not answered by rows.
+pub use Rattle.transactions.proofs.Forgetting.{changes_show_no_rows}
+-- What is kept of a call makes its shared world again.
+pub use Rattle.transactions.proofs.Journaling.{IsKeptSo, IsLoggedOn, committed_catalog, idle, length_nobody, logged_on, none_at, nothing_logged}
+pub use Rattle.transactions.proofs.Serializing.{AreLogged}
 -- A state that can stand stays one.
 pub use Rattle.transactions.proofs.Keeping.{all_at, all_set, transact_keeps}
 -- The world that a session sees.
 pub use Rattle.transactions.proofs.Seen.{IsOwnCatalog, IsSlotOf, seen_alike, seen_well, set_back}
-pub use Rattle.transactions.proofs.Seen.{shared_by, slot_of}
+pub use Rattle.transactions.proofs.Seen.{shared_by, slot_of, work_catalog}

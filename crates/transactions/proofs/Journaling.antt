@@ -26,10 +26,10 @@ use Rattle.transactions.proofs.Serializing.{Seen, IsLoggedFrom, IsSlot, AreLogge
 
 -- ---- a state without transactions, and one with a single transaction
 
-abbrev nobody : List (Option Transaction)
+abbrev pub nobody : List (Option Transaction)
 nobody = replicate 64 None
 
-abbrev idle : Counted → Store
+abbrev pub idle : Counted → Store
 idle shared = record { shared = shared; sessions = nobody }
 
 abbrev busy : Counted → ℕ → Transaction → Store
@@ -38,7 +38,7 @@ busy shared session t = record { shared = shared; sessions = slice_set nobody (s
 abbrev none_of : Option Transaction
 none_of = None
 
-none_at : (n k : ℕ) → slice_index_or (replicate n none_of) k none_of ≡ none_of
+pub none_at : (n k : ℕ) → slice_index_or (replicate n none_of) k none_of ≡ none_of
 none_at zero k = refl
 none_at (suc n) zero = refl
 none_at (suc n) (suc k) = none_at n k
@@ -63,7 +63,7 @@ within [] k t e = absurd cc
 within (x ∷ xs) zero t e = omega arith
 within (x ∷ xs) (suc k) t e = let h = within xs k t e in omega arith
 
-length_nobody : (n : ℕ) → length (replicate n none_of) ≡ n
+pub length_nobody : (n : ℕ) → length (replicate n none_of) ≡ n
 length_nobody zero = refl
 length_nobody (suc n) = ap suc (length_nobody n)
 
@@ -289,6 +289,14 @@ alone_kept shared session e = by (is_lasting e.bound.statement (alone shared e).
         let p = passing shared e (alone shared e).answer refl l in
         same_kept shared (alone shared e).after (ap (raised_at (counted_step shared e).after) p.1 ∙ p.0)
 
+unmoved : (shared : Counted) (t : Transaction) → why_not shared t ≡ None → (shared.world.catalog.version ≡ t.version) × (conflict shared t.used ≡ None)
+unmoved shared t = by (shared.world.catalog.version == t.version) refl
+  where
+    by : (b : Bool) → (shared.world.catalog.version == t.version) ≡ b → (if b then conflict shared t.used else Some (fault.Moved (record { seen = t.version; now = shared.world.catalog.version }))) ≡ None
+        → (shared.world.catalog.version ≡ t.version) × (conflict shared t.used ≡ None)
+    by true v e = (is_there shared.world.catalog.version t.version v, e)
+    by false v e = absurd cc
+
 one_kept : (store : Store) (session : ℕ) (ask : Ask) (o : Option Transaction) (log : List Deed) → length store.sessions ≡ 64 → transaction_at store session ≡ o → IsSlot store.shared o log
     → IsKeptSo store.shared (transacted store session o ask).after.shared (kept_of o session ask (transacted store session o ask).answer log)
 one_kept store session Begins None log n is h = same_kept store.shared store.shared refl
@@ -304,15 +312,10 @@ one_kept store session (Executes e) (Some t) log n is h = by (is_definition e.bo
     by false = same_kept store.shared store.shared refl
 one_kept store session Commits (Some t) log n is h = by (why_not store.shared t) refl
   where
-    unmoved : (b : Bool) → (store.shared.world.catalog.version == t.version) ≡ b → (if b then conflict store.shared t.used else Some (fault.Moved (record { seen = t.version; now = store.shared.world.catalog.version }))) ≡ None
-        → (store.shared.world.catalog.version ≡ t.version) × (conflict store.shared t.used ≡ None)
-    unmoved true v e = (is_there store.shared.world.catalog.version t.version v, e)
-    unmoved false v e = absurd cc
-
     by : (f : Option SqlFault) → why_not store.shared t ≡ f → IsKeptSo store.shared (committed store session t f).after.shared (kept_of (Some t) session Commits (committed store session t f).answer log)
     by (Some f) e = same_kept store.shared store.shared refl
     by None e =
-        let free = unmoved (store.shared.world.catalog.version == t.version) refl e in
+        let free = unmoved store.shared t e in
         let d = committed_done h.base store.shared t log free.0 free.1 h.from in
         let thin = thinned store.shared [] log d.answered in
         let lt : session - 1 < 64 = subst (λ m. session - 1 < m) n (within store.sessions (session - 1) t is) in
@@ -336,33 +339,54 @@ slot_long store session ask =
     let s = slot_of store session ask in
     ap (λ xs. length xs) s.sessions ∙ set_length store.sessions (session - 1) s.slot
 
+-- a call from a state whose transactions began and went on so
+pub record IsLoggedOn (store : Store) (logs : List (List Deed)) (session : ℕ) (ask : Ask) : Type 0 where
+  pub logged : AreLogged (transact store session ask).after (with_log logs session (record_of store (call_of session ask) logs).log)
+  pub long : length (transact store session ask).after.sessions ≡ 64
+  pub kept : IsKeptSo store.shared (transact store session ask).after.shared (kept_of (transaction_at store session) session ask (transact store session ask).answer (log_at logs session))
+
+pub logged_on : (store : Store) (logs : List (List Deed)) (session : ℕ) (ask : Ask) → length store.sessions ≡ 64 → AreLogged store logs → IsLoggedOn store logs session ask
+logged_on store logs session ask n inv =
+    let o = transaction_at store session in
+    let log = log_at logs session in
+    let slot = zip_at (IsSlot store.shared) store.sessions logs (session - 1) None [] inv.slots refl in
+    let g = goes store logs session ask o log inv refl slot in
+    record { logged = g.logged; long = slot_long store session ask ∙ n; kept = one_kept store session ask o log n refl slot }
+
+-- nothing is open at first
+pub nothing_logged : (store : Store) → HasNoTransactions store → AreLogged store no_logs
+nothing_logged store none = record { counted = record { long = none.counts }; slots = subst (λ ts. AllZip (IsSlot store.shared) ts no_logs) (sym none.none) (empty_slots 64) }
+  where
+    empty_slots : (n : ℕ) → AllZip (IsSlot store.shared) (replicate n None) (replicate n [])
+    empty_slots zero = tt
+    empty_slots (suc n) = (refl, empty_slots n)
+
+-- one that is committed has the shared catalog
+pub committed_catalog : (store : Store) (logs : List (List Deed)) (session : ℕ) (t : Transaction) → AreLogged store logs → transaction_at store session ≡ Some t → why_not store.shared t ≡ None → t.own.world.catalog ≡ store.shared.world.catalog
+committed_catalog store logs session t inv is e =
+    let slot = subst (λ o. IsSlot store.shared o (log_at logs session)) is (zip_at (IsSlot store.shared) store.sessions logs (session - 1) None [] inv.slots refl) in
+    let from = slot.from in
+    from.catalog ∙ sym (from.since.unmoved ((unmoved store.shared t e).0 ∙ from.version)).catalog
+
 all_kept : (calls : List Call) (store : Store) (logs : List (List Deed)) → length store.sessions ≡ 64 → AreLogged store logs → IsKeptSo store.shared (all_after store calls).shared (journal store logs calls)
 all_kept [] store logs n inv = same_kept store.shared store.shared refl
 all_kept (call ∷ calls) store logs n inv =
     let s = call.session in
-    let o = transaction_at store s in
-    let log = log_at logs s in
-    let slot = zip_at (IsSlot store.shared) store.sessions logs (s - 1) None [] inv.slots refl in
     let t = transact store s call.ask in
-    let g = goes store logs s call.ask o log inv refl slot in
-    let one = one_kept store s call.ask o log n refl slot in
+    let one = logged_on store logs s call.ask n inv in
     let logs_after = with_log logs s (record_of store call logs).log in
-    let kept = kept_of o s call.ask t.answer log in
-    let more = all_kept calls t.after logs_after (slot_long store s call.ask ∙ n) g.logged in
+    let kept = kept_of (transaction_at store s) s call.ask t.answer (log_at logs s) in
+    let more = all_kept calls t.after logs_after one.long one.logged in
     record {
-      replayed = replayed_append (idle store.shared) kept (journal t.after logs_after calls) one.replayed (subst (λ x. AreReplayed x (journal t.after logs_after calls)) (sym one.after) more.replayed);
-      after = records_append (idle store.shared) kept (journal t.after logs_after calls) ∙ ap (λ x. after_records x (journal t.after logs_after calls)) one.after ∙ more.after;
+      replayed = replayed_append (idle store.shared) kept (journal t.after logs_after calls) one.kept.replayed (subst (λ x. AreReplayed x (journal t.after logs_after calls)) (sym one.kept.after) more.replayed);
+      after = records_append (idle store.shared) kept (journal t.after logs_after calls) ∙ ap (λ x. after_records x (journal t.after logs_after calls)) one.kept.after ∙ more.after;
     }
 
 pub made_again : (store : Store) (calls : List Call) → HasNoTransactions store → IsMadeAgain store calls
 made_again store calls none =
     let is : idle store.shared ≡ store = ap (λ ss. let x : Store = record { shared = store.shared; sessions = ss } in x) (sym none.none) in
-    let k = all_kept calls store no_logs (ap (λ xs. length xs) none.none ∙ length_nobody 64) (record { counted = record { long = none.counts }; slots = subst (λ ts. AllZip (IsSlot store.shared) ts no_logs) (sym none.none) (empty_slots 64) }) in
+    let k = all_kept calls store no_logs (ap (λ xs. length xs) none.none ∙ length_nobody 64) (nothing_logged store none) in
     record {
       replayed = subst (λ x. AreReplayed x (journal store no_logs calls)) is k.replayed;
       shared = ap (λ x. (after_records x (journal store no_logs calls)).shared) (sym is) ∙ ap (λ (x : Store). x.shared) k.after;
     }
-  where
-    empty_slots : (n : ℕ) → AllZip (IsSlot store.shared) (replicate n None) (replicate n [])
-    empty_slots zero = tt
-    empty_slots (suc n) = (refl, empty_slots n)

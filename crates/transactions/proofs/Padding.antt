@@ -1,6 +1,7 @@
 -- Slots of which the last ones are empty where fewer are held.
-use Rattle.std.proofs.Common.{◌≡◌, ◌<◌, ◌≤◌, ℕ, zero, suc, ◌-◌, List, [], ◌∷◌, ◌++◌, length, get_or, set, replicate, refl, ap, sym, ◌∙◌, arith, append_assoc, length-append, Option, None}
+use Rattle.std.proofs.Common.{◌≡◌, ◌<◌, ◌≤◌, ℕ, zero, suc, ◌+◌, ◌-◌, List, [], ◌∷◌, ◌++◌, length, get_or, set, replicate, refl, ap, sym, ◌∙◌, arith, append_assoc, length-append, Option, None}
 use Rattle.std.proofs.Math.ListN.{length-set}
+use Rattle.std.proofs.lemmas.List.{get_or-replicate, replicate-append-replicate}
 use Rattle.transactions.specs.Slots.{slots_of}
 use Rattle.transactions.proofs.Seen.{set_back}
 
@@ -47,3 +48,15 @@ pub set_twice : {A : Type 0} (xs : List A) (k : ℕ) (x y : A) → set (set xs k
 set_twice [] k x y = refl
 set_twice (z ∷ xs) zero x y = refl
 set_twice (z ∷ xs) (suc k) x y = ap (λ ys. z ∷ ys) (set_twice xs k x y)
+
+-- all slots are empty exactly where those that are held are
+pub all_empty : {A : Type 0} (held : List (Option A)) → length held ≤ 64 → held ≡ replicate (length held) None → slots_of held ≡ replicate 64 None
+all_empty {A} held few e =
+    let n : length held + (64 - length held) ≡ 64 = omega (arith, few) in
+    ap (λ (xs : List (Option A)). xs ++ replicate (64 - length held) None) e
+    ∙ replicate-append-replicate (length held) (64 - length held) None
+    ∙ ap (λ (n : ℕ). replicate n None) n
+
+pub one_empty : {A : Type 0} (held : List (Option A)) (k : ℕ) (e : Option A) → length held ≤ 64 → k < length held → slots_of held ≡ replicate 64 None → get_or held k e ≡ None
+one_empty {A} held k e few lt idle =
+    sym (padded_at held k e lt) ∙ ap (λ (xs : List (Option A)). get_or xs k None) idle ∙ get_or-replicate 64 k None None (omega (arith, few, lt))

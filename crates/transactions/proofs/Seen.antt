@@ -135,23 +135,28 @@ sessions_committed : (store : Store) (session : ℕ) (t : Transaction) (f : Opti
 sessions_committed store session t None = refl
 sessions_committed store session t (Some f) = refl
 
-pub slot_of : (store : Store) (session : ℕ) (ask : Ask) → IsSlotOf store session (transact store session ask).after
-slot_of store session ask = by ask (transaction_at store session) refl
+-- a statement that is no definition leaves the catalog
+pub work_catalog : (c : Counted) (e : Execution) → is_definition e.bound.statement ≡ false → (counted_step c e).after.world.catalog ≡ c.world.catalog
+work_catalog c e d =
+    let w = c.world in
+    let f = counted_reads w.catalog w.contents w.contents c.counts c.counts e (λ name. Unit {0}) d (anything (tables_of e.bound.statement)) (λ name u. refl) (λ name u. refl) in
+    ap (λ (c : Counted). c.world.catalog) f.left_after
   where
     anything : (names : List (List ℕ)) → All (λ name. Unit {0}) names
     anything names = λ i d lt. tt
 
+pub slot_of : (store : Store) (session : ℕ) (ask : Ask) → IsSlotOf store session (transact store session ask).after
+slot_of store session ask = by ask (transaction_at store session) refl
+  where
     in_own : (e : Execution) (t : Transaction) (b : Bool) → is_definition e.bound.statement ≡ b → transaction_at store session ≡ Some t
         → let y : Transacted = if b then refused store fault.InTransaction else record { answer = (counted_step t.own e).answer; after = with_transaction store session (Some (stepped_in t e (counted_step t.own e))) } in
         IsSlotOf store session y.after
     in_own e t true d is = same_slot store store session refl
     in_own e t false d is =
-        let w = t.own.world in
-        let f = counted_reads w.catalog w.contents w.contents t.own.counts t.own.counts e (λ name. Unit {0}) d (anything (tables_of e.bound.statement)) (λ name u. refl) (λ name u. refl) in
         record {
           slot = Some (stepped_in t e (counted_step t.own e));
           sessions = refl;
-          own = ap (λ (c : Counted). c.world.catalog) f.left_after ∙ ap (λ o. (seen_by store.shared o).world.catalog) (sym is);
+          own = work_catalog t.own e d ∙ ap (λ o. (seen_by store.shared o).world.catalog) (sym is);
         }
 
     ends : (after : Store) → after.sessions ≡ slice_set store.sessions (session - 1) None → IsSlotOf store session after

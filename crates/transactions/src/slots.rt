@@ -1,6 +1,6 @@
 //! The transactions of the sessions.
 
-ghost use Rattle.std.specs.Prelude.{◌≡◌, ◌≤◌, ◌<◌, ◌-◌, IsSome, None, OnOk, Some, length, replicate, slice_index_or, slice_set};
+ghost use Rattle.std.specs.Prelude.{◌≡◌, ◌≤◌, ◌<◌, ◌-◌, ◌↔◌, IsSome, IsTrue, None, OnOk, Some, length, replicate, slice_index_or, slice_set};
 ghost use Rattle.std.specs.Option.{option_copied};
 ghost use Rattle.transactions.specs.Slots.{slots_of};
 
@@ -50,6 +50,18 @@ impl<K: Same> Slots<K> {
             return None;
         }
         self.held[place].as_ref()
+    }
+
+    /// Whether no session has a transaction.
+    pub(crate) fn is_idle(&self) -> bool
+        ensures { IsTrue result ↔ (self.now.transactions ≡ replicate 64 None) }
+    {
+        for slot in &self.held {
+            if slot.is_some() {
+                return false;
+            }
+        }
+        true
     }
 
     /// Takes out the transaction of a session.

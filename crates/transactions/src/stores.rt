@@ -1,6 +1,6 @@
 //! What the server keeps, and what its sessions ask of it.
 
-ghost use Rattle.std.specs.Prelude.{◌≡◌, IfOk};
+ghost use Rattle.std.specs.Prelude.{◌≡◌, ◌↔◌, IfOk, IsTrue, None, is_some, replicate};
 ghost use Rattle.sql_tree.specs.Bound.{bound_of, statement_of};
 ghost use Rattle.sql_tree.specs.Sorts.{is_definition};
 ghost use Rattle.engine.specs.Answers.{answer_of};
@@ -10,7 +10,7 @@ ghost use Rattle.transactions.specs.Counted.{execution};
 ghost use Rattle.transactions.specs.Noted.{IsHeld};
 ghost use Rattle.transactions.specs.Forgotten.{IsUndone, forgotten, used_by};
 ghost use Rattle.transactions.specs.Stores as spec;
-ghost use Rattle.transactions.specs.Stores.{ask_of, transact, world_of};
+ghost use Rattle.transactions.specs.Stores.{ask_of, transact, transaction_at, world_of};
 
 use crate::counts::Counted;
 use crate::slots::Slots;
@@ -74,6 +74,20 @@ impl<K: Same> Store<K> {
         ensures { result.now ≡ self.now.shared.world.catalog }
     {
         self.shared.catalog()
+    }
+
+    /// Whether a session has a transaction.
+    pub fn has_transaction(&self, session: SessionId) -> bool
+        ensures { result ≡ is_some (transaction_at self.now session) }
+    {
+        self.slots.get(session).is_some()
+    }
+
+    /// Whether no session has a transaction.
+    pub fn is_idle(&self) -> bool
+        ensures { IsTrue result ↔ (self.now.sessions ≡ replicate 64 None) }
+    {
+        self.slots.is_idle()
     }
 
     /// Executes a statement of a session that is bound on the catalog of the world that it sees,

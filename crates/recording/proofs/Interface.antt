@@ -1,0 +1,6 @@
+-- What crates above may cite of the proofs of this one. The rest is free to change.
+
+-- What is true of all requests that are executed is true of those that stand in records.
+pub use Rattle.recording.proofs.Members.{IsExecute, recorded_are}
+-- Records one behind another.
+pub use Rattle.recording.proofs.Replays.{served_append}

@@ -1,0 +1,183 @@
+-- What is recorded of requests makes their shared world again.
+use Rattle.std.proofs.Common.{◌≡◌, ℕ, ◌-◌, List, [], ◌∷◌, ◌++◌, length, refl, ap, sym, subst, ◌∙◌, Option, Some, None, Result, Ok, Err}
+use Rattle.std.specs.Prelude.{slice_index_or, is_some, if◌then◌else◌}
+use Rattle.ae_base.specs.Atoms.{Atom}
+use Rattle.ae_base.specs.declared.faults.SqlFault.{SqlFault}
+use Rattle.ae_edge.specs.Devices.{IsFront}
+use Rattle.transactions.specs.Counted.{Counted, execution}
+use Rattle.transactions.specs.Journal.{call_of}
+use Rattle.transactions.specs.Serial.{Deed, no_logs, log_at, with_log, record_of}
+use Rattle.transactions.specs.Stores.{Ask, Transaction, Store, transaction_at, transact}
+use Rattle.transactions.specs.WellKept.{HasNoTransactions}
+use Rattle.transactions.proofs.Interface.{AreLogged, committed_catalog, idle, length_nobody, logged_on, none_at, nothing_logged, set_back}
+use Rattle.wire_messages.specs.declared.params.SentParam.{SentParam}
+use Rattle.wire_messages.specs.declared.requests.Request.{Request}
+use Rattle.wire_messages.specs.declared.requests.Request.TheVariants.{Describe, Execute}
+use Rattle.server_core.specs.Describing.{Meant, describe}
+use Rattle.server_core.specs.Serve.{State, answered, prepared, ask_of, catalog_of, executed, serve, asked}
+use Rattle.server_core.specs.Sorts.{sort_of}
+use Rattle.server_core.proofs.Interface.{answered_after, described_after, prepared_sort, sort_bound}
+use Rattle.recording.specs.Recorded.{Kept, kept, is_done, kept_of, kept_where, kept_by, has_transaction, nothing_held, held_at, with_held, session_of, recorded, after_requests, after_records}
+use Rattle.recording.specs.Laws.{AreServedAgain, IsReplayed}
+use Rattle.recording.proofs.Asked.{asked_step}
+use Rattle.recording.proofs.Held.{Holds}
+use Rattle.recording.proofs.Made.{Goes}
+use Rattle.recording.proofs.Slots.{AllAt, set_all, set_long, nothing_long, nothing_at}
+use Rattle.recording.proofs.Steps.{IsStep, kept_so}
+
+-- what is held of the sessions' transactions is what their logs have
+pub record IsHeldOf (s : State) (logs : List (List Deed)) (held : List (List Request)) : Type 0 where
+  pub logged : AreLogged s logs
+  pub long : length s.sessions ≡ 64
+  pub logs_long : length logs ≡ 64
+  pub held_long : length held ≡ 64
+  pub slots : AllAt Holds None [] [] s.sessions logs held
+
+-- a request with what is kept of it leads on
+pub record Went (s : State) (session : ℕ) (held : List (List Request)) (after : State) (k : Kept) : Type 0 where
+  pub logs : List (List Deed)
+  pub so : IsHeldOf after logs (with_held held session k.held)
+  pub goes : Goes s.shared after.shared k.records
+
+module _ (s : State) (logs : List (List Deed)) (held : List (List Request)) (h : IsHeldOf s logs held) where
+  unchanged : (session : ℕ) → Went s session held s (kept [] (held_at held session))
+  unchanged session = record { logs = logs; so = subst (λ hs. IsHeldOf s logs hs) (set_back held (session - 1) []) h; goes = record { served = tt; after = refl } }
+
+  -- of a request that is refused before it is executed
+  refused_so : (session : ℕ) → Went s session held s (kept_where (has_transaction s session) (held_at held session))
+  refused_so session = subst (Went s session held s) (by (transaction_at s session) (h.slots (session - 1))) (unchanged session)
+    where
+      by : (o : Option Transaction) → Holds (session - 1) o (log_at logs session) (held_at held session) → kept [] (held_at held session) ≡ kept_where (is_some o) (held_at held session)
+      by None e = ap (kept []) e
+      by (Some t) e = refl
+
+  stepped_so : (session : ℕ) (ask : Ask) (k : Kept) → IsStep s session (transact s session ask) (record_of s (call_of session ask) logs).log k → Went s session held (transact s session ask).after k
+  stepped_so session ask k step =
+      let on = logged_on s logs session ask h.long h.logged in
+      let log = (record_of s (call_of session ask) logs).log in
+      record {
+        logs = with_log logs session log;
+        so = record {
+          logged = on.logged;
+          long = on.long;
+          logs_long = set_long logs (session - 1) log ∙ h.logs_long;
+          held_long = set_long held (session - 1) k.held ∙ h.held_long;
+          slots = subst (λ xs. AllAt Holds None [] [] xs (with_log logs session log) (with_held held session k.held)) (sym step.sessions)
+              (set_all Holds None [] [] s.sessions logs held (session - 1) step.slot log k.held (h.long ∙ sym h.logs_long) (h.long ∙ sym h.held_long) h.slots step.holds);
+        };
+        goes = step.goes;
+      }
+
+  module _ (session version : ℕ) (text : List ℕ) (params : List SentParam) where
+    abbrev request : Request
+    request = Execute session version text params
+
+    -- what is kept, where it is ready to be executed
+    ready_kept : (ready : Meant × List Atom) → prepared (catalog_of s session) version text params ≡ Ok ready
+        → let t = transact s session (ask_of ready) in
+        kept_so (sort_bound ready.0.bound.statement) (held_at held session) request (catalog_of s session) session t ≡ kept_by request (executed s session (Ok ready)) (held_at held session)
+    ready_kept ready e =
+        let t = transact s session (ask_of ready) in
+        let served = answered (catalog_of s session) t.answer t.after in
+        ap (λ q. if is_done served.replies then kept_of q (held_at held session) request else kept_where (has_transaction t.after session) (held_at held session)) (sym (prepared_sort (catalog_of s session) version text params ready e))
+        ∙ ap (λ (x : State). if is_done served.replies then kept_of (sort_of text) (held_at held session) request else kept_where (has_transaction x session) (held_at held session)) (sym (answered_after (catalog_of s session) t.answer t.after))
+
+    ready_went : (ready : Meant × List Atom) → prepared (catalog_of s session) version text params ≡ Ok ready → Went s session held (executed s session (Ok ready)).after (kept_by request (executed s session (Ok ready)) (held_at held session))
+    ready_went ready e =
+        let x = execution ready.0.bound ready.0.encs ready.1 in
+        let t = transact s session (ask_of ready) in
+        let on = logged_on s logs session (ask_of ready) h.long h.logged in
+        let step = asked_step s session request (held_at held session) (log_at logs session) x (transaction_at s session) (record {
+          is = refl;
+          long = h.long;
+          holds = h.slots (session - 1);
+          asks = record { asks = ap (asked session) e; lies = refl };
+          kept = on.kept;
+          catalog = λ t is free. committed_catalog s logs session t h.logged is free;
+        }) in
+        subst (λ (after : State). Went s session held after (kept_by request (executed s session (Ok ready)) (held_at held session))) (sym (answered_after (catalog_of s session) t.answer t.after))
+        (subst (Went s session held t.after) (ready_kept ready e) (stepped_so session (ask_of ready) (kept_so (sort_bound ready.0.bound.statement) (held_at held session) request (catalog_of s session) session t) step))
+
+    execute_went : (p : Result (Meant × List Atom) SqlFault) → prepared (catalog_of s session) version text params ≡ p → Went s session held (executed s session p).after (kept_by request (executed s session p) (held_at held session))
+    execute_went (Ok ready) e = ready_went ready e
+    execute_went (Err f) e = refused_so session
+
+  pub went : (request : Request) → Went s (session_of request) held (serve s request).after (kept_by request (serve s request) (held_at held (session_of request)))
+  went (Describe session text declarations) =
+      subst (λ (after : State). Went s session held after (kept [] (held_at held session))) (sym (described_after s (describe (catalog_of s session) text declarations))) (unchanged session)
+  went (Execute session version text params) = execute_went session version text params (prepared (catalog_of s session) version text params) refl
+
+-- ---- records one after another
+
+pub served_append : (s : State) (xs ys : List (List Request)) → AreServedAgain s xs → AreServedAgain (after_records s xs) ys → AreServedAgain s (xs ++ ys)
+served_append s [] ys h g = g
+served_append s (x ∷ xs) ys h g = (h.0, h.1, served_append (after_requests s x) xs ys h.2 g)
+
+served_front : (s : State) (xs ys : List (List Request)) → AreServedAgain s (xs ++ ys) → AreServedAgain s xs
+served_front s [] ys h = tt
+served_front s (x ∷ xs) ys h = (h.0, h.1, served_front (after_requests s x) xs ys h.2)
+
+after_append : (s : State) (xs ys : List (List Request)) → after_records s (xs ++ ys) ≡ after_records (after_records s xs) ys
+after_append s [] ys = refl
+after_append s (x ∷ xs) ys = after_append (after_requests s x) xs ys
+
+goes_append : (a b c : Counted) (xs ys : List (List Request)) → Goes a b xs → Goes b c ys → Goes a c (xs ++ ys)
+goes_append a b c xs ys f g = record {
+  served = served_append (idle a) xs ys f.served (subst (λ x. AreServedAgain x ys) (sym f.after) g.served);
+  after = after_append (idle a) xs ys ∙ ap (λ x. after_records x ys) f.after ∙ g.after;
+}
+
+-- ---- requests one after another
+
+pub record AllWent (s : State) (held : List (List Request)) (requests : List Request) : Type 0 where
+  pub logs : List (List Deed)
+  pub left : List (List Request)
+  pub so : IsHeldOf (after_requests s requests) logs left
+  pub goes : Goes s.shared (after_requests s requests).shared (recorded s held requests)
+
+all_went : (requests : List Request) (s : State) (logs : List (List Deed)) (held : List (List Request)) → IsHeldOf s logs held → AllWent s held requests
+all_went [] s logs held h = record { logs = logs; left = held; so = h; goes = record { served = tt; after = refl } }
+all_went (request ∷ requests) s logs held h =
+    let one = kept_by request (serve s request) (held_at held (session_of request)) in
+    let w = went s logs held h request in
+    let after = (serve s request).after in
+    let more = all_went requests after w.logs (with_held held (session_of request) one.held) w.so in
+    record {
+      logs = more.logs;
+      left = more.left;
+      so = more.so;
+      goes = goes_append s.shared after.shared (after_requests after requests).shared one.records (recorded after (with_held held (session_of request) one.held) requests) w.goes more.goes;
+    }
+
+-- nothing is held at first
+nothing_so : (s : State) → HasNoTransactions s → IsHeldOf s no_logs nothing_held
+nothing_so s none = record {
+  logged = nothing_logged s none;
+  long = ap (λ xs. length xs) none.none ∙ length_nobody 64;
+  logs_long = nothing_long {A = List Deed} 64 [];
+  held_long = nothing_long {A = List Request} 64 [];
+  slots = λ k. subst (λ o. Holds k o (slice_index_or no_logs k []) (slice_index_or nothing_held k [])) (sym (ap (λ xs. slice_index_or xs k None) none.none ∙ none_at 64 k)) (nothing_at {A = List Request} 64 k []);
+}
+
+pub replayed : (s : State) (requests : List Request) → HasNoTransactions s → IsReplayed s requests
+replayed s requests none =
+    let is : idle s.shared ≡ s = ap (λ ss. let x : Store = record { shared = s.shared; sessions = ss } in x) (sym none.none) in
+    let w = all_went requests s no_logs nothing_held (nothing_so s none) in
+    record {
+      served = subst (λ x. AreServedAgain x (recorded s nothing_held requests)) is w.goes.served;
+      shared = ap (λ x. (after_records x (recorded s nothing_held requests)).shared) (sym is) ∙ ap (λ (x : Store). x.shared) w.goes.after;
+    }
+
+-- behind records that are served again there is no transaction
+none_behind : (records : List (List Request)) (s : State) → HasNoTransactions s → AreServedAgain s records → HasNoTransactions (after_records s records)
+none_behind [] s none h = none
+none_behind (requests ∷ records) s none h =
+    let w = all_went requests s no_logs nothing_held (nothing_so s none) in
+    none_behind records (after_requests s requests) (record { counts = w.so.logged.counted.long; none = h.1 }) h.2
+
+pub fronts_accepted : (s : State) (records front : List (List Request)) (requests : List Request) → HasNoTransactions s → AreServedAgain s records → IsFront front (recorded (after_records s records) nothing_held requests)
+    → AreServedAgain s (records ++ front)
+fronts_accepted s records front requests none h f =
+    let given = after_records s records in
+    let r = replayed given requests (none_behind records s none h) in
+    served_append s records front h (served_front given front f.rest (subst (AreServedAgain given) f.is r.served))

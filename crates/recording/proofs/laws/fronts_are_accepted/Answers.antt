@@ -1,0 +1,5 @@
+use Rattle.recording.proofs.Replays.{fronts_accepted}
+use Rattle.recording.proofs.laws.fronts_are_accepted.Goals as goal
+
+pub returns : goal.returns
+returns c = fronts_accepted

@@ -1,0 +1,5 @@
+use Rattle.recording.proofs.Replays.{replayed}
+use Rattle.recording.proofs.laws.replay_law.Goals as goal
+
+pub returns : goal.returns
+returns c = replayed

@@ -1,0 +1,90 @@
+-- What a durable server records of requests, so that the shared world can be made again: each change and definition outside transactions by itself;
+-- and of each committed transaction that has changed something its BEGIN, its changes and its COMMIT.
+use Rattle.std.specs.Prelude.{ℕ, ◌-◌, List, [], ◌∷◌, ◌++◌, Bool, true, false, is_some, if◌then◌else◌, replicate, slice_index_or, slice_set}
+use Rattle.transactions.specs.Stores.{transaction_at}
+use Rattle.wire_messages.specs.Exchanges.{Served}
+use Rattle.wire_messages.specs.declared.replies.Done.TheVariants.{Defined, Changed}
+use Rattle.wire_messages.specs.declared.replies.Reply.{Reply}
+use Rattle.wire_messages.specs.declared.replies.Reply.TheVariants.{Ended}
+use Rattle.wire_messages.specs.declared.requests.Request.{Request}
+use Rattle.wire_messages.specs.declared.requests.Request.TheVariants.{Describe, Execute}
+use Rattle.server_core.specs.Serve.{State, serve, serve_all}
+use Rattle.server_core.specs.Sorts.{sort_of}
+use Rattle.server_core.specs.declared.sorts.Sort.{Sort}
+use Rattle.server_core.specs.declared.sorts.Sort.TheVariants.{Reads, Changes, Defines, Begins, Commits, RollsBack, NoStatement}
+
+-- accepted as a change, as a definition, or as BEGIN, COMMIT or ROLLBACK
+abbrev pub is_done : List Reply → Bool
+is_done (Ended Defined ∷ []) = true
+is_done (Ended (Changed count) ∷ []) = true
+is_done other = false
+
+-- ---- one request
+
+-- what a request adds to the records, and what is held of its session's transaction after it
+pub record Kept : Type 0 where
+  pub records : List (List Request)
+  pub held : List Request
+
+abbrev pub kept : List (List Request) → List Request → Kept
+kept records held = record { records = records; held = held }
+
+-- of a statement that is done: nothing is held of a session without a transaction, else its BEGIN and its changes so far
+abbrev pub kept_of : Sort → List Request → Request → Kept
+kept_of Reads held request = kept [] held
+kept_of Changes [] request = kept ((request ∷ []) ∷ []) []
+kept_of Changes (begin ∷ changes) request = kept [] (begin ∷ changes ++ request ∷ [])
+kept_of Defines held request = kept ((request ∷ []) ∷ []) held
+kept_of Begins held request = kept [] (request ∷ [])
+kept_of Commits [] request = kept [] []
+kept_of Commits (begin ∷ []) request = kept [] []
+kept_of Commits (begin ∷ change ∷ changes) request = kept ((begin ∷ change ∷ changes ++ request ∷ []) ∷ []) []
+kept_of RollsBack held request = kept [] []
+kept_of NoStatement held request = kept [] held
+
+-- of one that isn't done, where its session has a transaction after it, or hasn't: a COMMIT that is refused may have ended it
+abbrev pub kept_where : Bool → List Request → Kept
+kept_where true held = kept [] held
+kept_where false held = kept [] []
+
+abbrev pub has_transaction : State → ℕ → Bool
+has_transaction state session = is_some (transaction_at state session)
+
+-- of a request that is served so
+abbrev pub kept_by : Request → Served State → List Request → Kept
+kept_by (Describe session text declarations) served held = kept [] held
+kept_by (Execute session version text params) served held =
+    if is_done served.replies then kept_of (sort_of text) held (Execute session version text params) else kept_where (has_transaction served.after session) held
+
+-- ---- requests one after another
+
+-- what is held of each session's transaction; sessions are numbered from 1 to 64
+abbrev pub nothing_held : List (List Request)
+nothing_held = replicate 64 []
+
+abbrev pub held_at : List (List Request) → ℕ → List Request
+held_at held session = slice_index_or held (session - 1) []
+
+abbrev pub with_held : List (List Request) → ℕ → List Request → List (List Request)
+with_held held session requests = slice_set held (session - 1) requests
+
+abbrev pub session_of : Request → ℕ
+session_of (Describe session text declarations) = session
+session_of (Execute session version text params) = session
+
+-- the records of the requests that are served from that state, of whose transactions so much is held
+abbrev pub recorded : State → List (List Request) → List Request → List (List Request)
+recorded state held [] = []
+recorded state held (request ∷ requests) =
+    let served = serve state request in
+    let one = kept_by request served (held_at held (session_of request)) in
+    one.records ++ recorded served.after (with_held held (session_of request) one.held) requests
+
+-- ---- served again
+
+abbrev pub after_requests : State → List Request → State
+after_requests state requests = (serve_all state requests).1
+
+abbrev pub after_records : State → List (List Request) → State
+after_records state [] = state
+after_records state (requests ∷ records) = after_records (after_requests state requests) records

@@ -1,0 +1,71 @@
+//! The sort of each text, and which session has a transaction.
+
+use ae_base::sessions::SessionId;
+use server_core::server::Server;
+use server_core::sorts::Sort;
+use std::alloc::{AllocError, Global};
+use std::test::Fail;
+use wire_frames::{Decoded, decode_request};
+use wire_parts::parts::TxtPart;
+use wire_parts::texts::StatementPart;
+
+const SORTS: [(&str, Sort); 11] = [
+    ("SELECT a FROM t", Sort::Reads),
+    ("INSERT INTO t (a) VALUES (1)", Sort::Changes),
+    ("UPDATE t SET a = 1", Sort::Changes),
+    ("DELETE FROM t", Sort::Changes),
+    ("CREATE TABLE t (a INT)", Sort::Defines),
+    ("DROP TABLE t", Sort::Defines),
+    ("BEGIN TRANSACTION", Sort::Begins),
+    ("COMMIT", Sort::Commits),
+    ("ROLLBACK", Sort::RollsBack),
+    ("BEGIN", Sort::NoStatement),
+    ("SELECT a FROM", Sort::NoStatement),
+];
+
+fn sort_of(alloc: Global, server: &Server, text: &str) -> Result<Option<Sort>, AllocError> {
+    match StatementPart::from_part(TxtPart::lent(text)) {
+        Some(text) => Ok(Some(server.sort_of(alloc, &text)?)),
+        None => Ok(None),
+    }
+}
+
+#[test]
+fn each_text_has_its_sort(rt: HostRuntime) -> Result<(), Fail> {
+    let alloc = rt.alloc();
+    let server = Server::new(alloc);
+    for (text, sort) in SORTS {
+        assert!(rt; sort_of(alloc, &server, text)? == Some(sort));
+    }
+    Ok(())
+}
+
+// Session 2 begins a transaction where nothing is defined.
+const BEGIN: &[u8] =
+    b"\x01\x02\x00\x00\x00\x20\x00\x02\x00\x00\x00\x00\x00\x00\x00\x00\x00\x00\x00\x11BEGIN TRANSACTION\x00";
+
+fn is_served(alloc: Global, server: &mut Server, frame: &[u8]) -> Result<bool, AllocError> {
+    match decode_request(alloc, frame) {
+        Decoded::One(request, _) => {
+            let replies = server.serve(alloc, &request)?;
+            Ok(replies.len() == 1)
+        }
+        Decoded::NotYet | Decoded::Bad | Decoded::OutOfMemory => Ok(false),
+    }
+}
+
+fn has_transaction(server: &Server, session: u16) -> bool {
+    match SessionId::from_number(session) {
+        Some(session) => server.has_transaction(session),
+        None => false,
+    }
+}
+
+#[test]
+fn a_transaction_is_of_its_session(rt: HostRuntime) -> Result<(), Fail> {
+    let alloc = rt.alloc();
+    let mut server = Server::new(alloc);
+    assert!(rt; is_served(alloc, &mut server, BEGIN)?);
+    assert!(rt; has_transaction(&server, 2) && !has_transaction(&server, 1));
+    Ok(())
+}

@@ -1,0 +1,101 @@
+-- The sort of a text is that of the statement that it means.
+use Rattle.std.proofs.Common.{◌≡◌, ℕ, List, [], Result, Ok, Err, ap, ◌∙◌, Bool, true, false}
+use Rattle.std.specs.Prelude.{◌==◌, map, if◌then◌else◌}
+use Rattle.ae_base.specs.Atoms.{Atom}
+use Rattle.ae_base.specs.Results.{◌>>=◌}
+use Rattle.ae_base.specs.declared.batches.ParamDecl.{ParamDecl}
+use Rattle.ae_base.specs.declared.faults.SqlFault.{SqlFault}
+use Rattle.ae_base.specs.declared.faults.SqlFault.TheVariants as fault
+use Rattle.sql_tree.specs.Bound.{BoundStatement, Bound}
+use Rattle.sql_tree.specs.Bound as bound
+use Rattle.sql_tree.specs.Statements.{Statement}
+use Rattle.sql_tree.specs.Statements as tree
+use Rattle.catalog.specs.Catalogs.{Catalog}
+use Rattle.resolve.specs.Bind.{bound_over, resolution, bind}
+use Rattle.resolve.specs.Changes.{bind_insert, bind_update, bind_delete}
+use Rattle.resolve.specs.Definitions.{bind_definition, table_sites, new_sites}
+use Rattle.resolve.specs.Queries.{bind_query}
+use Rattle.resolve.specs.Scopes.{sites_of}
+use Rattle.resolve.specs.Tables.{table_for, sources_for, all_sources}
+use Rattle.semantic_checks.specs.Checks.{check_of}
+use Rattle.wire_messages.specs.declared.params.SentParam.{SentParam}
+use Rattle.server_core.specs.Describing.{Meant, understood}
+use Rattle.server_core.specs.Params.{declaration_of, suited}
+use Rattle.server_core.specs.Serve.{understood_at, prepared}
+use Rattle.server_core.specs.Sorts.{sort_of_control, sort_of_statement, sort_of_parsed, sort_of}
+use Rattle.server_core.specs.declared.sorts.Sort.{Sort}
+use Rattle.server_core.specs.declared.sorts.Sort.TheVariants.{Reads, Changes, Defines}
+use Rattle.server_core.proofs.Understanding.{went_on, parts_of}
+
+-- the sort of a bound statement
+abbrev pub sort_bound : BoundStatement → Sort
+sort_bound (bound.Definition d) = Defines
+sort_bound (bound.Insert i) = Changes
+sort_bound (bound.Update u) = Changes
+sort_bound (bound.Delete d) = Changes
+sort_bound (bound.Select q) = Reads
+sort_bound (bound.Control control) = sort_of_control control
+
+abbrev sort_in : Result Bound SqlFault → Sort
+sort_in (Ok b) = sort_bound b.statement
+sort_in (Err f) = Reads
+
+same_sort : (b c : Bound) → (let r : Result Bound SqlFault = Ok b in r ≡ Ok c) → sort_bound b.statement ≡ sort_bound c.statement
+same_sort b c e = ap sort_in e
+
+resolved_sort : (catalog : Catalog) (s : Statement) (declarations : List ParamDecl) (b : Bound) → resolution catalog s declarations ≡ Ok b → sort_of_statement s ≡ sort_bound b.statement
+resolved_sort catalog (tree.Definition definition) declarations b e =
+    let p = went_on (bind_definition catalog definition) (λ made. Ok (bound_over declarations (new_sites made) (bound.Definition made))) b e in
+    same_sort (bound_over declarations (new_sites p.0) (bound.Definition p.0)) b p.2
+resolved_sort catalog (tree.Insert table columns rows) declarations b e =
+    let t = went_on (table_for catalog table) (λ def. bind_insert declarations def table columns rows >>= λ insert. Ok (bound_over declarations (table_sites def) (bound.Insert insert))) b e in
+    let p = went_on (bind_insert declarations t.0 table columns rows) (λ insert. Ok (bound_over declarations (table_sites t.0) (bound.Insert insert))) b t.2 in
+    same_sort (bound_over declarations (table_sites t.0) (bound.Insert p.0)) b p.2
+resolved_sort catalog (tree.Update table assignments filter) declarations b e =
+    let t = went_on (table_for catalog table) (λ def. bind_update declarations def table assignments filter >>= λ update. Ok (bound_over declarations (table_sites def) (bound.Update update))) b e in
+    let p = went_on (bind_update declarations t.0 table assignments filter) (λ update. Ok (bound_over declarations (table_sites t.0) (bound.Update update))) b t.2 in
+    same_sort (bound_over declarations (table_sites t.0) (bound.Update p.0)) b p.2
+resolved_sort catalog (tree.Delete table filter) declarations b e =
+    let t = went_on (table_for catalog table) (λ def. bind_delete declarations def table filter >>= λ delete. Ok (bound_over declarations (table_sites def) (bound.Delete delete))) b e in
+    let p = went_on (bind_delete declarations t.0 table filter) (λ delete. Ok (bound_over declarations (table_sites t.0) (bound.Delete delete))) b t.2 in
+    same_sort (bound_over declarations (table_sites t.0) (bound.Delete p.0)) b p.2
+resolved_sort catalog (tree.Select query) declarations b e =
+    let t = went_on (sources_for catalog query) (λ sources. bind_query declarations sources query >>= λ q. Ok (bound_over declarations (sites_of (all_sources sources)) (bound.Select q))) b e in
+    let p = went_on (bind_query declarations t.0 query) (λ q. Ok (bound_over declarations (sites_of (all_sources t.0)) (bound.Select q))) b t.2 in
+    same_sort (bound_over declarations (sites_of (all_sources t.0)) (bound.Select p.0)) b p.2
+resolved_sort catalog (tree.Control control) declarations b e = same_sort (bound_over declarations [] (bound.Control control)) b e
+
+bound_sort : (catalog : Catalog) (s : Statement) (declarations : List ParamDecl) (b : Bound) → bind catalog s declarations ≡ Ok b → sort_of_statement s ≡ sort_bound b.statement
+unfolding bind
+bound_sort catalog s declarations b e =
+    let p = went_on (resolution catalog s declarations) (λ bound. check_of bound >>= λ fine. Ok bound) b e in
+    let q = went_on (check_of p.0) (λ fine. Ok p.0) b p.2 in
+    resolved_sort catalog s declarations p.0 p.1 ∙ same_sort p.0 b q.2
+
+understood_sort : (catalog : Catalog) (text : List ℕ) (declarations : List ParamDecl) (meant : Meant) → understood catalog text declarations ≡ Ok meant → sort_of text ≡ sort_bound meant.bound.statement
+understood_sort catalog text declarations meant h =
+    let p = parts_of catalog text declarations meant h in
+    ap sort_of_parsed p.reads ∙ bound_sort catalog p.statement declarations meant.bound p.binds
+
+at_sort : (catalog : Catalog) (version : ℕ) (text : List ℕ) (params : List SentParam) (meant : Meant) → understood_at catalog version text params ≡ Ok meant → sort_of text ≡ sort_bound meant.bound.statement
+at_sort catalog version text params meant = by (version == catalog.version)
+  where
+    by : (b : Bool)
+        → (if b then understood catalog text (map declaration_of params) else Err (fault.Moved (record { seen = version; now = catalog.version }))) ≡ Ok meant
+        → sort_of text ≡ sort_bound meant.bound.statement
+    by true h = understood_sort catalog text (map declaration_of params) meant h
+    by false h = absurd cc
+
+ready_meant : (m : Meant) (a : List Atom) (ready : Meant × List Atom) → (let r : Result (Meant × List Atom) SqlFault = Ok (m, a) in r ≡ Ok ready) → m ≡ ready.0
+ready_meant m a ready e = ap meant_in e
+  where
+    meant_in : Result (Meant × List Atom) SqlFault → Meant
+    meant_in (Ok ready) = ready.0
+    meant_in (Err f) = m
+
+-- what is ready to be executed has the sort of its text
+pub prepared_sort : (catalog : Catalog) (version : ℕ) (text : List ℕ) (params : List SentParam) (ready : Meant × List Atom) → prepared catalog version text params ≡ Ok ready → sort_of text ≡ sort_bound ready.0.bound.statement
+prepared_sort catalog version text params ready h =
+    let m = went_on (understood_at catalog version text params) (λ meant. suited meant.encs params >>= λ atoms. Ok (meant, atoms)) ready h in
+    let s = went_on (suited m.0.encs params) (λ atoms. Ok (m.0, atoms)) ready m.2 in
+    at_sort catalog version text params m.0 m.1 ∙ ap (λ (x : Meant). sort_bound x.bound.statement) (ready_meant m.0 s.0 ready s.2)
