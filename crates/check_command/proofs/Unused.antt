@@ -41,7 +41,7 @@ use Rattle.conversation.specs.declared.outcomes.Outcome.TheVariants as outcome_o
 use Rattle.std.specs.declared.alloc.AllocError.{AllocError}
 use Rattle.conversation.specs.Pending.{Pending, Use, uses_in, uses_of}
 use Rattle.conversation.specs.Sessions.{encs_of, with_enc}
-use Rattle.plain_meaning.specs.Reference.{Came, came, declarations_of, pending}
+use Rattle.plain_meaning.specs.Reference.{Came, declarations_of, pending}
 use Rattle.plain_meaning.specs.Reference as plain
 use Rattle.plain_meaning.proofs.Interface.{parts_of, understood_alone, transact_alone}
 use Rattle.check_command.proofs.Following.{bind_ok}
@@ -236,7 +236,7 @@ module _ (law : PreparedAlone) (state : State) (number : ℕ) (batch : Batch) (m
       let a = alone_is in
       rw (v, a) (ap (λ (t : Transacted). answered here t.answer t.after) alone_does)
 
-  means_so : plain.execution_of [] state number p ≡ came (plain.answered [] here did.answer) None did.after
+  means_so : plain.execution_of [] state number p ≡ plain.came_by [] here did
   means_so =
       let v = eq-eqb here.version here.version refl in
       ap (λ us. plain.executed_with [] state number p (plain.why_unopened [] p.keys (map (λ (u : Use). u.enc) us))) no_use

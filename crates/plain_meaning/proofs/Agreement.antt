@@ -13,15 +13,11 @@ use Rattle.ae_base.specs.declared.faults.SqlFault.{SqlFault}
 use Rattle.ae_base.specs.declared.faults.SqlFault.TheVariants.{Moved}
 use Rattle.ae_edge.specs.Vaults.{KeyMap}
 use Rattle.catalog.specs.Catalogs.{Catalog}
-use Rattle.enc_types.specs.Laws.{TypingsAreOfColumns}
 use Rattle.enc_types.specs.UsedAlone.{used_among, is_used, alone}
 use Rattle.resolve.specs.Bind.{type_of}
-use Rattle.resolve.specs.Laws.{BoundStatementsAre, PreparedAlone}
 use Rattle.engine.specs.BoundOn.{IsBoundOn}
-use Rattle.engine.specs.Laws.{StepKeepsWorlds, RowsAreShown, TypedStatementsAreAdmitted}
 use Rattle.engine.specs.Step.{Answer, Rows, Changed, Defined, step}
 use Rattle.transactions.specs.Counted.{Counted, Execution, execution}
-use Rattle.transactions.specs.Laws.{TransactionsKeepStores, TransactionsSimulate}
 use Rattle.transactions.specs.WellKept.{MayAsk}
 use Rattle.transactions.specs.Stores.{Ask, Executes, ask_of, Transaction, Transacted, transaction_at, seen_by, world_of, transact}
 use Rattle.transactions.proofs.Interface.{asks_alike, may_ask, same_execution, rows_by_step, seen_well, seen_alike, shared_by, slot_of, set_back}
@@ -53,13 +49,13 @@ use Rattle.ae_base.specs.declared.keys.KeyMeta.{KeyMeta}
 use Rattle.ae_base.specs.declared.types.Enc.{Enc}
 use Rattle.aes_block.specs.Aes.{IsBlock}
 use Rattle.aes_block.specs.Bytes.{AreBytes}
-use Rattle.catalog.specs.Laws.{DefinitionsKeepCatalogs, DefinitionsAreFollowed, IdsAreNotReused, KeysAreTold}
 use Rattle.scalar.specs.Classes.{BothAnswer, RowsCorrespond}
 use Rattle.engine.specs.Correspond.{AnswersCorrespond, class_of_result}
 use Rattle.engine.specs.Typed.{param_classes, IsTypedBy}
 use Rattle.wire_messages.specs.declared.params.SentParam.{SentParam}
 use Rattle.wire_messages.specs.declared.replies.Reply.{Reply}
 use Rattle.hmac_kdf.specs.Keys.{Keys}
+use Rattle.plain_meaning.specs.Below.{LawsBelow}
 use Rattle.plain_meaning.specs.Laws.{Agrees, EndsWith, ServedIsPlain}
 use Rattle.plain_meaning.specs.Reference.{Came, came, declarations_of, means, nothing_held, held_at, with_held, reference}
 use Rattle.plain_meaning.specs.Steps.{number_of, turn, talk}
@@ -74,7 +70,6 @@ use Rattle.plain_meaning.proofs.Between.{StandsFor, IsSendableParam, DescribedAs
 use Rattle.plain_meaning.proofs.Growing.{step_grows}
 use Rattle.plain_meaning.proofs.History.{IsTold, Grows}
 use Rattle.plain_meaning.proofs.Pairs.{Extends, stands, Standing, standing_is_one_to_one, standing_is_within}
-use Rattle.plain_meaning.proofs.Sealed.{SealLaws}
 use Rattle.plain_meaning.proofs.Sending.{Each, each_over, told_among, params_used, encs_used, encs_found, all_fit}
 use Rattle.plain_meaning.proofs.Rows.{rows_opened, rows_skipped}
 use Rattle.plain_meaning.proofs.Told.{IsMetaOf, are_told}
@@ -82,22 +77,6 @@ use Rattle.plain_meaning.proofs.Understood.{understood_alone, transact_alone}
 use Rattle.plain_meaning.proofs.Used.{tys_in, plain_in, atoms_in, uses_sendable, all_sendable, sent_declared, sent_suited, sent_typed, sent_stands, sent_long, encs_there, columns_there, used_encs, types_declared}
 use Rattle.plain_meaning.proofs.Walk.{AnswersOf, AreSealed, encs_in, types_shown, same_uses, unopened_is, sealing_goes, read_by, skipped_by, reading_goes, sixteen}
 use Rattle.plain_meaning.proofs.Versions.{Newer, step_leaves}
-
--- the laws of the layers below
-pub record Laws : Type 0 where
-  pub bound : BoundStatementsAre
-  pub prepared : PreparedAlone
-  pub typings : TypingsAreOfColumns
-  pub admitted : TypedStatementsAreAdmitted
-  pub keeps : StepKeepsWorlds
-  pub keeps_stores : TransactionsKeepStores
-  pub shown : RowsAreShown
-  pub simulates : TransactionsSimulate
-  pub reused : IdsAreNotReused
-  pub followed : DefinitionsAreFollowed
-  pub told : KeysAreTold
-  pub catalogs : DefinitionsKeepCatalogs
-  pub seals : SealLaws
 
 -- ---- outcomes, one after another
 
@@ -147,7 +126,7 @@ pub record Ready (keys : KeyMap) (history : List KeyMeta) (now : State) (n : ℕ
   pub metas : Each (IsMetaOf p.keys history) (encs_in (uses_of p))
   pub shown : (columns : List ResultColumn) (rows : List (List Atom)) → (done_alone now n meant sent).answer ≡ Ok (Rows columns rows) → Each (λ (c : ResultColumn). IsMetaOf (keys_of (catalog_of now n) (plain.encs_shown columns)) history c.enc) columns
 
-module _ (laws : Laws) (keys : KeyMap) (history : List KeyMeta) (now : State) (n : ℕ) (known : IsTold history (catalog_of now n)) (well : IsCatalog (catalog_of now n)) where
+module _ (laws : LawsBelow) (keys : KeyMap) (history : List KeyMeta) (now : State) (n : ℕ) (known : IsTold history (catalog_of now n)) (well : IsCatalog (catalog_of now n)) where
   -- the keys that are told with a description are those of the history
   pub keys_told : (p : Pending) → DescribedAs (catalog_of now n) p → Each (IsMetaOf p.keys history) (encs_in (uses_of p))
   keys_told p d =
@@ -239,7 +218,7 @@ module _ (laws : Laws) (keys : KeyMap) (history : List KeyMeta) (now : State) (n
         },
       )
 
-module _ (laws : Laws) (keys : KeyMap) where
+module _ (laws : LawsBelow) (keys : KeyMap) where
   -- the session goes on, and no other one is touched
   pub record Goes (state : State) (n : ℕ) (now : State) (after : Option Pending) : Type 0 where
     pub newer : Newer state.shared.world.catalog now.shared.world.catalog
@@ -515,5 +494,5 @@ module _ (laws : Laws) (keys : KeyMap) where
 
 -- ---- from the beginning
 
-pub served_is_plain : Laws → ServedIsPlain
+pub served_is_plain : LawsBelow → ServedIsPlain
 served_is_plain laws keys steps within proper entropy bytes = talk_agrees laws keys steps within proper nothing_held empty_state empty_state [] (empty_stands laws.catalogs keys) all_held 0 entropy bytes

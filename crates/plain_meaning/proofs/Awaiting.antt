@@ -14,22 +14,18 @@ use Rattle.ae_base.specs.declared.faults.SqlFault.TheVariants.{Moved}
 use Rattle.ae_base.specs.declared.values.Value.{Value}
 use Rattle.aes_block.specs.Aes.{IsBlock}
 use Rattle.hmac_kdf.specs.Keys.{Keys}
-use Rattle.enc_types.specs.Laws.{TypingsAreOfColumns}
 use Rattle.enc_types.specs.UsedAlone.{is_used}
 use Rattle.resolve.specs.Bind.{type_of}
-use Rattle.resolve.specs.Laws.{BoundStatementsAre}
 use Rattle.scalar.specs.Classes.{BothAnswer, RowsCorrespond}
 use Rattle.engine.specs.BoundOn.{IsBoundOn}
 use Rattle.engine.specs.Correspond.{Related, AnswersCorrespond, class_of_result}
-use Rattle.engine.specs.Laws.{TypedStatementsAreAdmitted}
 use Rattle.catalog.specs.Catalogs.{Catalog}
 use Rattle.catalog.specs.Laws.{DefinitionsKeepCatalogs}
 use Rattle.transactions.specs.Counted.{Execution, nothing_counted, execution}
-use Rattle.transactions.specs.Laws.{TransactionsKeepStores, TransactionsSimulate}
 use Rattle.transactions.specs.Stores.{ask_of, world_of, transact}
 use Rattle.transactions.specs.WellKept.{IsOpen}
 use Rattle.transactions.proofs.Interface.{asks_alike, may_ask}
-use Rattle.server_core.proofs.Interface.{no_sessions, parts_of}
+use Rattle.server_core.proofs.Interface.{no_sessions, parts_of, own_cell, own_cells, own_is_one_to_one, own_is_within}
 use Rattle.engine.specs.Step.{Answer, Rows, Changed, Defined}
 use Rattle.engine.specs.Typed.{param_classes}
 use Rattle.engine.specs.WellTyped.{AreValuesOf, AreResults, IsAnswerOf}
@@ -57,24 +53,16 @@ use Rattle.script_lang.specs.declared.steps.Step.{Step}
 use Rattle.script_lang.specs.declared.steps.Step.TheVariants as steps_of
 use Rattle.wire_messages.specs.declared.requests.Request.TheVariants as request
 use Rattle.plain_meaning.specs.Awaits.{IsHeardBy, IsHeard, Awaits}
+use Rattle.plain_meaning.specs.Below.{LawsBelow}
 use Rattle.plain_meaning.specs.Laws.{RepliesAreAwaited}
 use Rattle.plain_meaning.specs.Steps.{number_of, turn, talk}
 use Rattle.plain_meaning.specs.Reference.{declarations_of, nothing_held, held_at, with_held}
 use Rattle.plain_meaning.proofs.Agreement.{whole_count}
 use Rattle.plain_meaning.proofs.Between.{resting, all_resting, at_resting, set_resting}
-use Rattle.plain_meaning.proofs.ItsOwn.{any_cell, own_cell, own_is_one_to_one, own_is_within, own_cells, are_own, IsOwnState}
+use Rattle.plain_meaning.proofs.ItsOwn.{any_cell, are_own, IsOwnState}
 use Rattle.plain_meaning.proofs.Sending.{encs_found, told_among}
 use Rattle.plain_meaning.proofs.Rows.{IsAt, row_awaited, count_rows}
 use Rattle.plain_meaning.proofs.Walk.{types_shown, same_uses, sealing_goes, reading_goes}
-
--- the laws of the layers below
-pub record Laws : Type 0 where
-  pub bound : BoundStatementsAre
-  pub typings : TypingsAreOfColumns
-  pub admitted : TypedStatementsAreAdmitted
-  pub keeps : TransactionsKeepStores
-  pub simulates : TransactionsSimulate
-  pub catalogs : DefinitionsKeepCatalogs
 
 -- ---- keys and random bytes, whichever they are
 
@@ -136,7 +124,7 @@ module _ (columns : List ResultColumn) (total : ℕ) where
         (λ values. read rows more c.1 (with_row shown values) (count + 1) s)
         (λ f. skipped (λ heard left. Awaits serve (over_on k heard) now left) rows more c.1 nothing_shown (count + 1) s go))
 
-module _ (laws : Laws) where
+module _ (laws : LawsBelow) where
   -- whatever a turn comes to, the conversation goes on so that each reply is awaited
   abbrev Onward : (Session → Talk) → Type 0
   Onward k = (after : Option Pending) (now : State) → IsOwnState now → Awaits serve (k (resting after)) now []
@@ -190,7 +178,7 @@ module _ (laws : Laws) where
         let e : Execution = record { bound = b; encs = meant.encs; params = atoms } in
         let may = may_ask any_cell (world_of state n).world b.statement e (record { bound = on; typed = admitted; values = values }) in
         let alike_asked = asks_alike (Related own_cell) b.statement e e (record { bound = refl; encs = refl; params = pairs }) in
-        let kept = laws.keeps any_cell state n (ask_of e) own.typed may in
+        let kept = laws.keeps_stores any_cell state n (ask_of e) own.typed may in
         let sim = laws.simulates any_cell own_cell state state n (ask_of e) (ask_of e) own_is_one_to_one own_is_within own.typed own.paired alike_asked may in
         let done = transact state n (ask_of e) in
         answer_awaits done.after (record { typed = kept.0; paired = sim.stores }) done.answer kept.1 sim.answers
@@ -281,5 +269,5 @@ empty_is_own law = record {
   paired = record { shared = record { worlds = record { catalog = refl; contents = tt }; counts = refl }; sessions = no_sessions (Related own_cell) 64 };
 }
 
-pub replies_are_awaited : Laws → RepliesAreAwaited
+pub replies_are_awaited : LawsBelow → RepliesAreAwaited
 replies_are_awaited laws steps within = talk_awaits laws steps within nothing_held empty_state (empty_is_own laws.catalogs)

@@ -14,10 +14,11 @@ use Rattle.enc_types.specs.UsedAlone.{used_among, is_used}
 use Rattle.transactions.specs.Correspond.{CountedCorrespond, SessionsCorrespond, StoresCorrespond}
 use Rattle.transactions.specs.Counted.{Counted}
 use Rattle.transactions.specs.Stores.{Transaction, transaction_at, seen_by}
+use Rattle.transactions.specs.WellKept.{IsStore}
 use Rattle.transactions.proofs.Interface.{zip_at, zip_set, all_at, all_set, IsOwnCatalog, IsSlotOf}
 use Rattle.server_core.specs.Describing.{Meant, understood, keys_of}
 use Rattle.server_core.specs.Serve.{State, empty_state, catalog_of}
-use Rattle.server_core.specs.States.{IsState}
+use Rattle.server_core.specs.States.{is_short}
 use Rattle.server_core.proofs.Interface.{no_sessions, empty_is_state}
 use Rattle.conversation.specs.Pending.{Pending}
 use Rattle.conversation.specs.declared.sessions.Session.{Session}
@@ -40,7 +41,7 @@ pub record StandsFor (keys : KeyMap) (history : List KeyMeta) (served plainly : 
   pub known : Known history served.shared.world.catalog
   pub told : All (IsTransactionTold history) served.sessions
   pub stores : StoresCorrespond (Standing keys history) served plainly
-  pub state : IsState served
+  pub state : IsStore is_short served
 
 told_by : (history : List KeyMeta) (shared : Counted) (o : Option Transaction) → IsTold history shared.world.catalog → IsTransactionTold history o → IsTold history (seen_by shared o).world.catalog
 told_by history shared None h k = h
@@ -181,5 +182,5 @@ empty_stands law keys = record {
   known = record { told = λ id m e. absurd cc; below = λ id m e. absurd cc };
   told = nothing_told 64;
   stores = record { shared = record { worlds = record { catalog = refl; contents = tt }; counts = refl }; sessions = no_sessions (Standing keys []) 64 };
-  state = empty_is_state law;
+  state = (empty_is_state law).store;
 }

@@ -1,7 +1,7 @@
 -- What crates above may cite of the proofs of this one. The rest is free to change.
 
 -- Over the server a script comes to its plaintext meaning, sealed values and all.
-pub use Rattle.plain_meaning.proofs.Agreement.{Goes, Laws, encs_alone, execution_alone, is_held}
+pub use Rattle.plain_meaning.proofs.Agreement.{Goes, encs_alone, execution_alone, is_held}
 pub use Rattle.plain_meaning.proofs.Agreement.{is_ready, keys_told, plain_atoms_of, stands_on}
 pub use Rattle.plain_meaning.proofs.Agreement.{whole_count}
 -- The worlds and the sessions between steps.
@@ -15,7 +15,7 @@ pub use Rattle.plain_meaning.proofs.History.{IsTold}
 pub use Rattle.plain_meaning.proofs.Pairs.{Extends, Standing, standing_is_one_to_one, stands_longer}
 -- What is sealed stands for its value, has the shape of its type's cells, and is let in.
 pub use Rattle.plain_meaning.proofs.Sealed.{Cell, Cellular, IsRndSeal, IsSealOf, IsSealed}
-pub use Rattle.plain_meaning.proofs.Sealed.{IsSendable, Nothing, SealLaws, det_cellular}
+pub use Rattle.plain_meaning.proofs.Sealed.{IsSendable, Nothing, det_cellular}
 pub use Rattle.plain_meaning.proofs.Sealed.{rnd_cellular, sealed_stands}
 -- The parameters that a driver sends: those that the statement uses, in the order of their declarations, each with its value.
 pub use Rattle.plain_meaning.proofs.Sending.{Each, IsFit, all_fit, each_map, encs_found, told_among}

@@ -1,10 +1,12 @@
 mod Agreement
 mod Awaiting
 mod Between
+mod Causes
 mod Growing
 mod History
 pub mod Interface
 mod ItsOwn
+mod NeverFails
 mod Pairs
 mod Rows
 mod Sealed

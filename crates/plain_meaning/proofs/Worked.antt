@@ -3,6 +3,9 @@ use Rattle.std.proofs.Common.{◌≡◌, ℕ, List, [], ◌∷◌, Some, None, r
 use Rattle.std.specs.Prelude.{pos, codes}
 use lib.Utf8.{encode}
 use Rattle.ae_base.specs.declared.atoms.AtomOf.TheVariants as atom
+use Rattle.ae_base.specs.declared.types.Enc.{Enc}
+use Rattle.ae_base.specs.declared.types.Enc.TheVariants as enc
+use Rattle.ae_base.specs.declared.types.Ty.TheVariants as ty
 use Rattle.ae_base.specs.declared.values.Datum.TheVariants.{Num}
 use Rattle.ae_base.specs.declared.values.Value.TheVariants as value
 use Rattle.ae_edge.specs.Vaults.{KeyMap}
@@ -39,16 +42,20 @@ filled wrapped = keyed_with wrapped ((atom.Plain (Num (pos 5)) ∷ atom.Plain (N
 abbrev one_number : List ℕ → ℕ → Outcome
 one_number title n = Rows (record { titles = title ∷ []; rows = (value.Is (Num (pos n)) ∷ []) ∷ [] })
 
+-- one row of one number, and nothing else
+abbrev shows : List ℕ → ℕ → Enc → List ℕ → Came
+shows title n enc wrapped = record { comes = one_number title n; columns = record { title = title; ty = ty.Int; enc = enc } ∷ []; held = None; state = filled wrapped }
+
 module _ (master wrapped key : List ℕ) (unwraps : opened (vault master) (codes "main") wrapped ≡ Some key) where
   inserted : means (vault master) insertion None (keyed wrapped) ≡ came (Changed 1) None (filled wrapped)
   unfolding understood statement_in tree_of operand_in inner_in bind check_of inferred_encs least has_typing clash_behind rules encode
   inserted = rw unwraps refl
 
-  found : means (vault master) selection None (filled wrapped) ≡ came (one_number (codes "b") 7) None (filled wrapped)
+  found : means (vault master) selection None (filled wrapped) ≡ shows (codes "b") 7 enc.Plain wrapped
   unfolding understood statement_in tree_of operand_in inner_in bind check_of inferred_encs least has_typing clash_behind rules encode
   found = rw unwraps refl
 
-  listed : means (vault master) listing None (filled wrapped) ≡ came (one_number (codes "a") 5) None (filled wrapped)
+  listed : means (vault master) listing None (filled wrapped) ≡ shows (codes "a") 5 (enc.Det 1) wrapped
   unfolding understood statement_in tree_of operand_in inner_in bind check_of inferred_encs least has_typing clash_behind rules encode
   listed = rw unwraps refl
 

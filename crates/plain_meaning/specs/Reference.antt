@@ -16,7 +16,7 @@ use Rattle.engine.specs.Step.{Answer}
 use Rattle.engine.specs.Step as engine
 use Rattle.engine.specs.declared.answers.ResultColumn.{ResultColumn}
 use Rattle.transactions.specs.Counted.{execution}
-use Rattle.transactions.specs.Stores.{ask_of, transact}
+use Rattle.transactions.specs.Stores.{Transacted, ask_of, transact}
 use Rattle.wire_messages.specs.Messages.{Description}
 use Rattle.server_core.specs.Describing.{Meant, understood, describe, keys_of}
 use Rattle.server_core.specs.Serve.{State, catalog_of}
@@ -33,14 +33,16 @@ use Rattle.script_lang.specs.declared.steps.Step.{Step}
 use Rattle.script_lang.specs.declared.steps.Step.TheVariants.{Whole, Half, Execute}
 use Rattle.plain_meaning.specs.Steps.{number_of}
 
--- what a step comes to, and what its session holds after it, nothing or a described batch, and the plain state
+-- what a step comes to, the columns of its answer's rows, what its session holds after it, nothing or a described batch, and the plain state
 pub record Came : Type 0 where
   pub comes : Outcome
+  pub columns : List ResultColumn
   pub held : Option Pending
   pub state : State
 
+-- without rows
 abbrev pub came : Outcome → Option Pending → State → Came
-came comes held state = record { comes = comes; held = held; state = state }
+came comes held state = record { comes = comes; columns = []; held = held; state = state }
 
 -- what each session of a client holds between steps, by its number from 1 to 64
 abbrev pub nothing_held : List (Option Pending)
@@ -90,6 +92,15 @@ answered keys catalog (Ok (engine.Changed count)) = outcome.Changed count
 answered keys catalog (Ok engine.Defined) = outcome.Defined
 answered keys catalog (Err f) = outcome.Refused f
 
+abbrev pub columns_of : Result Answer SqlFault → List ResultColumn
+columns_of (Ok (engine.Rows columns rows)) = columns
+columns_of (Ok (engine.Changed count)) = []
+columns_of (Ok engine.Defined) = []
+columns_of (Err f) = []
+
+abbrev pub came_by : KeyMap → Catalog → Transacted → Came
+came_by keys catalog done = record { comes = answered keys catalog done.answer; columns = columns_of done.answer; held = None; state = done.after }
+
 -- ---- a described batch is executed
 
 abbrev pub declarations_of : Batch → List ParamDecl
@@ -98,8 +109,7 @@ declarations_of batch = map (λ p. p.declaration) batch.params
 -- the statement is bound over all declarations, and takes all values as they are
 abbrev pub stepped : KeyMap → State → ℕ → Batch → Result Meant SqlFault → Came
 stepped keys state number batch (Ok meant) =
-    let done = transact state number (ask_of (execution meant.bound meant.encs (map (λ p. plain_atom p.value) batch.params))) in
-    came (answered keys (catalog_of state number) done.answer) None done.after
+    came_by keys (catalog_of state number) (transact state number (ask_of (execution meant.bound meant.encs (map (λ p. plain_atom p.value) batch.params))))
 stepped keys state number batch (Err f) = came (outcome.Refused f) None state
 
 -- a key that isn't opened is the driver's fault; Moved where the catalog isn't that of the description

@@ -1,6 +1,7 @@
 //! The laws of the plaintext meaning: functions that do nothing, whose contracts are the laws.
 
-ghost use Rattle.plain_meaning.specs.Laws.{RepliesAreAwaited, ServedIsPlain};
+ghost use Rattle.plain_meaning.specs.Below.{LawsBelow};
+ghost use Rattle.plain_meaning.specs.Laws.{CellsNeverFail, RepliesAreAwaited, ServedIsPlain};
 
 use catalog::laws::{
     definitions_are_followed, definitions_keep_catalogs, ids_are_not_reused, keys_are_told,
@@ -12,12 +13,9 @@ use resolve::laws::{bound_statements_are, prepared_alone};
 use transactions::laws::{transactions_keep_stores, transactions_simulate};
 use value_norm::{norm_is_bounded, value_of_is_the_one};
 
-/// Over a fresh server the conversation of each script comes to the script's plaintext meaning, or
-/// to a front of it where random bytes are short; no reply is one that isn't awaited. So it is
-/// whatever columns are protected, over proper values and random bytes: a cell stands for the value
-/// that it opens to under its class's key, and in a deterministic class it is that value's seal.
-pub fn served_is_plain()
-    ensures { ServedIsPlain }
+/// What the crates below promise, as one law for those that speak of whole scripts.
+pub fn laws_below()
+    ensures { LawsBelow }
 {
     bound_statements_are();
     prepared_alone();
@@ -38,15 +36,28 @@ pub fn served_is_plain()
     value_of_is_the_one();
 }
 
+/// Over a fresh server the conversation of each script comes to the script's plaintext meaning, or
+/// to a front of it where random bytes are short; no reply is one that isn't awaited. So it is
+/// whatever columns are protected, over proper values and random bytes: a cell stands for the value
+/// that it opens to under its class's key, and in a deterministic class it is that value's seal.
+pub fn served_is_plain()
+    ensures { ServedIsPlain }
+{
+    laws_below();
+}
+
 /// Over a fresh server each reply of a script's conversation is awaited, and none is left, whatever
 /// keys are opened, or refused, and whatever bytes are drawn.
 pub fn replies_are_awaited()
     ensures { RepliesAreAwaited }
 {
-    bound_statements_are();
-    typings_are_of_columns();
-    typed_statements_are_admitted();
-    transactions_keep_stores();
-    transactions_simulate();
-    definitions_keep_catalogs();
+    laws_below();
+}
+
+/// No outcome of a plaintext meaning is `CellFailed`, `BadCell` or `ParamClash`, and no answer of it
+/// breaks off. So over a fresh server no script comes to one.
+pub fn cells_never_fail()
+    ensures { CellsNeverFail }
+{
+    served_is_plain();
 }

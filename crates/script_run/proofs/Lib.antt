@@ -8,6 +8,7 @@ mod Leaving
 mod Lent
 mod NoStray
 mod Passing
+mod PlainText
 mod Places
 mod Plainly
 mod Queued

@@ -3,6 +3,7 @@ pub mod ClientSides
 pub mod Ends
 pub mod Frames
 pub mod Heard
+pub mod Laws
 pub mod Connections
 pub mod Onward
 pub mod Plain

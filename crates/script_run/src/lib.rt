@@ -8,6 +8,7 @@ pub mod commands;
 pub mod connection;
 pub mod env;
 mod hearing;
+pub mod laws;
 mod nowhere;
 pub mod peer_connection;
 pub mod runs;

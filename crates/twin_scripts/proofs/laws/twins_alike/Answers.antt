@@ -2,26 +2,4 @@ use Rattle.twin_scripts.proofs.TwinsAlike.{twins_alike}
 use Rattle.twin_scripts.proofs.laws.twins_alike.Goals as goal
 
 pub returns : goal.returns
-returns c = twins_alike (record {
-  bound = c.bound_statements_are.ensures;
-  prepared = c.prepared_alone.ensures;
-  typings = c.typings_are_of_columns.ensures;
-  admitted = c.typed_statements_are_admitted.ensures;
-  keeps = c.step_keeps_worlds.ensures;
-  keeps_stores = c.transactions_keep_stores.ensures;
-  shown = c.rows_are_shown.ensures;
-  simulates = c.transactions_simulate.ensures;
-  catalogs = c.definitions_keep_catalogs.ensures;
-  reused = c.ids_are_not_reused.ensures;
-  followed = c.definitions_are_followed.ensures.each;
-  told = c.keys_are_told.ensures.told;
-  seals = record {
-    back = c.sealing_is_read_back.ensures.randomized;
-    cell = c.sealing_makes_cells.ensures.cell;
-    shape = c.sealing_makes_cells.ensures.shape;
-    derived = c.derived_keys_are_keys.ensures.keys;
-    vector = c.derived_keys_are_keys.ensures.iv;
-    bounded = c.norm_is_bounded.ensures;
-    the_one = c.value_of_is_the_one.ensures;
-  };
-})
+returns c = twins_alike c.laws_below.ensures

@@ -1,0 +1,14 @@
+//! The law of what runs print: a function that does nothing, whose contract is the law.
+
+ghost use Rattle.script_run.specs.Laws.{RunsPrintPlainText};
+
+use plain_meaning::laws::cells_never_fail;
+
+/// What a run puts to its output over a peer that serves from the empty state, with keys that are
+/// told, is the text of outcomes, or a front of it: none of them is `CellFailed`, `BadCell` or
+/// `ParamClash`, and no answer breaks off.
+pub fn runs_print_plain_text()
+    ensures { RunsPrintPlainText }
+{
+    cells_never_fail();
+}
