@@ -10,24 +10,39 @@ use ae_base::blobs::Blob;
 use ae_edge::adapters::source::StdSource;
 use ae_edge::sources::{Source, Taken};
 use std::alloc::Global;
-use std::fs::OpenFile;
+use std::fs::{File, OpenFile, OpenOptions};
 use std::io;
-use std::io::{Read, Seek, SeekFrom, Write};
+use std::io::{ErrorKind, Read, Seek, SeekFrom, Write};
+use std::path::Path;
+use std::rt::Files;
 
-/// A file of std as a disk. It doesn't tell what it holds: that such a file is a disk is trusted.
+/// A file of std as a disk. It is opened at the first call, and made where it isn't there. It doesn't
+/// tell what it holds: that such a file is a disk is trusted.
 #[derive(Drop)]
-pub struct FileDisk<F> {
-    file: F,
+pub struct FileDisk<'a, R: Files> {
+    files: R,
+    path: &'a str,
+    file: Option<R::File>,
     faults: u64,
 }
 
-impl<F> FileDisk<F> {
-    /// The file is open for reads and writes, and nobody else writes to it.
-    pub fn new(file: F) -> FileDisk<F>
-        ensures { result.faults ≡ 0 }
-    {
-        FileDisk { file, faults: 0 }
+/// The folder of a file.
+fn folder_of(path: &str) -> &str {
+    match Path::new(path).parent() {
+        Some(folder) if !folder.as_str().is_empty() => folder.as_str(),
+        _ => ".",
     }
+}
+
+/// Opens a file for reads and writes. Where it is made, its name is on the disk too.
+fn opened<R: Files>(files: &R, path: &str) -> io::Result<R::File> {
+    let file = OpenOptions::new()
+        .read(true)
+        .write(true)
+        .create(true)
+        .open(files, path)?;
+    File::open(files, folder_of(path))?.sync_all()?;
+    Ok(file)
 }
 
 /// Goes to a place, and says whether it lies inside the file.
@@ -61,7 +76,32 @@ fn write_at<F: Write + Seek>(file: &mut F, at: u64, bytes: &[u8]) -> io::Result<
     file.write_all(bytes)
 }
 
-impl<F: Read + Write + Seek + OpenFile + Drop> FileDisk<F> {
+fn not_open() -> io::Error {
+    io::Error::from(ErrorKind::NotFound)
+}
+
+impl<'a, R: Files + Drop> FileDisk<'a, R> {
+    /// The file at a path. Nobody else writes to it.
+    pub fn new(files: R, path: &'a str) -> FileDisk<'a, R>
+        ensures { result.faults ≡ 0 }
+    {
+        FileDisk {
+            files,
+            path,
+            file: None,
+            faults: 0,
+        }
+    }
+
+    // Opens the file, unless it is open or can't be opened.
+    fn open(&mut self)
+        ensures { self.new.faults ≡ self.old.faults }
+    {
+        if self.file.is_none() {
+            self.file = opened(&self.files, self.path).ok();
+        }
+    }
+
     fn fail(&mut self)
         ensures counted { self.new.faults ≡ risen self.old.faults }
         ensures rises { self.old.faults ≤ self.new.faults }
@@ -84,7 +124,7 @@ impl<F: Read + Write + Seek + OpenFile + Drop> FileDisk<F> {
     }
 }
 
-impl<F: Read + Write + Seek + OpenFile + Drop> Disk for FileDisk<F> {
+impl<'a, R: Files + Drop> Disk for FileDisk<'a, R> {
     ghost told = { λ d. None };
 
     ghost faults = { λ d. d.faults };
@@ -95,7 +135,12 @@ impl<F: Read + Write + Seek + OpenFile + Drop> Disk for FileDisk<F> {
         ensures count { self.old.faults ≤ self.new.faults }
         ensures counts { CountsMeasured result self.old.faults self.new.faults }
     {
-        match self.file.seek(SeekFrom::End(0)) {
+        self.open();
+        let size = match &mut self.file {
+            Some(file) => file.seek(SeekFrom::End(0)),
+            None => Err(not_open()),
+        };
+        match size {
             Ok(len) => Measured::Bytes(len),
             Err(_) => {
                 self.fail();
@@ -110,7 +155,12 @@ impl<F: Read + Write + Seek + OpenFile + Drop> Disk for FileDisk<F> {
         ensures count { self.old.faults ≤ self.new.faults }
         ensures counts { CountsGiven result self.old.faults self.new.faults }
     {
-        match read_at(&mut self.file, alloc, at, max) {
+        self.open();
+        let taken = match &mut self.file {
+            Some(file) => read_at(file, alloc, at, max),
+            None => Taken::Failed,
+        };
+        match taken {
             Taken::Bytes(part) => Given::Bytes(part),
             Taken::End => Given::Bytes(Blob::from_vec(Vec::new(alloc))),
             Taken::Failed => {
@@ -126,7 +176,11 @@ impl<F: Read + Write + Seek + OpenFile + Drop> Disk for FileDisk<F> {
         ensures count { self.old.faults ≤ self.new.faults }
         ensures counts { CountsStored result self.old.faults self.new.faults }
     {
-        let done = write_at(&mut self.file, at, bytes);
+        self.open();
+        let done = match &mut self.file {
+            Some(file) => write_at(file, at, bytes),
+            None => Err(not_open()),
+        };
         self.stored(done)
     }
 
@@ -134,7 +188,11 @@ impl<F: Read + Write + Seek + OpenFile + Drop> Disk for FileDisk<F> {
         ensures count { self.old.faults ≤ self.new.faults }
         ensures counts { CountsStored result self.old.faults self.new.faults }
     {
-        let done = self.file.set_len(len);
+        self.open();
+        let done = match &self.file {
+            Some(file) => file.set_len(len),
+            None => Err(not_open()),
+        };
         self.stored(done)
     }
 
@@ -142,7 +200,11 @@ impl<F: Read + Write + Seek + OpenFile + Drop> Disk for FileDisk<F> {
         ensures count { self.old.faults ≤ self.new.faults }
         ensures counts { CountsStored result self.old.faults self.new.faults }
     {
-        let done = self.file.sync_all();
+        self.open();
+        let done = match &self.file {
+            Some(file) => file.sync_all(),
+            None => Err(not_open()),
+        };
         self.stored(done)
     }
 }

@@ -7,23 +7,13 @@ use journal_core::journal::{Appended, Journal};
 use journal_core::mounting::Mounted;
 use journal_core::records::is_record;
 use std::alloc::Global;
-use std::fs::{File, OpenOptions};
 use std::test::Fail;
-use std::{env, fs, io, process};
+use std::{env, fs, process};
 
 fn file_name(rt: &HostRuntime, name: &str) -> Result<String, Fail> {
     let parent = env::temp_dir(rt)?;
     let number = process::id(rt.process());
     Ok(format!(in rt.alloc(); "{}/{name}_{number}", parent.display())?)
-}
-
-fn open(rt: &HostRuntime, name: &str) -> io::Result<FileDisk<File>> {
-    let file = OpenOptions::new()
-        .read(true)
-        .write(true)
-        .create(true)
-        .open(rt, name)?;
-    Ok(FileDisk::new(file))
 }
 
 fn has_given(given: Given, want: &[u8]) -> bool {
@@ -36,7 +26,7 @@ fn has_given(given: Given, want: &[u8]) -> bool {
 #[test]
 fn a_file_is_a_disk(rt: HostRuntime) -> Result<(), Fail> {
     let name = file_name(&rt, "disk_test")?;
-    let mut disk = open(&rt, name.as_str())?;
+    let mut disk = FileDisk::new(&rt, name.as_str());
     assert_eq!(rt; disk.size(), Measured::Bytes(0));
     assert_eq!(rt; disk.write(0, b"abcdef"), Stored::Done);
     assert_eq!(rt; disk.write(2, b"XY"), Stored::Done);
@@ -53,7 +43,7 @@ fn a_file_is_a_disk(rt: HostRuntime) -> Result<(), Fail> {
 }
 
 // Mounts a file, and adds a record.
-fn add(alloc: Global, disk: &mut FileDisk<File>, entry: &[u8]) -> Result<bool, Fail> {
+fn add<D: Disk>(alloc: Global, disk: &mut D, entry: &[u8]) -> Result<bool, Fail> {
     match Journal::mount(alloc, disk) {
         Mounted::Ready(mut journal, records) => {
             drop(records);
@@ -66,12 +56,12 @@ fn add(alloc: Global, disk: &mut FileDisk<File>, entry: &[u8]) -> Result<bool, F
 #[test]
 fn a_file_keeps_a_journal(rt: HostRuntime) -> Result<(), Fail> {
     let name = file_name(&rt, "journal_test")?;
-    let mut disk = open(&rt, name.as_str())?;
+    let mut disk = FileDisk::new(&rt, name.as_str());
     assert!(rt; add(rt.alloc(), &mut disk, EXECUTE)?);
     drop(disk);
     let bytes = fs::read(&rt, name.as_str())?;
     assert_eq!(rt; bytes.as_slice(), ONE_RECORD);
-    let mut disk = open(&rt, name.as_str())?;
+    let mut disk = FileDisk::new(&rt, name.as_str());
     assert!(rt; has_records(&Journal::mount(rt.alloc(), &mut disk), &[EXECUTE]));
     drop(disk);
     fs::remove_file(&rt, name.as_str())?;

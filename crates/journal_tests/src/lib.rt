@@ -9,4 +9,6 @@ mod files;
 #[cfg(test)]
 mod journals;
 #[cfg(test)]
+mod served;
+#[cfg(test)]
 mod stops;

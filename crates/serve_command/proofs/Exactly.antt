@@ -12,7 +12,7 @@ use Rattle.wire_messages.specs.declared.requests.Request.{Request}
 use Rattle.wire_spelling.specs.Spelling.{SpellsRequest, request_frame, reply_frame}
 use Rattle.wire_frames.specs.Frames.{Placed, End, Whole, Refused, Rest, ReadsAs, RequestFrames, is_request_kind}
 use Rattle.wire_frames.specs.Laws.{HasOneReading, IsReadBack, IsReadOnce}
-use Rattle.server_core.specs.Serve.{State, serve}
+use Rattle.server_core.specs.Serve.{State, empty_state, serve}
 use Rattle.serve_command.specs.ServeAll.{ServeAll, requests_of, reply_frames, state_after}
 use Rattle.serve_command.specs.Serving.{AnswersAll, AnswersFirst, AnswersOpen, Begins, BreaksOff, Ends, IsOpen, IsServed, ServesStream, most_stream_bytes}
 use Rattle.serve_command.specs.declared.commands.Served.{Served}
@@ -55,41 +55,41 @@ reads_begin at bytes (p ∷ placed) end h =
       },
     )
 
-first_of_all : (taken : List ℕ) (end : End) (out now : Option (List ℕ)) → AnswersAll taken end out now → AnswersFirst taken out now
-first_of_all taken end out now a =
+first_of_all : (start : State) (taken : List ℕ) (end : End) (out now : Option (List ℕ)) → AnswersAll start taken end out now → AnswersFirst start taken out now
+first_of_all start taken end out now a =
     let b = reads_begin 0 taken a.serves.requests end a.serves.read in
     record { answered = requests_of a.serves.requests; others = b.0; begins = b.1; put = subst (λ (l : List ℕ). Adds l out now) a.serves.replied a.put }
 
 module _ (reading : HasOneReading SpellsRequest) (once : IsReadOnce is_request_kind SpellsRequest) (back : IsReadBack is_request_kind SpellsRequest IsRequest request_frame)
-    (bytes frames : List ℕ) (end : End) (after : State) (serves : ServeAll (take most_stream_bytes bytes) end frames after) (out now : Option (List ℕ)) where
+    (start : State) (bytes frames : List ℕ) (end : End) (after : State) (serves : ServeAll start (take most_stream_bytes bytes) end frames after) (out now : Option (List ℕ)) where
   -- other frames of the bytes within the limit are these
-  same_serve : (other : End) → AnswersAll (take most_stream_bytes bytes) other out now → (end ≡ other) × Adds frames out now
+  same_serve : (other : End) → AnswersAll start (take most_stream_bytes bytes) other out now → (end ≡ other) × Adds frames out now
   same_serve other a =
       let same = once 0 (take most_stream_bytes bytes) serves.requests a.serves.requests end other serves.read a.serves.read in
-      let f : a.frames ≡ frames = a.serves.replied ∙ ap (λ (l : List (Placed Request)). reply_frames (requests_of l)) (sym same.0) ∙ sym serves.replied in
+      let f : a.frames ≡ frames = a.serves.replied ∙ ap (λ (l : List (Placed Request)). reply_frames start (requests_of l)) (sym same.0) ∙ sym serves.replied in
       (same.1, subst (λ (l : List ℕ). Adds l out now) f a.put)
 
   module _ (taken rest : List ℕ) (split : bytes ≡ taken ++ rest) (within : length taken ≤ most_stream_bytes) where
-    first_frames : (requests : List Request) (others : List ℕ) → Begins taken requests others → IsFront (reply_frames requests) frames
+    first_frames : (requests : List Request) (others : List ℕ) → Begins taken requests others → IsFront (reply_frames start requests) frames
     first_frames requests others b =
         let more = take (most_stream_bytes - length taken) rest in
         let longer = subst (λ (l : List ℕ). Begins l requests (others ++ more)) (sym (within_limit taken rest bytes split within)) (begins_fed taken requests others more b) in
         let front = requests_front reading once back (take most_stream_bytes bytes) requests (others ++ more) serves.requests end longer serves.read in
-        let whole : frames ≡ reply_frames (requests ++ front.rest) = serves.replied ∙ ap reply_frames front.is in
-        subst (λ (l : List ℕ). IsFront (reply_frames requests) l) (sym whole) (frames_front requests front.rest)
+        let whole : frames ≡ reply_frames start (requests ++ front.rest) = serves.replied ∙ ap (reply_frames start) front.is in
+        subst (λ (l : List ℕ). IsFront (reply_frames start requests) l) (sym whole) (frames_front start requests front.rest)
 
-    first_put : AnswersFirst taken out now → AddsFront frames out now
-    first_put a = front_of (reply_frames a.answered) frames out now a.put (first_frames a.answered a.others a.begins)
+    first_put : AnswersFirst start taken out now → AddsFront frames out now
+    first_put a = front_of (reply_frames start a.answered) frames out now a.put (first_frames a.answered a.others a.begins)
 
-    part_put : BreaksOff taken out now → AddsFront frames out now
+    part_put : BreaksOff start taken out now → AddsFront frames out now
     part_put b =
-        let all = flat_map reply_frame (serve (state_after b.answered) b.next).replies in
-        let next : IsFront (reply_frames b.answered ++ b.front) (reply_frames (b.answered ++ b.next ∷ [])) =
-        subst (λ (l : List ℕ). IsFront (reply_frames b.answered ++ b.front) l) (sym (frames_more b.answered b.next)) (front_behind (reply_frames b.answered) b.front all b.of_next) in
-        front_of (reply_frames b.answered ++ b.front) frames out now b.put
-        (front_then (reply_frames b.answered ++ b.front) (reply_frames (b.answered ++ b.next ∷ [])) frames next (first_frames (b.answered ++ b.next ∷ []) b.others b.begins))
+        let all = flat_map reply_frame (serve (state_after start b.answered) b.next).replies in
+        let next : IsFront (reply_frames start b.answered ++ b.front) (reply_frames start (b.answered ++ b.next ∷ [])) =
+        subst (λ (l : List ℕ). IsFront (reply_frames start b.answered ++ b.front) l) (sym (frames_more start b.answered b.next)) (front_behind (reply_frames start b.answered) b.front all b.of_next) in
+        front_of (reply_frames start b.answered ++ b.front) frames out now b.put
+        (front_then (reply_frames start b.answered ++ b.front) (reply_frames start (b.answered ++ b.next ∷ [])) frames next (first_frames (b.answered ++ b.next ∷ []) b.others b.begins))
 
-    refused_put : (place : ℕ) → AnswersAll taken (Refused place) out now → (end ≡ Refused place) × Adds frames out now
+    refused_put : (place : ℕ) → AnswersAll start taken (Refused place) out now → (end ≡ Refused place) × Adds frames out now
     refused_put place a =
         let more = take (most_stream_bytes - length taken) rest in
         same_serve (Refused place)
@@ -107,21 +107,21 @@ module _ (reading : HasOneReading SpellsRequest) (once : IsReadOnce is_request_k
           put = a.put;
         })
 
-  all_put : (taken rest : List ℕ) (other : End) → bytes ≡ taken ++ rest → rest ≡ [] → length taken ≤ most_stream_bytes → AnswersAll taken other out now
+  all_put : (taken rest : List ℕ) (other : End) → bytes ≡ taken ++ rest → rest ≡ [] → length taken ≤ most_stream_bytes → AnswersAll start taken other out now
       → (length bytes ≤ most_stream_bytes) × (end ≡ other) × Adds frames out now
   all_put taken rest other split none within a =
       let whole = all_within taken bytes (split ∙ ap (λ (l : List ℕ). taken ++ l) none) within in
-      let same = same_serve other (subst (λ (l : List ℕ). AnswersAll l other out now) (sym whole.0) a) in
+      let same = same_serve other (subst (λ (l : List ℕ). AnswersAll start l other out now) (sym whole.0) a) in
       (whole.1, same.0, same.1)
 
-  past_put : (taken rest : List ℕ) → bytes ≡ taken ++ rest → length taken ≡ most_stream_bytes + 1 → AnswersOpen (take most_stream_bytes taken) out now
+  past_put : (taken rest : List ℕ) → bytes ≡ taken ++ rest → length taken ≡ most_stream_bytes + 1 → AnswersOpen start (take most_stream_bytes taken) out now
       → (most_stream_bytes < length bytes) × IsOpen end × Adds frames out now
   past_put taken rest split past a =
       let front : take most_stream_bytes bytes ≡ take most_stream_bytes taken = ap (take most_stream_bytes) split ∙ take-append-le most_stream_bytes taken rest (omega (arith, past)) in
-      let same = same_serve a.0 (subst (λ (l : List ℕ). AnswersAll l a.0 out now) (sym front) a.2) in
+      let same = same_serve a.0 (subst (λ (l : List ℕ). AnswersAll start l a.0 out now) (sym front) a.2) in
       (omega (arith, past, ap length split, length-append taken rest), subst IsOpen (sym same.0) a.1, same.1)
 
-  served_so : (r : Served) (taken rest : List ℕ) (left : Option (List ℕ)) → left ≡ Some rest → bytes ≡ taken ++ rest → Ends r taken left out now → IsServed r bytes end frames out now
+  served_so : (r : Served) (taken rest : List ℕ) (left : Option (List ℕ)) → left ≡ Some rest → bytes ≡ taken ++ rest → Ends start r taken left out now → IsServed r bytes end frames out now
   served_so served.Done taken rest left l split h = all_put taken rest Whole split (subst IsAtEnd l h.1) h.0 h.2
   served_so (served.BadFrame place) taken rest left l split h =
       elim h.1 [
@@ -129,14 +129,20 @@ module _ (reading : HasOneReading SpellsRequest) (once : IsReadOnce is_request_k
         | inr cut ↦ let p = all_put taken rest (Rest place) split (subst IsAtEnd l cut.0) h.0 cut.1 in (inr (p.0, p.1), p.2)
       ]
   served_so served.TooLong taken rest left l split h = past_put taken rest split h.0 h.1
-  served_so served.ReadFault taken rest left l split h = first_put taken rest split h.0 (first_of_all taken h.1.0 out now h.1.2)
+  served_so served.ReadFault taken rest left l split h = first_put taken rest split h.0 (first_of_all start taken h.1.0 out now h.1.2)
   served_so served.WriteFault taken rest left l split h = part_put taken rest split h.0 h.1
   served_so served.OutOfMemory taken rest left l split h =
       elim h.1 [ inl first ↦ first_put taken rest split h.0 first | inr part ↦ part_put taken rest split h.0 part ]
 
+-- what was put of an input that is told, from a first state on
+pub exactly_from : HasOneReading SpellsRequest → IsReadOnce is_request_kind SpellsRequest → IsReadBack is_request_kind SpellsRequest IsRequest request_frame
+    → (start : State) (r : Served) (taken : List ℕ) (source left out now : Option (List ℕ)) → Removes taken source left → Ends start r taken left out now
+    → (bytes frames : List ℕ) (end : End) (after : State) → source ≡ Some bytes → ServeAll start (take most_stream_bytes bytes) end frames after → IsServed r bytes end frames out now
+exactly_from reading once back start r taken source left out now lost ends bytes frames end after e serves =
+    let l = left_of taken bytes left (subst (λ (x : Option (List ℕ)). Removes taken x left) e lost) in
+    served_so reading once back start bytes frames end after serves out now r taken l.0 left l.1 l.2 ends
+
 pub exactly : HasOneReading SpellsRequest → IsReadOnce is_request_kind SpellsRequest → IsReadBack is_request_kind SpellsRequest IsRequest request_frame
     → (r : Served) (source left out now : Option (List ℕ)) → ServesStream r source left out now
-    → (bytes frames : List ℕ) (end : End) (after : State) → source ≡ Some bytes → ServeAll (take most_stream_bytes bytes) end frames after → IsServed r bytes end frames out now
-exactly reading once back r source left out now s bytes frames end after e serves =
-    let l = left_of s.taken bytes left (subst (λ (x : Option (List ℕ)). Removes s.taken x left) e s.lost) in
-    served_so reading once back bytes frames end after serves out now r s.taken l.0 left l.1 l.2 s.ends
+    → (bytes frames : List ℕ) (end : End) (after : State) → source ≡ Some bytes → ServeAll empty_state (take most_stream_bytes bytes) end frames after → IsServed r bytes end frames out now
+exactly reading once back r source left out now s = exactly_from reading once back empty_state r s.taken source left out now s.lost s.ends

@@ -24,30 +24,30 @@ pub record Going (count : ℕ) (feed : Feeding) (state : State) (source left out
   pub taken : List ℕ
   pub lost : Removes taken source left
   pub few : length taken + count ≡ most_stream_bytes
-  pub stands : Stands taken feed state out now
+  pub stands : Stands empty_state taken feed state out now
   pub waits : IsNotYet is_request_kind feed.held
 
 pub goes_first : (feed : Feeding) (state : State) (source out : Option (List ℕ)) → feed ≡ empty_feed ToServer → state ≡ empty_state → Going most_stream_bytes feed state source source out out
 goes_first feed state source out e f =
     subst (λ (x : Feeding). Going most_stream_bytes x state source source out out) (sym e)
     (subst (λ (x : State). Going most_stream_bytes (empty_feed ToServer) x source source out out) (sym f)
-    (record { taken = []; lost = removes_none source; few = refl; stands = stands_first out; waits = inl (omega arith) }))
+    (record { taken = []; lost = removes_none source; few = refl; stands = stands_first empty_state out; waits = inl (omega arith) }))
 
 -- ---- what a call on the input takes
 
-removes_piece : (piece : List ℕ) (left after : Option (List ℕ)) → WhereTold (Takes (taken.Bytes piece)) left after → Removes piece left after
+pub removes_piece : (piece : List ℕ) (left after : Option (List ℕ)) → WhereTold (Takes (taken.Bytes piece)) left after → Removes piece left after
 removes_piece piece left after h = told_map (Takes (taken.Bytes piece)) (λ (x y : List ℕ). x ≡ piece ++ y) (λ x y e. e) left after h
 
-removes_end : (left after : Option (List ℕ)) → WhereTold (Takes taken.End) left after → Removes [] left after
+pub removes_end : (left after : Option (List ℕ)) → WhereTold (Takes taken.End) left after → Removes [] left after
 removes_end left after h = told_map (Takes taken.End) (λ (x y : List ℕ). x ≡ [] ++ y) (λ x y e. e.0 ∙ sym e.1) left after h
 
-removes_failed : (left after : Option (List ℕ)) → WhereTold (Takes taken.Failed) left after → Removes [] left after
+pub removes_failed : (left after : Option (List ℕ)) → WhereTold (Takes taken.Failed) left after → Removes [] left after
 removes_failed left after h = told_map (Takes taken.Failed) (λ (x y : List ℕ). x ≡ [] ++ y) (λ x y e. sym e) left after h
 
-removes_unheld : (left after : Option (List ℕ)) → WhereTold (Takes taken.OutOfMemory) left after → Removes [] left after
+pub removes_unheld : (left after : Option (List ℕ)) → WhereTold (Takes taken.OutOfMemory) left after → Removes [] left after
 removes_unheld left after h = told_map (Takes taken.OutOfMemory) (λ (x y : List ℕ). x ≡ [] ++ y) (λ x y e. sym e) left after h
 
-at_end : (left after : Option (List ℕ)) → WhereTold (Takes taken.End) left after → IsAtEnd after
+pub at_end : (left after : Option (List ℕ)) → WhereTold (Takes taken.End) left after → IsAtEnd after
 at_end (Some x) (Some y) h = h.1
 at_end None None h = tt
 at_end (Some x) None h = absurd h
@@ -78,15 +78,15 @@ module _ (law : RequestsAreSerial) (count : ℕ) (feed : Feeding) (state : State
 
     -- what holds of the bytes taken with the piece, wherever they began
     abbrev After : (List ℕ → Option (List ℕ) → Type 0) → Type 0
-    After P = (bytes : List ℕ) (first : Option (List ℕ)) → length (bytes ++ piece) < 2 ^ 64 → Stands bytes feed state first now → P (bytes ++ piece) first
+    After P = (bytes : List ℕ) (first : Option (List ℕ)) → length (bytes ++ piece) < 2 ^ 64 → Stands empty_state bytes feed state first now → P (bytes ++ piece) first
 
     holds : (P : List ℕ → Option (List ℕ) → Type 0) → After P → P (g.taken ++ piece) out
     holds P f = f g.taken out (omega (arith, still_within)) g.stands
 
     pub goes_on : (n : ℕ) (feed_after : Feeding) (state_after : State) (new : Option (List ℕ)) → n + length piece ≡ count
-        → After (λ bytes first. Comes came.Waits bytes feed_after state_after first new) → Going n feed_after state_after source after out new
+        → After (λ bytes first. Comes empty_state came.Waits bytes feed_after state_after first new) → Going n feed_after state_after source after out new
     goes_on n feed_after state_after new e f =
-        let h = holds (λ bytes first. Comes came.Waits bytes feed_after state_after first new) f in
+        let h = holds (λ bytes first. Comes empty_state came.Waits bytes feed_after state_after first new) f in
         record {
           taken = g.taken ++ piece;
           lost = lost_more piece after took;
@@ -95,27 +95,27 @@ module _ (law : RequestsAreSerial) (count : ℕ) (feed : Feeding) (state : State
           waits = h.1;
         }
 
-    pub ends_refused : (place : ℕ) (new : Option (List ℕ)) → After (λ bytes first. AnswersAll bytes (Refused place) first new) → ServesStream (served.BadFrame place) source after out new
+    pub ends_refused : (place : ℕ) (new : Option (List ℕ)) → After (λ bytes first. AnswersAll empty_state bytes (Refused place) first new) → ServesStream (served.BadFrame place) source after out new
     ends_refused place new f = record {
       taken = g.taken ++ piece;
       lost = lost_more piece after took;
-      ends = (still_within, inl (holds (λ bytes first. AnswersAll bytes (Refused place) first new) f));
+      ends = (still_within, inl (holds (λ bytes first. AnswersAll empty_state bytes (Refused place) first new) f));
       serial = serially (g.taken ++ piece);
     }
 
-    pub ends_unput : (new : Option (List ℕ)) → After (λ bytes first. BreaksOff bytes first new) → ServesStream served.WriteFault source after out new
+    pub ends_unput : (new : Option (List ℕ)) → After (λ bytes first. BreaksOff empty_state bytes first new) → ServesStream served.WriteFault source after out new
     ends_unput new f = record {
       taken = g.taken ++ piece;
       lost = lost_more piece after took;
-      ends = (still_within, holds (λ bytes first. BreaksOff bytes first new) f);
+      ends = (still_within, holds (λ bytes first. BreaksOff empty_state bytes first new) f);
       serial = serially (g.taken ++ piece);
     }
 
-    pub ends_unheld : (new : Option (List ℕ)) → After (λ bytes first. AnswersFirst bytes first new ⊎ BreaksOff bytes first new) → ServesStream served.OutOfMemory source after out new
+    pub ends_unheld : (new : Option (List ℕ)) → After (λ bytes first. AnswersFirst empty_state bytes first new ⊎ BreaksOff empty_state bytes first new) → ServesStream served.OutOfMemory source after out new
     ends_unheld new f = record {
       taken = g.taken ++ piece;
       lost = lost_more piece after took;
-      ends = (still_within, holds (λ bytes first. AnswersFirst bytes first new ⊎ BreaksOff bytes first new) f);
+      ends = (still_within, holds (λ bytes first. AnswersFirst empty_state bytes first new ⊎ BreaksOff empty_state bytes first new) f);
       serial = serially (g.taken ++ piece);
     }
 
@@ -128,7 +128,7 @@ module _ (law : RequestsAreSerial) (count : ℕ) (feed : Feeding) (state : State
       record {
         taken = g.taken ++ piece;
         lost = lost_more piece after took;
-        ends = (omega (arith, all, one, length-append g.taken piece), subst (λ (l : List ℕ). AnswersOpen l out now) (sym front) (answers_open g.taken feed state out now g.stands g.waits));
+        ends = (omega (arith, all, one, length-append g.taken piece), subst (λ (l : List ℕ). AnswersOpen empty_state l out now) (sym front) (answers_open empty_state g.taken feed state out now g.stands g.waits));
         serial = serially (g.taken ++ piece);
       }
 
@@ -136,7 +136,7 @@ module _ (law : RequestsAreSerial) (count : ℕ) (feed : Feeding) (state : State
   ends_unread after h = record {
     taken = g.taken;
     lost = lost_same after (removes_failed left after h);
-    ends = (within, answers_open g.taken feed state out now g.stands g.waits);
+    ends = (within, answers_open empty_state g.taken feed state out now g.stands g.waits);
     serial = serially g.taken;
   }
 
@@ -144,7 +144,7 @@ module _ (law : RequestsAreSerial) (count : ℕ) (feed : Feeding) (state : State
   ends_without after h = record {
     taken = g.taken;
     lost = lost_same after (removes_unheld left after h);
-    ends = (within, inl (answers_first g.taken feed state out now g.stands));
+    ends = (within, inl (answers_first empty_state g.taken feed state out now g.stands));
     serial = serially g.taken;
   }
 
@@ -153,13 +153,13 @@ module _ (law : RequestsAreSerial) (count : ℕ) (feed : Feeding) (state : State
   ends_whole served.Done after h e = record {
     taken = g.taken;
     lost = lost_same after (removes_end left after h);
-    ends = (within, at_end left after h, answers_all g.taken feed state out now g.stands Whole e);
+    ends = (within, at_end left after h, answers_all empty_state g.taken feed state out now g.stands Whole e);
     serial = serially g.taken;
   }
   ends_whole (served.BadFrame place) after h e = record {
     taken = g.taken;
     lost = lost_same after (removes_end left after h);
-    ends = (within, inr (at_end left after h, answers_all g.taken feed state out now g.stands (Rest place) (e.0, e.1, g.waits)));
+    ends = (within, inr (at_end left after h, answers_all empty_state g.taken feed state out now g.stands (Rest place) (e.0, e.1, g.waits)));
     serial = serially g.taken;
   }
   ends_whole served.ReadFault after h e = absurd e

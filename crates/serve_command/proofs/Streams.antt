@@ -4,6 +4,7 @@ use Rattle.std.specs.List.{All, AllZip}
 use Rattle.std.proofs.lemmas.List.Elements.{All-nil, All-cons}
 use Rattle.scalar.specs.Classes.{Pairing, Listing}
 use Rattle.serve_command.specs.ServeAll.{requests_of, state_after}
+use Rattle.server_core.specs.Serve.{empty_state}
 use Rattle.server_core.specs.Correspond.{RequestsCorrespond, StatesCorrespond}
 use Rattle.server_core.specs.Laws.{ServedAlike}
 use Rattle.wire_frames.specs.Frames.{Placed, End, ReadsAs, is_request_kind}
@@ -27,5 +28,5 @@ streams_served_alike law entries renaming bytes others frames more after later l
     let R = Listing entries in
     let a = law entries renaming (requests_of left.requests) (requests_of right.requests) (are_requests 0 bytes left.requests _ left.read) (in_order R left.requests right.requests h) in (
       record { left = left.replied; right = right.replied; correspond = a.0 },
-      subst (λ s. StatesCorrespond R s later) (sym left.left) (subst (λ s. StatesCorrespond R (state_after (requests_of left.requests)) s) (sym right.left) a.1),
+      subst (λ s. StatesCorrespond R s later) (sym left.left) (subst (λ s. StatesCorrespond R (state_after empty_state (requests_of left.requests)) s) (sym right.left) a.1),
     )

@@ -16,7 +16,7 @@ use Rattle.frame_feed.specs.Steps.{Steps}
 use Rattle.frame_feed.specs.declared.feeds.Next.TheVariants as next
 use Rattle.frame_feed.specs.declared.messages.Message.{Message}
 use Rattle.frame_feed.specs.declared.messages.Message.TheVariants.{Asks, Tells}
-use Rattle.server_core.specs.Serve.{State, serve, empty_state}
+use Rattle.server_core.specs.Serve.{State, serve}
 use Rattle.serve_command.specs.ServeAll.{reply_frames, state_after}
 use Rattle.serve_command.specs.Serving.{Begins, AnswersAll, AnswersFirst, AnswersOpen, BreaksOff, IsOpen}
 use Rattle.serve_command.specs.Turns.{IsAsked, IsNext, Answers, Turns, AnswersNext, BreaksNext, Stands}
@@ -39,7 +39,7 @@ pub is_asked : (way : Way) (message : Message) (bytes : List ℕ) → way ≡ To
 is_asked way (Asks request) bytes e s = tt
 is_asked way (Tells reply) bytes e s = subst (λ (w : Way). SpellsMessage w (Tells reply) bytes) e s
 
-spells_asked : (way : Way) (request : Request) (bytes : List ℕ) → way ≡ ToServer → SpellsMessage way (Asks request) bytes → SpellsRequest request bytes
+pub spells_asked : (way : Way) (request : Request) (bytes : List ℕ) → way ≡ ToServer → SpellsMessage way (Asks request) bytes → SpellsRequest request bytes
 spells_asked way request bytes e s = subst (λ (w : Way). SpellsMessage w (Asks request) bytes) e s
 
 pub turns_one : (t : Turn) (place used : ℕ) (message : Message) (feed new : Feeding) (state after : State) (old now : Option (List ℕ)) → feed.way ≡ ToServer
@@ -74,13 +74,13 @@ turns_one turn.OutOfMemory place used (Tells reply) feed new state after old now
 turns_one turn.Waits place used (Tells reply) feed new state after old now e s a = absurd a
 turns_one (turn.Refused at) place used (Tells reply) feed new state after old now e s a = absurd a
 
-waits_so : (way : Way) (held : List ℕ) → way ≡ ToServer → IsNotYet (has_kind way) held → IsNotYet is_request_kind held
+pub waits_so : (way : Way) (held : List ℕ) → way ≡ ToServer → IsNotYet (has_kind way) held → IsNotYet is_request_kind held
 waits_so way held e h = subst (λ (w : Way). IsNotYet (has_kind w) held) e h
 
 pub turns_waits : (feed new : Feeding) (state : State) (old : Option (List ℕ)) → feed.way ≡ ToServer → Steps next.NotYet feed new → Turns turn.Waits feed state state old old
 turns_waits feed new state old e s = (waits_so feed.way feed.held e s.2, s.0, refl, refl)
 
-refused_so : (way : Way) (held : List ℕ) → way ≡ ToServer → IsRefused (has_kind way) (SpellsMessage way) held → IsRefused is_request_kind SpellsRequest held
+pub refused_so : (way : Way) (held : List ℕ) → way ≡ ToServer → IsRefused (has_kind way) (SpellsMessage way) held → IsRefused is_request_kind SpellsRequest held
 refused_so way held e h =
     let asks : IsRefused is_request_kind (SpellsMessage ToServer) held = subst (λ (w : Way). IsRefused (has_kind w) (SpellsMessage w) held) e h in
     (asks.0, elim asks.1 [ inl header ↦ inl header | inr frame ↦ inr (frame.0, λ (r : Request) s. frame.1 (Asks r) s) ])
@@ -102,18 +102,18 @@ open_end : (at : ℕ) (held : List ℕ) → IsNotYet is_request_kind held → (e
 open_end at [] w = (Whole, tt, refl)
 open_end at (byte ∷ held) w = (Rest at, tt, (refl, omega arith, w))
 
-unless : {A : Type 0} (b : Bool) (x y : A) → b ≡ false → x ≡ (if b then y else x)
+pub unless : {A : Type 0} (b : Bool) (x y : A) → b ≡ false → x ≡ (if b then y else x)
 unless true x y e = cc
 unless false x y e = refl
 
-held_fed : (feed : Feeding) (piece : List ℕ) → feed.failed ≡ false → feed.held ++ piece ≡ (with_piece feed piece).held
+pub held_fed : (feed : Feeding) (piece : List ℕ) → feed.failed ≡ false → feed.held ++ piece ≡ (with_piece feed piece).held
 held_fed feed piece waits = unless feed.failed (feed.held ++ piece) feed.held waits
 
-pub stands_first : (out : Option (List ℕ)) → Stands [] (empty_feed ToServer) empty_state out out
-stands_first out = record { answered = []; begins = begins_none []; place = refl; way = refl; waits = refl; left = refl; put = adds_none out }
+unfoldable pub stands_first : (start : State) (out : Option (List ℕ)) → Stands start [] (empty_feed ToServer) start out out
+stands_first start out = record { answered = []; begins = begins_none []; place = refl; way = refl; waits = refl; left = refl; put = adds_none out }
 
-pub stands_fed : (taken piece : List ℕ) (feed : Feeding) (state : State) (first now : Option (List ℕ)) → Stands taken feed state first now → Stands (taken ++ piece) (with_piece feed piece) state first now
-stands_fed taken piece feed state first now s = record {
+unfoldable pub stands_fed : (start : State) (taken piece : List ℕ) (feed : Feeding) (state : State) (first now : Option (List ℕ)) → Stands start taken feed state first now → Stands start (taken ++ piece) (with_piece feed piece) state first now
+stands_fed start taken piece feed state first now s = record {
   answered = s.answered;
   begins = subst (λ (l : List ℕ). Begins (taken ++ piece) s.answered l) (held_fed feed piece s.waits) (begins_fed taken s.answered feed.held piece s.begins);
   place = s.place;
@@ -123,8 +123,8 @@ stands_fed taken piece feed state first now s = record {
   put = s.put;
 }
 
-module _ (taken : List ℕ) (feed : Feeding) (state : State) (first now : Option (List ℕ)) (s : Stands taken feed state first now) where
-  pub stands_more : (used : ℕ) (after : State) (new : Option (List ℕ)) → length taken < 2 ^ 64 → AnswersNext feed used state after now new → Stands taken (behind feed used) after first new
+module _ (start : State) (taken : List ℕ) (feed : Feeding) (state : State) (first now : Option (List ℕ)) (s : Stands start taken feed state first now) where
+  unfoldable pub stands_more : (used : ℕ) (after : State) (new : Option (List ℕ)) → length taken < 2 ^ 64 → AnswersNext feed used state after now new → Stands start taken (behind feed used) after first new
   stands_more used after new short a =
       let more = begins_more taken s.answered feed.held used a.request s.begins a.next.spells in
       let frame : length (request_frame a.request) ≡ used = ap length (sym a.next.spells.1) ∙ length-take-le used feed.held a.next.held in
@@ -137,33 +137,33 @@ module _ (taken : List ℕ) (feed : Feeding) (state : State) (first now : Option
         place = omega (arith, s.place, frame, all, fits, short);
         way = s.way;
         waits = s.waits;
-        left = a.left ∙ ap (λ (x : State). (serve x a.request).after) s.left ∙ sym (state_more s.answered a.request);
+        left = a.left ∙ ap (λ (x : State). (serve x a.request).after) s.left ∙ sym (state_more start s.answered a.request);
         put =
-            subst (λ (l : List ℕ). Adds l first new) (sym (frames_more s.answered a.request))
-            (adds_then (reply_frames s.answered) (flat_map reply_frame (serve (state_after s.answered) a.request).replies) first now new s.put
+            subst (λ (l : List ℕ). Adds l first new) (sym (frames_more start s.answered a.request))
+            (adds_then (reply_frames start s.answered) (flat_map reply_frame (serve (state_after start s.answered) a.request).replies) first now new s.put
             (subst (λ (x : State). Adds (flat_map reply_frame (serve x a.request).replies) now new) s.left a.put));
       }
 
   -- what was taken ends so
-  pub answers_all : (end : End) → EndsSo is_request_kind SpellsRequest feed.at feed.held end → AnswersAll taken end first now
+  pub answers_all : (end : End) → EndsSo is_request_kind SpellsRequest feed.at feed.held end → AnswersAll start taken end first now
   answers_all end e = record {
-    frames = reply_frames s.answered;
-    after = state_after s.answered;
+    frames = reply_frames start s.answered;
+    after = state_after start s.answered;
     serves = record {
       requests = placed_from request_frame 0 s.answered;
       read = reads_so taken s.answered feed.held end s.begins (subst (λ (n : ℕ). EndsSo is_request_kind SpellsRequest n feed.held end) s.place e);
-      replied = ap reply_frames (sym (requests_placed s.answered));
-      left = ap state_after (sym (requests_placed s.answered));
+      replied = ap (reply_frames start) (sym (requests_placed s.answered));
+      left = ap (state_after start) (sym (requests_placed s.answered));
     };
     put = s.put;
   }
 
-  pub answers_first : AnswersFirst taken first now
+  pub answers_first : AnswersFirst start taken first now
   answers_first = record { answered = s.answered; others = feed.held; begins = s.begins; put = s.put }
 
-  pub breaks_off : (new : Option (List ℕ)) → BreaksNext feed state now new → BreaksOff taken first new
+  pub breaks_off : (new : Option (List ℕ)) → BreaksNext feed state now new → BreaksOff start taken first new
   breaks_off new b =
-      let frames = flat_map reply_frame (serve (state_after s.answered) b.request).replies in
+      let frames = flat_map reply_frame (serve (state_after start s.answered) b.request).replies in
       let put = a_front frames now new (subst (λ (x : State). AddsFront (flat_map reply_frame (serve x b.request).replies) now new) s.left b.put) in
       record {
         answered = s.answered;
@@ -172,17 +172,17 @@ module _ (taken : List ℕ) (feed : Feeding) (state : State) (first now : Option
         begins = begins_more taken s.answered feed.held b.used b.request s.begins b.next.spells;
         front = put.0;
         of_next = put.1;
-        put = adds_then (reply_frames s.answered) put.0 first now new s.put put.2;
+        put = adds_then (reply_frames start s.answered) put.0 first now new s.put put.2;
       }
 
   -- less than a frame is held
-  pub answers_open : IsNotYet is_request_kind feed.held → AnswersOpen taken first now
+  pub answers_open : IsNotYet is_request_kind feed.held → AnswersOpen start taken first now
   answers_open w = let e = open_end feed.at feed.held w in (e.0, e.1, answers_all e.0 e.2)
 
-  pub stops_refused : (place : ℕ) (after : State) (new : Option (List ℕ)) → Turns (turn.Refused place) feed state after now new → AnswersAll taken (Refused place) first new
+  pub stops_refused : (place : ℕ) (after : State) (new : Option (List ℕ)) → Turns (turn.Refused place) feed state after now new → AnswersAll start taken (Refused place) first new
   stops_refused place after new t =
-      subst (λ (x : Option (List ℕ)). AnswersAll taken (Refused place) first x) (sym t.2) (answers_all (Refused place) (t.0, t.1))
+      subst (λ (x : Option (List ℕ)). AnswersAll start taken (Refused place) first x) (sym t.2) (answers_all (Refused place) (t.0, t.1))
 
-  pub stops_unheld : (after : State) (new : Option (List ℕ)) → Turns turn.OutOfMemory feed state after now new → AnswersFirst taken first new ⊎ BreaksOff taken first new
+  pub stops_unheld : (after : State) (new : Option (List ℕ)) → Turns turn.OutOfMemory feed state after now new → AnswersFirst start taken first new ⊎ BreaksOff start taken first new
   stops_unheld after new t =
-      elim t [ inl same ↦ inl (subst (λ (x : Option (List ℕ)). AnswersFirst taken first x) (sym same) answers_first) | inr part ↦ inr (breaks_off new part) ]
+      elim t [ inl same ↦ inl (subst (λ (x : Option (List ℕ)). AnswersFirst start taken first x) (sym same) answers_first) | inr part ↦ inr (breaks_off new part) ]

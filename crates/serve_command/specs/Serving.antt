@@ -8,7 +8,7 @@ use Rattle.wire_messages.specs.declared.requests.Request.{Request}
 use Rattle.wire_spelling.specs.Spelling.{request_frame, reply_frame}
 use Rattle.wire_frames.specs.Frames.{End, Whole, Refused, Rest}
 use Rattle.server_core.specs.Laws.{AreServedSerially}
-use Rattle.server_core.specs.Serve.{State, serve}
+use Rattle.server_core.specs.Serve.{State, empty_state, serve}
 use Rattle.serve_command.specs.ServeAll.{ServeAll, reply_frames, state_after}
 use Rattle.serve_command.specs.declared.commands.Served.{Served}
 use Rattle.serve_command.specs.declared.commands.Served.TheVariants as served
@@ -22,28 +22,28 @@ pub record Begins (bytes : List ℕ) (requests : List Request) (others : List �
   pub proper : All IsRequest requests
 
 -- the bytes taken end so, and the frames of all replies to their requests were put
-pub record AnswersAll (taken : List ℕ) (end : End) (old new : Option (List ℕ)) : Type 0 where
+pub record AnswersAll (first : State) (taken : List ℕ) (end : End) (old new : Option (List ℕ)) : Type 0 where
   pub frames : List ℕ
   pub after : State
-  pub serves : ServeAll taken end frames after
+  pub serves : ServeAll first taken end frames after
   pub put : Adds frames old new
 
 -- the frames of all replies to the first requests of the bytes taken were put
-pub record AnswersFirst (taken : List ℕ) (old new : Option (List ℕ)) : Type 0 where
+pub record AnswersFirst (first : State) (taken : List ℕ) (old new : Option (List ℕ)) : Type 0 where
   pub answered : List Request
   pub others : List ℕ
   pub begins : Begins taken answered others
-  pub put : Adds (reply_frames answered) old new
+  pub put : Adds (reply_frames first answered) old new
 
 -- and then, of the replies to the next request, a front of their frames
-pub record BreaksOff (taken : List ℕ) (old new : Option (List ℕ)) : Type 0 where
+pub record BreaksOff (first : State) (taken : List ℕ) (old new : Option (List ℕ)) : Type 0 where
   pub answered : List Request
   pub next : Request
   pub others : List ℕ
   pub begins : Begins taken (answered ++ next ∷ []) others
   pub front : List ℕ
-  pub of_next : IsFront front (flat_map reply_frame (serve (state_after answered) next).replies)
-  pub put : Adds (reply_frames answered ++ front) old new
+  pub of_next : IsFront front (flat_map reply_frame (serve (state_after first answered) next).replies)
+  pub put : Adds (reply_frames first answered ++ front) old new
 
 -- they end after a frame, or inside one
 abbrev pub IsOpen : End → Type 0
@@ -51,28 +51,28 @@ IsOpen Whole = Unit {0}
 IsOpen (Refused place) = ⊥
 IsOpen (Rest place) = Unit {0}
 
-abbrev pub AnswersOpen : List ℕ → Option (List ℕ) → Option (List ℕ) → Type 0
-AnswersOpen taken old new = (end : End) × IsOpen end × AnswersAll taken end old new
+abbrev pub AnswersOpen : State → List ℕ → Option (List ℕ) → Option (List ℕ) → Type 0
+AnswersOpen first taken old new = (end : End) × IsOpen end × AnswersAll first taken end old new
 
 -- ---- how it ended
 
 -- A frame that is refused ends it at once, a fault and want of memory too; else the input is taken to its end, or to one byte
--- past the limit, when all requests within the limit are answered.
-abbrev pub Ends : Served → List ℕ → Option (List ℕ) → Option (List ℕ) → Option (List ℕ) → Type 0
-Ends served.Done taken left old new = (length taken ≤ most_stream_bytes) × IsAtEnd left × AnswersAll taken Whole old new
-Ends (served.BadFrame place) taken left old new =
-    (length taken ≤ most_stream_bytes) × (AnswersAll taken (Refused place) old new ⊎ (IsAtEnd left × AnswersAll taken (Rest place) old new))
-Ends served.TooLong taken left old new = (length taken ≡ most_stream_bytes + 1) × AnswersOpen (take most_stream_bytes taken) old new
-Ends served.ReadFault taken left old new = (length taken ≤ most_stream_bytes) × AnswersOpen taken old new
-Ends served.WriteFault taken left old new = (length taken ≤ most_stream_bytes) × BreaksOff taken old new
-Ends served.OutOfMemory taken left old new = (length taken ≤ most_stream_bytes) × (AnswersFirst taken old new ⊎ BreaksOff taken old new)
+-- past the limit, when all requests within the limit are answered, from the first state on.
+abbrev pub Ends : State → Served → List ℕ → Option (List ℕ) → Option (List ℕ) → Option (List ℕ) → Type 0
+Ends first served.Done taken left old new = (length taken ≤ most_stream_bytes) × IsAtEnd left × AnswersAll first taken Whole old new
+Ends first (served.BadFrame place) taken left old new =
+    (length taken ≤ most_stream_bytes) × (AnswersAll first taken (Refused place) old new ⊎ (IsAtEnd left × AnswersAll first taken (Rest place) old new))
+Ends first served.TooLong taken left old new = (length taken ≡ most_stream_bytes + 1) × AnswersOpen first (take most_stream_bytes taken) old new
+Ends first served.ReadFault taken left old new = (length taken ≤ most_stream_bytes) × AnswersOpen first taken old new
+Ends first served.WriteFault taken left old new = (length taken ≤ most_stream_bytes) × BreaksOff first taken old new
+Ends first served.OutOfMemory taken left old new = (length taken ≤ most_stream_bytes) × (AnswersFirst first taken old new ⊎ BreaksOff first taken old new)
 
 -- so much was taken of the input, and it ended so; whichever of its requests were answered, transactions took effect one after
 -- another, each whole at its COMMIT
 pub record ServesStream (ended : Served) (left left_after out out_after : Option (List ℕ)) : Type 0 where
   pub taken : List ℕ
   pub lost : Removes taken left left_after
-  pub ends : Ends ended taken left_after out out_after
+  pub ends : Ends empty_state ended taken left_after out out_after
   pub serial : (requests : List Request) (others : List ℕ) → Begins taken requests others → AreServedSerially requests
 
 -- ---- over a whole input

@@ -72,21 +72,21 @@ CountsTurn turn.OutOfMemory old new = new ≡ old
 
 -- ---- all that is held
 
--- the bytes taken begin with requests, which were answered, and the feed holds the others
-pub record Stands (taken : List ℕ) (feed : Feeding) (state : State) (old now : Option (List ℕ)) : Type 0 where
+-- the bytes taken begin with requests, which were answered from the first state on, and the feed holds the others
+pub record Stands (start : State) (taken : List ℕ) (feed : Feeding) (state : State) (old now : Option (List ℕ)) : Type 0 where
   pub answered : List Request
   pub begins : Begins taken answered feed.held
   pub place : feed.at ≡ length (flat_map request_frame answered)
   pub way : feed.way ≡ ToServer
   pub waits : feed.failed ≡ false
-  pub left : state ≡ state_after answered
-  pub put : Adds (reply_frames answered) old now
+  pub left : state ≡ state_after start answered
+  pub put : Adds (reply_frames start answered) old now
 
-abbrev pub Comes : Came → List ℕ → Feeding → State → Option (List ℕ) → Option (List ℕ) → Type 0
-Comes came.Waits taken feed state old now = Stands taken feed state old now × IsNotYet is_request_kind feed.held
-Comes (came.Refused place) taken feed state old now = AnswersAll taken (Refused place) old now
-Comes came.WriteFault taken feed state old now = BreaksOff taken old now
-Comes came.OutOfMemory taken feed state old now = AnswersFirst taken old now ⊎ BreaksOff taken old now
+abbrev pub Comes : State → Came → List ℕ → Feeding → State → Option (List ℕ) → Option (List ℕ) → Type 0
+Comes start came.Waits taken feed state old now = Stands start taken feed state old now × IsNotYet is_request_kind feed.held
+Comes start (came.Refused place) taken feed state old now = AnswersAll start taken (Refused place) old now
+Comes start came.WriteFault taken feed state old now = BreaksOff start taken old now
+Comes start came.OutOfMemory taken feed state old now = AnswersFirst start taken old now ⊎ BreaksOff start taken old now
 
 abbrev pub CountsCame : Came → ℕ → ℕ → Type 0
 CountsCame came.Waits old new = new ≡ old

@@ -25,7 +25,7 @@ fn frames_of(alloc: Global, replies: &[Reply<'_>]) -> Result<Vec<u8>, AllocError
 }
 
 /// Puts the frames of replies.
-fn put_replies<W: Sink>(alloc: Global, replies: &[Reply<'_>], out: &mut W) -> PutAll
+pub fn put_replies<W: Sink>(alloc: Global, replies: &[Reply<'_>], out: &mut W) -> PutAll
     ensures content { PutsAll (flat_map reply_frame replies.now) result (W.held out.old)
         (W.held out.new) }
     ensures counts { CountsPutAll result (W.faults out.old) (W.faults out.new) }
@@ -36,7 +36,7 @@ fn put_replies<W: Sink>(alloc: Global, replies: &[Reply<'_>], out: &mut W) -> Pu
     }
 }
 
-/// ServesStream a request, and puts the frames of its replies.
+/// Serves a request, and puts the frames of its replies.
 pub(crate) fn answer<W: Sink>(
     alloc: Global,
     request: &Request<'_>,

@@ -62,8 +62,8 @@ fn answer_piece<W: Sink>(
     ensures way { feed.new.way ≡ ToServer }
     ensures comes { (taken : List ℕ) (first : Option (List ℕ))
         → length (taken ++ piece.now) < 2 ^ 64
-        → Stands taken feed.old server.old first (W.held out.old)
-        → Comes result (taken ++ piece.now) feed.new server.new first (W.held out.new) }
+        → Stands empty_state taken feed.old server.old first (W.held out.old)
+        → Comes empty_state result (taken ++ piece.now) feed.new server.new first (W.held out.new) }
     ensures counts { CountsCame result (W.faults out.old) (W.faults out.new) }
 {
     match feed.feed(piece.as_slice()) {
@@ -121,7 +121,8 @@ pub fn serve_stream<S: Source, W: Sink>(alloc: Global, input: &mut S, out: &mut 
     // Where the input tells its bytes: by how those within the limit end, and the frames of their replies. So whole frames within
     // the limit end with `Done` and all frames, unless memory or a device fails.
     ensures exact { (bytes frames : List ℕ) (end : End) (after : State)
-        → S.left input.old ≡ Some bytes → ServeAll (take most_stream_bytes bytes) end frames after
+        → S.left input.old ≡ Some bytes
+        → ServeAll empty_state (take most_stream_bytes bytes) end frames after
         → IsServed result bytes end frames (W.held out.old) (W.held out.new) }
     // The faults of the outside come only where a count rose.
     ensures read { result ≡ Served.ReadFault → Rose (S.faults input.old) (S.faults input.new) }

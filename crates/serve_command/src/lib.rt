@@ -2,7 +2,7 @@
 //! next is looked at.
 #![tactic(auto)]
 
-mod answers;
+pub mod answers;
 pub mod commands;
 pub mod laws;
 mod turns;

@@ -1,6 +1,7 @@
 //! The requests that a feed holds, one after another.
 
 ghost use Rattle.std.specs.Prelude.{◌≡◌, ◌<◌, ◌^◌, List, ℕ, Option, length};
+ghost use Rattle.server_core.specs.Serve.{empty_state};
 ghost use Rattle.wire_frames.specs.declared.decoding.Way.TheVariants.{ToServer};
 ghost use Rattle.serve_command.specs.Turns.{Answers, Comes, CountsCame, CountsTurn, IsAsked, Stands, Turns};
 
@@ -84,8 +85,8 @@ pub(crate) fn answer_held<W: Sink>(
     requires { feed.old.way ≡ ToServer }
     ensures way { feed.new.way ≡ ToServer }
     ensures comes { (taken : List ℕ) (first : Option (List ℕ)) → length taken < 2 ^ 64
-        → Stands taken feed.old server.old first (W.held out.old)
-        → Comes result taken feed.new server.new first (W.held out.new) }
+        → Stands empty_state taken feed.old server.old first (W.held out.old)
+        → Comes empty_state result taken feed.new server.new first (W.held out.new) }
     ensures counts { CountsCame result (W.faults out.old) (W.faults out.new) }
 {
     'requests: loop {

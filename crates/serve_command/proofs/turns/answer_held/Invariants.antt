@@ -1,6 +1,7 @@
 -- The requests so far were answered.
 use Rattle.std.proofs.Common.{◌≡◌, ◌<◌, ◌^◌, ℕ, List, length}
 use Rattle.std.specs.Prelude.{Option}
+use Rattle.server_core.specs.Serve.{empty_state}
 use Rattle.wire_frames.specs.declared.decoding.Way.TheVariants.{ToServer}
 use Rattle.serve_command.specs.Turns.{Stands}
 use Rattle.serve_command.proofs.turns.answer_held.Given as goal
@@ -8,7 +9,7 @@ use Rattle.serve_command.proofs.turns.answer_held.Given as goal
 abbrev pub invariant-requests : goal.invariant-requests
 invariant-requests g l = record {
   way : l.feed.way ≡ ToServer;
-  stands : (taken : List ℕ) (first : Option (List ℕ)) → length taken < 2 ^ 64 → Stands taken l.fn.feed l.fn.server first (g.W.Sink.held l.fn.out) → Stands taken l.feed l.server first (g.W.Sink.held l.out);
+  stands : (taken : List ℕ) (first : Option (List ℕ)) → length taken < 2 ^ 64 → Stands empty_state taken l.fn.feed l.fn.server first (g.W.Sink.held l.fn.out) → Stands empty_state taken l.feed l.server first (g.W.Sink.held l.out);
   count : g.W.Sink.faults l.out ≡ g.W.Sink.faults l.fn.out;
 }
 

@@ -1,0 +1,65 @@
+-- A record is added, and then the replies are put.
+use Rattle.std.proofs.Common.{◌≡◌, ◌⊎◌, inl, inr, ◌+◌, ◌<◌, ℕ, List, [], ◌∷◌, length, map, Option, Some, None, refl, sym, ap, subst, ◌∙◌, arith}
+use Rattle.std.specs.Prelude.{flat_map, option_to_list}
+use Rattle.ae_edge.specs.Devices.{WhereTold, Adds, AddsFront}
+use Rattle.disk.specs.Moments.{Moments}
+use Rattle.journal_core.specs.Appends.{Appends, gate_after, most_bytes}
+use Rattle.journal_core.specs.Journals.{place_behind}
+use Rattle.journal_core.specs.States.{JournalState}
+use Rattle.journal_core.specs.declared.journal.Appended.{Appended}
+use Rattle.journal_core.specs.declared.journal.Appended.TheVariants as appended
+use Rattle.server_core.specs.Serve.{State, serve}
+use Rattle.wire_messages.specs.declared.replies.Reply.{Reply}
+use Rattle.wire_messages.specs.declared.requests.Request.{Request}
+use Rattle.wire_spelling.specs.Spelling.{reply_frame}
+use Rattle.journal_command.specs.Durable.{AnswersBy, AppendsEntry, DurableState, IsServed, PutsBy}
+use Rattle.journal_command.specs.Keeping.{entries_of, frames_of, keeping}
+use Rattle.journal_command.specs.Records.{AddsEntries, HasNoRoom, TriesEntries}
+use Rattle.journal_command.specs.Stopping.{AreThere, MayBeThere, Outside, StopsBy}
+use Rattle.journal_command.specs.declared.durable.Answered.{Answered}
+use Rattle.journal_command.specs.declared.durable.Answered.TheVariants as answered
+use Rattle.journal_command.specs.declared.endings.Stop.{Stop}
+use Rattle.journal_command.specs.declared.endings.Stop.TheVariants as stops
+use Rattle.journal_command.proofs.Adding.{adds_no_entry, appended_done, appended_tried, tries_none}
+
+appends_one : (result : Appended) (gate : ℕ) (entry : List ℕ) (a b : Option Moments) → (result ≡ appended.JournalFull → most_bytes < gate + 10 + length entry) → WhereTold (Appends result gate entry) a b
+    → AppendsEntry result gate (gate_after result gate entry) (entry ∷ []) a b
+appends_one appended.Done gate entry a b full w = (appended_done gate entry a b w, omega arith)
+appends_one appended.DiskFault gate entry a b full w = appended_tried appended.DiskFault gate entry a b w
+appends_one appended.OutOfMemory gate entry a b full w = appended_tried appended.OutOfMemory gate entry a b w
+appends_one appended.JournalFull gate entry a b full w = (appended_tried appended.JournalFull gate entry a b w, record { entry = entry; is = refl; full = full refl })
+
+pub appends_some : (result : Appended) (gate after : ℕ) (entry : Option (List ℕ)) (x : List ℕ) (a b : Option Moments) → entry ≡ Some x → after ≡ gate_after result gate x
+    → (result ≡ appended.JournalFull → most_bytes < gate + 10 + length x) → WhereTold (Appends result gate x) a b → AppendsEntry result gate after (option_to_list entry) a b
+appends_some result gate after entry x a b e g full w =
+    subst (λ (o : Option (List ℕ)). AppendsEntry result gate after (option_to_list o) a b) (sym e)
+    (subst (λ (n : ℕ). AppendsEntry result gate n (x ∷ []) a b) (sym g) (appends_one result gate x a b full w))
+
+pub appends_none : (gate : ℕ) (entry : Option (List ℕ)) (disk : Option Moments) → entry ≡ None → AppendsEntry appended.Done gate gate (option_to_list entry) disk disk
+appends_none gate entry disk e =
+    subst (λ (o : Option (List ℕ)). AppendsEntry appended.Done gate gate (option_to_list o) disk disk) (sym e) (adds_no_entry gate disk, omega arith)
+
+-- ---- of an answer, and of its request
+
+stops_alike : (stop : Stop) (frames others : List ℕ) (xs ys : List (List ℕ)) (before after : Outside) → frames ≡ others → xs ≡ ys → StopsBy stop frames xs before after → StopsBy stop others ys before after
+stops_alike stop frames others xs ys before after e f s =
+    subst (λ (l : List (List ℕ)). StopsBy stop others l before after) f (subst (λ (l : List ℕ). StopsBy stop l xs before after) e s)
+
+pub answers_so : (result : Answered) (held : List (List Request)) (request : Request) (old mid new : DurableState) (replies : List Reply) (entry : Option (List ℕ)) (before after : Outside)
+    → IsServed replies entry request old mid → old.held ≡ map frames_of held → new ≡ record mid { journal = new.journal } → PutsBy result (flat_map reply_frame replies) (option_to_list entry) before after
+    → AnswersBy result held request old new before after
+answers_so answered.Whole held request old mid new replies entry before after s e n p =
+    let k = s.kept held e in
+    record {
+      state = ap (λ (d : DurableState). d.state) n ∙ s.after;
+      held = ap (λ (d : DurableState). d.held) n ∙ k.1;
+      there = subst (λ (l : List (List ℕ)). AreThere l before after) k.0 p.0;
+      put = subst (λ (l : List Reply). Adds (flat_map reply_frame l) before.out after.out) s.replies p.1;
+    }
+answers_so (answered.Stopped stop) held request old mid new replies entry before after s e n p =
+    stops_alike stop (flat_map reply_frame replies) (flat_map reply_frame (serve old.state request).replies) (option_to_list entry) (entries_of (keeping old.state held request).records) before after
+    (ap (flat_map reply_frame) s.replies) (s.kept held e).0 p
+
+-- before anything was done
+pub unanswered : (frames : List ℕ) (more : List (List ℕ)) (old : Outside) → StopsBy stops.OutOfMemory frames more old old
+unanswered frames more old = inl (record { tried = tries_none old.gate more old.disk; put = refl })

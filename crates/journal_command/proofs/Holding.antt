@@ -1,0 +1,193 @@
+-- Frames of requests that are held.
+use Rattle.std.proofs.Common.{◌≡◌, ◌≢◌, ◌<◌, ◌≤◌, ◌+◌, ◌-◌, ℕ, zero, suc, List, [], ◌∷◌, ◌++◌, length, map, get_or, set, take, Bool, true, false, Option, Some, None, refl, sym, ap, subst, ◌∙◌, append-nil, append_assoc, arith, length-append}
+use Rattle.std.specs.Prelude.{flat_map, nat_lt, ◌==◌, if◌then◌else◌, option_to_list, IfSome}
+use Rattle.std.specs.List.{All, concat}
+use Rattle.std.proofs.Math.Dec.{eqb-suc-zero}
+use Rattle.std.proofs.lemmas.Bool.{lt-ltb}
+use Rattle.std.proofs.lemmas.List.{flat_map_more, get_or-map, get_or-set_same, length-map, length-set, map-set, set-get_or, set-set, take-append-le, take_all}
+use Rattle.std.proofs.lemmas.List.Elements.{All-nil, All-cons, All-head, All-tail, All-append, All-set}
+use Rattle.journal_core.specs.Records.{IsExecute, IsExecuteFrame, IsRecord}
+use Rattle.recording.specs.Recorded.{Kept, held_at, kept, kept_by, kept_of, kept_where, nothing_held, session_of, with_held}
+use Rattle.server_core.specs.Serve.{State, serve}
+use Rattle.server_core.specs.declared.sorts.Sort.{Sort}
+use Rattle.server_core.specs.declared.sorts.Sort.TheVariants as sorts
+use Rattle.wire_messages.specs.Conditions.{IsRequest}
+use Rattle.wire_messages.specs.declared.requests.Request.{Request}
+use Rattle.wire_messages.specs.declared.requests.Request.TheVariants.{Describe, Execute}
+use Rattle.wire_spelling.specs.Spelling.{SpellsRequest, request_frame}
+use Rattle.journal_command.specs.Keeping.{HeldFrames, IsHeldRequest, IsHolding, IsKept, HasRoom, KeptFrames, RoomMade, entries_of, frames_in, frames_of, held_behind, keeping, kept_frames, no_frames, with_frame}
+
+-- ---- one session
+
+-- what was put behind is cut away
+pub given_back : (held frame : List ℕ) (before : ℕ) → before ≡ length held → take before (held ++ frame) ≡ held
+given_back held frame before e = ap (λ (n : ℕ). take n (held ++ frame)) e ∙ take-append-le (length held) held frame (omega arith) ∙ take_all (length held) held (omega arith)
+
+more_frames : (requests : List Request) (r : Request) → frames_in requests ++ request_frame r ≡ frames_in (requests ++ r ∷ [])
+more_frames requests r = flat_map_more request_frame [] requests r
+
+-- what is kept of bytes is kept of requests
+pub record Agree (bytes : KeptFrames) (one : Kept) : Type 0 where
+  pub entry : option_to_list bytes.entry ≡ entries_of one.records
+  pub held : bytes.held ≡ frames_of one.held
+
+one_frame : (r : Request) → request_frame r ≡ frames_in (r ∷ [])
+one_frame r = sym (append-nil (request_frame r))
+
+one_entry : (x y : List ℕ) → x ≡ y → option_to_list (Some x) ≡ y ∷ []
+one_entry x y e = ap (λ w. w ∷ []) e
+
+some_bytes : (b : Request) (held : List Request) → (length (frames_in (b ∷ held)) == 0) ≡ false
+some_bytes b held = lengths (length (frames_in (b ∷ held))) (omega (arith, length-append (request_frame b) (frames_in held)))
+  where
+    lengths : (n : ℕ) → 0 < n → (n == 0) ≡ false
+    lengths zero lt = absurd (omega (arith, lt))
+    lengths (suc n) lt = eqb-suc-zero n
+
+two_held : (b : Request) (xs : List Request) (r : Request) → nat_lt 1 (length (b ∷ xs ++ r ∷ [])) ≡ true
+two_held b xs r = lt-ltb 1 (length (b ∷ xs ++ r ∷ [])) (omega (arith, length-append xs (r ∷ [])))
+
+change_held : (none : Bool) (b : Request) (held : List Request) (r : Request) → none ≡ false
+    → Agree (if none then record { entry = Some (request_frame r); held = frames_of (b ∷ held) } else record { entry = None; held = record { frames = frames_in (b ∷ held) ++ request_frame r; changes = true } })
+    (kept [] (b ∷ held ++ r ∷ []))
+change_held true b held r e = cc
+change_held false b held r e = record {
+  entry = refl;
+  held = ap (λ (x : List ℕ). record { frames = x; changes = true }) (more_frames (b ∷ held) r) ∙ ap (λ (x : Bool). record { frames = frames_in (b ∷ held ++ r ∷ []); changes = x }) (sym (two_held b held r));
+}
+
+commit_held : (more : Bool) (b c : Request) (held : List Request) (r : Request) → more ≡ true
+    → Agree (record { entry = if more then Some (frames_in (b ∷ c ∷ held) ++ request_frame r) else None; held = no_frames }) (kept ((b ∷ c ∷ held ++ r ∷ []) ∷ []) [])
+commit_held true b c held r e = record { entry = one_entry (frames_in (b ∷ c ∷ held) ++ request_frame r) (frames_in (b ∷ c ∷ held ++ r ∷ [])) (more_frames (b ∷ c ∷ held) r); held = refl }
+commit_held false b c held r e = cc
+
+pub kept_agrees : (kind : Sort) (held : List Request) (r : Request) → Agree (kept_frames kind (frames_of held) (request_frame r)) (kept_of kind held r)
+kept_agrees sorts.Reads held r = record { entry = refl; held = refl }
+kept_agrees sorts.Changes [] r = record { entry = one_entry (request_frame r) (frames_in (r ∷ [])) (one_frame r); held = refl }
+kept_agrees sorts.Changes (b ∷ held) r = change_held (length (frames_in (b ∷ held)) == 0) b held r (some_bytes b held)
+kept_agrees sorts.Defines held r = record { entry = one_entry (request_frame r) (frames_in (r ∷ [])) (one_frame r); held = refl }
+kept_agrees sorts.Begins held r = record { entry = refl; held = ap (λ (x : List ℕ). record { frames = x; changes = false }) (one_frame r) }
+kept_agrees sorts.Commits [] r = record { entry = refl; held = refl }
+kept_agrees sorts.Commits (b ∷ []) r = record { entry = refl; held = refl }
+kept_agrees sorts.Commits (b ∷ c ∷ held) r = commit_held (nat_lt 1 (length (b ∷ c ∷ held))) b c held r (lt-ltb 1 (length (b ∷ c ∷ held)) (omega arith))
+kept_agrees sorts.RollsBack held r = record { entry = refl; held = refl }
+kept_agrees sorts.NoStatement held r = record { entry = refl; held = refl }
+
+-- ---- all sessions
+
+module _ (held : List (List Request)) (session : ℕ) where
+  abbrev place : ℕ
+  place = session - 1
+
+  -- the session's part is replaced
+  set_held : (keeper : List HeldFrames) (x y : HeldFrames) (requests : List Request) → keeper ≡ set (map frames_of held) place x → y ≡ frames_of requests
+      → set keeper place y ≡ map frames_of (with_held held session requests)
+  set_held keeper x y requests e f =
+      ap (λ (k : List HeldFrames). set k place y) e ∙ set-set (map frames_of held) place x y ∙ ap (set (map frames_of held) place) f ∙ sym (map-set frames_of held place requests)
+
+  -- it is what stands there
+  held_there : (keeper : List HeldFrames) (d : HeldFrames) → keeper ≡ map frames_of held → place < length keeper → get_or keeper place d ≡ frames_of (held_at held session)
+  held_there keeper d e lt =
+      let long : place < length held = omega (arith, lt, ap length e, length-map held frames_of) in
+      ap (λ (k : List HeldFrames). get_or k place d) e ∙ get_or-map frames_of held place [] d long
+
+  made_there : (keeper : List HeldFrames) (x d : HeldFrames) → keeper ≡ set (map frames_of held) place x → place < length keeper → get_or keeper place d ≡ x
+  made_there keeper x d e lt =
+      let long : place < length (map frames_of held) = omega (arith, lt, ap length e, length-set (map frames_of held) place x) in
+      ap (λ (k : List HeldFrames). get_or k place d) e ∙ get_or-set_same (map frames_of held) place x d long
+
+  -- room is made
+  pub has_room : (keeper new : List HeldFrames) (r : Request) (room : RoomMade) (old made : HeldFrames) → keeper ≡ map frames_of held → place < length keeper → old ≡ get_or keeper place old
+      → room.frame ≡ request_frame r → room.before ≡ length old.frames → made ≡ with_frame old room.frame → new ≡ set keeper place made → HasRoom held session r room new
+  has_room keeper new r room old made e lt is f b m n =
+      let was : old ≡ frames_of (held_at held session) = is ∙ held_there keeper old e lt in
+      record {
+        frame = f;
+        before = b ∙ ap (λ (h : HeldFrames). length h.frames) was;
+        made = n ∙ ap (λ (k : List HeldFrames). set k place made) e ∙ ap (set (map frames_of held) place) (m ∙ ap (λ (h : HeldFrames). with_frame h room.frame) was);
+      }
+
+  module _ (keeper new : List HeldFrames) (r : Request) (room : RoomMade) (old after : HeldFrames) (h : HasRoom held session r room keeper) (lt : place < length keeper) (is : old ≡ get_or keeper place old) (n : new ≡ set keeper place after) where
+    room_there : old ≡ with_frame (frames_of (held_at held session)) room.frame
+    room_there = is ∙ made_there keeper (with_frame (frames_of (held_at held session)) room.frame) old h.made lt
+
+    -- the request is kept
+    pub is_kept : (kind : Sort) (entry : Option (List ℕ))
+        → ((x : HeldFrames) → old ≡ with_frame x room.frame → room.before ≡ length x.frames → kept_frames kind x room.frame ≡ record { entry = entry; held = after })
+        → IsKept (kept_of kind (held_at held session) r) held session entry new
+    is_kept kind entry k =
+        let now = k (frames_of (held_at held session)) room_there h.before in
+        let a = subst (λ (w : KeptFrames). Agree w (kept_of kind (held_at held session) r))
+        (ap (kept_frames kind (frames_of (held_at held session))) (sym h.frame) ∙ now) (kept_agrees kind (held_at held session) r) in
+        record { entry = a.entry; held = n ∙ set_held keeper (with_frame (frames_of (held_at held session)) room.frame) after (kept_of kind (held_at held session) r).held h.made a.held }
+
+    -- it isn't, and the transaction goes on
+    pub stays_open : ((x : HeldFrames) → old ≡ with_frame x room.frame → room.before ≡ length x.frames → after ≡ x) → new ≡ map frames_of (with_held held session (held_at held session))
+    stays_open k = n ∙ set_held keeper (with_frame (frames_of (held_at held session)) room.frame) after (held_at held session) h.made (k (frames_of (held_at held session)) room_there h.before)
+
+    -- or has ended
+    pub has_ended : after ≡ no_frames → new ≡ map frames_of (with_held held session [])
+    has_ended k = n ∙ set_held keeper (with_frame (frames_of (held_at held session)) room.frame) after [] h.made k
+
+  pub is_closed : (keeper new : List HeldFrames) (after : HeldFrames) → keeper ≡ map frames_of held → new ≡ set keeper place after → after ≡ no_frames → new ≡ map frames_of (with_held held session [])
+  is_closed keeper new after e n a =
+      n ∙ ap (λ (k : List HeldFrames). set k place after) e ∙ ap (set (map frames_of held) place) a ∙ sym (map-set frames_of held place [])
+
+  -- what is held again is held
+  pub held_again : with_held held session (held_at held session) ≡ held
+  held_again = set-get_or held place []
+
+-- ---- records
+
+-- frames of requests to execute
+pub execute_frames : (requests : List Request) → All IsHeldRequest requests → All IsExecuteFrame (map request_frame requests)
+execute_frames [] all = All-nil IsExecuteFrame
+execute_frames (r ∷ requests) all =
+    let one = All-head IsHeldRequest r requests all in
+    All-cons IsExecuteFrame (request_frame r) (map request_frame requests) (record { request = r; is = one.1; spelled = (one.0, refl) }) (execute_frames requests (All-tail IsHeldRequest r requests all))
+
+in_a_row : (requests : List Request) → frames_in requests ≡ concat (map request_frame requests)
+in_a_row [] = refl
+in_a_row (r ∷ requests) = ap (λ (w : List ℕ). request_frame r ++ w) (in_a_row requests)
+
+pub is_record : (r : Request) (requests : List Request) → All IsHeldRequest (r ∷ requests) → IsRecord (frames_in (r ∷ requests))
+is_record r requests all = record {
+  frames = map request_frame (r ∷ requests);
+  some = λ e. cc;
+  each = execute_frames (r ∷ requests) all;
+  whole = in_a_row (r ∷ requests);
+}
+
+-- records aren't empty, and hold such requests
+pub data IsProper : List (List Request) → Type 0 where
+  Empty : IsProper []
+  One : (r : Request) (requests : List Request) → All IsHeldRequest (r ∷ requests) → IsProper ((r ∷ requests) ∷ [])
+
+pub proper_entry : (records : List (List Request)) (entry : Option (List ℕ)) → IsProper records → option_to_list entry ≡ entries_of records → IfSome entry IsRecord
+proper_entry records None p e = tt
+proper_entry _ (Some x) Empty e = absurd (none e)
+  where
+    none : x ∷ [] ≡ [] → ⊥
+    none h = cc
+proper_entry _ (Some x) (One r requests all) e = subst IsRecord (head (sym e)) (is_record r requests all)
+  where
+    head : frames_in (r ∷ requests) ∷ [] ≡ x ∷ [] → frames_in (r ∷ requests) ≡ x
+    head h = cc
+
+one_held : (r : Request) → IsHeldRequest r → All IsHeldRequest (r ∷ [])
+one_held r h = All-cons IsHeldRequest r [] h (All-nil IsHeldRequest)
+
+more_held : (requests : List Request) (r : Request) → All IsHeldRequest requests → IsHeldRequest r → All IsHeldRequest (requests ++ r ∷ [])
+more_held requests r all h = All-append IsHeldRequest requests (r ∷ []) all (one_held r h)
+
+pub proper_kept : (kind : Sort) (held : List Request) (r : Request) → All IsHeldRequest held → IsHeldRequest r → IsProper (kept_of kind held r).records × All IsHeldRequest (kept_of kind held r).held
+proper_kept sorts.Reads held r all h = (Empty, all)
+proper_kept sorts.Changes [] r all h = (One r [] (one_held r h), all)
+proper_kept sorts.Changes (b ∷ held) r all h = (Empty, more_held (b ∷ held) r all h)
+proper_kept sorts.Defines held r all h = (One r [] (one_held r h), all)
+proper_kept sorts.Begins held r all h = (Empty, one_held r h)
+proper_kept sorts.Commits [] r all h = (Empty, all)
+proper_kept sorts.Commits (b ∷ []) r all h = (Empty, All-nil IsHeldRequest)
+proper_kept sorts.Commits (b ∷ c ∷ held) r all h = (One b (c ∷ held ++ r ∷ []) (more_held (b ∷ c ∷ held) r all h), All-nil IsHeldRequest)
+proper_kept sorts.RollsBack held r all h = (Empty, All-nil IsHeldRequest)
+proper_kept sorts.NoStatement held r all h = (Empty, all)

@@ -1,0 +1,10 @@
+mod Adding
+mod Appending
+mod Holding
+mod Pieces
+mod Recording
+mod Restarting
+mod Servable
+mod Serving
+mod Turning
+mod WholeRuns

@@ -1,0 +1,45 @@
+-- Requests one after another: what is held behind them, and their records.
+use Rattle.std.proofs.Common.{◌≡◌, ◌+◌, ℕ, List, [], ◌∷◌, ◌++◌, length, map, refl, sym, ap, ◌∙◌, append-nil, append_assoc, arith}
+use Rattle.std.proofs.lemmas.List.{map-append}
+use Rattle.journal_core.specs.Journals.{place_behind}
+use Rattle.recording.specs.Recorded.{Kept, held_at, kept_by, recorded, session_of, with_held}
+use Rattle.server_core.specs.Serve.{State, serve, serve_all}
+use Rattle.wire_messages.specs.declared.requests.Request.{Request}
+use Rattle.journal_command.specs.Keeping.{entries_of, frames_in, held_after, held_behind, keeping}
+
+pub held_more : (state : State) (held : List (List Request)) (requests : List Request) (r : Request)
+    → held_after state held (requests ++ r ∷ []) ≡ held_behind (serve_all state requests).1 (held_after state held requests) r
+held_more state held [] r = refl
+held_more state held (x ∷ requests) r = held_more (serve state x).after (held_behind state held x) requests r
+
+pub recorded_more : (state : State) (held : List (List Request)) (requests : List Request) (r : Request)
+    → recorded state held (requests ++ r ∷ []) ≡ recorded state held requests ++ (keeping (serve_all state requests).1 (held_after state held requests) r).records
+recorded_more state held [] r = append-nil (keeping state held r).records
+recorded_more state held (x ∷ requests) r =
+    ap (λ (l : List (List Request)). (keeping state held x).records ++ l) (recorded_more (serve state x).after (held_behind state held x) requests r)
+    ∙ sym (append_assoc (keeping state held x).records (recorded (serve state x).after (held_behind state held x) requests)
+    (keeping (serve_all (serve state x).after requests).1 (held_after (serve state x).after (held_behind state held x) requests) r).records)
+
+pub entries_append : (xs ys : List (List Request)) → entries_of (xs ++ ys) ≡ entries_of xs ++ entries_of ys
+entries_append [] ys = refl
+entries_append (x ∷ xs) ys = ap (λ (l : List (List ℕ)). frames_in x ∷ l) (entries_append xs ys)
+
+-- one entry is of one record
+pub record IsOne (records : List (List Request)) (entry : List ℕ) : Type 0 where
+  pub last : List Request
+  pub is : records ≡ last ∷ []
+  pub bytes : frames_in last ≡ entry
+
+pub one_record : (records : List (List Request)) (entry : List ℕ) → entries_of records ≡ entry ∷ [] → IsOne records entry
+one_record [] entry e = absurd (none e)
+  where
+    none : [] ≡ entry ∷ [] → ⊥
+    none e = cc
+one_record (r ∷ []) entry e = record { last = r; is = refl; bytes = first e }
+  where
+    first : frames_in r ∷ [] ≡ entry ∷ [] → frames_in r ≡ entry
+    first e = cc
+one_record (r ∷ s ∷ records) entry e = absurd (two e)
+  where
+    two : frames_in r ∷ frames_in s ∷ entries_of records ≡ entry ∷ [] → ⊥
+    two e = absurd (omega (arith, ap length e))

@@ -1,0 +1,204 @@
+-- A whole run: the journal is found, its records are served again, and then the input.
+use Rattle.std.proofs.Common.{◌≡◌, ◌⊎◌, inl, inr, ◌+◌, ◌<◌, ℕ, List, [], ◌∷◌, ◌++◌, length, Option, Some, None, Bool, true, false, refl, sym, ap, subst, ◌∙◌, arith}
+use Rattle.ae_edge.specs.Devices.{WhereTold}
+use Rattle.ae_edge.proofs.Interface.{told_map, told_then}
+use Rattle.disk.specs.Crashes.{IsImage}
+use Rattle.disk.specs.Moments.{Moments, LeavesNow, Leaves}
+use Rattle.disk.proofs.Interface.{leaves_then, leaves_weaker}
+use Rattle.journal_core.specs.Appends.{EndsAt}
+use Rattle.journal_core.specs.Journals.{Records, Damaged, ReadsAs, place_behind}
+use Rattle.journal_core.specs.Mounts.{Finds, IsSomeImage, Mounts}
+use Rattle.journal_core.specs.States.{JournalState}
+use Rattle.journal_core.specs.declared.mounting.Mounted.TheVariants as mounted
+use Rattle.recording.specs.Recorded.{after_records, nothing_held, recorded}
+use Rattle.server_core.specs.Serve.{State, empty_state}
+use Rattle.wire_messages.specs.declared.requests.Request.{Request}
+use Rattle.journal_command.specs.Journaling.{IsBad, IsDurable, IsFull, IsUnserved, KeepsRecords, Runs, ServesFound, ServesFrom, ServesJournal}
+use Rattle.journal_command.specs.Keeping.{entries_of}
+use Rattle.journal_command.specs.Records.{AreTried, HasFront, HasLeast, IsOfRun, TriesEntries}
+use Rattle.journal_command.specs.Restarts.{AreServedRecords, RefusesAt}
+use Rattle.journal_command.specs.Running.{HasKept, HasNoRoomFor, KeepsSo, ServesPieces}
+use Rattle.journal_command.specs.Stopping.{outside}
+use Rattle.journal_command.specs.declared.endings.Ended.{Ended}
+use Rattle.journal_command.specs.declared.endings.Ended.TheVariants as ended
+use Rattle.journal_command.proofs.Adding.{place_append}
+use Rattle.journal_command.proofs.Recording.{entries_append}
+
+-- ---- the records weren't found
+
+module _ (source : Option (List ℕ)) (a b : Option Moments) (out : Option (List ℕ)) where
+  pub fault_unserved : WhereTold (Mounts mounted.DiskFault) a b → IsUnserved source source a b out out
+  fault_unserved w = record { untaken = refl; unput = refl; crashed = told_map (Mounts mounted.DiskFault) (λ old new. Leaves (IsSomeImage old.now) old new) (λ old new m. m) a b w }
+
+  pub memory_unserved : WhereTold (Mounts mounted.OutOfMemory) a b → IsUnserved source source a b out out
+  memory_unserved w = record { untaken = refl; unput = refl; crashed = told_map (Mounts mounted.OutOfMemory) (λ old new. Leaves (IsSomeImage old.now) old new) (λ old new m. m) a b w }
+
+  pub damaged_unserved : (place : ℕ) → WhereTold (Mounts (mounted.Damaged place)) a b → ServesJournal (ended.Damaged place) source source a b out out
+  damaged_unserved place w = (
+    record { untaken = refl; unput = refl; crashed = told_map (Mounts (mounted.Damaged place)) (λ old new. Leaves (IsSomeImage old.now) old new) (λ old new m. m.0) a b w },
+    told_map (Mounts (mounted.Damaged place)) (λ old new. IsImage old.now old.now.seen × IsBad place old.now.seen) (λ old new m. (m.2, inl m.1)) a b w,
+  )
+
+-- ---- they were
+
+module _ (journal : JournalState) (entries : List (List ℕ)) (a b : Option Moments) (w : WhereTold (Mounts (mounted.Ready journal entries)) a b) (sound : journal.gate ≡ place_behind entries) where
+  -- and refused, or there was no memory to serve them
+  found_unserved : (source left out out_after : Option (List ℕ)) (c : Option Moments) → left ≡ source → c ≡ b → out_after ≡ out → IsUnserved source left a c out out_after
+  found_unserved source left out out_after c l d o = record {
+    untaken = l;
+    unput = o;
+    crashed = subst (λ (x : Option Moments). WhereTold (λ old new. Leaves (IsSomeImage old.now) old new) a x) (sym d)
+        (told_map (Mounts (mounted.Ready journal entries)) (λ old new. Leaves (IsSomeImage old.now) old new) (λ old new m. m.0) a b w);
+  }
+
+  found_refused : (place : ℕ) (source left out out_after : Option (List ℕ)) (c : Option Moments) → left ≡ source → c ≡ b → out_after ≡ out → RefusesAt empty_state entries place
+      → ServesJournal (ended.Damaged place) source left a c out out_after
+  found_refused place source left out out_after c l d o refuses = (
+    found_unserved source left out out_after c l d o,
+    subst (λ (x : Option Moments). WhereTold (λ old new. IsImage old.now old.now.seen × IsBad place old.now.seen) a x) (sym d)
+        (told_map (Mounts (mounted.Ready journal entries)) (λ old new. IsImage old.now old.now.seen × IsBad place old.now.seen) (λ old new m. (m.1.was_image, inr (entries, m.1.read, refuses))) a b w),
+  )
+
+  -- and served again
+  module _ (records : List (List Request)) (served : AreServedRecords empty_state records entries) (source left out out_after : Option (List ℕ)) (c : Option Moments) (gate : ℕ) where
+    abbrev start : State
+    start = after_records empty_state records
+
+    abbrev Tried : List Request → List Request → Moments → Moments → Type 0
+    Tried answered all old new = (es : List (List ℕ)) → EndsAt journal.gate es old → AreTried es (entries_of (recorded start nothing_held answered)) (entries_of (recorded start nothing_held all)) old new
+
+    moments : (answered all : List Request) (x y z : Moments) → Mounts (mounted.Ready journal entries) x y → Tried answered all y z → Leaves (IsOfRun (entries_of records) (entries_of (recorded start nothing_held all)) x.now) x z
+    moments answered all x y z m q =
+        let more = entries_of (recorded start nothing_held all) in
+        let t = q entries m.1.ends in
+        subst (λ (es : List (List ℕ)). Leaves (IsOfRun es more x.now) x z) served.whole
+        (leaves_then (IsOfRun entries more x.now) x y z (leaves_weaker (IsSomeImage x.now) (IsOfRun entries more x.now) x y (λ image i. inl i) m.0)
+        (leaves_weaker (HasFront entries more) (IsOfRun entries more x.now) y z (λ image h. inr h) t.moments))
+
+    crashed : (answered all : List Request) → WhereTold (Tried answered all) b c → WhereTold (λ old new. Leaves (IsOfRun (entries_of records) (entries_of (recorded start nothing_held all)) old.now) old new) a c
+    crashed answered all q =
+        told_then (Mounts (mounted.Ready journal entries)) (Tried answered all) (λ old new. Leaves (IsOfRun (entries_of records) (entries_of (recorded start nothing_held all)) old.now) old new) (moments answered all) a b c w q
+
+    kept : (answered all : List Request) → WhereTold (Tried answered all) b c
+        → WhereTold (λ old new. LeavesNow (HasLeast (entries_of records) (entries_of (recorded start nothing_held answered)) (entries_of (recorded start nothing_held all))) new.now) a c
+    kept answered all q =
+        let least = entries_of (recorded start nothing_held answered) in
+        let more = entries_of (recorded start nothing_held all) in
+        told_then (Mounts (mounted.Ready journal entries)) (Tried answered all) (λ old new. LeavesNow (HasLeast (entries_of records) least more) new.now)
+        (λ x y z m t. subst (λ (es : List (List ℕ)). LeavesNow (HasLeast es least more) z.now) served.whole (t entries m.1.ends).now) a b c w q
+
+    found : (answered all : List Request) → WhereTold (Tried answered all) b c → WhereTold (λ old new. IsImage old.now old.now.seen × ReadsAs (Records (entries_of records)) old.now.seen) a c
+    found answered all q =
+        told_then (Mounts (mounted.Ready journal entries)) (Tried answered all) (λ old new. IsImage old.now old.now.seen × ReadsAs (Records (entries_of records)) old.now.seen)
+        (λ x y z m t. (m.1.was_image, subst (λ (es : List (List ℕ)). ReadsAs (Records es) x.now.seen) served.whole m.1.read)) a b c w q
+
+    is_durable : (taken : List ℕ) → HasKept start taken (outside journal.gate b out) (outside gate c out_after) → IsDurable records taken a c out out_after
+    is_durable taken k = record {
+      answered = k.answered;
+      tried = k.tried;
+      others = k.others;
+      begins = k.begins;
+      put = k.put;
+      crashed = crashed k.answered (k.answered ++ k.tried) k.kept;
+      kept = kept k.answered (k.answered ++ k.tried) k.kept;
+    }
+
+    is_full : (taken : List ℕ) → HasNoRoomFor start taken (outside journal.gate b out) (outside gate c out_after) → IsFull records taken a c out out_after
+    unfolding is_durable
+    is_full taken k = record {
+      durable = is_durable taken k.kept;
+      last = k.last;
+      is = k.is;
+      full = omega (
+        arith,
+        k.full,
+        sound,
+        ap place_behind served.whole,
+        ap place_behind (entries_append records (recorded start nothing_held k.kept.answered)),
+        place_append (entries_of records) (entries_of (recorded start nothing_held k.kept.answered)),
+      );
+    }
+
+    has_kept : (how : Ended) (taken : List ℕ) → KeepsSo how start taken (outside journal.gate b out) (outside gate c out_after) → HasKept start taken (outside journal.gate b out) (outside gate c out_after)
+    has_kept ended.Done taken k = k
+    has_kept ended.ReadFault taken k = k
+    has_kept ended.WriteFault taken k = k
+    has_kept ended.DiskFault taken k = k
+    has_kept ended.OutOfMemory taken k = k
+    has_kept ended.TooLong taken k = k
+    has_kept (ended.BadFrame place) taken k = k
+    has_kept (ended.Damaged place) taken k = k
+    has_kept ended.JournalFull taken k = k.kept
+
+    keeps : (how : Ended) (taken : List ℕ) → KeepsSo how start taken (outside journal.gate b out) (outside gate c out_after) → KeepsRecords how records taken a c out out_after
+    keeps ended.Done taken k = is_durable taken k
+    keeps ended.ReadFault taken k = is_durable taken k
+    keeps ended.WriteFault taken k = is_durable taken k
+    keeps ended.DiskFault taken k = is_durable taken k
+    keeps ended.OutOfMemory taken k = is_durable taken k
+    keeps ended.TooLong taken k = is_durable taken k
+    keeps (ended.BadFrame place) taken k = is_durable taken k
+    keeps (ended.Damaged place) taken k = is_durable taken k
+    keeps ended.JournalFull taken k = is_full taken k
+
+    runs : (how : Ended) → ServesPieces how start source left (outside journal.gate b out) (outside gate c out_after) → Runs how source left a c out out_after
+    runs how s =
+        let k = has_kept how s.taken s.keeps in
+        record {
+          records = records;
+          found = found k.answered (k.answered ++ k.tried) k.kept;
+          served = record { proper = served.proper; whole = refl; served = served.served };
+          taken = s.taken;
+          lost = s.lost;
+          puts = s.puts;
+          keeps = keeps how s.taken s.keeps;
+        }
+
+  -- a run, or no memory for one
+  pub data Came (how : Ended) (source left out out_after : Option (List ℕ)) (c : Option Moments) : Type 0 where
+    Ran : Runs how source left a c out out_after → Came how source left out out_after c
+    Stood : how ≡ ended.OutOfMemory → IsUnserved source left a c out out_after → Came how source left out out_after c
+
+  came : (how : Ended) (source left out out_after : Option (List ℕ)) (c : Option Moments)
+      → ((records : List (List Request)) × AreServedRecords empty_state records entries × ServesFrom how (after_records empty_state records) journal.gate source left b c out out_after)
+      ⊎ ((how ≡ ended.OutOfMemory) × (left ≡ source) × (c ≡ b) × (out_after ≡ out)) → Came how source left out out_after c
+  came how source left out out_after c s =
+      elim s [
+        | inl f ↦
+            elim f.2 [
+              | inl from ↦ Ran (runs f.0 f.1 source left out out_after c from.0 how from.1)
+              | inr e ↦ Stood e.0 (found_unserved source left out out_after c e.1 e.2 e.3)
+            ]
+        | inr e ↦ Stood e.0 (found_unserved source left out out_after c e.1 e.2 e.3)
+      ]
+
+  is_memory : Ended → Bool
+  is_memory ended.OutOfMemory = true
+  is_memory other = false
+
+  false_true : false ≡ true → ⊥
+  false_true e = cc
+
+  not_so : (how : Ended) → is_memory how ≡ false → how ≡ ended.OutOfMemory → ⊥
+  unfolding is_memory
+  not_so how f e = false_true (sym f ∙ ap is_memory e)
+
+  ran : (how : Ended) (source left out out_after : Option (List ℕ)) (c : Option Moments) → is_memory how ≡ false → Came how source left out out_after c → Runs how source left a c out out_after
+  ran how source left out out_after c f (Ran r) = r
+  ran how source left out out_after c f (Stood e u) = absurd (not_so how f e)
+
+  ran_or : (how : Ended) (source left out out_after : Option (List ℕ)) (c : Option Moments) → Came how source left out out_after c → IsUnserved source left a c out out_after ⊎ Runs how source left a c out out_after
+  ran_or how source left out out_after c (Ran r) = inr r
+  ran_or how source left out out_after c (Stood e u) = inl u
+
+  pub serves_journal : (how : Ended) (source left out out_after : Option (List ℕ)) (c : Option Moments) → ServesFound how entries journal.gate source left b c out out_after → ServesJournal how source left a c out out_after
+  unfolding is_memory
+  serves_journal (ended.Damaged place) source left out out_after c s = found_refused place source left out out_after c s.1 s.2 s.3 s.0
+  serves_journal ended.Done source left out out_after c s = ran ended.Done source left out out_after c refl (came ended.Done source left out out_after c s)
+  serves_journal ended.ReadFault source left out out_after c s = ran ended.ReadFault source left out out_after c refl (came ended.ReadFault source left out out_after c s)
+  serves_journal ended.WriteFault source left out out_after c s = ran ended.WriteFault source left out out_after c refl (came ended.WriteFault source left out out_after c s)
+  serves_journal ended.TooLong source left out out_after c s = ran ended.TooLong source left out out_after c refl (came ended.TooLong source left out out_after c s)
+  serves_journal (ended.BadFrame place) source left out out_after c s = ran (ended.BadFrame place) source left out out_after c refl (came (ended.BadFrame place) source left out out_after c s)
+  serves_journal ended.JournalFull source left out out_after c s = ran ended.JournalFull source left out out_after c refl (came ended.JournalFull source left out out_after c s)
+  serves_journal ended.DiskFault source left out out_after c s = ran_or ended.DiskFault source left out out_after c (came ended.DiskFault source left out out_after c s)
+  serves_journal ended.OutOfMemory source left out out_after c s = ran_or ended.OutOfMemory source left out out_after c (came ended.OutOfMemory source left out out_after c s)

@@ -1,0 +1,11 @@
+-- Files that such runs leave.
+use Rattle.journal_command.proofs.Servable.{isnt_damaged, stays_servable}
+use Rattle.journal_command.proofs.commands.serve_journal.Goals as goal
+
+pub returns-clause-servable : goal.returns-clause-servable
+returns-clause-servable g c =
+    stays_servable c.fronts_are_accepted.ensures c.serve_mounted.result (g.S.Source.left c.args.input.now) (g.S.Source.left c.serve_mounted.new.input) (g.W.Sink.held c.args.out.now) (g.W.Sink.held c.serve_mounted.new.out) _ _ c.serve_mounted.ensures.content
+
+pub returns-clause-undamaged : goal.returns-clause-undamaged
+returns-clause-undamaged g c =
+    isnt_damaged c.one_reading.ensures.requests c.serve_mounted.result (g.S.Source.left c.args.input.now) (g.S.Source.left c.serve_mounted.new.input) (g.W.Sink.held c.args.out.now) (g.W.Sink.held c.serve_mounted.new.out) _ _ c.serve_mounted.ensures.content

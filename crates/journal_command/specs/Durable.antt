@@ -1,0 +1,88 @@
+-- A server whose changes are kept in a journal: what it does with a request.
+use Rattle.std.specs.Prelude.{◌≡◌, ◌⊎◌, ℕ, ◌+◌, List, [], map, flat_map, false, true, Bool, Option, IfSome, option_to_list}
+use Rattle.ae_edge.specs.Devices.{Adds}
+use Rattle.disk.specs.Moments.{Moments}
+use Rattle.journal_core.specs.Appends.{IsMounted, CountsAppended}
+use Rattle.journal_core.specs.Journals.{place_behind}
+use Rattle.journal_core.specs.States.{JournalState}
+use Rattle.journal_core.specs.declared.journal.Appended.{Appended}
+use Rattle.journal_core.specs.declared.journal.Appended.TheVariants as appended
+use Rattle.server_core.specs.Serve.{State, serve}
+use Rattle.wire_messages.specs.declared.replies.Reply.{Reply}
+use Rattle.server_core.specs.Sorts.{sort_of}
+use Rattle.server_core.specs.declared.sorts.Sort.{Sort}
+use Rattle.server_core.specs.declared.sorts.Sort.TheVariants as sorts
+use Rattle.wire_messages.specs.declared.requests.Request.{Request}
+use Rattle.wire_messages.specs.declared.requests.Request.TheVariants.{Describe, Execute}
+use Rattle.wire_spelling.specs.Spelling.{reply_frame}
+use Rattle.journal_command.specs.Keeping.{HeldFrames, IsHolding, IsKept, entries_of, frames_of, held_behind, keeping}
+use Rattle.journal_command.specs.Records.{AddsEntries, TriesEntries, HasNoRoom}
+use Rattle.journal_command.specs.Stopping.{Outside, AreThere, MayBeThere, StopsBy, Faults, CountsStop}
+use Rattle.journal_command.specs.declared.durable.Answered.{Answered}
+use Rattle.journal_command.specs.declared.durable.Answered.TheVariants as answered
+
+-- the server's state, what is held of its sessions' transactions, and the journal
+pub record DurableState : Type 0 where
+  pub state : State
+  pub held : List HeldFrames
+  pub journal : JournalState
+
+-- a further record can be added, and what is held can be one
+pub record IsSound (durable : DurableState) (disk : Option Moments) : Type 0 where
+  pub ready : durable.journal.failed ≡ false
+  pub mounted : IfSome disk (IsMounted durable.journal.gate)
+  pub holds : IsHolding durable.held
+
+-- ---- one request is served
+
+-- a SELECT, or no statement, that a session asks to execute
+abbrev pub IsReadOf : ℕ → Request → Type 0
+IsReadOf session (Describe other text declarations) = ⊥
+IsReadOf session (Execute other version text params) = (session ≡ other) × ((sort_of text ≡ sorts.Reads) ⊎ (sort_of text ≡ sorts.NoStatement))
+
+-- a statement of a sort that a session asks to execute
+abbrev pub IsStatementOf : ℕ → Sort → Request → Type 0
+IsStatementOf session kind (Describe other text declarations) = ⊥
+IsStatementOf session kind (Execute other version text params) = (session ≡ other) × (kind ≡ sort_of text)
+
+-- whatever requests are held: the replies, the record, and what is held after it
+pub record IsServed (given : List Reply) (entry : Option (List ℕ)) (request : Request) (old new : DurableState) : Type 0 where
+  pub replies : given ≡ (serve old.state request).replies
+  pub after : new.state ≡ (serve old.state request).after
+  pub kept : (held : List (List Request)) → old.held ≡ map frames_of held
+      → (option_to_list entry ≡ entries_of (keeping old.state held request).records) × (new.held ≡ map frames_of (held_behind old.state held request))
+
+-- ---- its record is added
+
+abbrev pub AppendsEntry : Appended → ℕ → ℕ → List (List ℕ) → Option Moments → Option Moments → Type 0
+AppendsEntry appended.Done gate after more old new = AddsEntries gate after more old new × (after ≡ gate + place_behind more)
+AppendsEntry appended.DiskFault gate after more old new = TriesEntries gate [] more old new
+AppendsEntry appended.OutOfMemory gate after more old new = TriesEntries gate [] more old new
+AppendsEntry appended.JournalFull gate after more old new = TriesEntries gate [] more old new × HasNoRoom gate more
+
+-- ---- and it is answered
+
+-- of the frames of its replies, and of the bytes of its records
+abbrev pub PutsBy : Answered → List ℕ → List (List ℕ) → Outside → Outside → Type 0
+PutsBy answered.Whole frames more old new = AreThere more old new × Adds frames old.out new.out
+PutsBy (answered.Stopped stop) frames more old new = StopsBy stop frames more old new
+
+-- its records are on the disk, and all frames of its replies were put
+pub record AnswersWhole (all : List (List Request)) (request : Request) (old new : DurableState) (before after : Outside) : Type 0 where
+  pub state : new.state ≡ (serve old.state request).after
+  pub held : new.held ≡ map frames_of (held_behind old.state all request)
+  pub there : AreThere (entries_of (keeping old.state all request).records) before after
+  pub put : Adds (flat_map reply_frame (serve old.state request).replies) before.out after.out
+
+abbrev pub AnswersBy : Answered → List (List Request) → Request → DurableState → DurableState → Outside → Outside → Type 0
+AnswersBy answered.Whole held request old new before after = AnswersWhole held request old new before after
+AnswersBy (answered.Stopped stop) held request old new before after =
+    StopsBy stop (flat_map reply_frame (serve old.state request).replies) (entries_of (keeping old.state held request).records) before after
+
+abbrev pub CountsAnswer : Answered → Faults → Faults → Type 0
+CountsAnswer answered.Whole old new = new ≡ old
+CountsAnswer (answered.Stopped stop) old new = CountsStop stop old new
+
+abbrev pub GoesOn : Answered → DurableState → Option Moments → Type 0
+GoesOn answered.Whole durable disk = IsSound durable disk
+GoesOn (answered.Stopped stop) durable disk = Unit {0}

@@ -1,0 +1,92 @@
+-- What is held of sessions' transactions, as bytes.
+use Rattle.std.specs.Prelude.{◌≡◌, ℕ, ◌-◌, List, [], ◌∷◌, ◌++◌, length, map, flat_map, Bool, true, false, nat_lt, ◌==◌, if◌then◌else◌, Option, Some, None, option_to_list, slice_set}
+use Rattle.std.specs.List.{All}
+use Rattle.journal_core.specs.Records.{IsExecute}
+use Rattle.wire_messages.specs.Conditions.{IsRequest}
+use Rattle.recording.specs.Recorded.{Kept, held_at, kept_by, kept_of, kept_where, session_of, with_held}
+use Rattle.server_core.specs.Serve.{State, serve}
+use Rattle.server_core.specs.declared.sorts.Sort.{Sort}
+use Rattle.server_core.specs.declared.sorts.Sort.TheVariants as sort
+use Rattle.wire_messages.specs.declared.requests.Request.{Request}
+use Rattle.wire_spelling.specs.Spelling.{request_frame}
+
+-- frames in a row, and whether more than the BEGIN's is among them
+pub record HeldFrames : Type 0 where
+  pub frames : List ℕ
+  pub changes : Bool
+
+abbrev pub no_frames : HeldFrames
+no_frames = record { frames = []; changes = false }
+
+-- the bytes of a record: the frames of its requests
+abbrev pub frames_in : List Request → List ℕ
+frames_in requests = flat_map request_frame requests
+
+abbrev pub frames_of : List Request → HeldFrames
+frames_of requests = record { frames = frames_in requests; changes = nat_lt 1 (length requests) }
+
+-- a frame of which so many bytes were held before
+pub record RoomMade : Type 0 where
+  pub frame : List ℕ
+  pub before : ℕ
+
+abbrev pub with_frame : HeldFrames → List ℕ → HeldFrames
+with_frame held frame = record { frames = held.frames ++ frame; changes = held.changes }
+
+-- ---- one request that is done
+
+-- the record that it completes, if it does, and what is held after it
+pub record KeptFrames : Type 0 where
+  pub entry : Option (List ℕ)
+  pub held : HeldFrames
+
+abbrev pub kept_frames : Sort → HeldFrames → List ℕ → KeptFrames
+kept_frames sort.Reads held frame = record { entry = None; held = held }
+kept_frames sort.Changes held frame =
+    if length held.frames == 0 then record { entry = Some frame; held = held } else record { entry = None; held = record { frames = held.frames ++ frame; changes = true } }
+kept_frames sort.Defines held frame = record { entry = Some frame; held = held }
+kept_frames sort.Begins held frame = record { entry = None; held = record { frames = frame; changes = false } }
+kept_frames sort.Commits held frame = record { entry = if held.changes then Some (held.frames ++ frame) else None; held = no_frames }
+kept_frames sort.RollsBack held frame = record { entry = None; held = no_frames }
+kept_frames sort.NoStatement held frame = record { entry = None; held = held }
+
+-- ---- requests
+
+-- the records' bytes
+abbrev pub entries_of : List (List Request) → List (List ℕ)
+entries_of records = map frames_in records
+
+-- what a request adds to the records, and what is held of its session after it
+abbrev pub keeping : State → List (List Request) → Request → Kept
+keeping state held request = kept_by request (serve state request) (held_at held (session_of request))
+
+-- what is held of all sessions after it
+abbrev pub held_behind : State → List (List Request) → Request → List (List Request)
+held_behind state held request = with_held held (session_of request) (keeping state held request).held
+
+abbrev pub held_after : State → List (List Request) → List Request → List (List Request)
+held_after state held [] = held
+held_after state held (request ∷ requests) = held_after (serve state request).after (held_behind state held request) requests
+
+-- ---- calls
+
+-- room was made for a request of a session: its frame stands behind what is held
+pub record HasRoom (held : List (List Request)) (session : ℕ) (request : Request) (room : RoomMade) (keeper : List HeldFrames) : Type 0 where
+  pub frame : room.frame ≡ request_frame request
+  pub before : room.before ≡ length (frames_in (held_at held session))
+  pub made : keeper ≡ slice_set (map frames_of held) (session - 1) (with_frame (frames_of (held_at held session)) room.frame)
+
+-- what was handed out is the record, if there is one, and the session's requests are held
+pub record IsKept (one : Kept) (all : List (List Request)) (session : ℕ) (out : Option (List ℕ)) (keeper : List HeldFrames) : Type 0 where
+  pub entry : option_to_list out ≡ entries_of one.records
+  pub held : keeper ≡ map frames_of (with_held all session one.held)
+
+-- a request has a frame, and is one to execute
+abbrev pub IsHeldRequest : Request → Type 0
+IsHeldRequest request = IsRequest request × IsExecute request
+
+-- frames of such requests are held
+pub record IsHolding (keeper : List HeldFrames) : Type 0 where
+  pub held : List (List Request)
+  pub is : keeper ≡ map frames_of held
+  pub proper : All (All IsHeldRequest) held

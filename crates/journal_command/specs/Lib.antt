@@ -1,0 +1,10 @@
+pub mod Durable
+pub mod Endings
+pub mod Journaling
+pub mod Keeping
+pub mod Records
+pub mod Restarts
+pub mod Running
+pub mod Servable
+pub mod Stopping
+pub mod Turns

@@ -1,0 +1,75 @@
+-- Requests of an input that are answered and recorded: what is put for them, and what a crash leaves of their records.
+use Rattle.std.specs.Prelude.{◌≡◌, ◌⊎◌, ℕ, ◌+◌, ◌≤◌, ◌<◌, List, [], ◌∷◌, ◌++◌, length, Option}
+use Rattle.ae_edge.specs.Devices.{AddsFront, Removes}
+use Rattle.journal_core.specs.Appends.{most_bytes}
+use Rattle.journal_core.specs.Journals.{place_behind}
+use Rattle.wire_messages.specs.declared.requests.Request.{Request}
+use Rattle.server_core.specs.Serve.{State}
+use Rattle.recording.specs.Recorded.{nothing_held, recorded}
+use Rattle.serve_command.specs.ServeAll.{reply_frames}
+use Rattle.serve_command.specs.Serving.{Begins, AnswersFirst, BreaksOff, Ends, most_stream_bytes}
+use Rattle.serve_command.specs.declared.commands.Served.TheVariants as served
+use Rattle.journal_command.specs.Keeping.{entries_of, frames_in}
+use Rattle.journal_command.specs.Records.{TriesEntries}
+use Rattle.journal_command.specs.Stopping.{Outside}
+use Rattle.journal_command.specs.declared.endings.Ended.{Ended}
+use Rattle.journal_command.specs.declared.endings.Ended.TheVariants as ended
+use Rattle.journal_command.specs.declared.endings.Stop.{Stop}
+use Rattle.journal_command.specs.declared.endings.Stop.TheVariants as stops
+
+-- Replies were put to the requests that were answered, to the last of them perhaps not all; and the next one was tried, if any.
+-- A crash leaves a front of the records of all of these, and now those of the answered ones at least.
+pub record HasKept (start : State) (taken : List ℕ) (old new : Outside) : Type 0 where
+  pub answered : List Request
+  pub tried : List Request
+  pub others : List ℕ
+  pub begins : Begins taken (answered ++ tried) others
+  pub put : AddsFront (reply_frames start answered) old.out new.out
+  pub kept : TriesEntries old.gate (entries_of (recorded start nothing_held answered)) (entries_of (recorded start nothing_held (answered ++ tried))) old.disk new.disk
+
+-- the file has no room for the record of the one that was tried
+pub record HasNoRoomFor (start : State) (taken : List ℕ) (old new : Outside) : Type 0 where
+  pub kept : HasKept start taken old new
+  pub last : List Request
+  pub is : recorded start nothing_held (kept.answered ++ kept.tried) ≡ recorded start nothing_held kept.answered ++ last ∷ []
+  pub full : most_bytes < old.gate + place_behind (entries_of (recorded start nothing_held kept.answered)) + 10 + length (frames_in last)
+
+-- ---- where a request wasn't answered whole
+
+abbrev pub PutsOf : Stop → State → List ℕ → Option (List ℕ) → Option (List ℕ) → Type 0
+PutsOf stops.WriteFault start taken old new = BreaksOff start taken old new
+PutsOf stops.DiskFault start taken old new = AnswersFirst start taken old new
+PutsOf stops.JournalFull start taken old new = AnswersFirst start taken old new
+PutsOf stops.OutOfMemory start taken old new = AnswersFirst start taken old new ⊎ BreaksOff start taken old new
+
+abbrev pub KeepsBy : Stop → State → List ℕ → Outside → Outside → Type 0
+KeepsBy stops.WriteFault start taken old new = HasKept start taken old new
+KeepsBy stops.DiskFault start taken old new = HasKept start taken old new
+KeepsBy stops.JournalFull start taken old new = HasNoRoomFor start taken old new
+KeepsBy stops.OutOfMemory start taken old new = HasKept start taken old new
+
+-- ---- by how it ended
+
+-- what was put of the bytes taken, from a first state on: as without a journal; and where the disk fails or the file is full, the
+-- frames of all replies to the requests before
+abbrev pub PutsSo : Ended → State → List ℕ → Option (List ℕ) → Option (List ℕ) → Option (List ℕ) → Type 0
+PutsSo ended.Done start taken left old new = Ends start served.Done taken left old new
+PutsSo ended.ReadFault start taken left old new = Ends start served.ReadFault taken left old new
+PutsSo ended.WriteFault start taken left old new = Ends start served.WriteFault taken left old new
+PutsSo ended.OutOfMemory start taken left old new = Ends start served.OutOfMemory taken left old new
+PutsSo ended.TooLong start taken left old new = Ends start served.TooLong taken left old new
+PutsSo (ended.BadFrame place) start taken left old new = Ends start (served.BadFrame place) taken left old new
+PutsSo ended.DiskFault start taken left old new = (length taken ≤ most_stream_bytes) × AnswersFirst start taken old new
+PutsSo ended.JournalFull start taken left old new = (length taken ≤ most_stream_bytes) × AnswersFirst start taken old new
+PutsSo (ended.Damaged place) start taken left old new = ⊥
+
+abbrev pub KeepsSo : Ended → State → List ℕ → Outside → Outside → Type 0
+KeepsSo ended.JournalFull start taken old new = HasNoRoomFor start taken old new
+KeepsSo other start taken old new = HasKept start taken old new
+
+-- so much was taken of the input, from a first state on
+pub record ServesPieces (how : Ended) (start : State) (source left : Option (List ℕ)) (old new : Outside) : Type 0 where
+  pub taken : List ℕ
+  pub lost : Removes taken source left
+  pub puts : PutsSo how start taken left old.out new.out
+  pub keeps : KeepsSo how start taken old new

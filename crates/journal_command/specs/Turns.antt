@@ -1,0 +1,100 @@
+-- What is done with the bytes that a feed holds.
+use Rattle.std.specs.Prelude.{◌≡◌, ◌⊎◌, ℕ, ◌<◌, List, [], ◌∷◌, ◌++◌, length, map, flat_map, false, Option}
+use Rattle.ae_edge.specs.Devices.{AddsFront}
+use Rattle.disk.specs.Moments.{Moments}
+use Rattle.wire_messages.specs.declared.requests.Request.{Request}
+use Rattle.wire_spelling.specs.Spelling.{SpellsRequest, reply_frame}
+use Rattle.wire_frames.specs.Frames.{Refused, IsNotYet, IsRefused, is_request_kind}
+use Rattle.frame_feed.specs.Feeding.{Feeding}
+use Rattle.frame_feed.specs.declared.messages.Message.{Message}
+use Rattle.frame_feed.specs.declared.messages.Message.TheVariants.{Asks, Tells}
+use Rattle.server_core.specs.Serve.{State, serve}
+use Rattle.recording.specs.Recorded.{nothing_held, recorded}
+use Rattle.serve_command.specs.ServeAll.{reply_frames}
+use Rattle.serve_command.specs.Serving.{Begins, AnswersAll, AnswersFirst, BreaksOff}
+use Rattle.serve_command.specs.Turns.{IsNext, Stands}
+use Rattle.journal_command.specs.Durable.{DurableState, IsSound, AnswersWhole}
+use Rattle.journal_command.specs.Keeping.{entries_of, frames_of, held_after, keeping}
+use Rattle.journal_command.specs.Running.{HasKept, KeepsBy, PutsOf}
+use Rattle.journal_command.specs.Stopping.{Outside, AreThere, StopsBy, Faults, CountsStop}
+use Rattle.journal_command.specs.declared.endings.Ended.{Ended}
+use Rattle.journal_command.specs.declared.endings.Ended.TheVariants as ended
+use Rattle.journal_command.specs.declared.endings.Stop.{Stop}
+use Rattle.journal_command.specs.declared.endings.Stop.TheVariants as stops
+use Rattle.journal_command.specs.declared.turns.Turn.{Turn}
+use Rattle.journal_command.specs.declared.turns.Turn.TheVariants as turn
+use Rattle.journal_command.specs.declared.turns.Came.{Came}
+use Rattle.journal_command.specs.declared.turns.Came.TheVariants as came
+
+-- ---- one request
+
+-- so much of it was done, with its records
+abbrev pub Stops : Stop → List (List Request) → Request → DurableState → Outside → Outside → Type 0
+Stops stop held request durable before after =
+    StopsBy stop (flat_map reply_frame (serve durable.state request).replies) (entries_of (keeping durable.state held request).records) before after
+
+abbrev pub Answers : Turn → ℕ → Message → List (List Request) → DurableState → DurableState → Outside → Outside → Type 0
+Answers (turn.Answered count) used (Asks request) held old new before after = (count ≡ used) × AnswersWhole held request old new before after
+Answers (turn.Stopped stop) used (Asks request) held old new before after = Stops stop held request old before after
+Answers turn.Waits used (Asks request) held old new before after = ⊥
+Answers (turn.Refused place) used (Asks request) held old new before after = ⊥
+Answers turn used (Tells reply) held old new before after = ⊥
+
+-- a request stands next, and was answered
+pub record AnswersNext (feed : Feeding) (used : ℕ) (held : List (List Request)) (old new : DurableState) (before after : Outside) : Type 0 where
+  pub request : Request
+  pub next : IsNext feed request used
+  pub waits : feed.failed ≡ false
+  pub answers : AnswersWhole held request old new before after
+
+-- a request stands next, and wasn't answered whole
+pub record StopsNext (stop : Stop) (feed : Feeding) (held : List (List Request)) (durable : DurableState) (before after : Outside) : Type 0 where
+  pub request : Request
+  pub used : ℕ
+  pub next : IsNext feed request used
+  pub stops : Stops stop held request durable before after
+
+abbrev pub Turns : Turn → Feeding → List (List Request) → DurableState → DurableState → Outside → Outside → Type 0
+Turns (turn.Answered used) feed held old new before after = AnswersNext feed used held old new before after
+Turns turn.Waits feed held old new before after = IsNotYet is_request_kind feed.held × (feed.failed ≡ false) × (new ≡ old) × (after ≡ before)
+Turns (turn.Refused place) feed held old new before after = (place ≡ feed.at) × IsRefused is_request_kind SpellsRequest feed.held × (after ≡ before)
+Turns (turn.Stopped stop) feed held old new before after = ((stop ≡ stops.OutOfMemory) × (after ≡ before)) ⊎ StopsNext stop feed held old before after
+
+abbrev pub CountsTurn : Turn → Faults → Faults → Type 0
+CountsTurn (turn.Answered used) old new = new ≡ old
+CountsTurn turn.Waits old new = new ≡ old
+CountsTurn (turn.Refused place) old new = new ≡ old
+CountsTurn (turn.Stopped stop) old new = CountsStop stop old new
+
+abbrev pub StaysSound : Turn → DurableState → Option Moments → Type 0
+StaysSound (turn.Answered used) durable disk = IsSound durable disk
+StaysSound turn.Waits durable disk = IsSound durable disk
+StaysSound (turn.Refused place) durable disk = Unit {0}
+StaysSound (turn.Stopped stop) durable disk = Unit {0}
+
+-- ---- all that is held
+
+-- the bytes taken begin with requests, which were answered from the first state on, and the feed holds the others; the records
+-- of these requests are on the disk
+pub record IsSoFar (start : State) (taken : List ℕ) (feed : Feeding) (durable : DurableState) (first now : Outside) : Type 0 where
+  pub stands : Stands start taken feed durable.state first.out now.out
+  pub held : durable.held ≡ map frames_of (held_after start nothing_held stands.answered)
+  pub there : AreThere (entries_of (recorded start nothing_held stands.answered)) first now
+
+abbrev pub Comes : State → Came → List ℕ → Feeding → DurableState → Outside → Outside → Type 0
+Comes start came.Waits taken feed durable first now = IsSoFar start taken feed durable first now × IsNotYet is_request_kind feed.held
+Comes start (came.Refused place) taken feed durable first now = AnswersAll start taken (Refused place) first.out now.out × HasKept start taken first now
+Comes start (came.Stopped stop) taken feed durable first now = PutsOf stop start taken first.out now.out × KeepsBy stop start taken first now
+
+abbrev pub CountsCame : Came → Faults → Faults → Type 0
+CountsCame came.Waits old new = new ≡ old
+CountsCame (came.Refused place) old new = new ≡ old
+CountsCame (came.Stopped stop) old new = CountsStop stop old new
+
+-- ---- the end of the input
+
+-- nothing is held, or less than a frame, from this place on
+abbrev pub EndsAt : Ended → Feeding → Type 0
+EndsAt ended.Done feed = feed.held ≡ []
+EndsAt (ended.BadFrame place) feed = (place ≡ feed.at) × (0 < length feed.held)
+EndsAt other feed = ⊥

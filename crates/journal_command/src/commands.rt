@@ -1,0 +1,221 @@
+//! The command `serve --journal`.
+
+ghost use Rattle.std.specs.Prelude.{◌≡◌, ◌++◌, ◌<◌, ◌^◌, List, ℕ, length, map, IfSome, false};
+ghost use Rattle.ae_edge.specs.Devices.{Rose, WhereTold};
+ghost use Rattle.journal_core.specs.Appends.{IsMounted};
+ghost use Rattle.journal_core.specs.Journals.{place_behind};
+ghost use Rattle.recording.specs.Recorded.{nothing_held};
+ghost use Rattle.server_core.specs.Serve.{State};
+ghost use Rattle.wire_frames.specs.declared.decoding.Way.TheVariants.{ToServer};
+ghost use Rattle.journal_command.specs.Durable.{IsSound};
+ghost use Rattle.journal_command.specs.Journaling.{ServesFound, ServesFrom, ServesJournal};
+ghost use Rattle.journal_command.specs.Keeping.{frames_of};
+ghost use Rattle.journal_command.specs.Running.{ServesPieces};
+ghost use Rattle.journal_command.specs.Servable.{IsntDamaged, StaysServable};
+ghost use Rattle.journal_command.specs.Stopping.{Outside, faults, outside};
+ghost use Rattle.journal_command.specs.Turns.{Comes, CountsCame, EndsAt, IsSoFar};
+
+use crate::durable::Durable;
+use crate::endings::{Ended, Stop};
+use crate::restarts::{Again, serve_again};
+use crate::turns::{Came, answer_held};
+use ae_base::blobs::Blob;
+use ae_base::limits::MOST_STREAM_BYTES;
+use ae_edge::sinks::Sink;
+use ae_edge::sources::{Source, Taken};
+use disk::disks::Disk;
+use frame_feed::FrameFeed;
+use journal_core::journal::Journal;
+use journal_core::mounting::Mounted;
+use recording::laws::fronts_are_accepted;
+use server_core::server::Server;
+use std::alloc::Global;
+use wire_frames::{Way, one_reading};
+
+/// The most bytes that one call asks the input for.
+const MOST_PIECE_BYTES: usize = 65_536;
+
+/// What the end of the input means for what is held.
+fn at_end(feed: &FrameFeed) -> Ended
+    ensures { EndsAt result feed.now }
+{
+    match feed.finish() {
+        None => Ended::Done,
+        Some(place) => Ended::BadFrame(place),
+    }
+}
+
+/// Takes a piece into the feed, and answers the requests that are whole.
+fn answer_piece<W: Sink, D: Disk>(
+    alloc: Global,
+    piece: &Blob,
+    feed: &mut FrameFeed,
+    durable: &mut Durable,
+    out: &mut W,
+    disk: &mut D,
+) -> Came
+    requires way { feed.old.way ≡ ToServer }
+    requires sound { IsSound durable.old (D.told disk.old) }
+    ensures way { feed.new.way ≡ ToServer }
+    ensures comes { (start : State) (taken : List ℕ) (first : Outside)
+        → length (taken ++ piece.now) < 2 ^ 64
+        → IsSoFar start taken feed.old durable.old first
+        (outside durable.old.journal.gate (D.told disk.old) (W.held out.old))
+        → Comes start result (taken ++ piece.now) feed.new durable.new first
+        (outside durable.new.journal.gate (D.told disk.new) (W.held out.new)) }
+    ensures sound { result ≡ Came.Waits → IsSound durable.new (D.told disk.new) }
+    ensures same { D.names disk.new ≡ D.names disk.old }
+    ensures counts { CountsCame result (faults (D.faults disk.old) (W.faults out.old))
+        (faults (D.faults disk.new) (W.faults out.new)) }
+{
+    match feed.feed(piece.as_slice()) {
+        Ok(()) => answer_held(alloc, feed, durable, out, disk),
+        Err(_) => Came::Stopped(Stop::OutOfMemory),
+    }
+}
+
+/// Answers the requests of the input, piece by piece. At the limit one byte more is asked for.
+fn serve_pieces<S: Source, W: Sink, D: Disk>(
+    alloc: Global,
+    input: &mut S,
+    out: &mut W,
+    disk: &mut D,
+    durable: &mut Durable,
+) -> Ended
+    requires held { durable.old.held ≡ map frames_of nothing_held }
+    requires sound { IsSound durable.old (D.told disk.old) }
+    ensures serves { ServesPieces result durable.old.state (S.left input.old) (S.left input.new)
+        (outside durable.old.journal.gate (D.told disk.old) (W.held out.old))
+        (outside durable.new.journal.gate (D.told disk.new) (W.held out.new)) }
+    ensures same { D.names disk.new ≡ D.names disk.old }
+    ensures read { result ≡ Ended.ReadFault → Rose (S.faults input.old) (S.faults input.new) }
+    ensures write { result ≡ Ended.WriteFault → Rose (W.faults out.old) (W.faults out.new) }
+    ensures stored { result ≡ Ended.DiskFault → Rose (D.faults disk.old) (D.faults disk.new) }
+{
+    let mut feed = FrameFeed::new(alloc, Way::ToServer);
+    let mut left = MOST_STREAM_BYTES;
+    'pieces: loop {
+        match input.take(alloc, left.min(MOST_PIECE_BYTES).max(1)) {
+            Taken::Bytes(piece) => {
+                if left == 0 {
+                    return Ended::TooLong;
+                }
+                left -= piece.len();
+                match answer_piece(alloc, &piece, &mut feed, durable, out, disk) {
+                    Came::Waits => {}
+                    Came::Refused(place) => return Ended::BadFrame(place),
+                    Came::Stopped(stop) => return stop.ended(),
+                }
+            }
+            Taken::End => return at_end(&feed),
+            Taken::Failed => return Ended::ReadFault,
+            Taken::OutOfMemory => return Ended::OutOfMemory,
+        }
+    }
+}
+
+/// Serves the input with a server that stands where the records have led.
+fn serve_from<S: Source, W: Sink, D: Disk>(
+    alloc: Global,
+    input: &mut S,
+    out: &mut W,
+    disk: &mut D,
+    server: Server,
+    journal: Journal,
+) -> Ended
+    requires ready { journal.failed ≡ false }
+    requires mounted { IfSome (D.told disk.old) (IsMounted journal.gate) }
+    ensures serves { ServesFrom result server journal.gate (S.left input.old)
+        (S.left input.new) (D.told disk.old) (D.told disk.new) (W.held out.old) (W.held out.new) }
+    ensures same { D.names disk.new ≡ D.names disk.old }
+    ensures read { result ≡ Ended.ReadFault → Rose (S.faults input.old) (S.faults input.new) }
+    ensures write { result ≡ Ended.WriteFault → Rose (W.faults out.old) (W.faults out.new) }
+    ensures stored { result ≡ Ended.DiskFault → Rose (D.faults disk.old) (D.faults disk.new) }
+{
+    match Durable::new(alloc, server, journal) {
+        Ok(mut durable) => {
+            let ended = serve_pieces(alloc, input, out, disk, &mut durable);
+            drop(durable);
+            ended
+        }
+        Err(_) => Ended::OutOfMemory,
+    }
+}
+
+/// Serves the records again, and then the input.
+fn serve_found<S: Source, W: Sink, D: Disk>(
+    alloc: Global,
+    input: &mut S,
+    out: &mut W,
+    disk: &mut D,
+    journal: Journal,
+    entries: &[Blob],
+) -> Ended
+    requires ready { journal.failed ≡ false }
+    requires mounted { IfSome (D.told disk.old) (IsMounted journal.gate) }
+    requires place { place_behind entries.now < 2 ^ 64 }
+    ensures serves { ServesFound result entries.now journal.gate (S.left input.old)
+        (S.left input.new) (D.told disk.old) (D.told disk.new) (W.held out.old) (W.held out.new) }
+    ensures same { D.names disk.new ≡ D.names disk.old }
+    ensures read { result ≡ Ended.ReadFault → Rose (S.faults input.old) (S.faults input.new) }
+    ensures write { result ≡ Ended.WriteFault → Rose (W.faults out.old) (W.faults out.new) }
+    ensures stored { result ≡ Ended.DiskFault → Rose (D.faults disk.old) (D.faults disk.new) }
+{
+    let mut server = Server::new(alloc);
+    match serve_again(alloc, entries, &mut server) {
+        Again::Served => serve_from(alloc, input, out, disk, server, journal),
+        Again::Refused(place) => Ended::Damaged(place),
+        Again::OutOfMemory => Ended::OutOfMemory,
+    }
+}
+
+/// Finds the journal on a disk, serves its records again, and then the input.
+fn serve_mounted<S: Source, W: Sink, D: Disk>(
+    alloc: Global,
+    input: &mut S,
+    out: &mut W,
+    disk: &mut D,
+) -> Ended
+    ensures content { ServesJournal result (S.left input.old) (S.left input.new)
+        (D.told disk.old) (D.told disk.new) (W.held out.old) (W.held out.new) }
+    ensures same { D.names disk.new ≡ D.names disk.old }
+    ensures read { result ≡ Ended.ReadFault → Rose (S.faults input.old) (S.faults input.new) }
+    ensures write { result ≡ Ended.WriteFault → Rose (W.faults out.old) (W.faults out.new) }
+    ensures stored { result ≡ Ended.DiskFault → Rose (D.faults disk.old) (D.faults disk.new) }
+{
+    match Journal::mount(alloc, disk) {
+        Mounted::Ready(journal, entries) => {
+            serve_found(alloc, input, out, disk, journal, entries.as_slice())
+        }
+        Mounted::Damaged(place) => Ended::Damaged(place),
+        Mounted::DiskFault => Ended::DiskFault,
+        Mounted::OutOfMemory => Ended::OutOfMemory,
+    }
+}
+
+/// Finds the journal on a disk and serves its records again; then reads requests from the input, frame
+/// after frame, and puts the frames of the replies to the output. What a request changes is on the
+/// disk before its replies are put: all the records of a transaction at its COMMIT.
+pub fn serve_journal<S: Source, W: Sink, D: Disk>(
+    alloc: Global,
+    input: &mut S,
+    out: &mut W,
+    disk: &mut D,
+) -> Ended
+    // What was taken of the input, what was put for it and what a crash leaves of its records, by how it ended; or why the file's
+    // records weren't served again.
+    ensures content { ServesJournal result (S.left input.old) (S.left input.new)
+        (D.told disk.old) (D.told disk.new) (W.held out.old) (W.held out.new) }
+    // A file whose records are served again stays one, and isn't found damaged.
+    ensures servable { WhereTold StaysServable (D.told disk.old) (D.told disk.new) }
+    ensures undamaged { IsntDamaged result (D.told disk.old) (D.told disk.new) }
+    // The faults of the outside come only where a count rose.
+    ensures same { D.names disk.new ≡ D.names disk.old }
+    ensures read { result ≡ Ended.ReadFault → Rose (S.faults input.old) (S.faults input.new) }
+    ensures write { result ≡ Ended.WriteFault → Rose (W.faults out.old) (W.faults out.new) }
+    ensures stored { result ≡ Ended.DiskFault → Rose (D.faults disk.old) (D.faults disk.new) }
+{
+    one_reading();
+    fronts_are_accepted();
+    serve_mounted(alloc, input, out, disk)
+}

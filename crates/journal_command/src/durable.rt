@@ -1,0 +1,241 @@
+//! A server whose changes are kept in a journal.
+
+ghost use Rattle.recording.specs.Recorded as records;
+ghost use Rattle.std.specs.Prelude.{◌≡◌, ◌||◌, List, ℕ, None, false, flat_map, map, option_to_list, IfOk, IfSome, OnOk};
+ghost use Rattle.journal_core.specs.Appends.{CountsAppended, IsMounted};
+ghost use Rattle.journal_core.specs.Records.{IsRecord};
+ghost use Rattle.recording.specs.Recorded.{nothing_held};
+ghost use Rattle.wire_messages.specs.declared.requests.Request as asked;
+ghost use Rattle.journal_command.specs.Durable.{AnswersBy, AppendsEntry, CountsAnswer, GoesOn, IsReadOf, IsServed, IsSound, IsStatementOf, PutsBy};
+ghost use Rattle.journal_command.specs.Keeping.{IsHolding, frames_of};
+ghost use Rattle.wire_spelling.specs.Spelling.{reply_frame};
+ghost use Rattle.journal_command.specs.Stopping.{faults, outside};
+
+use crate::endings::Stop;
+use crate::keepers::Keeper;
+use crate::replies::is_done;
+use ae_base::blobs::Blob;
+use ae_base::lists::Seq;
+use ae_base::sessions::SessionId;
+use ae_edge::sinks::Sink;
+use ae_edge::streams::PutAll;
+use disk::disks::Disk;
+use journal_core::journal::{Appended, Journal};
+use serve_command::answers::put_replies;
+use server_core::server::Server;
+use server_core::sorts::Sort;
+use std::alloc::{AllocError, Global};
+use std::marker::Model;
+use wire_messages::replies::Reply;
+use wire_messages::requests::Request;
+
+/// A server, what is held of its sessions' transactions, and the journal.
+#[derive(Drop)]
+pub(crate) struct Durable {
+    server: Server,
+    keeper: Keeper,
+    journal: Journal,
+}
+
+impl Model for Durable {
+    ghost use Rattle.journal_command.specs.Durable.{DurableState};
+
+    ghost Value = { DurableState };
+
+    ghost view = { λ d. record { state = d.server; held = d.keeper; journal = d.journal } };
+}
+
+/// The replies to a request, and the record that it completes, if it does.
+#[derive(Drop)]
+struct Answer {
+    replies: Seq<Reply<'static>>,
+    entry: Option<Blob>,
+}
+
+/// What came of a request.
+#[derive(Clone, Copy)]
+pub(crate) enum Answered {
+    /// All replies were put.
+    Whole,
+    Stopped(Stop),
+}
+
+impl Durable {
+    /// Nothing is held yet.
+    pub(crate) fn new(
+        alloc: Global,
+        server: Server,
+        journal: Journal,
+    ) -> Result<Durable, AllocError>
+        ensures { IfOk result (λ durable. durable
+            ≡ record { state = server; held = map frames_of nothing_held; journal = journal }) }
+    {
+        Ok(Durable {
+            server,
+            keeper: Keeper::new(alloc)?,
+            journal,
+        })
+    }
+
+    /// Whether what is held of a session stays, after a request with these replies.
+    fn goes_on(&self, session: SessionId, replies: &[Reply<'_>]) -> bool
+        ensures { result ≡ (records.is_done replies.now || records.has_transaction self.now.state session) }
+    {
+        is_done(replies) || self.server.has_transaction(session)
+    }
+
+    /// Serves a request that changes nothing.
+    fn serve_read(
+        &mut self,
+        alloc: Global,
+        session: SessionId,
+        request: &Request<'_>,
+    ) -> Result<Answer, AllocError>
+        requires asked { IsReadOf session request.now }
+        requires holds { IsHolding self.old.held }
+        ensures served { IfOk result (λ answer. IsServed answer.replies answer.entry request.now
+            self.old self.new) }
+        ensures none { IfOk result (λ answer. answer.entry ≡ None) }
+        ensures holds { OnOk result (IsHolding self.new.held) }
+        ensures journal { self.new.journal ≡ self.old.journal }
+    {
+        let replies = self.server.serve(alloc, request)?;
+        let stays = self.goes_on(session, replies.as_slice());
+        self.keeper.stay(alloc, session, stays);
+        Ok(Answer {
+            replies,
+            entry: None,
+        })
+    }
+
+    /// Serves a request that may change something. Room for its record is made before.
+    fn serve_change(
+        &mut self,
+        alloc: Global,
+        session: SessionId,
+        request: &Request<'_>,
+        sort: Sort,
+    ) -> Result<Answer, AllocError>
+        requires asked { IsStatementOf session sort request.now }
+        requires holds { IsHolding self.old.held }
+        ensures served { IfOk result (λ answer. IsServed answer.replies answer.entry request.now
+            self.old self.new) }
+        ensures proper { IfOk result (λ answer. IfSome answer.entry IsRecord) }
+        ensures holds { OnOk result (IsHolding self.new.held) }
+        ensures journal { self.new.journal ≡ self.old.journal }
+    {
+        let room = self.keeper.reserve(alloc, session, request)?;
+        let replies = self.server.serve(alloc, request)?;
+        if is_done(replies.as_slice()) {
+            let entry = self.keeper.keep(alloc, session, room, sort);
+            Ok(Answer { replies, entry })
+        } else {
+            let stays = self.server.has_transaction(session);
+            self.keeper.leave(alloc, session, &room, stays);
+            Ok(Answer {
+                replies,
+                entry: None,
+            })
+        }
+    }
+
+    /// Serves a request, and holds or hands out what is to be recorded of it.
+    fn serve(&mut self, alloc: Global, request: &Request<'_>) -> Result<Answer, AllocError>
+        requires { IsHolding self.old.held }
+        ensures served { IfOk result (λ answer. IsServed answer.replies answer.entry request.now
+            self.old self.new) }
+        ensures proper { IfOk result (λ answer. IfSome answer.entry IsRecord) }
+        ensures holds { OnOk result (IsHolding self.new.held) }
+        ensures journal { self.new.journal ≡ self.old.journal }
+    {
+        match request {
+            Request::Describe { .. } => Ok(Answer {
+                replies: self.server.serve(alloc, request)?,
+                entry: None,
+            }),
+            Request::Execute { session, text, .. } => match self.server.sort_of(alloc, text)? {
+                Sort::Reads | Sort::NoStatement => self.serve_read(alloc, *session, request),
+                sort => self.serve_change(alloc, *session, request, sort),
+            },
+        }
+    }
+
+    /// Adds a record to the journal, where there is one.
+    fn append<D: Disk>(&mut self, alloc: Global, entry: &Option<Blob>, disk: &mut D) -> Appended
+        requires ready { self.old.journal.failed ≡ false }
+        requires mounted { IfSome (D.told disk.old) (IsMounted self.old.journal.gate) }
+        requires proper { IfSome entry.now IsRecord }
+        ensures appended { AppendsEntry result self.old.journal.gate self.new.journal.gate
+            (option_to_list entry.now) (D.told disk.old) (D.told disk.new) }
+        ensures kept { self.new ≡ record self.old { journal = self.new.journal } }
+        ensures ready { result ≡ Appended.Done → self.new.journal.failed ≡ false }
+        ensures mounted { result ≡ Appended.Done
+            → IfSome (D.told disk.new) (IsMounted self.new.journal.gate) }
+        ensures same { D.names disk.new ≡ D.names disk.old }
+        ensures counts { CountsAppended result (D.faults disk.old) (D.faults disk.new) }
+    {
+        match entry {
+            Some(entry) => self.journal.append(alloc, disk, entry.as_slice()),
+            None => Appended::Done,
+        }
+    }
+
+    /// Puts the replies of an answer, once its record is on the disk.
+    fn append_and_put<W: Sink, D: Disk>(
+        &mut self,
+        alloc: Global,
+        answer: &Answer,
+        out: &mut W,
+        disk: &mut D,
+    ) -> Answered
+        requires ready { self.old.journal.failed ≡ false }
+        requires mounted { IfSome (D.told disk.old) (IsMounted self.old.journal.gate) }
+        requires proper { IfSome answer.now.entry IsRecord }
+        ensures put { PutsBy result (flat_map reply_frame answer.now.replies)
+            (option_to_list answer.now.entry)
+            (outside self.old.journal.gate (D.told disk.old) (W.held out.old))
+            (outside self.new.journal.gate (D.told disk.new) (W.held out.new)) }
+        ensures kept { self.new ≡ record self.old { journal = self.new.journal } }
+        ensures ready { result ≡ Answered.Whole → self.new.journal.failed ≡ false }
+        ensures mounted { result ≡ Answered.Whole
+            → IfSome (D.told disk.new) (IsMounted self.new.journal.gate) }
+        ensures same { D.names disk.new ≡ D.names disk.old }
+        ensures counts { CountsAnswer result (faults (D.faults disk.old) (W.faults out.old))
+            (faults (D.faults disk.new) (W.faults out.new)) }
+    {
+        match self.append(alloc, &answer.entry, disk) {
+            Appended::Done => match put_replies(alloc, answer.replies.as_slice(), out) {
+                PutAll::Whole => Answered::Whole,
+                PutAll::WriteFault => Answered::Stopped(Stop::WriteFault),
+                PutAll::OutOfMemory => Answered::Stopped(Stop::OutOfMemory),
+            },
+            Appended::DiskFault => Answered::Stopped(Stop::DiskFault),
+            Appended::JournalFull => Answered::Stopped(Stop::JournalFull),
+            Appended::OutOfMemory => Answered::Stopped(Stop::OutOfMemory),
+        }
+    }
+
+    /// Serves a request: its record is on the disk before a byte of its replies is put.
+    pub(crate) fn answer<W: Sink, D: Disk>(
+        &mut self,
+        alloc: Global,
+        request: &Request<'_>,
+        out: &mut W,
+        disk: &mut D,
+    ) -> Answered
+        requires sound { IsSound self.old (D.told disk.old) }
+        ensures answers { (held : List (List asked.Request)) → self.old.held ≡ map frames_of held
+            → AnswersBy result held request.now self.old self.new
+            (outside self.old.journal.gate (D.told disk.old) (W.held out.old))
+            (outside self.new.journal.gate (D.told disk.new) (W.held out.new)) }
+        ensures sound { GoesOn result self.new (D.told disk.new) }
+        ensures same { D.names disk.new ≡ D.names disk.old }
+        ensures counts { CountsAnswer result (faults (D.faults disk.old) (W.faults out.old))
+            (faults (D.faults disk.new) (W.faults out.new)) }
+    {
+        match self.serve(alloc, request) {
+            Ok(answer) => self.append_and_put(alloc, &answer, out, disk),
+            Err(_) => Answered::Stopped(Stop::OutOfMemory),
+        }
+    }
+}

@@ -1,0 +1,88 @@
+//! The records that were found are served again.
+
+ghost use Rattle.std.specs.Prelude.{◌≡◌, ◌<◌, ◌^◌};
+ghost use Rattle.journal_core.specs.Journals.{place_behind};
+ghost use Rattle.journal_command.specs.Restarts.{AnswersFront, ServesAgain, ServesEntry};
+
+use crate::replies::is_done;
+use ae_base::blobs::Blob;
+use server_core::server::Server;
+use std::alloc::Global;
+use wire_frames::{Decoded, decode_request, one_reading};
+
+/// What came of the request that stands at the front of a record.
+#[derive(Clone, Copy)]
+enum Front {
+    /// It was done; its frame has so many bytes.
+    Done(usize),
+    /// It was answered otherwise, or none stands there.
+    Refused,
+    OutOfMemory,
+}
+
+/// Serves the request at the front again; its replies are dropped.
+fn serve_front(alloc: Global, bytes: &[u8], server: &mut Server) -> Front
+    ensures { AnswersFront result bytes.now server.old server.new }
+{
+    match decode_request(alloc, bytes) {
+        Decoded::One(request, used) => match server.serve(alloc, &request) {
+            Ok(replies) => {
+                if is_done(replies.as_slice()) {
+                    Front::Done(used)
+                } else {
+                    Front::Refused
+                }
+            }
+            Err(_) => Front::OutOfMemory,
+        },
+        Decoded::NotYet => Front::Refused,
+        Decoded::Bad => Front::Refused,
+        Decoded::OutOfMemory => Front::OutOfMemory,
+    }
+}
+
+/// What came of records.
+#[derive(Clone, Copy)]
+pub(crate) enum Again {
+    /// Each was served: its requests were done, and no transaction is open behind it.
+    Served,
+    /// The first of which this isn't so stands behind the gate at this place.
+    Refused(u64),
+    OutOfMemory,
+}
+
+/// Serves the requests of a record again, one after another.
+fn serve_entry(alloc: Global, entry: &[u8], server: &mut Server) -> Again
+    ensures { ServesEntry result entry.now server.old server.new }
+{
+    one_reading();
+    let mut rest = entry;
+    'frames: while !rest.is_empty() {
+        match serve_front(alloc, rest, server) {
+            Front::Done(used) => rest = &rest[used..],
+            Front::Refused => return Again::Refused(0),
+            Front::OutOfMemory => return Again::OutOfMemory,
+        }
+    }
+    if server.is_idle() {
+        Again::Served
+    } else {
+        Again::Refused(0)
+    }
+}
+
+/// Serves records again, one after another.
+pub(crate) fn serve_again(alloc: Global, entries: &[Blob], server: &mut Server) -> Again
+    requires { place_behind entries.now < 2 ^ 64 }
+    ensures { ServesAgain result entries.now server.old server.new }
+{
+    let mut place = 0u64;
+    'entries: for entry in entries {
+        match serve_entry(alloc, entry.as_slice(), server) {
+            Again::Served => place += 9 + entry.len() as u64,
+            Again::Refused(_) => return Again::Refused(place),
+            Again::OutOfMemory => return Again::OutOfMemory,
+        }
+    }
+    Again::Served
+}
