@@ -1,5 +1,5 @@
 -- The statuses that faults of devices come with, and their causes.
-use Rattle.std.proofs.Common.{◌≡◌, ◌⊎◌, ℕ, List, Some, Bool, true, refl, sym, ◌∙◌, inl, inr}
+use Rattle.std.proofs.Common.{◌≡◌, ◌⊎◌, ℕ, List, Some, Bool, true, false, refl, sym, ◌∙◌, inl, inr}
 use Rattle.std.specs.Prelude.{IsTrue}
 use Rattle.ae_edge.specs.Devices.{Rose}
 use Rattle.command_words.specs.declared.commands.Command.TheVariants as command
@@ -7,6 +7,8 @@ use Rattle.check_command.specs.declared.steps.Checked.{Checked}
 use Rattle.check_command.specs.declared.steps.Checked.TheVariants as checked
 use Rattle.gen_command.specs.declared.commands.Generated.{Generated}
 use Rattle.gen_command.specs.declared.commands.Generated.TheVariants as generated
+use Rattle.journal_command.specs.declared.endings.Ended.{Ended}
+use Rattle.journal_command.specs.declared.endings.Ended.TheVariants as ended
 use Rattle.serve_command.specs.declared.commands.Served.{Served}
 use Rattle.serve_command.specs.declared.commands.Served.TheVariants as served
 use Rattle.wrap_command.specs.declared.commands.Wrapped.{Wrapped}
@@ -20,7 +22,7 @@ use Rattle.script_run.specs.declared.runs.Ran.TheVariants as ran
 use Rattle.script_run.specs.declared.status.Status.TheVariants as status
 use Rattle.script_run.specs.Ends.{IsOfPeer}
 use Rattle.ae_cli.specs.Does.{IsCaused, uses}
-use Rattle.ae_cli.specs.Endings.{status_of, status_of_checking, status_of_generating, status_of_serving, status_of_wrapping}
+use Rattle.ae_cli.specs.Endings.{status_of, status_of_checking, status_of_generating, status_of_journaling, status_of_serving, status_of_wrapping}
 use Rattle.ae_cli.specs.Seen.{Seen}
 
 -- one of two that are used
@@ -77,13 +79,25 @@ module _ (old new : Seen) where
   check_caused checked.TooLong s w = tt
 
   pub serve_caused : (s : Served) → (s ≡ served.ReadFault → Rose old.script.faults new.script.faults) → (s ≡ served.WriteFault → Rose old.out.faults new.out.faults)
-      → IsCaused (uses (Some command.Serve)) (status_of_serving s) old new
+      → IsCaused (uses (Some (command.Serve false))) (status_of_serving s) old new
   serve_caused served.Done s w = tt
   serve_caused served.ReadFault s w = inl (refl, s refl)
   serve_caused served.WriteFault s w = inl (refl, w refl)
   serve_caused served.OutOfMemory s w = tt
   serve_caused served.TooLong s w = tt
   serve_caused (served.BadFrame place) s w = tt
+
+  pub journal_caused : (e : Ended) → (e ≡ ended.ReadFault → Rose old.script.faults new.script.faults) → (e ≡ ended.WriteFault → Rose old.out.faults new.out.faults)
+      → (e ≡ ended.DiskFault → Rose old.disk.faults new.disk.faults) → IsCaused (uses (Some (command.Serve true))) (status_of_journaling e) old new
+  journal_caused ended.Done s w d = tt
+  journal_caused ended.ReadFault s w d = inl (refl, s refl)
+  journal_caused ended.WriteFault s w d = inl (refl, w refl)
+  journal_caused ended.DiskFault s w d = (refl, d refl)
+  journal_caused ended.OutOfMemory s w d = tt
+  journal_caused ended.TooLong s w d = tt
+  journal_caused (ended.BadFrame place) s w d = tt
+  journal_caused (ended.Damaged place) s w d = tt
+  journal_caused ended.JournalFull s w d = tt
 
   pub wrap_caused : (path : List ℕ) (r : Wrapped) → (r ≡ wrapped.ReadFault → Rose old.script.faults new.script.faults) → (r ≡ wrapped.VaultFault → Rose old.vault.faults new.vault.faults)
       → (r ≡ wrapped.WriteFault → Rose old.out.faults new.out.faults) → IsCaused (uses (Some (command.Wrap path))) (status_of_wrapping path r) old new

@@ -32,13 +32,17 @@ use Rattle.serve_command.specs.declared.commands.Served.TheVariants as served
 use Rattle.wrap_command.specs.Wrapping.{Takes, Wraps}
 use Rattle.wrap_command.specs.declared.commands.Wrapped.{Wrapped}
 use Rattle.wrap_command.specs.declared.commands.Wrapped.TheVariants as wrapped
+use Rattle.journal_command.specs.Journaling.{ServesJournal}
+use Rattle.journal_command.specs.Servable.{IsntDamaged, StaysServable}
+use Rattle.journal_command.specs.declared.endings.Ended.{Ended}
+use Rattle.journal_command.specs.declared.endings.Ended.TheVariants as ended
 use Rattle.gen_command.specs.Generating.{PutsScript}
 use Rattle.gen_command.specs.declared.commands.Generated.{Generated}
 use Rattle.gen_command.specs.declared.commands.Generated.TheVariants as generated
 use Rattle.ae_cli.specs.Does.{Did, DidAsked, DidRun, Does, IsCaused, uses}
-use Rattle.ae_cli.specs.Endings.{status_of, status_of_checking, status_of_generating, status_of_refusal, status_of_serving, status_of_wrapping}
+use Rattle.ae_cli.specs.Endings.{status_of, status_of_checking, status_of_generating, status_of_journaling, status_of_refusal, status_of_serving, status_of_wrapping}
 use Rattle.ae_cli.specs.Seen.{Seen, drive_devices, run_devices, wrap_devices}
-use Rattle.ae_cli.proofs.Causes.{bad_reply, check_caused, drive_caused, gen_caused, run_caused, serve_caused, wrap_caused}
+use Rattle.ae_cli.proofs.Causes.{bad_reply, check_caused, drive_caused, gen_caused, journal_caused, run_caused, serve_caused, wrap_caused}
 
 -- ---- words that are no command
 
@@ -119,10 +123,17 @@ module _ (words : List (List ℕ)) (end : Status) (old new : Seen) where
   did_wrap path is r e h t s v w =
       did_asked (command.Wrap path) is (status_of_wrapping path r) e (record { how = r; ends = e; bytes = h.0; told = h.1; did = h.2; taken = t }) (wrap_caused old new path r s v w)
 
-  pub did_serve : command_in words ≡ Some command.Serve → (s : Served) → end ≡ status_of_serving s → ServesStream s old.script.content new.script.content old.out.content new.out.content
-      → ((bytes frames : List ℕ) (stream_end : End) (after : State) → old.script.content ≡ Some bytes → ServeAll (take most_stream_bytes bytes) stream_end frames after → IsServed s bytes stream_end frames old.out.content new.out.content)
+  pub did_serve : command_in words ≡ Some (command.Serve false) → (s : Served) → end ≡ status_of_serving s → ServesStream s old.script.content new.script.content old.out.content new.out.content
+      → ((bytes frames : List ℕ) (stream_end : End) (after : State) → old.script.content ≡ Some bytes → ServeAll empty_state (take most_stream_bytes bytes) stream_end frames after → IsServed s bytes stream_end frames old.out.content new.out.content)
       → (s ≡ served.ReadFault → ReadRose) → (s ≡ served.WriteFault → WriteRose) → Does words end old new
-  did_serve is s e h x r w = did_asked command.Serve is (status_of_serving s) e (record { how = s; ends = e; serves = h; exact = x }) (serve_caused old new s r w)
+  did_serve is s e h x r w = did_asked (command.Serve false) is (status_of_serving s) e (record { how = s; ends = e; serves = h; exact = x }) (serve_caused old new s r w)
+
+  pub did_journal : command_in words ≡ Some (command.Serve true) → (e : Ended) → end ≡ status_of_journaling e
+      → ServesJournal e old.script.content new.script.content old.disk.content new.disk.content old.out.content new.out.content
+      → WhereTold StaysServable old.disk.content new.disk.content → IsntDamaged e old.disk.content new.disk.content
+      → (e ≡ ended.ReadFault → ReadRose) → (e ≡ ended.WriteFault → WriteRose) → (e ≡ ended.DiskFault → Rose old.disk.faults new.disk.faults) → Does words end old new
+  did_journal is e s h v u r w d =
+      did_asked (command.Serve true) is (status_of_journaling e) s (record { how = e; ends = s; serves = h; servable = v; undamaged = u }) (journal_caused old new e r w d)
 
   pub did_gen : (size : ℕ) → command_in words ≡ Some (command.Gen size) → (r : Generated) → end ≡ status_of_generating r → PutsScript r size old.out.content new.out.content → (r ≡ generated.WriteFault → WriteRose) → Does words end old new
   did_gen size is r e h w = did_asked (command.Gen size) is (status_of_generating r) e (record { how = r; ends = e; puts = h }) (gen_caused old new size r w)

@@ -21,9 +21,12 @@ use Rattle.serve_command.specs.Serving.{IsServed, ServesStream, most_stream_byte
 use Rattle.serve_command.specs.declared.commands.Served.{Served}
 use Rattle.wrap_command.specs.Wrapping as wraps
 use Rattle.wrap_command.specs.Wrapping.{Wraps}
+use Rattle.journal_command.specs.Journaling.{ServesJournal}
+use Rattle.journal_command.specs.Servable.{IsntDamaged, StaysServable}
+use Rattle.journal_command.specs.declared.endings.Ended.{Ended}
 use Rattle.gen_command.specs.Generating.{PutsScript}
 use Rattle.gen_command.specs.declared.commands.Generated.{Generated}
-use Rattle.ae_cli.specs.Endings.{status_of, status_of_checking, status_of_generating, status_of_serving, status_of_wrapping}
+use Rattle.ae_cli.specs.Endings.{status_of, status_of_checking, status_of_generating, status_of_journaling, status_of_serving, status_of_wrapping}
 use Rattle.ae_cli.specs.Seen.{Device, Seen, drive_devices, run_devices, wrap_devices}
 
 -- ---- what a command did, by how it ended
@@ -48,8 +51,17 @@ pub record DidServe (end : Status) (old new : Seen) : Type 0 where
   pub how : Served
   pub ends : end ≡ status_of_serving how
   pub serves : ServesStream how old.script.content new.script.content old.out.content new.out.content
-  pub exact : (bytes frames : List ℕ) (stream_end : End) (after : State) → old.script.content ≡ Some bytes → ServeAll (take most_stream_bytes bytes) stream_end frames after
+  pub exact : (bytes frames : List ℕ) (stream_end : End) (after : State) → old.script.content ≡ Some bytes → ServeAll empty_state (take most_stream_bytes bytes) stream_end frames after
       → IsServed how bytes stream_end frames old.out.content new.out.content
+
+-- It served requests with a server whose changes are kept on the disk: what was taken of the script, what was put for it, and what a crash
+-- leaves of the disk at each moment. A file that it left, or one without a record, isn't found damaged.
+pub record DidServeJournal (end : Status) (old new : Seen) : Type 0 where
+  pub how : Ended
+  pub ends : end ≡ status_of_journaling how
+  pub serves : ServesJournal how old.script.content new.script.content old.disk.content new.disk.content old.out.content new.out.content
+  pub servable : WhereTold StaysServable old.disk.content new.disk.content
+  pub undamaged : IsntDamaged how old.disk.content new.disk.content
 
 -- It put the script of a size, or a front of it.
 pub record DidGen (size : ℕ) (end : Status) (old new : Seen) : Type 0 where
@@ -63,7 +75,8 @@ Did (command.Run true) end old new = DidRun (λ ran bytes. IsSummaryOf ran bytes
 Did command.Drive end old new = DidScript status_of (λ ran bytes. IsDriveOf ran bytes (drive_devices old) (drive_devices new)) (λ ran. TakesScript (runs.read_by ran)) end old new
 Did command.Check end old new = DidScript status_of_checking (λ checked bytes. ChecksScript checked bytes old.out.content new.out.content) (λ checked. TakesScript (checks.read_by checked)) end old new
 Did (command.Wrap path) end old new = DidScript (status_of_wrapping path) (λ wrapped bytes. Wraps wrapped path bytes (wrap_devices old) (wrap_devices new)) wraps.Takes end old new
-Did command.Serve end old new = DidServe end old new
+Did (command.Serve false) end old new = DidServe end old new
+Did (command.Serve true) end old new = DidServeJournal end old new
 Did (command.Gen size) end old new = DidGen size end old new
 
 -- ---- the devices that a command uses
@@ -76,16 +89,17 @@ pub record Uses : Type 0 where
   pub out : Bool
   pub tap : Bool
   pub peer : Bool
+  pub disk : Bool
 
 abbrev pub none_of_them : Uses
-none_of_them = record { script = false; vault = false; entropy = false; replies = false; out = false; tap = false; peer = false }
+none_of_them = record { script = false; vault = false; entropy = false; replies = false; out = false; tap = false; peer = false; disk = false }
 
 abbrev pub uses : Option Command → Uses
 uses (Some (command.Run summary)) = record none_of_them { script = true; vault = true; entropy = true; out = true; tap = true; peer = true }
 uses (Some command.Drive) = record none_of_them { script = true; vault = true; entropy = true; replies = true; out = true; tap = true }
 uses (Some command.Check) = record none_of_them { script = true; out = true }
 uses (Some (command.Wrap path)) = record none_of_them { script = true; vault = true; out = true }
-uses (Some command.Serve) = record none_of_them { script = true; out = true }
+uses (Some (command.Serve journal)) = record none_of_them { script = true; out = true; disk = journal }
 uses (Some (command.Gen size)) = record none_of_them { out = true }
 uses None = none_of_them
 
@@ -101,6 +115,7 @@ IsCaused used status.ReadFault old new = RoseAt used.script old.script new.scrip
 IsCaused used status.WriteFault old new = RoseAt used.out old.out new.out ⊎ RoseAt used.tap old.tap new.tap
 IsCaused used status.EntropyFault old new = RoseAt used.entropy old.entropy new.entropy
 IsCaused used status.VaultFault old new = RoseAt used.vault old.vault new.vault
+IsCaused used status.DiskFault old new = RoseAt used.disk old.disk new.disk
 IsCaused used other old new = Unit {0}
 
 -- ---- the words

@@ -6,6 +6,8 @@ use Rattle.check_command.specs.declared.steps.Checked.{Checked}
 use Rattle.check_command.specs.declared.steps.Checked.TheVariants as checked
 use Rattle.gen_command.specs.declared.commands.Generated.{Generated}
 use Rattle.gen_command.specs.declared.commands.Generated.TheVariants as generated
+use Rattle.journal_command.specs.declared.endings.Ended.{Ended}
+use Rattle.journal_command.specs.declared.endings.Ended.TheVariants as ended
 use Rattle.serve_command.specs.declared.commands.Served.{Served}
 use Rattle.serve_command.specs.declared.commands.Served.TheVariants as served
 use Rattle.wrap_command.specs.declared.commands.Wrapped.{Wrapped}
@@ -32,6 +34,18 @@ status_of_serving served.WriteFault = status.WriteFault
 status_of_serving served.OutOfMemory = status.OutOfMemory
 status_of_serving served.TooLong = status.TooLong
 status_of_serving (served.BadFrame place) = status.BadFrame place
+
+-- of serving with a journal
+abbrev pub status_of_journaling : Ended → Status
+status_of_journaling ended.Done = status.Done
+status_of_journaling ended.ReadFault = status.ReadFault
+status_of_journaling ended.WriteFault = status.WriteFault
+status_of_journaling ended.DiskFault = status.DiskFault
+status_of_journaling ended.OutOfMemory = status.OutOfMemory
+status_of_journaling ended.TooLong = status.TooLong
+status_of_journaling (ended.BadFrame place) = status.BadFrame place
+status_of_journaling (ended.Damaged place) = status.BadJournal place
+status_of_journaling ended.JournalFull = status.JournalFull
 
 -- of a wrapping at a path
 abbrev pub status_of_wrapping : List ℕ → Wrapped → Status

@@ -1,6 +1,7 @@
 -- What is seen of all that the program is lent.
 use Rattle.std.specs.Prelude.{ℕ, List, Option}
 use Rattle.ae_edge.specs.Vaults.{KeyMap}
+use Rattle.disk.specs.Moments.{Moments}
 use Rattle.wire_messages.specs.Exchanges.{Exchange}
 use Rattle.server_core.specs.Serve.{State}
 use Rattle.script_run.specs.Ends.{RunDevices}
@@ -28,6 +29,7 @@ pub record Seen : Type 0 where
   pub out : Device (List ℕ)
   pub tap : Device (List ℕ)
   pub peer : PeerSeen
+  pub disk : Device Moments
 
 -- ---- what a command is told of it
 

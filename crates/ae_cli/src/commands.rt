@@ -5,7 +5,9 @@ ghost use Rattle.ae_cli.specs.Does.{Does, uses};
 ghost use Rattle.ae_cli.specs.Seen.{seen};
 ghost use Rattle.command_words.specs.Words.{command_in};
 
-use crate::endings::{of_checking, of_generating, of_refusal, of_serving, of_wrapping};
+use crate::endings::{
+    of_checking, of_generating, of_journaling, of_refusal, of_serving, of_wrapping,
+};
 use ae_base::texts::Txt;
 use ae_edge::entropies::Entropy;
 use ae_edge::sinks::Sink;
@@ -13,8 +15,10 @@ use ae_edge::sources::Source;
 use ae_edge::vaults::Vault;
 use check_command::commands::check;
 use command_words::commands::{Command, command_of};
+use disk::disks::Disk;
 use drive_command::commands::drive;
 use gen_command::commands::generate;
+use journal_command::commands::serve_journal;
 use script_run::commands::run;
 use script_run::status::Status;
 use script_run::summaries::summarize;
@@ -34,11 +38,13 @@ use wrap_command::commands::wrap;
 /// `check` reads a script from `script`, executes its definitions, describes every other batch
 /// without executing it, and puts to `out` what each comes to, a clash with the rules that show it.
 /// `serve` reads frames of requests from `script`, and puts the frames of the replies of a server
-/// that begins with nothing defined to `out`. `wrap PATH` reads a column key from `script`, wraps it
+/// that begins with nothing defined to `out`. `serve --journal` does the same with a server that keeps
+/// its changes on `disk`: it begins with what the records there give, and each change is there before
+/// its replies are put. `wrap PATH` reads a column key from `script`, wraps it
 /// under the master key at the path, and puts its digits to `out`. `gen N` puts the script of a size
 /// to `out`: two keys and a table with protected columns, N rows of it, and two reads. Other words
 /// are `Usage`.
-pub fn ae_main<S: Source, V: Vault, E: Entropy, L: Source, W: Sink, T: Sink, P: Peer>(
+pub fn ae_main<S: Source, V: Vault, E: Entropy, L: Source, W: Sink, T: Sink, P: Peer, D: Disk>(
     alloc: Global,
     words: &[Txt],
     script: &mut S,
@@ -48,6 +54,7 @@ pub fn ae_main<S: Source, V: Vault, E: Entropy, L: Source, W: Sink, T: Sink, P: 
     out: &mut W,
     tap: &mut T,
     peer: &mut P,
+    disk: &mut D,
 ) -> Status
     // By the command that the words are: how it ended and why, and what each device has of it, from
     // what is seen of them before to what is seen of them after.
@@ -60,6 +67,7 @@ pub fn ae_main<S: Source, V: Vault, E: Entropy, L: Source, W: Sink, T: Sink, P: 
           out = seen W.held W.faults out.old;
           tap = seen T.held T.faults tap.old;
           peer = record { log = P.log peer.old; state = P.state peer.old };
+          disk = seen D.told D.faults disk.old;
         })
         (record {
           script = seen S.left S.faults script.new;
@@ -69,6 +77,7 @@ pub fn ae_main<S: Source, V: Vault, E: Entropy, L: Source, W: Sink, T: Sink, P: 
           out = seen W.held W.faults out.new;
           tap = seen T.held T.faults tap.new;
           peer = record { log = P.log peer.new; state = P.state peer.new };
+          disk = seen D.told D.faults disk.new;
         }) }
     // A device that the command doesn't use is as it was, whatever it tells.
     ensures script { (uses (command_in words.now)).script ≡ false → script.new ≡ script.old }
@@ -78,6 +87,7 @@ pub fn ae_main<S: Source, V: Vault, E: Entropy, L: Source, W: Sink, T: Sink, P: 
     ensures out { (uses (command_in words.now)).out ≡ false → out.new ≡ out.old }
     ensures tap { (uses (command_in words.now)).tap ≡ false → tap.new ≡ tap.old }
     ensures peer { (uses (command_in words.now)).peer ≡ false → peer.new ≡ peer.old }
+    ensures disk { (uses (command_in words.now)).disk ≡ false → disk.new ≡ disk.old }
 {
     match command_of(alloc, words) {
         Ok(Command::Run { summary: false }) => {
@@ -86,7 +96,10 @@ pub fn ae_main<S: Source, V: Vault, E: Entropy, L: Source, W: Sink, T: Sink, P: 
         Ok(Command::Run { summary: true }) => {
             Status::from(summarize(alloc, script, vault, entropy, out, tap, peer))
         }
-        Ok(Command::Serve) => of_serving(serve_stream(alloc, script, out)),
+        Ok(Command::Serve { journal: false }) => of_serving(serve_stream(alloc, script, out)),
+        Ok(Command::Serve { journal: true }) => {
+            of_journaling(serve_journal(alloc, script, out, disk))
+        }
         Ok(Command::Drive) => {
             Status::from(drive(alloc, script, vault, entropy, replies, out, tap))
         }

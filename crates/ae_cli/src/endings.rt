@@ -1,12 +1,13 @@
 //! The endings of commands as statuses.
 
 ghost use Rattle.std.specs.Prelude.{◌≡◌};
-ghost use Rattle.ae_cli.specs.Endings.{status_of_checking, status_of_generating, status_of_refusal, status_of_serving, status_of_wrapping};
+ghost use Rattle.ae_cli.specs.Endings.{status_of_checking, status_of_generating, status_of_journaling, status_of_refusal, status_of_serving, status_of_wrapping};
 
 use ae_base::refusals::Refusal;
 use ae_base::texts::Txt;
 use check_command::steps::Checked;
 use gen_command::commands::Generated;
+use journal_command::endings::Ended;
 use script_run::status::Status;
 use serve_command::commands::Served;
 use wrap_command::commands::Wrapped;
@@ -37,6 +38,23 @@ pub fn of_serving(served: Served) -> Status
         Served::OutOfMemory => Status::OutOfMemory,
         Served::TooLong => Status::TooLong,
         Served::BadFrame(place) => Status::BadFrame(place),
+    }
+}
+
+/// The status of serving with a journal.
+pub fn of_journaling(ended: Ended) -> Status
+    ensures { result ≡ status_of_journaling ended }
+{
+    match ended {
+        Ended::Done => Status::Done,
+        Ended::ReadFault => Status::ReadFault,
+        Ended::WriteFault => Status::WriteFault,
+        Ended::DiskFault => Status::DiskFault,
+        Ended::OutOfMemory => Status::OutOfMemory,
+        Ended::TooLong => Status::TooLong,
+        Ended::BadFrame(place) => Status::BadFrame(place),
+        Ended::Damaged(place) => Status::BadJournal(place),
+        Ended::JournalFull => Status::JournalFull,
     }
 }
 

@@ -19,6 +19,7 @@ use ae_edge::adapters::folder::FolderVault;
 use ae_edge::adapters::sink::StdSink;
 use ae_edge::adapters::source::StdSource;
 use commands::ae_main;
+use disk::file_disk::FileDisk;
 use rand::rngs::SysRng;
 use script_run::status::Status;
 use server_core::server::Server;
@@ -73,6 +74,7 @@ fn status_of(rt: &HostRuntime, words: &[Txt]) -> Status
     let mut out = StdSink::new(rt.stdout());
     let mut tap = FileSink::new(rt, "tap.bin");
     let mut peer = Server::new(alloc);
+    let mut disk = FileDisk::new(rt, "journal.bin");
     ae_main(
         alloc,
         words,
@@ -83,5 +85,6 @@ fn status_of(rt: &HostRuntime, words: &[Txt]) -> Status
         &mut out,
         &mut tap,
         &mut peer,
+        &mut disk,
     )
 }

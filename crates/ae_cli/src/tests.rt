@@ -10,6 +10,7 @@ use ae_edge::memory::sink::MemSink;
 use ae_edge::memory::source::MemSource;
 use ae_edge::memory::vault::MemVault;
 use ae_edge::sources::{Source, Taken};
+use disk::mem_disk::MemDisk;
 use script_run::status::Status;
 use server_core::server::Server;
 use std::alloc::{AllocError, Global};
@@ -30,6 +31,7 @@ struct Left {
     status: Status,
     out: MemSink,
     tap: MemSink,
+    disk: MemDisk,
 }
 
 /// The master key of the path `main`.
@@ -94,13 +96,27 @@ fn vault(alloc: Global, fails: &str) -> Result<MemVault, AllocError> {
     Ok(MemVault::new(keys, failing(alloc, "vault", fails)?))
 }
 
-/// What the words come to over a script and replies, where the first call of one device fails.
+/// What the words come to over a script and replies, where the first call of one device fails. Nothing
+/// is on the disk.
 fn come_to<S: Source, L: Source>(
     alloc: Global,
     words: &[&str],
     script: &mut S,
     replies: &mut L,
     fails: &str,
+) -> Result<Left, AllocError> {
+    let disk = MemDisk::new(alloc, b"", failing(alloc, "disk", fails)?)?;
+    come_to_over(alloc, words, script, replies, fails, disk)
+}
+
+/// The same over a disk.
+fn come_to_over<S: Source, L: Source>(
+    alloc: Global,
+    words: &[&str],
+    script: &mut S,
+    replies: &mut L,
+    fails: &str,
+    mut disk: MemDisk,
 ) -> Result<Left, AllocError> {
     let words = words_of(alloc, words)?;
     let drawn = vec![in alloc; 7u8; 16_000]?;
@@ -119,8 +135,14 @@ fn come_to<S: Source, L: Source>(
         &mut out,
         &mut tap,
         &mut peer,
+        &mut disk,
     );
-    Ok(Left { status, out, tap })
+    Ok(Left {
+        status,
+        out,
+        tap,
+        disk,
+    })
 }
 
 /// What the words come to over the bytes of a script, where the first call of one device fails.
@@ -286,6 +308,48 @@ fn serve_answers_requests(rt: HostRuntime) -> Result<(), Fail> {
     Ok(())
 }
 
+/// The journal with the record of the definition.
+const JOURNAL: &[u8] =
+    b"\x01\x00\x00\x00\x00\x00\x00\x00\x2b\x01\x02\x00\x00\x00\x25\x00\x01\x00\x00\x00\x00\x00\x00\x00\x00\x00\x00\x00\x16CREATE TABLE t (a INT)\x00\x00";
+
+// Requests to a server whose file is this.
+fn journaled(alloc: Global, requests: &[u8], file: &[u8]) -> Result<Left, AllocError> {
+    let mut script = MemSource::new(requests.to_vec(alloc)?, 10, Vec::new(alloc));
+    let mut replies = MemSource::new(Vec::new(alloc), 10, Vec::new(alloc));
+    let disk = MemDisk::new(alloc, file, Vec::new(alloc))?;
+    let words = ["ae", "serve", "--journal"];
+    come_to_over(alloc, &words, &mut script, &mut replies, "", disk)
+}
+
+#[test]
+fn serve_with_a_journal_keeps_a_definition(rt: HostRuntime) -> Result<(), Fail> {
+    let left = journaled(rt.alloc(), REQUESTS, b"")?;
+    assert_eq!(rt; left.status.number(), 0);
+    assert_eq!(rt; left.out.bytes(), REPLIES);
+    assert_eq!(rt; left.disk.bytes(), JOURNAL);
+    // Its table is there for the next one.
+    let query = b"\x01\x01\x00\x00\x00\x16\x00\x01\x00\x00\x00\x0fSELECT a FROM t\x00";
+    let left = journaled(rt.alloc(), query, JOURNAL)?;
+    assert_eq!(rt; left.status.number(), 0);
+    assert_eq!(rt;
+        left.out.bytes(),
+        b"\x01\x81\x00\x00\x00\x0a\x00\x00\x00\x00\x00\x00\x00\x01\x00\x00".as_slice()
+    );
+    assert_eq!(rt; left.disk.bytes(), JOURNAL);
+    Ok(())
+}
+
+#[test]
+fn a_damaged_journal_is_left_as_it_is(rt: HostRuntime) -> Result<(), Fail> {
+    let damaged = &JOURNAL[..52];
+    let left = journaled(rt.alloc(), REQUESTS, damaged)?;
+    assert!(rt; matches!(left.status, Status::BadJournal(0)));
+    assert_eq!(rt; left.status.number(), 13);
+    assert!(rt; left.out.bytes().is_empty());
+    assert_eq!(rt; left.disk.bytes(), damaged);
+    Ok(())
+}
+
 #[test]
 fn check_describes_what_is_no_definition(rt: HostRuntime) -> Result<(), Fail> {
     let left = left_under(rt.alloc(), &["ae", "check"])?;
@@ -303,7 +367,7 @@ fn check_describes_what_is_no_definition(rt: HostRuntime) -> Result<(), Fail> {
 fn each_fault_has_its_status(rt: HostRuntime) -> Result<(), Fail> {
     let plain = PLAIN_TABLE.as_bytes();
     let row = ONE_ROW.as_bytes();
-    let cases: [(&[&str], &[u8], &str, u8); 9] = [
+    let cases: [(&[&str], &[u8], &str, u8); 10] = [
         (&["ae", "run"], plain, "script", 3),
         (&["ae", "run"], plain, "out", 4),
         (&["ae", "run"], plain, "tap", 4),
@@ -313,6 +377,7 @@ fn each_fault_has_its_status(rt: HostRuntime) -> Result<(), Fail> {
         (&["ae", "wrap", "main"], b"\n", "", 8),
         (&["ae", "serve"], &REQUESTS[..20], "", 10),
         (&["ae", "wrap", "other"], KEY.as_bytes(), "", 12),
+        (&["ae", "serve", "--journal"], REQUESTS, "disk", 14),
     ];
     for (words, script, fails, number) in cases {
         let left = left_where(rt.alloc(), words, script, fails)?;

@@ -37,7 +37,7 @@ abbrev pub run : Shape
 run = with_argument (flag (codes "summary")) (bare (codes "run"))
 
 abbrev pub serve : Shape
-serve = bare (codes "serve")
+serve = with_argument (flag (codes "journal")) (bare (codes "serve"))
 
 abbrev pub drive : Shape
 drive = bare (codes "drive")
@@ -82,7 +82,7 @@ gen_in rows = option_map (λ text. command.Gen (number_of text)) (one_of (codes 
 abbrev pub named : Text × List Row → Option Command
 named found =
     if bytes_eq found.0 (codes "run") then Some (command.Run (is_given (codes "summary") found.1))
-    else (if bytes_eq found.0 (codes "serve") then Some command.Serve
+    else (if bytes_eq found.0 (codes "serve") then Some (command.Serve (is_given (codes "journal") found.1))
     else (if bytes_eq found.0 (codes "drive") then Some command.Drive
     else (if bytes_eq found.0 (codes "check") then Some command.Check
     else (if bytes_eq found.0 (codes "wrap") then wrap_in found.1

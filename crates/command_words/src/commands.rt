@@ -18,8 +18,8 @@ use std::alloc::{AllocError, Global};
 pub enum Command {
     /// Run a script; its summary takes the place of its text, or not.
     Run { summary: bool },
-    /// Serve requests.
-    Serve,
+    /// Serve requests; keep the accepted changes in a journal, or not.
+    Serve { journal: bool },
     /// Run a script against recorded replies.
     Drive,
     /// Check a script.
@@ -93,7 +93,9 @@ fn named(alloc: Global, name: &str, inner: &ArgMatches<'_>) -> Result<Command, R
         "run" => Ok(Command::Run {
             summary: is_given(inner, "summary"),
         }),
-        "serve" => Ok(Command::Serve),
+        "serve" => Ok(Command::Serve {
+            journal: is_given(inner, "journal"),
+        }),
         "drive" => Ok(Command::Drive),
         "check" => Ok(Command::Check),
         "wrap" => wrap_in(alloc, inner),

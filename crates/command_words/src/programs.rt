@@ -57,6 +57,22 @@ fn run<'a>(alloc: Global) -> Result<Command<'a>, AllocError>
     .arg(summary)
 }
 
+fn serve<'a>(alloc: Global) -> Result<Command<'a>, AllocError>
+    ensures { IfOk result (IsLeaf words.serve) }
+{
+    let journal = flag(
+        alloc,
+        "journal",
+        "Keep accepted changes in the file journal.bin",
+    );
+    bare(
+        alloc,
+        "serve",
+        "Answer the request frames on standard input",
+    )
+    .arg(journal)
+}
+
 fn wrap<'a>(alloc: Global) -> Result<Command<'a>, AllocError>
     ensures { IfOk result (IsLeaf words.wrap) }
 {
@@ -80,11 +96,6 @@ fn gen_script<'a>(alloc: Global) -> Result<Command<'a>, AllocError>
 pub(crate) fn program<'a>(alloc: Global) -> Result<Command<'a>, AllocError>
     ensures { IfOk result (IsProgram words.program) }
 {
-    let serve = bare(
-        alloc,
-        "serve",
-        "Answer the request frames on standard input",
-    );
     let drive = bare(
         alloc,
         "drive",
@@ -99,7 +110,7 @@ pub(crate) fn program<'a>(alloc: Global) -> Result<Command<'a>, AllocError>
         .about("SQL over columns that the client encrypts and the server cannot read")
         .subcommand_required(true)
         .subcommand(run(alloc)?)?
-        .subcommand(serve)?
+        .subcommand(serve(alloc)?)?
         .subcommand(drive)?
         .subcommand(check)?
         .subcommand(wrap(alloc)?)?

@@ -11,7 +11,8 @@ fn said(alloc: Global, command: &Command) -> Result<String, AllocError> {
     match command {
         Command::Run { summary: false } => format!(in alloc; "run"),
         Command::Run { summary: true } => format!(in alloc; "run, summary"),
-        Command::Serve => format!(in alloc; "serve"),
+        Command::Serve { journal: false } => format!(in alloc; "serve"),
+        Command::Serve { journal: true } => format!(in alloc; "serve, journal"),
         Command::Drive => format!(in alloc; "drive"),
         Command::Check => format!(in alloc; "check"),
         Command::Wrap(path) => format!(in alloc; "wrap [{}]", path.as_str()),
@@ -35,12 +36,13 @@ fn read(alloc: Global, words: &[&str]) -> Result<String, AllocError> {
 
 #[test]
 fn words_are_commands(rt: HostRuntime) -> Result<(), Fail> {
-    let rows: [(&[&str], &str); 20] = [
+    let rows: [(&[&str], &str); 21] = [
         (&["run"], "run"),
         (&["run", "--summary"], "run, summary"),
         (&["run", "--"], "run"),
         (&["serve"], "serve"),
         (&["serve", "--"], "serve"),
+        (&["serve", "--journal"], "serve, journal"),
         (&["drive"], "drive"),
         (&["check"], "check"),
         (&["wrap", "main"], "wrap [main]"),
@@ -65,7 +67,7 @@ fn words_are_commands(rt: HostRuntime) -> Result<(), Fail> {
 
 #[test]
 fn other_words_are_refused(rt: HostRuntime) -> Result<(), Fail> {
-    let rows: [&[&str]; 40] = [
+    let rows: [&[&str]; 42] = [
         &[],
         &["walk"],
         &["RUN"],
@@ -82,6 +84,8 @@ fn other_words_are_refused(rt: HostRuntime) -> Result<(), Fail> {
         &["run", "--", "--summary"],
         &["serve", "x"],
         &["serve", "--summary"],
+        &["serve", "--journal", "--journal"],
+        &["run", "--journal"],
         &["check", "-x"],
         &["wrap"],
         &["wrap", "-x"],

@@ -1,7 +1,7 @@
 -- What each command did is what the words ask for.
 use Rattle.std.proofs.Common.{Some, ap, ◌∙◌}
 use Rattle.command_words.specs.declared.commands.Command.TheVariants as command
-use Rattle.ae_cli.proofs.Doing.{did_check, did_drive, did_gen, did_run, did_serve, did_summary, did_wrap, unasked}
+use Rattle.ae_cli.proofs.Doing.{did_check, did_drive, did_gen, did_journal, did_run, did_serve, did_summary, did_wrap, unasked}
 use Rattle.ae_cli.proofs.commands.ae_main.Goals as goal
 
 pub returns-in-Ok-Run-false-clause-does : goal.returns-in-Ok-Run-false-clause-does
@@ -24,8 +24,15 @@ returns-in-Ok-Drive-clause-does g c =
 pub returns-in-Ok-Check-clause-does : goal.returns-in-Ok-Check-clause-does
 returns-in-Ok-Check-clause-does g c = let e = c.check.ensures in did_check c.args.words.now _ _ _ (c.in-Ok-Check.ensures ∙ ap Some c.in-Ok-Check.field-0-is) _ c.of_checking.ensures e.content e.taken e.read e.write
 
-pub returns-in-Ok-Serve-clause-does : goal.returns-in-Ok-Serve-clause-does
-returns-in-Ok-Serve-clause-does g c = let e = c.serve_stream.ensures in did_serve c.args.words.now _ _ _ (c.in-Ok-Serve.ensures ∙ ap Some c.in-Ok-Serve.field-0-is) _ c.of_serving.ensures e.content e.exact e.read e.write
+pub returns-in-Ok-Serve-false-clause-does : goal.returns-in-Ok-Serve-false-clause-does
+returns-in-Ok-Serve-false-clause-does g c =
+    let e = c.serve_stream.ensures in
+    did_serve c.args.words.now _ _ _ (c.in-Ok-Serve-false.ensures ∙ ap Some (c.in-Ok-Serve-false.field-0-is ∙ ap command.Serve c.in-Ok-Serve-false.field-0-0-test)) _ c.of_serving.ensures e.content e.exact e.read e.write
+
+pub returns-in-Ok-Serve-true-clause-does : goal.returns-in-Ok-Serve-true-clause-does
+returns-in-Ok-Serve-true-clause-does g c =
+    let e = c.serve_journal.ensures in
+    did_journal c.args.words.now _ _ _ (c.in-Ok-Serve-true.ensures ∙ ap Some (c.in-Ok-Serve-true.field-0-is ∙ ap command.Serve c.in-Ok-Serve-true.field-0-0-test)) _ c.of_journaling.ensures e.content e.servable e.undamaged e.read e.write e.stored
 
 pub returns-in-Ok-Wrap-clause-does : goal.returns-in-Ok-Wrap-clause-does
 returns-in-Ok-Wrap-clause-does g c = let e = c.wrap-wrapped.ensures in did_wrap c.args.words.now _ _ _ _ (c.in-Ok-Wrap.ensures ∙ ap Some c.in-Ok-Wrap.field-0-is) _ c.of_wrapping.ensures e.content e.taken e.read e.vault e.write
