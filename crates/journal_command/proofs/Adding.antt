@@ -1,16 +1,15 @@
 -- Entries that are added one after another, over the moments of a disk.
-use Rattle.std.proofs.Common.{◌≡◌, inl, inr, ℕ, ◌+◌, List, [], ◌∷◌, ◌++◌, length, Option, Some, None, refl, sym, ap, ◌∙◌, subst, append-nil, append_assoc, ◌<◌, arith}
-use Rattle.std.specs.Prelude.{IfSome}
+use Rattle.std.proofs.Common.{◌≡◌, inl, inr, ℕ, ◌+◌, List, [], ◌∷◌, ◌++◌, length, Option, refl, sym, ap, ◌∙◌, subst, append-nil, append_assoc, arith}
 use Rattle.ae_edge.specs.Devices.{WhereTold, IsFront}
-use Rattle.ae_edge.proofs.Interface.{front_behind, front_none, front_same, front_then, told_map, told_same, told_then}
+use Rattle.ae_edge.proofs.Interface.{front_behind, front_none, front_same, told_map, told_same, told_then}
 use Rattle.disk.specs.Moments.{Moments, LeavesNow, Leaves}
 use Rattle.disk.proofs.Interface.{leaves_last, leaves_none, leaves_then, leaves_weaker}
-use Rattle.journal_core.specs.Appends.{Appends, EndsAt, IsMounted, gate_after, most_bytes}
+use Rattle.journal_core.specs.Appends.{Appends, EndsAt}
 use Rattle.journal_core.specs.Journals.{Records, ReadsAs, WithOrWithout, place_behind}
 use Rattle.journal_core.specs.declared.journal.Appended.{Appended}
 use Rattle.journal_core.specs.declared.journal.Appended.TheVariants as appended
 use Rattle.journal_core.proofs.Interface.{kept_leaves, end_reads}
-use Rattle.journal_command.specs.Records.{HasFront, HasLeast, AreAdded, AreTried, AddsEntries, TriesEntries, HasNoRoom}
+use Rattle.journal_command.specs.Records.{HasFront, HasLeast, AreAdded, AreTried, AddsEntries, TriesEntries}
 
 -- ---- places
 

@@ -1,21 +1,18 @@
 -- A record is added, and then the replies are put.
-use Rattle.std.proofs.Common.{◌≡◌, ◌⊎◌, inl, inr, ◌+◌, ◌<◌, ℕ, List, [], ◌∷◌, length, map, Option, Some, None, refl, sym, ap, subst, ◌∙◌, arith}
+use Rattle.std.proofs.Common.{◌≡◌, inl, ◌+◌, ◌<◌, ℕ, List, [], ◌∷◌, length, map, Option, Some, None, refl, sym, ap, subst, ◌∙◌, arith}
 use Rattle.std.specs.Prelude.{flat_map, option_to_list}
-use Rattle.ae_edge.specs.Devices.{WhereTold, Adds, AddsFront}
+use Rattle.ae_edge.specs.Devices.{WhereTold, Adds}
 use Rattle.disk.specs.Moments.{Moments}
 use Rattle.journal_core.specs.Appends.{Appends, gate_after, most_bytes}
-use Rattle.journal_core.specs.Journals.{place_behind}
-use Rattle.journal_core.specs.States.{JournalState}
 use Rattle.journal_core.specs.declared.journal.Appended.{Appended}
 use Rattle.journal_core.specs.declared.journal.Appended.TheVariants as appended
-use Rattle.server_core.specs.Serve.{State, serve}
+use Rattle.server_core.specs.Serve.{serve}
 use Rattle.wire_messages.specs.declared.replies.Reply.{Reply}
 use Rattle.wire_messages.specs.declared.requests.Request.{Request}
 use Rattle.wire_spelling.specs.Spelling.{reply_frame}
 use Rattle.journal_command.specs.Durable.{AnswersBy, AppendsEntry, DurableState, IsServed, PutsBy}
 use Rattle.journal_command.specs.Keeping.{entries_of, frames_of, keeping}
-use Rattle.journal_command.specs.Records.{AddsEntries, HasNoRoom, TriesEntries}
-use Rattle.journal_command.specs.Stopping.{AreThere, MayBeThere, Outside, StopsBy}
+use Rattle.journal_command.specs.Stopping.{AreThere, Outside, StopsBy}
 use Rattle.journal_command.specs.declared.durable.Answered.{Answered}
 use Rattle.journal_command.specs.declared.durable.Answered.TheVariants as answered
 use Rattle.journal_command.specs.declared.endings.Stop.{Stop}

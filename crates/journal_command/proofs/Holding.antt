@@ -1,21 +1,18 @@
 -- Frames of requests that are held.
-use Rattle.std.proofs.Common.{◌≡◌, ◌≢◌, ◌<◌, ◌≤◌, ◌+◌, ◌-◌, ℕ, zero, suc, List, [], ◌∷◌, ◌++◌, length, map, get_or, set, take, Bool, true, false, Option, Some, None, refl, sym, ap, subst, ◌∙◌, append-nil, append_assoc, arith, length-append}
-use Rattle.std.specs.Prelude.{flat_map, nat_lt, ◌==◌, if◌then◌else◌, option_to_list, IfSome}
+use Rattle.std.proofs.Common.{◌≡◌, ◌<◌, ◌-◌, ℕ, zero, suc, List, [], ◌∷◌, ◌++◌, length, map, get_or, set, take, Bool, true, false, Option, Some, None, refl, sym, ap, subst, ◌∙◌, append-nil, arith, length-append}
+use Rattle.std.specs.Prelude.{nat_lt, ◌==◌, if◌then◌else◌, option_to_list, IfSome}
 use Rattle.std.specs.List.{All, concat}
 use Rattle.std.proofs.Math.Dec.{eqb-suc-zero}
 use Rattle.std.proofs.lemmas.Bool.{lt-ltb}
 use Rattle.std.proofs.lemmas.List.{flat_map_more, get_or-map, get_or-set_same, length-map, length-set, map-set, set-get_or, set-set, take-append-le, take_all}
-use Rattle.std.proofs.lemmas.List.Elements.{All-nil, All-cons, All-head, All-tail, All-append, All-set}
-use Rattle.journal_core.specs.Records.{IsExecute, IsExecuteFrame, IsRecord}
-use Rattle.recording.specs.Recorded.{Kept, held_at, kept, kept_by, kept_of, kept_where, nothing_held, session_of, with_held}
-use Rattle.server_core.specs.Serve.{State, serve}
+use Rattle.std.proofs.lemmas.List.Elements.{All-nil, All-cons, All-head, All-tail, All-append}
+use Rattle.journal_core.specs.Records.{IsExecuteFrame, IsRecord}
+use Rattle.recording.specs.Recorded.{Kept, held_at, kept, kept_of, with_held}
 use Rattle.server_core.specs.declared.sorts.Sort.{Sort}
 use Rattle.server_core.specs.declared.sorts.Sort.TheVariants as sorts
-use Rattle.wire_messages.specs.Conditions.{IsRequest}
 use Rattle.wire_messages.specs.declared.requests.Request.{Request}
-use Rattle.wire_messages.specs.declared.requests.Request.TheVariants.{Describe, Execute}
-use Rattle.wire_spelling.specs.Spelling.{SpellsRequest, request_frame}
-use Rattle.journal_command.specs.Keeping.{HeldFrames, IsHeldRequest, IsHolding, IsKept, HasRoom, KeptFrames, RoomMade, entries_of, frames_in, frames_of, held_behind, keeping, kept_frames, no_frames, with_frame}
+use Rattle.wire_spelling.specs.Spelling.{request_frame}
+use Rattle.journal_command.specs.Keeping.{HeldFrames, IsHeldRequest, IsKept, HasRoom, KeptFrames, RoomMade, entries_of, frames_in, frames_of, kept_frames, no_frames, with_frame}
 
 -- ---- one session
 

@@ -1,6 +1,5 @@
 -- How far the input was taken, and what stands where serving ends.
-use Rattle.std.proofs.Common.{◌≡◌, ◌⊎◌, ◌+◌, ◌<◌, ◌≤◌, ◌^◌, ℕ, List, [], ◌∷◌, ◌++◌, length, map, take, Option, Some, None, refl, sym, subst, ◌∙◌, length-append, append-nil, arith, inl, inr}
-use Rattle.std.specs.Io.KnownBytes.{IsAtEnd}
+use Rattle.std.proofs.Common.{◌≡◌, ◌+◌, ◌<◌, ◌≤◌, ◌^◌, ℕ, List, [], ◌++◌, length, map, take, Option, refl, sym, subst, ◌∙◌, length-append, append-nil, arith, inl, inr}
 use Rattle.std.proofs.lemmas.List.{take-append-le, take_all}
 use Rattle.ae_edge.specs.Devices.{WhereTold, Removes}
 use Rattle.ae_edge.specs.Sources.{Takes}
@@ -11,13 +10,12 @@ use Rattle.wire_frames.specs.declared.decoding.Way.TheVariants.{ToServer}
 use Rattle.frame_feed.specs.Feeding.{Feeding, empty_feed}
 use Rattle.recording.specs.Recorded.{nothing_held}
 use Rattle.server_core.specs.Serve.{State}
-use Rattle.wire_messages.specs.declared.requests.Request.{Request}
-use Rattle.serve_command.specs.Serving.{AnswersAll, AnswersFirst, AnswersOpen, Begins, BreaksOff, most_stream_bytes}
+use Rattle.serve_command.specs.Serving.{AnswersAll, AnswersFirst, AnswersOpen, most_stream_bytes}
 use Rattle.serve_command.proofs.Interface.{answers_all, answers_first, answers_open, at_end, begins_fed, removes_end, removes_failed, removes_piece, removes_unheld}
 use Rattle.journal_command.specs.Durable.{DurableState}
 use Rattle.journal_command.specs.Endings.{ended_by}
 use Rattle.journal_command.specs.Keeping.{frames_of}
-use Rattle.journal_command.specs.Running.{HasKept, HasNoRoomFor, KeepsBy, KeepsSo, PutsOf, PutsSo, ServesPieces}
+use Rattle.journal_command.specs.Running.{HasKept, KeepsBy, PutsOf, ServesPieces}
 use Rattle.journal_command.specs.Stopping.{Outside}
 use Rattle.journal_command.specs.Turns.{Comes, EndsAt, IsSoFar}
 use Rattle.journal_command.specs.declared.endings.Ended.{Ended}

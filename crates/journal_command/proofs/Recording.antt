@@ -1,8 +1,6 @@
 -- Requests one after another: what is held behind them, and their records.
-use Rattle.std.proofs.Common.{◌≡◌, ◌+◌, ℕ, List, [], ◌∷◌, ◌++◌, length, map, refl, sym, ap, ◌∙◌, append-nil, append_assoc, arith}
-use Rattle.std.proofs.lemmas.List.{map-append}
-use Rattle.journal_core.specs.Journals.{place_behind}
-use Rattle.recording.specs.Recorded.{Kept, held_at, kept_by, recorded, session_of, with_held}
+use Rattle.std.proofs.Common.{◌≡◌, ℕ, List, [], ◌∷◌, ◌++◌, length, refl, sym, ap, ◌∙◌, append-nil, append_assoc, arith}
+use Rattle.recording.specs.Recorded.{recorded}
 use Rattle.server_core.specs.Serve.{State, serve, serve_all}
 use Rattle.wire_messages.specs.declared.requests.Request.{Request}
 use Rattle.journal_command.specs.Keeping.{entries_of, frames_in, held_after, held_behind, keeping}

@@ -1,9 +1,8 @@
 -- Records that are served again: how far they were, and where one isn't.
-use Rattle.std.proofs.Common.{◌≡◌, ◌≢◌, ◌+◌, ◌<◌, ◌≤◌, ◌^◌, ℕ, zero, suc, List, [], ◌∷◌, ◌++◌, length, map, get_or, take, drop, Bool, true, false, refl, sym, ap, subst, ◌∙◌, append-nil, append_assoc, length-append, take-append-drop, arith}
-use Rattle.std.specs.Prelude.{flat_map}
+use Rattle.std.proofs.Common.{◌≡◌, ◌+◌, ◌<◌, ◌≤◌, ℕ, zero, suc, List, [], ◌∷◌, ◌++◌, length, get_or, take, drop, Bool, true, false, refl, sym, ap, subst, ◌∙◌, append-nil, append_assoc, length-append, take-append-drop, arith}
 use Rattle.std.specs.List.{All}
 use Rattle.std.proofs.lemmas.List.{append_cancel_left, drop_more, flat_map_more, take_more}
-use Rattle.std.proofs.lemmas.List.Elements.{All-nil, All-cons, All-push, All-head, All-tail}
+use Rattle.std.proofs.lemmas.List.Elements.{All-nil, All-push, All-head, All-tail}
 use Rattle.journal_core.specs.Journals.{place_behind}
 use Rattle.recording.specs.Laws.{AreDone, AreServedAgain, IsIdle}
 use Rattle.recording.specs.Recorded.{after_records, after_requests, is_done}
@@ -19,7 +18,6 @@ use Rattle.wire_spelling.specs.Spelling.{SpellsRequest, request_frame}
 use Rattle.journal_command.specs.Keeping.{entries_of, frames_in}
 use Rattle.journal_command.specs.Restarts.{AnswersFront, AreServedRecords, IsServedRecord, RefusesAt, ServesFront}
 use Rattle.journal_command.specs.declared.restarts.Front.TheVariants as front
-use Rattle.journal_command.proofs.Adding.{place_append}
 use Rattle.journal_command.proofs.Recording.{entries_append}
 
 -- ---- the request that stands first

@@ -1,5 +1,5 @@
 -- Files that such runs leave.
-use Rattle.std.proofs.Common.{◌≡◌, ◌⊎◌, inl, inr, ◌-◌, ℕ, List, [], ◌∷◌, ◌++◌, Option, Some, None, length, refl, sym, ap, subst, ◌∙◌, append-nil, length-append, arith}
+use Rattle.std.proofs.Common.{◌≡◌, inl, inr, ◌-◌, ℕ, List, [], ◌∷◌, ◌++◌, Option, length, refl, sym, ap, subst, ◌∙◌, append-nil, length-append, arith}
 use Rattle.std.specs.List.{All}
 use Rattle.std.proofs.lemmas.List.Elements.{All-nil, All-cons, All-head, All-tail, All-append, All-set, All-weaker, All-replicate}
 use Rattle.ae_edge.specs.Devices.{WhereTold, IsFront}
@@ -10,7 +10,7 @@ use Rattle.disk.proofs.Interface.{leaves_weaker}
 use Rattle.journal_core.specs.Journals.{Records, Damaged, ReadsAs}
 use Rattle.journal_core.specs.Mounts.{IsSomeImage}
 use Rattle.journal_core.proofs.Interface.{one_reading}
-use Rattle.recording.specs.Laws.{AreServedAgain, FrontsAreAccepted, IsIdle}
+use Rattle.recording.specs.Laws.{AreServedAgain, FrontsAreAccepted}
 use Rattle.recording.specs.Recorded.{after_records, after_requests, nothing_held, recorded, session_of}
 use Rattle.server_core.specs.Serve.{State, empty_state, serve}
 use Rattle.wire_messages.specs.Conditions.{IsRequest}
@@ -20,7 +20,7 @@ use Rattle.wire_spelling.specs.Spelling.{SpellsRequest, request_frame}
 use Rattle.journal_command.specs.Journaling.{IsBad, IsDurable, IsUnserved, KeepsRecords, Runs, ServesJournal}
 use Rattle.journal_command.specs.Keeping.{IsHeldRequest, entries_of, frames_in, held_behind, keeping}
 use Rattle.journal_command.specs.Records.{HasFront, IsOfRun}
-use Rattle.journal_command.specs.Restarts.{AreServedRecords, IsServedRecord, RefusesAt}
+use Rattle.journal_command.specs.Restarts.{AreServedRecords, IsServedRecord}
 use Rattle.journal_command.specs.Servable.{IsServable, IsntDamaged, StaysServable}
 use Rattle.journal_command.specs.declared.endings.Ended.{Ended}
 use Rattle.journal_command.specs.declared.endings.Ended.TheVariants as ended

@@ -1,18 +1,17 @@
 -- One request is served, and what is to be recorded of it is held or handed out.
-use Rattle.std.proofs.Common.{◌≡◌, ◌⊎◌, inl, inr, ◌-◌, ◌<◌, ℕ, zero, suc, List, [], ◌∷◌, ◌++◌, map, get_or, length, Bool, true, false, Option, Some, None, refl, sym, ap, subst, ◌∙◌, arith}
-use Rattle.std.specs.Prelude.{if◌then◌else◌, option_to_list, IfSome, ◌||◌}
+use Rattle.std.proofs.Common.{◌≡◌, ◌⊎◌, inl, inr, ◌-◌, ℕ, zero, suc, List, [], ◌∷◌, map, get_or, Bool, true, false, Option, None, refl, sym, ap, subst, ◌∙◌}
+use Rattle.std.specs.Prelude.{if◌then◌else◌, IfSome, ◌||◌}
 use Rattle.std.specs.List.{All}
 use Rattle.std.proofs.lemmas.List.Elements.{All-nil, All-set, All-head, All-tail, All-replicate}
 use Rattle.disk.specs.Moments.{Moments}
 use Rattle.journal_core.specs.Appends.{IsMounted}
 use Rattle.journal_core.specs.States.{JournalState}
 use Rattle.journal_core.specs.Records.{IsExecute, IsRecord}
-use Rattle.recording.specs.Recorded.{Kept, has_transaction, held_at, is_done, kept, kept_by, kept_of, kept_where, nothing_held, session_of, with_held}
+use Rattle.recording.specs.Recorded.{Kept, has_transaction, held_at, is_done, kept_of, kept_where, nothing_held, session_of, with_held}
 use Rattle.server_core.specs.Serve.{State, serve}
 use Rattle.server_core.specs.Sorts.{sort_of}
 use Rattle.server_core.specs.declared.sorts.Sort.{Sort}
 use Rattle.server_core.specs.declared.sorts.Sort.TheVariants as sorts
-use Rattle.wire_messages.specs.Conditions.{IsRequest}
 use Rattle.wire_messages.specs.Exchanges.{Served}
 use Rattle.wire_messages.specs.declared.replies.Reply.{Reply}
 use Rattle.wire_messages.specs.declared.requests.Request.{Request}

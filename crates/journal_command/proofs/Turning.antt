@@ -1,16 +1,13 @@
 -- One request more is answered and recorded, and what stands where it isn't.
-use Rattle.std.proofs.Common.{◌≡◌, ◌⊎◌, inl, inr, ◌+◌, ◌<◌, ◌^◌, ℕ, List, [], ◌∷◌, ◌++◌, length, map, take, drop, Option, false, refl, sym, ap, subst, ◌∙◌, append-nil, append_assoc, arith}
-use Rattle.std.specs.Prelude.{flat_map, IfSome, option_to_list}
-use Rattle.ae_edge.specs.Devices.{Adds, AddsFront}
+use Rattle.std.proofs.Common.{◌≡◌, inl, inr, ◌<◌, ◌^◌, ℕ, List, [], ◌∷◌, ◌++◌, length, map, take, drop, Option, refl, sym, ap, subst, ◌∙◌, append-nil, arith}
+use Rattle.std.specs.Prelude.{flat_map}
+use Rattle.ae_edge.specs.Devices.{AddsFront}
 use Rattle.ae_edge.proofs.Interface.{adds_then_front, front_of, front_same}
-use Rattle.disk.specs.Moments.{Moments}
-use Rattle.frame_feed.specs.Feeding.{Feeding, SpellsMessage, behind, empty_feed, with_piece}
+use Rattle.frame_feed.specs.Feeding.{Feeding, behind, empty_feed, with_piece}
 use Rattle.frame_feed.specs.Steps.{Steps}
 use Rattle.frame_feed.specs.declared.feeds.Next.TheVariants as next
 use Rattle.frame_feed.specs.declared.messages.Message.{Message}
 use Rattle.frame_feed.specs.declared.messages.Message.TheVariants.{Asks, Tells}
-use Rattle.journal_core.specs.Appends.{gate_after, most_bytes}
-use Rattle.journal_core.specs.Journals.{place_behind}
 use Rattle.recording.specs.Recorded.{nothing_held, recorded}
 use Rattle.server_core.specs.Serve.{State, serve}
 use Rattle.serve_command.specs.ServeAll.{reply_frames, state_after}
@@ -18,21 +15,21 @@ use Rattle.serve_command.specs.Serving.{Begins, AnswersAll, AnswersFirst, Breaks
 use Rattle.serve_command.specs.Turns as serving
 use Rattle.serve_command.specs.Turns.{IsNext, Stands}
 use Rattle.serve_command.proofs.Interface.{answers_all, answers_first, begins_more, breaks_off, frames_more, refused_so, spells_asked, stands_fed, stands_first, stands_more, waits_so}
-use Rattle.wire_frames.specs.Frames.{Refused, IsNotYet, IsRefused, is_request_kind}
+use Rattle.wire_frames.specs.Frames.{Refused, IsNotYet, is_request_kind}
 use Rattle.wire_frames.specs.declared.decoding.Way.TheVariants.{ToServer}
 use Rattle.wire_messages.specs.declared.requests.Request.{Request}
-use Rattle.wire_spelling.specs.Spelling.{SpellsRequest, reply_frame}
-use Rattle.journal_command.specs.Durable.{DurableState, AnswersWhole}
-use Rattle.journal_command.specs.Keeping.{entries_of, frames_of, frames_in, held_after, held_behind, keeping}
+use Rattle.wire_spelling.specs.Spelling.{reply_frame}
+use Rattle.journal_command.specs.Durable.{DurableState}
+use Rattle.journal_command.specs.Keeping.{entries_of, frames_of, held_after, held_behind, keeping}
 use Rattle.journal_command.specs.Records.{HasNoRoom, TriesEntries}
 use Rattle.journal_command.specs.Running.{HasKept, HasNoRoomFor, KeepsBy, PutsOf}
-use Rattle.journal_command.specs.Stopping.{Outside, AreThere, MayBeThere, StopsBy}
-use Rattle.journal_command.specs.Turns.{Answers, AnswersNext, IsSoFar, Stops, StopsNext, Turns}
+use Rattle.journal_command.specs.Stopping.{Outside, AreThere, MayBeThere}
+use Rattle.journal_command.specs.Turns.{Answers, AnswersNext, IsSoFar, StopsNext, Turns}
 use Rattle.journal_command.specs.declared.endings.Stop.{Stop}
 use Rattle.journal_command.specs.declared.endings.Stop.TheVariants as stops
 use Rattle.journal_command.specs.declared.turns.Turn.{Turn}
 use Rattle.journal_command.specs.declared.turns.Turn.TheVariants as turn
-use Rattle.journal_command.proofs.Adding.{adds_more, adds_no_entry, added_tried, place_append, tries_more, tries_none}
+use Rattle.journal_command.proofs.Adding.{adds_more, adds_no_entry, added_tried, place_append, tries_more}
 use Rattle.journal_command.proofs.Recording.{entries_append, held_more, one_record, recorded_more}
 
 -- ---- what stands next

@@ -1,13 +1,13 @@
 -- A whole run: the journal is found, its records are served again, and then the input.
-use Rattle.std.proofs.Common.{◌≡◌, ◌⊎◌, inl, inr, ◌+◌, ◌<◌, ℕ, List, [], ◌∷◌, ◌++◌, length, Option, Some, None, Bool, true, false, refl, sym, ap, subst, ◌∙◌, arith}
+use Rattle.std.proofs.Common.{◌≡◌, ◌⊎◌, inl, inr, ℕ, List, ◌++◌, Option, Bool, true, false, refl, sym, ap, subst, ◌∙◌, arith}
 use Rattle.ae_edge.specs.Devices.{WhereTold}
 use Rattle.ae_edge.proofs.Interface.{told_map, told_then}
 use Rattle.disk.specs.Crashes.{IsImage}
 use Rattle.disk.specs.Moments.{Moments, LeavesNow, Leaves}
 use Rattle.disk.proofs.Interface.{leaves_then, leaves_weaker}
 use Rattle.journal_core.specs.Appends.{EndsAt}
-use Rattle.journal_core.specs.Journals.{Records, Damaged, ReadsAs, place_behind}
-use Rattle.journal_core.specs.Mounts.{Finds, IsSomeImage, Mounts}
+use Rattle.journal_core.specs.Journals.{Records, ReadsAs, place_behind}
+use Rattle.journal_core.specs.Mounts.{IsSomeImage, Mounts}
 use Rattle.journal_core.specs.States.{JournalState}
 use Rattle.journal_core.specs.declared.mounting.Mounted.TheVariants as mounted
 use Rattle.recording.specs.Recorded.{after_records, nothing_held, recorded}
@@ -15,7 +15,7 @@ use Rattle.server_core.specs.Serve.{State, empty_state}
 use Rattle.wire_messages.specs.declared.requests.Request.{Request}
 use Rattle.journal_command.specs.Journaling.{IsBad, IsDurable, IsFull, IsUnserved, KeepsRecords, Runs, ServesFound, ServesFrom, ServesJournal}
 use Rattle.journal_command.specs.Keeping.{entries_of}
-use Rattle.journal_command.specs.Records.{AreTried, HasFront, HasLeast, IsOfRun, TriesEntries}
+use Rattle.journal_command.specs.Records.{AreTried, HasFront, HasLeast, IsOfRun}
 use Rattle.journal_command.specs.Restarts.{AreServedRecords, RefusesAt}
 use Rattle.journal_command.specs.Running.{HasKept, HasNoRoomFor, KeepsSo, ServesPieces}
 use Rattle.journal_command.specs.Stopping.{outside}

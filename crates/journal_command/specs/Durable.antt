@@ -1,8 +1,8 @@
 -- A server whose changes are kept in a journal: what it does with a request.
-use Rattle.std.specs.Prelude.{◌≡◌, ◌⊎◌, ℕ, ◌+◌, List, [], map, flat_map, false, true, Bool, Option, IfSome, option_to_list}
+use Rattle.std.specs.Prelude.{◌≡◌, ◌⊎◌, ℕ, ◌+◌, List, [], map, flat_map, false, Option, IfSome, option_to_list}
 use Rattle.ae_edge.specs.Devices.{Adds}
 use Rattle.disk.specs.Moments.{Moments}
-use Rattle.journal_core.specs.Appends.{IsMounted, CountsAppended}
+use Rattle.journal_core.specs.Appends.{IsMounted}
 use Rattle.journal_core.specs.Journals.{place_behind}
 use Rattle.journal_core.specs.States.{JournalState}
 use Rattle.journal_core.specs.declared.journal.Appended.{Appended}
@@ -15,9 +15,9 @@ use Rattle.server_core.specs.declared.sorts.Sort.TheVariants as sorts
 use Rattle.wire_messages.specs.declared.requests.Request.{Request}
 use Rattle.wire_messages.specs.declared.requests.Request.TheVariants.{Describe, Execute}
 use Rattle.wire_spelling.specs.Spelling.{reply_frame}
-use Rattle.journal_command.specs.Keeping.{HeldFrames, IsHolding, IsKept, entries_of, frames_of, held_behind, keeping}
+use Rattle.journal_command.specs.Keeping.{HeldFrames, IsHolding, entries_of, frames_of, held_behind, keeping}
 use Rattle.journal_command.specs.Records.{AddsEntries, TriesEntries, HasNoRoom}
-use Rattle.journal_command.specs.Stopping.{Outside, AreThere, MayBeThere, StopsBy, Faults, CountsStop}
+use Rattle.journal_command.specs.Stopping.{Outside, AreThere, StopsBy, Faults, CountsStop}
 use Rattle.journal_command.specs.declared.durable.Answered.{Answered}
 use Rattle.journal_command.specs.declared.durable.Answered.TheVariants as answered
 

@@ -3,7 +3,7 @@ use Rattle.std.specs.Prelude.{◌≡◌, ℕ, ◌-◌, List, [], ◌∷◌, ◌+
 use Rattle.std.specs.List.{All}
 use Rattle.journal_core.specs.Records.{IsExecute}
 use Rattle.wire_messages.specs.Conditions.{IsRequest}
-use Rattle.recording.specs.Recorded.{Kept, held_at, kept_by, kept_of, kept_where, session_of, with_held}
+use Rattle.recording.specs.Recorded.{Kept, held_at, kept_by, session_of, with_held}
 use Rattle.server_core.specs.Serve.{State, serve}
 use Rattle.server_core.specs.declared.sorts.Sort.{Sort}
 use Rattle.server_core.specs.declared.sorts.Sort.TheVariants as sort

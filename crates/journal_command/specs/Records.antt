@@ -4,7 +4,7 @@ use Rattle.ae_edge.specs.Devices.{WhereTold, IsFront}
 use Rattle.disk.specs.Crashes.{Stand}
 use Rattle.disk.specs.Moments.{Moments, LeavesNow, Leaves}
 use Rattle.journal_core.specs.Appends.{EndsAt, most_bytes}
-use Rattle.journal_core.specs.Journals.{Records, ReadsAs, place_behind}
+use Rattle.journal_core.specs.Journals.{Records, ReadsAs}
 use Rattle.journal_core.specs.Mounts.{IsSomeImage}
 
 -- An image has these entries, and then a front of the others.

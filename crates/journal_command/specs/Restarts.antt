@@ -1,5 +1,5 @@
 -- Records that are found are served again.
-use Rattle.std.specs.Prelude.{true, ◌≡◌, ◌≤◌, ℕ, List, [], ◌∷◌, ◌++◌, length, take}
+use Rattle.std.specs.Prelude.{true, ◌≡◌, ◌≤◌, ℕ, List, ◌∷◌, ◌++◌, length, take}
 use Rattle.std.specs.List.{All}
 use Rattle.journal_core.specs.Journals.{place_behind}
 use Rattle.wire_messages.specs.Conditions.{IsRequest}

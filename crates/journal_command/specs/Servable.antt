@@ -1,5 +1,5 @@
 -- Files that such runs leave, and that are served again.
-use Rattle.std.specs.Prelude.{◌≡◌, ℕ, List, Option}
+use Rattle.std.specs.Prelude.{ℕ, List, Option}
 use Rattle.ae_edge.specs.Devices.{WhereTold}
 use Rattle.disk.specs.Moments.{Moments, LeavesNow, Leaves}
 use Rattle.journal_core.specs.Journals.{Records, ReadsAs}

@@ -1,6 +1,5 @@
 -- What is done with the bytes that a feed holds.
-use Rattle.std.specs.Prelude.{◌≡◌, ◌⊎◌, ℕ, ◌<◌, List, [], ◌∷◌, ◌++◌, length, map, flat_map, false, Option}
-use Rattle.ae_edge.specs.Devices.{AddsFront}
+use Rattle.std.specs.Prelude.{◌≡◌, ◌⊎◌, ℕ, ◌<◌, List, [], length, map, flat_map, false, Option}
 use Rattle.disk.specs.Moments.{Moments}
 use Rattle.wire_messages.specs.declared.requests.Request.{Request}
 use Rattle.wire_spelling.specs.Spelling.{SpellsRequest, reply_frame}
@@ -10,8 +9,7 @@ use Rattle.frame_feed.specs.declared.messages.Message.{Message}
 use Rattle.frame_feed.specs.declared.messages.Message.TheVariants.{Asks, Tells}
 use Rattle.server_core.specs.Serve.{State, serve}
 use Rattle.recording.specs.Recorded.{nothing_held, recorded}
-use Rattle.serve_command.specs.ServeAll.{reply_frames}
-use Rattle.serve_command.specs.Serving.{Begins, AnswersAll, AnswersFirst, BreaksOff}
+use Rattle.serve_command.specs.Serving.{AnswersAll}
 use Rattle.serve_command.specs.Turns.{IsNext, Stands}
 use Rattle.journal_command.specs.Durable.{DurableState, IsSound, AnswersWhole}
 use Rattle.journal_command.specs.Keeping.{entries_of, frames_of, held_after, keeping}

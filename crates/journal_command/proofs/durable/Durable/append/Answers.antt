@@ -1,5 +1,5 @@
 -- The record is added, where there is one.
-use Rattle.std.proofs.Common.{◌≡◌, ℕ, ap, subst}
+use Rattle.std.proofs.Common.{ℕ, ap, subst}
 use Rattle.std.specs.Prelude.{option_to_list}
 use Rattle.journal_command.specs.Durable.{AppendsEntry, DurableState}
 use Rattle.journal_command.proofs.Appending.{appends_none, appends_some}

@@ -1,4 +1,4 @@
-use Rattle.std.proofs.Common.{◌≡◌, length, ap, ◌∙◌, arith}
+use Rattle.std.proofs.Common.{length, ap, arith}
 use Rattle.std.proofs.lemmas.List.{length-replicate}
 use Rattle.journal_command.specs.Keeping.{no_frames}
 use Rattle.journal_command.proofs.keepers.Keeper.new.Goals as goal

@@ -1,7 +1,7 @@
 -- The session's part is emptied, or stays.
-use Rattle.std.proofs.Common.{◌≡◌, ◌<◌, ◌-◌, length, map, get_or, set, ap, sym, subst, ◌∙◌, arith}
+use Rattle.std.proofs.Common.{map, set, ap, sym, ◌∙◌}
 use Rattle.recording.specs.Recorded.{held_at, kept_where, with_held}
-use Rattle.journal_command.specs.Keeping.{HasRoom, frames_of}
+use Rattle.journal_command.specs.Keeping.{frames_of}
 use Rattle.journal_command.proofs.Holding.{is_closed}
 use Rattle.journal_command.proofs.keepers.Keeper.stay.Goals as goal
 
