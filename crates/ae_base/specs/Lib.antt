@@ -1,9 +1,11 @@
 pub mod Atoms
 pub mod Batches
 pub mod Faults
+pub mod KeyValues
 pub mod Keys
 pub mod Limits
 pub mod Names
+pub mod OneOrTwo
 pub mod Options
 pub mod Results
 pub mod Sessions

@@ -7,9 +7,11 @@ ghost use Rattle.std.specs.Str.{bytes_eq};
 ghost use Rattle.ae_base.specs.Keys.{IsKeyPath, IsWrappedKey};
 
 use crate::blobs::Blob;
+use crate::key_values::KeyValue;
 use crate::limits::MOST_KEY_BYTES;
 use crate::lists::Duplicate;
 use crate::names::Name;
+use crate::one_or_two::OneOrTwo;
 use crate::ruled::{Ruled, TextRule};
 use crate::texts::byte_count;
 use crate::types::KeyId;
@@ -108,14 +110,30 @@ impl Duplicate for WrappedKey {
     }
 }
 
-/// What a client is told of a column encryption key: its number and name, the path of the master
-/// key that wraps it, and the wrapped key.
+/// A value of a column encryption key as its definition gives it: the name of the master key that
+/// wraps the key, and the wrapped key (ENCRYPTED_VALUE).
+#[derive(Drop)]
+pub struct EncryptedValue {
+    pub master: Name,
+    pub wrapped: WrappedKey,
+}
+
+impl Duplicate for EncryptedValue {
+    fn copy(&self) -> Result<EncryptedValue, AllocError> {
+        Ok(EncryptedValue {
+            master: self.master.copy()?,
+            wrapped: self.wrapped.copy()?,
+        })
+    }
+}
+
+/// What a client is told of a column encryption key: its number and name, and its values in the
+/// order in which they were added.
 #[derive(Drop)]
 pub struct KeyMeta {
     pub id: KeyId,
     pub name: Name,
-    pub path: KeyPath,
-    pub wrapped: WrappedKey,
+    pub values: OneOrTwo<KeyValue>,
 }
 
 impl Duplicate for KeyMeta {
@@ -123,8 +141,7 @@ impl Duplicate for KeyMeta {
         Ok(KeyMeta {
             id: self.id,
             name: self.name.copy()?,
-            path: self.path.copy()?,
-            wrapped: self.wrapped.copy()?,
+            values: self.values.copy()?,
         })
     }
 }

@@ -3,7 +3,9 @@
 // Opened keys.
 
 use crate::makers::{name, path, wrapped};
+use ae_base::key_values::KeyValue;
 use ae_base::keys::KeyMeta;
+use ae_base::one_or_two::OneOrTwo;
 use ae_base::texts::Txt;
 use ae_base::types::KeyId;
 use ae_edge::memory::vault::MemVault;
@@ -84,13 +86,30 @@ impl Client {
     }
 }
 
-fn meta(alloc: Global, at: &str, bytes: &[u8]) -> Option<KeyMeta> {
-    Some(KeyMeta {
-        id: KeyId::from_number(1)?,
-        name: name(alloc, "K")?,
+fn value(alloc: Global, at: &str, bytes: &[u8]) -> Option<KeyValue> {
+    Some(KeyValue {
         path: path(alloc, at)?,
         wrapped: wrapped(alloc, bytes)?,
     })
+}
+
+fn key_of(alloc: Global, first: KeyValue, second: Option<KeyValue>) -> Option<KeyMeta> {
+    Some(KeyMeta {
+        id: KeyId::from_number(1)?,
+        name: name(alloc, "K")?,
+        values: OneOrTwo { first, second },
+    })
+}
+
+// A key of one value.
+fn meta(alloc: Global, at: &str, bytes: &[u8]) -> Option<KeyMeta> {
+    key_of(alloc, value(alloc, at, bytes)?, None)
+}
+
+// A key of two values.
+fn meta_of_two(alloc: Global, first: (&str, &[u8]), second: (&str, &[u8])) -> Option<KeyMeta> {
+    let other = value(alloc, second.0, second.1)?;
+    key_of(alloc, value(alloc, first.0, first.1)?, Some(other))
 }
 
 fn is_key(found: Option<[u8; 32]>, want: &[u8; 32]) -> bool {
@@ -158,6 +177,40 @@ fn refuses_and_misses(rt: HostRuntime) -> Result<(), Fail> {
     let mut client = Client::new(alloc, &[1])?;
     let refusals = refusals(&mut client, alloc);
     assert_eq!(rt; refusals, [1, 3, 1, 2, 2]);
+    Ok(())
+}
+
+// Whether the key of the vector opens by its second value, where its first one's path isn't there.
+fn opens_by_the_second(client: &mut Client, alloc: Global) -> bool {
+    match meta_of_two(alloc, ("gone", &WRAPPED), ("main", &WRAPPED)) {
+        Some(meta) => is_key(client.enc_key(&meta), &ENC_KEY),
+        None => false,
+    }
+}
+
+#[test]
+fn opens_by_a_second_value(rt: HostRuntime) -> Result<(), Fail> {
+    let alloc = rt.alloc();
+    let mut client = Client::new(alloc, &[])?;
+    let opens = opens_by_the_second(&mut client, alloc);
+    assert!(rt; opens && client.store.len() == 1);
+    Ok(())
+}
+
+// Why a key isn't opened whose two values are short: both paths are there.
+fn refused_twice(client: &mut Client, alloc: Global) -> u8 {
+    match meta_of_two(alloc, ("main", &WRAPPED[..39]), ("main", &WRAPPED[..38])) {
+        Some(meta) => client.refusal(&meta),
+        None => 9,
+    }
+}
+
+#[test]
+fn refuses_two_values(rt: HostRuntime) -> Result<(), Fail> {
+    let alloc = rt.alloc();
+    let mut client = Client::new(alloc, &[])?;
+    let refusal = refused_twice(&mut client, alloc);
+    assert_eq!(rt; refusal, 2);
     Ok(())
 }
 

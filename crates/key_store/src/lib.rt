@@ -5,7 +5,6 @@
 mod faults;
 mod laws;
 mod opening;
-mod origins;
 mod stores;
 
 pub use faults::{KeyFault, OpenFault};

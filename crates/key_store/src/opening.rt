@@ -4,11 +4,10 @@ ghost use Rattle.std.specs.Prelude.{◌≡◌, ◌≤◌, Err, IfSome};
 ghost use Rattle.ae_edge.specs.Devices.{Rose};
 ghost use Rattle.hmac_kdf.specs.Keys.{keys_of};
 ghost use Rattle.key_wrap.specs.Wrap.{unwrapping_of};
-ghost use Rattle.key_store.specs.Opening.{column_key, Opens};
+ghost use Rattle.key_store.specs.Opening.{is_there, opened, Tries};
 
-use crate::faults::{KeyFault, OpenFault};
-use ae_base::keys::KeyMeta;
-use ae_base::lists::Duplicate;
+use crate::faults::OpenFault;
+use ae_base::key_values::KeyValue;
 use ae_edge::vaults::{MasterKey, Vault};
 use aes_block::Aes256;
 use hmac_kdf::CellKeys;
@@ -51,21 +50,30 @@ impl OpenedKey {
     }
 }
 
-/// Opens a column key by a call on the vault.
-pub(crate) fn open<V: Vault>(vault: &mut V, meta: &KeyMeta) -> Result<[u8; 32], OpenFault>
-    ensures opens { IfSome (V.keys vault.old) (λ map. Opens result (column_key map meta.now)) }
+/// What a value of a column key comes to.
+#[derive(Drop)]
+pub enum Tried<A> {
+    Opened(A),
+    /// It gives no key. The vault has its path, or hasn't.
+    Shut { is_there: bool },
+}
+
+/// Opens a value of a column key by a call on the vault.
+pub(crate) fn open<V: Vault>(vault: &mut V, value: &KeyValue) -> Result<Tried<[u8; 32]>, OpenFault>
+    ensures opens { IfSome (V.keys vault.old)
+        (λ map. Tries result (opened map value.now) (is_there map value.now)) }
     ensures unchanged { V.keys vault.new ≡ V.keys vault.old }
     ensures same { V.names vault.new ≡ V.names vault.old }
     ensures count { V.faults vault.old ≤ V.faults vault.new }
     ensures failed { result ≡ Err OpenFault.VaultFault
         → Rose (V.faults vault.old) (V.faults vault.new) }
 {
-    match vault.master(meta.path.as_txt()) {
-        MasterKey::Found(master) => match unwrapped(&master, meta.wrapped.as_slice()) {
-            Some(key) => Ok(key),
-            None => Err(OpenFault::Fault(KeyFault::KeyRefused(meta.name.copy()?))),
+    match vault.master(value.path.as_txt()) {
+        MasterKey::Found(master) => match unwrapped(&master, value.wrapped.as_slice()) {
+            Some(key) => Ok(Tried::Opened(key)),
+            None => Ok(Tried::Shut { is_there: true }),
         },
-        MasterKey::NotThere => Err(OpenFault::Fault(KeyFault::NoMasterKey(meta.path.copy()?))),
+        MasterKey::NotThere => Ok(Tried::Shut { is_there: false }),
         MasterKey::Failed => Err(OpenFault::VaultFault),
     }
 }

@@ -1,15 +1,19 @@
 //! The store of opened keys.
 
-ghost use Rattle.std.specs.Prelude.{◌≡◌, ◌≤◌, ℕ, List, Option, Err, IfOk, IfSome, None, OnErr, length};
+ghost use Rattle.std.specs.Prelude.{◌≡◌, ◌≤◌, ℕ, List, Option, Err, IfOk, IfSome, None, OnErr, length, if◌then◌else◌};
 ghost use Rattle.ae_edge.specs.Devices.{Rose};
 ghost use Rattle.ae_edge.specs.Vaults.{KeyMap};
-ghost use Rattle.key_store.specs.Opening.{open_key, Opens};
+ghost use Rattle.key_store.specs.Opening.{is_there, open_key, opened, IsShut, OnShut, Opens, Tries};
+ghost use Rattle.key_store.specs.declared.faults.KeyFault.TheVariants.{KeyRefused, NoMasterKey};
+ghost use Rattle.std.specs.Option.{option_map};
+ghost use Rattle.hmac_kdf.specs.Keys.{keys_of};
 ghost use Rattle.key_store.specs.Stores.{IsOf, AreKept, AreKeptWith, AreOfKept};
 
-use crate::faults::OpenFault;
-use crate::opening::{OpenedKey, open};
-use crate::origins::Origin;
+use crate::faults::{KeyFault, OpenFault};
+use crate::opening::{OpenedKey, Tried, open};
+use ae_base::key_values::KeyValue;
 use ae_base::keys::KeyMeta;
+use ae_base::lists::Duplicate;
 use ae_edge::vaults::Vault;
 use hmac_kdf::CellKeys;
 use lru::LruCache;
@@ -18,17 +22,17 @@ use std::marker::Model;
 use std::num::NonZeroUsize;
 
 /// Column keys that were opened by one vault: the 8 most recently used at most. A key is found by
-/// its master key's path and its wrapped bytes, never by its name or number.
+/// the value that gave it, its master key's path and its wrapped bytes, never by its name or number.
 #[derive(Drop)]
 pub struct KeyStore {
-    kept: LruCache<Origin, OpenedKey>,
+    kept: LruCache<KeyValue, OpenedKey>,
 }
 
 impl Model for KeyStore {
     ghost use Rattle.std.specs.Prelude.{◌≡◌, List, ℕ};
-    ghost use Rattle.key_store.specs.declared.origins.Origin.{Origin};
+    ghost use Rattle.ae_base.specs.declared.key_values.KeyValue.{KeyValue};
 
-    ghost Value = { List (Origin × List ℕ) };
+    ghost Value = { List (KeyValue × List ℕ) };
 
     ghost view = { λ s. s.kept.entries };
 
@@ -57,10 +61,11 @@ impl KeyStore {
     }
 
     /// The keys for the cells under a column key, opened by the one vault that the store is used
-    /// with: each key that the store keeps is what this vault gives. The vault isn't asked for a key
-    /// that is kept. Where no keys are given the store keeps what it kept before, in the same order; a
-    /// key that is opened may put out the one that was used longest ago. The store stays one of this
-    /// vault.
+    /// with: each key that the store keeps is what this vault gives. The key's values are tried in
+    /// their order, and the first that opens gives the keys. The vault isn't asked for a value that is
+    /// kept, nor after a call on it failed. Where no keys are given the store keeps what it kept
+    /// before, in the same order; a key that is opened may put out the one that was used longest ago.
+    /// The store stays one of this vault.
     pub fn column_key<V: Vault>(
         &mut self,
         vault: &mut V,
@@ -76,37 +81,104 @@ impl KeyStore {
         ensures failed { result ≡ Err OpenFault.VaultFault
             → Rose (V.faults vault.old) (V.faults vault.new) }
     {
-        let origin = Origin::of_meta(meta)?;
-        if let Some(keys) = self.kept(&origin) {
-            return Ok(keys);
+        match self.tried(vault, &meta.values.first)? {
+            Tried::Opened(keys) => Ok(keys),
+            Tried::Shut { is_there } => self.second_key(vault, meta, is_there),
         }
-        let key = open(vault, meta)?;
-        let opened = OpenedKey::of(key);
-        let keys = opened.cell_keys();
-        self.keep(origin, opened)?;
-        Ok(keys)
     }
 
-    /// The keys for the cells under the key that is kept under an origin, which becomes the most
+    /// The keys by the second value of a column key, whose first gives none, though its path is there,
+    /// or since it isn't.
+    fn second_key<V: Vault>(
+        &mut self,
+        vault: &mut V,
+        meta: &KeyMeta,
+        is_there: bool,
+    ) -> Result<CellKeys, OpenFault>
+        requires of_vault { IsOf (V.keys vault.old) self.old }
+        requires first { IfSome (V.keys vault.old)
+            (λ map. IsShut map meta.now.values.first is_there) }
+        ensures opens { IfSome (V.keys vault.old) (λ map. Opens result (open_key map meta.now)) }
+        ensures refused { OnErr result (self.new ≡ self.old) }
+        ensures of_vault { IsOf (V.keys vault.new) self.new }
+        ensures unchanged { V.keys vault.new ≡ V.keys vault.old }
+        ensures same { V.names vault.new ≡ V.names vault.old }
+        ensures count { V.faults vault.old ≤ V.faults vault.new }
+        ensures failed { result ≡ Err OpenFault.VaultFault
+            → Rose (V.faults vault.old) (V.faults vault.new) }
+    {
+        let Some(value) = &meta.values.second else {
+            return Err(OpenFault::Fault(why_shut(meta, is_there)?));
+        };
+        match self.tried(vault, value)? {
+            Tried::Opened(keys) => Ok(keys),
+            Tried::Shut { is_there: too } => {
+                Err(OpenFault::Fault(why_shut(meta, is_there || too)?))
+            }
+        }
+    }
+
+    /// The keys that a value of a column key gives: those that are kept under it, else what the vault
+    /// opens, which is kept from then on. Where it gives none the store stays as it is.
+    fn tried<V: Vault>(
+        &mut self,
+        vault: &mut V,
+        value: &KeyValue,
+    ) -> Result<Tried<CellKeys>, OpenFault>
+        requires { IsOf (V.keys vault.old) self.old }
+        ensures tries { IfSome (V.keys vault.old) (λ map.
+            Tries result (option_map keys_of (opened map value.now)) (is_there map value.now)) }
+        ensures shut { OnShut result (self.new ≡ self.old) }
+        ensures of_vault { IsOf (V.keys vault.new) self.new }
+        ensures unchanged { V.keys vault.new ≡ V.keys vault.old }
+        ensures same { V.names vault.new ≡ V.names vault.old }
+        ensures count { V.faults vault.old ≤ V.faults vault.new }
+        ensures failed { result ≡ Err OpenFault.VaultFault
+            → Rose (V.faults vault.old) (V.faults vault.new) }
+    {
+        if let Some(keys) = self.kept(value) {
+            return Ok(Tried::Opened(keys));
+        }
+        let key = match open(vault, value)? {
+            Tried::Opened(key) => OpenedKey::of(key),
+            Tried::Shut { is_there } => return Ok(Tried::Shut { is_there }),
+        };
+        let keys = key.cell_keys();
+        self.keep(value.copy()?, key)?;
+        Ok(Tried::Opened(keys))
+    }
+
+    /// The keys for the cells under the key that is kept under a value, which becomes the most
     /// recently used. Where none is, the store stays as it is.
-    fn kept(&mut self, origin: &Origin) -> Option<CellKeys>
-        ensures found { IfSome result (λ keys. AreOfKept self.new origin.now keys) }
+    fn kept(&mut self, value: &KeyValue) -> Option<CellKeys>
+        ensures found { IfSome result (λ keys. AreOfKept self.new value.now keys) }
         ensures kept { AreKept self.old self.new }
         ensures none { result ≡ None → self.new ≡ self.old }
     {
-        self.kept.promote(origin);
-        let Some(opened) = self.kept.peek(origin) else {
+        self.kept.promote(value);
+        let Some(opened) = self.kept.peek(value) else {
             return None;
         };
         Some(opened.cell_keys())
     }
 
-    /// Keeps a key under an origin. Want of memory changes nothing.
-    fn keep(&mut self, origin: Origin, key: OpenedKey) -> Result<(), AllocError>
-        ensures kept { AreKeptWith origin key self.old self.new }
+    /// Keeps a key under a value. Want of memory changes nothing.
+    fn keep(&mut self, value: KeyValue, key: OpenedKey) -> Result<(), AllocError>
+        ensures kept { AreKeptWith value key self.old self.new }
         ensures refused { OnErr result (self.new ≡ self.old) }
     {
-        self.kept.put(origin, key)?;
+        self.kept.put(value, key)?;
         Ok(())
     }
+}
+
+/// Why a column key isn't opened whose values give no key: a master key is there, or none is.
+fn why_shut(meta: &KeyMeta, is_there: bool) -> Result<KeyFault, AllocError>
+    ensures { IfOk result (λ fault. fault ≡
+        (if is_there then KeyRefused meta.now.name else NoMasterKey meta.now.values.first.path)) }
+{
+    if is_there {
+        return Ok(KeyFault::KeyRefused(meta.name.copy()?));
+    }
+    Ok(KeyFault::NoMasterKey(meta.values.first.path.copy()?))
 }
