@@ -1,17 +1,20 @@
-//! CREATE and DROP of keys and tables.
+//! CREATE, ALTER and DROP of keys and tables.
 
 ghost use Rattle.std.specs.Prelude.{List, Option};
 ghost use Rattle.sql_tree.specs.Statements.{statement_of};
+ghost use Rattle.sql_grammar.specs.Making as make;
 ghost use Rattle.sql_grammar.specs.Parse as parse;
 ghost use Rattle.sql_expressions.specs.Reads.{Gives};
 
-use crate::settings::{MasterSettingReader, WrappedSettingReader, key_of, path_of};
+use crate::key_values::{key_value, key_values, master_name};
+use crate::settings::{MasterSettingReader, path_of};
 use crate::tables::parts_in_parens;
+use ae_base::names::Name;
 use ae_base::refusals::Refusal;
 use sql_expressions::cursor::{Cursor, syntax};
 use sql_expressions::reading::in_parens;
-use sql_tree::lexemes::Keyword;
-use sql_tree::statements::{Definition, Statement};
+use sql_tree::lexemes::{Keyword, Symbol};
+use sql_tree::statements::{Definition, Statement, WrittenValue};
 use std::alloc::Global;
 
 fn create_table(alloc: Global, tokens: &mut Cursor) -> Result<Statement, Refusal>
@@ -49,15 +52,8 @@ fn create_key(alloc: Global, tokens: &mut Cursor) -> Result<Statement, Refusal>
     let name = tokens.name()?;
     tokens.word(Keyword::With)?;
     tokens.word(Keyword::Values)?;
-    let settings = in_parens::<WrappedSettingReader>(alloc, tokens)?;
-    match key_of(settings) {
-        Some((master, wrapped)) => Ok(Statement::Definition(Definition::CreateKey {
-            name,
-            master,
-            wrapped,
-        })),
-        None => Err(syntax()),
-    }
+    let values = key_values(alloc, tokens)?;
+    Ok(Statement::Definition(Definition::CreateKey { name, values }))
 }
 
 /// CREATE of a table, a master key or a column key.
@@ -73,6 +69,44 @@ pub fn create(alloc: Global, tokens: &mut Cursor) -> Result<Statement, Refusal>
         return create_master(alloc, tokens);
     }
     create_key(alloc, tokens)
+}
+
+/// The value of ADD VALUE.
+fn added_value(alloc: Global, tokens: &mut Cursor) -> Result<WrittenValue, Refusal>
+    ensures { Gives make.Adds result tokens.new (parse.add_value tokens.old) }
+{
+    tokens.word(Keyword::Add)?;
+    tokens.reads("VALUE")?;
+    key_value(alloc, tokens)
+}
+
+/// The master key that DROP VALUE names.
+fn dropped_master(tokens: &mut Cursor) -> Result<Name, Refusal>
+    ensures { Gives make.Drops result tokens.new (parse.drop_value tokens.old) }
+{
+    tokens.word(Keyword::Drop)?;
+    tokens.reads("VALUE")?;
+    tokens.sign(Symbol::Open)?;
+    let master = master_name(tokens)?;
+    tokens.sign(Symbol::Close)?;
+    Ok(master)
+}
+
+/// ALTER of a column key, which adds a value or drops one.
+pub fn alter(alloc: Global, tokens: &mut Cursor) -> Result<Statement, Refusal>
+    ensures { Gives statement_of result tokens.new (parse.alter tokens.old) }
+{
+    tokens.word(Keyword::Alter)?;
+    tokens.word(Keyword::Column)?;
+    tokens.reads("ENCRYPTION")?;
+    tokens.word(Keyword::Key)?;
+    let key = tokens.name()?;
+    if tokens.next_is(Keyword::Add) {
+        let value = added_value(alloc, tokens)?;
+        return Ok(Statement::Definition(Definition::AddValue { key, value }));
+    }
+    let master = dropped_master(tokens)?;
+    Ok(Statement::Definition(Definition::DropValue { key, master }))
 }
 
 fn drop_key(tokens: &mut Cursor) -> Result<Statement, Refusal>

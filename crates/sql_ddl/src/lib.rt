@@ -2,5 +2,6 @@
 #![tactic(auto)]
 
 pub mod definitions;
+mod key_values;
 mod settings;
 mod tables;

@@ -8,11 +8,11 @@ use Rattle.sql_grammar.specs.Readers.{Reading, Terminal}
 use Rattle.sql_grammar.specs.Readers as terminal
 use Rattle.sql_grammar.specs.Spelling.{Spelling, Both, Made, Either}
 use Rattle.sql_grammar.specs.Making as make
-use Rattle.sql_grammar.specs.Grammar.{Word, Sign, Reads, Name, Text, IsText, SpellsType, SpellsMasterSetting, SpellsKeySetting, SpellsKind, SpellsColumnSetting, SpellsWrappedSetting, SpellsPart, SpellsDropColumn, SpellsEncryption, SpellsNullity, SpellsColumn, SpellsUnique, SpellsParts, SpellsCreateTable, SpellsCreateMaster, SpellsCreateKey, SpellsCreate, SpellsDrop}
-use Rattle.sql_grammar.specs.Parse.{type, master_setting, key_setting, encryption_kind, column_setting, wrapped_setting, table_part, drop_column, encryption, nullity, column, unique, table_parts, create_table, create_master, create_key, create, drop, next_reads}
+use Rattle.sql_grammar.specs.Grammar.{Word, Sign, Reads, Name, Text, IsText, SpellsType, SpellsMasterSetting, SpellsKeySetting, SpellsKind, SpellsColumnSetting, SpellsWrappedSetting, SpellsPart, SpellsDropColumn, SpellsEncryption, SpellsNullity, SpellsColumn, SpellsUnique, SpellsParts, SpellsCreateTable, SpellsCreateMaster, SpellsKeyValue, SpellsKeyValues, SpellsCreateKey, SpellsCreate, SpellsMasterName, SpellsAddValue, SpellsDropValue, SpellsAlter, SpellsDrop}
+use Rattle.sql_grammar.specs.Parse.{type, master_setting, key_setting, encryption_kind, column_setting, wrapped_setting, table_part, drop_column, encryption, nullity, column, unique, table_parts, create_table, create_master, key_value, key_values, create_key, create, master_name, add_value, drop_value, alter, drop, next_reads}
 use Rattle.sql_grammar.proofs.Sets.{disjoint, subset, narrower}
 use Rattle.sql_grammar.proofs.Agreement.{Agrees, Tells, both_agrees, made_agrees, choice_agrees, choice_by_agrees, optional_agrees, wider}
-use Rattle.sql_grammar.proofs.Pieces.{word_agrees, sign_agrees, reads_agrees, name_agrees, placed_name_agrees, number_agrees, text_agrees, is_text_agrees, binary_agrees, in_parens_agrees, listed_agrees}
+use Rattle.sql_grammar.proofs.Pieces.{word_agrees, sign_agrees, reads_agrees, name_agrees, placed_name_agrees, number_agrees, text_agrees, is_text_agrees, binary_agrees, in_parens_agrees, behind_comma_agrees, listed_agrees}
 use Rattle.sql_grammar.proofs.Words.{ReadsOneOf, reads_front, reads_more, word_tells, distinct, nothing_next}
 
 pub type_agrees : Agrees (terminal.Ident ∷ []) false (terminal.Sign symbol.Open ∷ []) type SpellsType
@@ -86,14 +86,32 @@ create_master_agrees = wider (terminal.Ident ∷ []) [] (made_agrees make.create
 pub wrapped_setting_agrees : Agrees (terminal.Ident ∷ []) false [] wrapped_setting SpellsWrappedSetting
 wrapped_setting_agrees = wider (terminal.Ident ∷ []) [] (key_setting_agrees (codes "COLUMN_MASTER_KEY") (codes "AES_256_KW") (codes "ENCRYPTED_VALUE") binary_agrees refl refl refl refl) refl refl
 
-pub create_key_agrees : Agrees (terminal.Ident ∷ []) false [] create_key SpellsCreateKey
-create_key_agrees = wider (terminal.Ident ∷ []) [] (made_agrees make.create_key (made_agrees make.behind (both_agrees (reads_agrees (codes "ENCRYPTION")) (made_agrees make.behind (both_agrees (word_agrees keyword.Key) (both_agrees name_agrees (made_agrees make.behind (both_agrees (word_agrees keyword.With) (made_agrees make.behind (both_agrees (word_agrees keyword.Values) (made_agrees make.key_in (in_parens_agrees (listed_agrees wrapped_setting_agrees refl refl) refl refl)) refl)) refl)) refl) refl)) refl))) refl refl
+pub key_value_agrees : Agrees (terminal.Sign symbol.Open ∷ []) false [] key_value SpellsKeyValue
+key_value_agrees = wider (terminal.Sign symbol.Open ∷ []) [] (made_agrees make.written_value (made_agrees make.key_in (in_parens_agrees (listed_agrees wrapped_setting_agrees refl refl) refl refl))) refl refl
+
+pub key_values_agrees : Agrees (terminal.Sign symbol.Open ∷ []) false (terminal.Sign symbol.Comma ∷ []) key_values SpellsKeyValues
+key_values_agrees = wider (terminal.Sign symbol.Open ∷ []) (terminal.Sign symbol.Comma ∷ []) (made_agrees make.one_or_two (both_agrees key_value_agrees (optional_agrees (terminal.Sign symbol.Comma ∷ []) (behind_comma_agrees key_value_agrees refl) refl) refl)) refl refl
+
+pub create_key_agrees : Agrees (terminal.Ident ∷ []) false (terminal.Sign symbol.Comma ∷ []) create_key SpellsCreateKey
+create_key_agrees = wider (terminal.Ident ∷ []) (terminal.Sign symbol.Comma ∷ []) (made_agrees make.create_key (made_agrees make.behind (both_agrees (reads_agrees (codes "ENCRYPTION")) (made_agrees make.behind (both_agrees (word_agrees keyword.Key) (both_agrees name_agrees (made_agrees make.behind (both_agrees (word_agrees keyword.With) (made_agrees make.behind (both_agrees (word_agrees keyword.Values) key_values_agrees refl)) refl)) refl) refl)) refl))) refl refl
 
 create_tells : Tells (next_reads (codes "MASTER")) [] SpellsCreateMaster SpellsCreateKey
 create_tells = word_tells (codes "MASTER") (codes "ENCRYPTION" ∷ []) _ _ (λ x front k. reads_front (codes "MASTER") k.2.0.0 front k.2.2.0 k.2.2.1 k.2.2.3 k.2.2.2) (λ x front k. reads_front (codes "ENCRYPTION") k.2.0.0 front k.2.2.0 k.2.2.1 k.2.2.3 k.2.2.2) refl
 
-pub create_agrees : Agrees (terminal.Word keyword.Create ∷ []) false [] create SpellsCreate
-create_agrees = wider (terminal.Word keyword.Create ∷ []) [] (made_agrees make.behind (both_agrees (word_agrees keyword.Create) (choice_agrees (terminal.Word keyword.Table ∷ []) create_table_agrees (made_agrees make.behind (both_agrees (word_agrees keyword.Column) (choice_by_agrees (next_reads (codes "MASTER")) [] create_master_agrees create_key_agrees create_tells) refl)) refl refl) refl)) refl refl
+pub create_agrees : Agrees (terminal.Word keyword.Create ∷ []) false (terminal.Sign symbol.Comma ∷ []) create SpellsCreate
+create_agrees = wider (terminal.Word keyword.Create ∷ []) (terminal.Sign symbol.Comma ∷ []) (made_agrees make.behind (both_agrees (word_agrees keyword.Create) (choice_agrees (terminal.Word keyword.Table ∷ []) create_table_agrees (made_agrees make.behind (both_agrees (word_agrees keyword.Column) (choice_by_agrees (next_reads (codes "MASTER")) [] create_master_agrees create_key_agrees create_tells) refl)) refl refl) refl)) refl refl
+
+pub master_name_agrees : Agrees (terminal.Ident ∷ []) false [] master_name SpellsMasterName
+master_name_agrees = wider (terminal.Ident ∷ []) [] (made_agrees make.behind (both_agrees (reads_agrees (codes "COLUMN_MASTER_KEY")) (made_agrees make.behind (both_agrees (sign_agrees symbol.Equal) name_agrees refl)) refl)) refl refl
+
+pub add_value_agrees : Agrees (terminal.Word keyword.Add ∷ []) false [] add_value SpellsAddValue
+add_value_agrees = wider (terminal.Word keyword.Add ∷ []) [] (made_agrees make.adds (made_agrees make.behind (both_agrees (word_agrees keyword.Add) (made_agrees make.behind (both_agrees (reads_agrees (codes "VALUE")) key_value_agrees refl)) refl))) refl refl
+
+pub drop_value_agrees : Agrees (terminal.Word keyword.Drop ∷ []) false [] drop_value SpellsDropValue
+drop_value_agrees = wider (terminal.Word keyword.Drop ∷ []) [] (made_agrees make.drops (made_agrees make.behind (both_agrees (word_agrees keyword.Drop) (made_agrees make.behind (both_agrees (reads_agrees (codes "VALUE")) (in_parens_agrees master_name_agrees refl refl) refl)) refl))) refl refl
+
+pub alter_agrees : Agrees (terminal.Word keyword.Alter ∷ []) false [] alter SpellsAlter
+alter_agrees = wider (terminal.Word keyword.Alter ∷ []) [] (made_agrees make.alter_key (made_agrees make.behind (both_agrees (word_agrees keyword.Alter) (made_agrees make.behind (both_agrees (word_agrees keyword.Column) (made_agrees make.behind (both_agrees (reads_agrees (codes "ENCRYPTION")) (made_agrees make.behind (both_agrees (word_agrees keyword.Key) (both_agrees name_agrees (choice_agrees (terminal.Word keyword.Add ∷ []) add_value_agrees drop_value_agrees refl refl) refl) refl)) refl)) refl)) refl))) refl refl
 
 drop_tells : Tells (next_reads (codes "MASTER")) [] (Made make.drop_master (Made make.behind (Both (Reads (codes "MASTER")) (Made make.behind (Both (Word keyword.Key) Name)))))
     (Made make.drop_key (Made make.behind (Both (Reads (codes "ENCRYPTION")) (Made make.behind (Both (Word keyword.Key) Name)))))

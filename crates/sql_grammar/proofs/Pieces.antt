@@ -2,7 +2,6 @@
 use Rattle.std.proofs.Common.{◌≡◌, ℕ, Bool, true, false, ◌&&◌, List, [], ◌∷◌, ◌++◌, Some, refl, sym, ◌∙◌, ap, subst, append_assoc}
 use Rattle.std.proofs.lemmas.Option.{cond_some}
 use Rattle.std.proofs.lemmas.Bool.{or_left}
-use Rattle.ae_base.specs.Options.{◌>>=◌}
 use Rattle.sql_tree.specs.declared.lexemes.Keyword.{Keyword}
 use Rattle.sql_tree.specs.declared.lexemes.Keyword.TheVariants as keyword
 use Rattle.sql_tree.specs.declared.lexemes.Symbol.{Symbol}
@@ -16,8 +15,8 @@ use Rattle.sql_grammar.specs.Readers.{Terminal, matches, member, next_among, is_
 use Rattle.sql_grammar.specs.Readers as terminal
 use Rattle.sql_grammar.specs.Spelling.{Spelling, One, After, Given}
 use Rattle.sql_grammar.specs.Making as make
-use Rattle.sql_grammar.specs.Grammar.{Word, Sign, Reads, Name, PlacedName, Number, Text, IsText, Binary, InParens, Listed}
-use Rattle.sql_grammar.specs.Parse.{word, sign, reads, name, placed_name, number, text, binary, in_parens, listed}
+use Rattle.sql_grammar.specs.Grammar.{Word, Sign, Reads, Name, PlacedName, Number, Text, IsText, Binary, InParens, BehindComma, Listed}
+use Rattle.sql_grammar.specs.Parse.{word, sign, reads, name, placed_name, number, text, binary, in_parens, behind_comma, listed}
 use Rattle.sql_grammar.specs.Parse as parse
 use Rattle.sql_grammar.proofs.Sets.{disjoint}
 use Rattle.sql_grammar.proofs.Agreement.{Agrees, Starts, Front, bind_some, at_rest, pairs, one_agrees, both_agrees, made_agrees, many_agrees, ends_before, ends_after, with_empty, begins_both, starts_both}
@@ -132,11 +131,15 @@ pub in_parens_agrees : {A : Type 0} {a g : List Terminal} {r : Reading A} {S : S
     → disjoint (terminal.Sign symbol.Close ∷ []) g ≡ true → disjoint a [] ≡ true → Agrees (terminal.Sign symbol.Open ∷ []) false [] (in_parens r) (InParens S)
 in_parens_agrees p d e = made_agrees make.middle (both_agrees (sign_agrees symbol.Open) (both_agrees p (sign_agrees symbol.Close) d) e)
 
+pub behind_comma_agrees : {A : Type 0} {a g : List Terminal} {r : Reading A} {S : Spelling A} → Agrees a false g r S
+    → disjoint a [] ≡ true → Agrees (terminal.Sign symbol.Comma ∷ []) false g (behind_comma r) (BehindComma S)
+behind_comma_agrees p e = made_agrees make.behind (both_agrees (sign_agrees symbol.Comma) p e)
+
 pub listed_agrees : {A : Type 0} {a g : List Terminal} {r : Reading A} {S : Spelling A} → Agrees a false g r S
     → disjoint (terminal.Sign symbol.Comma ∷ []) g ≡ true → disjoint a [] ≡ true
     → Agrees a false (g ++ (g ++ terminal.Sign symbol.Comma ∷ [])) (listed r) (Listed S)
 listed_agrees p d e =
-    made_agrees make.list_of (both_agrees p (many_agrees (terminal.Sign symbol.Comma ∷ []) (made_agrees make.behind (both_agrees (sign_agrees symbol.Comma) p e)) refl d) d)
+    made_agrees make.list_of (both_agrees p (many_agrees (terminal.Sign symbol.Comma ∷ []) (behind_comma_agrees p e) refl d) d)
 
 -- ---- one thing and then another that depends on it
 

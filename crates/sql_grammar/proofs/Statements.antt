@@ -13,7 +13,7 @@ use Rattle.sql_grammar.proofs.Pieces.{word_agrees, sign_agrees, reads_agrees, na
 use Rattle.sql_grammar.proofs.Operands.{operand_agrees, column_ref_agrees}
 use Rattle.sql_grammar.proofs.Conditions.{condition_agrees}
 use Rattle.sql_grammar.proofs.Counting.{item_tells}
-use Rattle.sql_grammar.proofs.Definitions.{create_agrees, drop_agrees}
+use Rattle.sql_grammar.proofs.Definitions.{alter_agrees, create_agrees, drop_agrees}
 
 pub row_agrees : Agrees (terminal.Sign symbol.Open ∷ []) false [] row SpellsRow
 row_agrees = wider (terminal.Sign symbol.Open ∷ []) [] (made_agrees make.row_of (both_agrees (sign_agrees symbol.Open) (both_agrees (listed_agrees operand_agrees refl refl) (sign_agrees symbol.Close) refl) refl)) refl refl
@@ -87,8 +87,8 @@ rollback_agrees = wider (terminal.Word keyword.Rollback ∷ []) (terminal.Word k
 control_agrees : Agrees (terminal.Word keyword.Begin ∷ terminal.Word keyword.Commit ∷ terminal.Word keyword.Rollback ∷ []) false (terminal.Word keyword.Transaction ∷ []) control SpellsControl
 control_agrees = wider (terminal.Word keyword.Begin ∷ terminal.Word keyword.Commit ∷ terminal.Word keyword.Rollback ∷ []) (terminal.Word keyword.Transaction ∷ []) (choice_agrees (terminal.Word keyword.Begin ∷ []) begin_agrees (choice_agrees (terminal.Word keyword.Commit ∷ []) commit_agrees rollback_agrees refl refl) refl refl) refl refl
 
-pub body_agrees : Agrees (terminal.Word keyword.Create ∷ terminal.Word keyword.Drop ∷ terminal.Word keyword.Insert ∷ terminal.Word keyword.Update ∷ terminal.Word keyword.Delete ∷ terminal.Word keyword.Select ∷ terminal.Word keyword.Begin ∷ terminal.Word keyword.Commit ∷ terminal.Word keyword.Rollback ∷ []) false (terminal.Sign symbol.Comma ∷ terminal.Sign symbol.Dot ∷ terminal.Sign symbol.Plus ∷ terminal.Sign symbol.Minus ∷ terminal.Word keyword.Or ∷ terminal.Word keyword.And ∷ terminal.Word keyword.Is ∷ terminal.Word keyword.Not ∷ terminal.Word keyword.In ∷ terminal.Sign symbol.Equal ∷ terminal.Sign symbol.NotEqual ∷ terminal.Sign symbol.Less ∷ terminal.Sign symbol.LessEqual ∷ terminal.Sign symbol.Greater ∷ terminal.Sign symbol.GreaterEqual ∷ terminal.Word keyword.Where ∷ terminal.Word keyword.As ∷ terminal.Ident ∷ terminal.Word keyword.Inner ∷ terminal.Word keyword.Join ∷ terminal.Word keyword.Group ∷ terminal.Word keyword.Asc ∷ terminal.Word keyword.Desc ∷ terminal.Word keyword.Order ∷ terminal.Word keyword.Transaction ∷ []) body SpellsBody
-body_agrees = wider (terminal.Word keyword.Create ∷ terminal.Word keyword.Drop ∷ terminal.Word keyword.Insert ∷ terminal.Word keyword.Update ∷ terminal.Word keyword.Delete ∷ terminal.Word keyword.Select ∷ terminal.Word keyword.Begin ∷ terminal.Word keyword.Commit ∷ terminal.Word keyword.Rollback ∷ []) (terminal.Sign symbol.Comma ∷ terminal.Sign symbol.Dot ∷ terminal.Sign symbol.Plus ∷ terminal.Sign symbol.Minus ∷ terminal.Word keyword.Or ∷ terminal.Word keyword.And ∷ terminal.Word keyword.Is ∷ terminal.Word keyword.Not ∷ terminal.Word keyword.In ∷ terminal.Sign symbol.Equal ∷ terminal.Sign symbol.NotEqual ∷ terminal.Sign symbol.Less ∷ terminal.Sign symbol.LessEqual ∷ terminal.Sign symbol.Greater ∷ terminal.Sign symbol.GreaterEqual ∷ terminal.Word keyword.Where ∷ terminal.Word keyword.As ∷ terminal.Ident ∷ terminal.Word keyword.Inner ∷ terminal.Word keyword.Join ∷ terminal.Word keyword.Group ∷ terminal.Word keyword.Asc ∷ terminal.Word keyword.Desc ∷ terminal.Word keyword.Order ∷ terminal.Word keyword.Transaction ∷ []) (choice_agrees (terminal.Word keyword.Create ∷ []) create_agrees (choice_agrees (terminal.Word keyword.Drop ∷ []) drop_agrees (choice_agrees (terminal.Word keyword.Insert ∷ []) insert_agrees (choice_agrees (terminal.Word keyword.Update ∷ []) update_agrees (choice_agrees (terminal.Word keyword.Delete ∷ []) delete_agrees (choice_agrees (terminal.Word keyword.Select ∷ []) select_agrees control_agrees refl refl) refl refl) refl refl) refl refl) refl refl) refl refl) refl refl
+pub body_agrees : Agrees (terminal.Word keyword.Create ∷ terminal.Word keyword.Alter ∷ terminal.Word keyword.Drop ∷ terminal.Word keyword.Insert ∷ terminal.Word keyword.Update ∷ terminal.Word keyword.Delete ∷ terminal.Word keyword.Select ∷ terminal.Word keyword.Begin ∷ terminal.Word keyword.Commit ∷ terminal.Word keyword.Rollback ∷ []) false (terminal.Sign symbol.Comma ∷ terminal.Sign symbol.Dot ∷ terminal.Sign symbol.Plus ∷ terminal.Sign symbol.Minus ∷ terminal.Word keyword.Or ∷ terminal.Word keyword.And ∷ terminal.Word keyword.Is ∷ terminal.Word keyword.Not ∷ terminal.Word keyword.In ∷ terminal.Sign symbol.Equal ∷ terminal.Sign symbol.NotEqual ∷ terminal.Sign symbol.Less ∷ terminal.Sign symbol.LessEqual ∷ terminal.Sign symbol.Greater ∷ terminal.Sign symbol.GreaterEqual ∷ terminal.Word keyword.Where ∷ terminal.Word keyword.As ∷ terminal.Ident ∷ terminal.Word keyword.Inner ∷ terminal.Word keyword.Join ∷ terminal.Word keyword.Group ∷ terminal.Word keyword.Asc ∷ terminal.Word keyword.Desc ∷ terminal.Word keyword.Order ∷ terminal.Word keyword.Transaction ∷ []) body SpellsBody
+body_agrees = wider (terminal.Word keyword.Create ∷ terminal.Word keyword.Alter ∷ terminal.Word keyword.Drop ∷ terminal.Word keyword.Insert ∷ terminal.Word keyword.Update ∷ terminal.Word keyword.Delete ∷ terminal.Word keyword.Select ∷ terminal.Word keyword.Begin ∷ terminal.Word keyword.Commit ∷ terminal.Word keyword.Rollback ∷ []) (terminal.Sign symbol.Comma ∷ terminal.Sign symbol.Dot ∷ terminal.Sign symbol.Plus ∷ terminal.Sign symbol.Minus ∷ terminal.Word keyword.Or ∷ terminal.Word keyword.And ∷ terminal.Word keyword.Is ∷ terminal.Word keyword.Not ∷ terminal.Word keyword.In ∷ terminal.Sign symbol.Equal ∷ terminal.Sign symbol.NotEqual ∷ terminal.Sign symbol.Less ∷ terminal.Sign symbol.LessEqual ∷ terminal.Sign symbol.Greater ∷ terminal.Sign symbol.GreaterEqual ∷ terminal.Word keyword.Where ∷ terminal.Word keyword.As ∷ terminal.Ident ∷ terminal.Word keyword.Inner ∷ terminal.Word keyword.Join ∷ terminal.Word keyword.Group ∷ terminal.Word keyword.Asc ∷ terminal.Word keyword.Desc ∷ terminal.Word keyword.Order ∷ terminal.Word keyword.Transaction ∷ []) (choice_agrees (terminal.Word keyword.Create ∷ []) create_agrees (choice_agrees (terminal.Word keyword.Alter ∷ []) alter_agrees (choice_agrees (terminal.Word keyword.Drop ∷ []) drop_agrees (choice_agrees (terminal.Word keyword.Insert ∷ []) insert_agrees (choice_agrees (terminal.Word keyword.Update ∷ []) update_agrees (choice_agrees (terminal.Word keyword.Delete ∷ []) delete_agrees (choice_agrees (terminal.Word keyword.Select ∷ []) select_agrees control_agrees refl refl) refl refl) refl refl) refl refl) refl refl) refl refl) refl refl) refl refl
 
-pub statement_agrees : Agrees (terminal.Word keyword.Create ∷ terminal.Word keyword.Drop ∷ terminal.Word keyword.Insert ∷ terminal.Word keyword.Update ∷ terminal.Word keyword.Delete ∷ terminal.Word keyword.Select ∷ terminal.Word keyword.Begin ∷ terminal.Word keyword.Commit ∷ terminal.Word keyword.Rollback ∷ []) false (terminal.Sign symbol.Comma ∷ terminal.Sign symbol.Dot ∷ terminal.Sign symbol.Plus ∷ terminal.Sign symbol.Minus ∷ terminal.Word keyword.Or ∷ terminal.Word keyword.And ∷ terminal.Word keyword.Is ∷ terminal.Word keyword.Not ∷ terminal.Word keyword.In ∷ terminal.Sign symbol.Equal ∷ terminal.Sign symbol.NotEqual ∷ terminal.Sign symbol.Less ∷ terminal.Sign symbol.LessEqual ∷ terminal.Sign symbol.Greater ∷ terminal.Sign symbol.GreaterEqual ∷ terminal.Word keyword.Where ∷ terminal.Word keyword.As ∷ terminal.Ident ∷ terminal.Word keyword.Inner ∷ terminal.Word keyword.Join ∷ terminal.Word keyword.Group ∷ terminal.Word keyword.Asc ∷ terminal.Word keyword.Desc ∷ terminal.Word keyword.Order ∷ terminal.Word keyword.Transaction ∷ terminal.Sign symbol.Semicolon ∷ []) statement Spells
-statement_agrees = wider (terminal.Word keyword.Create ∷ terminal.Word keyword.Drop ∷ terminal.Word keyword.Insert ∷ terminal.Word keyword.Update ∷ terminal.Word keyword.Delete ∷ terminal.Word keyword.Select ∷ terminal.Word keyword.Begin ∷ terminal.Word keyword.Commit ∷ terminal.Word keyword.Rollback ∷ []) (terminal.Sign symbol.Comma ∷ terminal.Sign symbol.Dot ∷ terminal.Sign symbol.Plus ∷ terminal.Sign symbol.Minus ∷ terminal.Word keyword.Or ∷ terminal.Word keyword.And ∷ terminal.Word keyword.Is ∷ terminal.Word keyword.Not ∷ terminal.Word keyword.In ∷ terminal.Sign symbol.Equal ∷ terminal.Sign symbol.NotEqual ∷ terminal.Sign symbol.Less ∷ terminal.Sign symbol.LessEqual ∷ terminal.Sign symbol.Greater ∷ terminal.Sign symbol.GreaterEqual ∷ terminal.Word keyword.Where ∷ terminal.Word keyword.As ∷ terminal.Ident ∷ terminal.Word keyword.Inner ∷ terminal.Word keyword.Join ∷ terminal.Word keyword.Group ∷ terminal.Word keyword.Asc ∷ terminal.Word keyword.Desc ∷ terminal.Word keyword.Order ∷ terminal.Word keyword.Transaction ∷ terminal.Sign symbol.Semicolon ∷ []) (made_agrees make.statement (both_agrees body_agrees (optional_agrees (terminal.Sign symbol.Semicolon ∷ []) (sign_agrees symbol.Semicolon) refl) refl)) refl refl
+pub statement_agrees : Agrees (terminal.Word keyword.Create ∷ terminal.Word keyword.Alter ∷ terminal.Word keyword.Drop ∷ terminal.Word keyword.Insert ∷ terminal.Word keyword.Update ∷ terminal.Word keyword.Delete ∷ terminal.Word keyword.Select ∷ terminal.Word keyword.Begin ∷ terminal.Word keyword.Commit ∷ terminal.Word keyword.Rollback ∷ []) false (terminal.Sign symbol.Comma ∷ terminal.Sign symbol.Dot ∷ terminal.Sign symbol.Plus ∷ terminal.Sign symbol.Minus ∷ terminal.Word keyword.Or ∷ terminal.Word keyword.And ∷ terminal.Word keyword.Is ∷ terminal.Word keyword.Not ∷ terminal.Word keyword.In ∷ terminal.Sign symbol.Equal ∷ terminal.Sign symbol.NotEqual ∷ terminal.Sign symbol.Less ∷ terminal.Sign symbol.LessEqual ∷ terminal.Sign symbol.Greater ∷ terminal.Sign symbol.GreaterEqual ∷ terminal.Word keyword.Where ∷ terminal.Word keyword.As ∷ terminal.Ident ∷ terminal.Word keyword.Inner ∷ terminal.Word keyword.Join ∷ terminal.Word keyword.Group ∷ terminal.Word keyword.Asc ∷ terminal.Word keyword.Desc ∷ terminal.Word keyword.Order ∷ terminal.Word keyword.Transaction ∷ terminal.Sign symbol.Semicolon ∷ []) statement Spells
+statement_agrees = wider (terminal.Word keyword.Create ∷ terminal.Word keyword.Alter ∷ terminal.Word keyword.Drop ∷ terminal.Word keyword.Insert ∷ terminal.Word keyword.Update ∷ terminal.Word keyword.Delete ∷ terminal.Word keyword.Select ∷ terminal.Word keyword.Begin ∷ terminal.Word keyword.Commit ∷ terminal.Word keyword.Rollback ∷ []) (terminal.Sign symbol.Comma ∷ terminal.Sign symbol.Dot ∷ terminal.Sign symbol.Plus ∷ terminal.Sign symbol.Minus ∷ terminal.Word keyword.Or ∷ terminal.Word keyword.And ∷ terminal.Word keyword.Is ∷ terminal.Word keyword.Not ∷ terminal.Word keyword.In ∷ terminal.Sign symbol.Equal ∷ terminal.Sign symbol.NotEqual ∷ terminal.Sign symbol.Less ∷ terminal.Sign symbol.LessEqual ∷ terminal.Sign symbol.Greater ∷ terminal.Sign symbol.GreaterEqual ∷ terminal.Word keyword.Where ∷ terminal.Word keyword.As ∷ terminal.Ident ∷ terminal.Word keyword.Inner ∷ terminal.Word keyword.Join ∷ terminal.Word keyword.Group ∷ terminal.Word keyword.Asc ∷ terminal.Word keyword.Desc ∷ terminal.Word keyword.Order ∷ terminal.Word keyword.Transaction ∷ terminal.Sign symbol.Semicolon ∷ []) (made_agrees make.statement (both_agrees body_agrees (optional_agrees (terminal.Sign symbol.Semicolon ∷ []) (sign_agrees symbol.Semicolon) refl) refl)) refl refl

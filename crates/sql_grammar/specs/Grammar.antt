@@ -1,12 +1,12 @@
 -- The grammar: which tokens spell which statement, production by production. A word in capitals is read without regard
 -- to case. The numbers of operands and conditions say how many parentheses may be open in them.
-use Rattle.std.specs.Prelude.{◌≡◌, ℕ, zero, suc, List, [], ◌∷◌, codes, Option, Some, None, Bool, false, ◌&&◌, is_some}
+use Rattle.std.specs.Prelude.{ℕ, zero, suc, List, codes, Option, Bool}
+use Rattle.ae_base.specs.declared.one_or_two.OneOrTwo.{OneOrTwo}
 use Rattle.ae_base.specs.declared.types.Ty.{Ty}
 use Rattle.sql_tree.specs.declared.lexemes.Keyword.{Keyword}
 use Rattle.sql_tree.specs.declared.lexemes.Keyword.TheVariants as keyword
 use Rattle.sql_tree.specs.declared.lexemes.Symbol.{Symbol}
 use Rattle.sql_tree.specs.declared.lexemes.Symbol.TheVariants as symbol
-use Rattle.sql_tree.specs.declared.lexemes.Token.{Token}
 use Rattle.sql_tree.specs.declared.statements.EncryptionKind.{EncryptionKind}
 use Rattle.sql_tree.specs.declared.statements.Encryption.{Encryption}
 use Rattle.sql_tree.specs.declared.statements.ColumnSpec.{ColumnSpec}
@@ -16,6 +16,7 @@ use Rattle.sql_tree.specs.declared.statements.ColumnAt.{ColumnAt}
 use Rattle.sql_tree.specs.declared.statements.OrderKey.{OrderKey}
 use Rattle.sql_tree.specs.declared.statements.SourceTable.{SourceTable}
 use Rattle.sql_tree.specs.declared.statements.TransactionControl.TheVariants as transaction
+use Rattle.sql_tree.specs.declared.statements.WrittenValue.{WrittenValue}
 use Rattle.sql_tree.specs.Statements.{Operand, Condition, ValueRow, Assignment, Item, Items, ItemValue, Join, Statement}
 use Rattle.sql_grammar.specs.declared.settings.MasterSetting.{MasterSetting}
 use Rattle.sql_grammar.specs.declared.settings.KeySetting.{KeySetting}
@@ -23,7 +24,7 @@ use Rattle.sql_grammar.specs.declared.parts.TablePart.{TablePart}
 use Rattle.sql_grammar.specs.Readers as terminal
 use Rattle.sql_grammar.specs.Spelling.{Spelling, One, Both, Made, Either, Optional, Many}
 use Rattle.sql_grammar.specs.Making as make
-use Rattle.sql_grammar.specs.Making.{Signed, Test, Tail}
+use Rattle.sql_grammar.specs.Making.{Signed, Test, Tail, KeyChange}
 
 -- ---- one token
 
@@ -205,12 +206,36 @@ SpellsCreateMaster = Made make.create_master (Made make.behind (Both (Reads (cod
 abbrev pub SpellsWrappedSetting : Spelling (KeySetting (List ℕ))
 SpellsWrappedSetting = SpellsKeySetting (codes "COLUMN_MASTER_KEY") (codes "AES_256_KW") (codes "ENCRYPTED_VALUE") Binary
 
--- CREATE COLUMN ENCRYPTION KEY name WITH VALUES ( .. )
+-- value := ( .. ), the settings in any order, each once
+abbrev pub SpellsKeyValue : Spelling WrittenValue
+SpellsKeyValue = Made make.written_value (Made make.key_in (InParens (Listed SpellsWrappedSetting)))
+
+-- value [, value]
+abbrev pub SpellsKeyValues : Spelling (OneOrTwo WrittenValue)
+SpellsKeyValues = Made make.one_or_two (Both SpellsKeyValue (Optional (BehindComma SpellsKeyValue)))
+
+-- CREATE COLUMN ENCRYPTION KEY name WITH VALUES value [, value]
 abbrev pub SpellsCreateKey : Spelling Statement
-SpellsCreateKey = Made make.create_key (Made make.behind (Both (Reads (codes "ENCRYPTION")) (Made make.behind (Both (Word keyword.Key) (Both Name (Made make.behind (Both (Word keyword.With) (Made make.behind (Both (Word keyword.Values) (Made make.key_in (InParens (Listed SpellsWrappedSetting))))))))))))
+SpellsCreateKey = Made make.create_key (Made make.behind (Both (Reads (codes "ENCRYPTION")) (Made make.behind (Both (Word keyword.Key) (Both Name (Made make.behind (Both (Word keyword.With) (Made make.behind (Both (Word keyword.Values) SpellsKeyValues)))))))))
 
 abbrev pub SpellsCreate : Spelling Statement
 SpellsCreate = Made make.behind (Both (Word keyword.Create) (Either SpellsCreateTable (Made make.behind (Both (Word keyword.Column) (Either SpellsCreateMaster SpellsCreateKey)))))
+
+-- COLUMN_MASTER_KEY = name
+abbrev pub SpellsMasterName : Spelling (List ℕ)
+SpellsMasterName = Made make.behind (Both (Reads (codes "COLUMN_MASTER_KEY")) (Made make.behind (Both (Sign symbol.Equal) Name)))
+
+-- ADD VALUE value
+abbrev pub SpellsAddValue : Spelling KeyChange
+SpellsAddValue = Made make.adds (Made make.behind (Both (Word keyword.Add) (Made make.behind (Both (Reads (codes "VALUE")) SpellsKeyValue))))
+
+-- DROP VALUE ( COLUMN_MASTER_KEY = name )
+abbrev pub SpellsDropValue : Spelling KeyChange
+SpellsDropValue = Made make.drops (Made make.behind (Both (Word keyword.Drop) (Made make.behind (Both (Reads (codes "VALUE")) (InParens SpellsMasterName)))))
+
+-- ALTER COLUMN ENCRYPTION KEY name (ADD VALUE value | DROP VALUE ( .. ))
+abbrev pub SpellsAlter : Spelling Statement
+SpellsAlter = Made make.alter_key (Made make.behind (Both (Word keyword.Alter) (Made make.behind (Both (Word keyword.Column) (Made make.behind (Both (Reads (codes "ENCRYPTION")) (Made make.behind (Both (Word keyword.Key) (Both Name (Either SpellsAddValue SpellsDropValue))))))))))
 
 abbrev pub SpellsDropColumn : Spelling Statement
 SpellsDropColumn = Made make.behind (Both (Word keyword.Column) (Either (Made make.drop_master (Made make.behind (Both (Reads (codes "MASTER")) (Made make.behind (Both (Word keyword.Key) Name))))) (Made make.drop_key (Made make.behind (Both (Reads (codes "ENCRYPTION")) (Made make.behind (Both (Word keyword.Key) Name)))))))
@@ -314,7 +339,7 @@ abbrev pub SpellsControl : Spelling Statement
 SpellsControl = Either SpellsBegin (Either SpellsCommit SpellsRollback)
 
 abbrev pub SpellsBody : Spelling Statement
-SpellsBody = Either SpellsCreate (Either SpellsDrop (Either SpellsInsert (Either SpellsUpdate (Either SpellsDelete (Either SpellsSelect SpellsControl)))))
+SpellsBody = Either SpellsCreate (Either SpellsAlter (Either SpellsDrop (Either SpellsInsert (Either SpellsUpdate (Either SpellsDelete (Either SpellsSelect SpellsControl))))))
 
 -- statement := body [;]
 abbrev pub Spells : Spelling Statement

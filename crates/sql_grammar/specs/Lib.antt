@@ -6,3 +6,4 @@ pub mod Readers
 pub mod Shortening
 pub mod Spelling
 pub mod Texts
+pub mod TreesWorked

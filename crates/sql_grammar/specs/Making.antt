@@ -5,6 +5,7 @@ use Rattle.std.specs.Str.{bytes_eq}
 use Rattle.ae_base.specs.Options.{◌>>=◌}
 use Rattle.ae_base.specs.declared.values.Value.TheVariants as value
 use Rattle.ae_base.specs.declared.values.Datum.TheVariants as datum
+use Rattle.ae_base.specs.declared.one_or_two.OneOrTwo.{OneOrTwo}
 use Rattle.ae_base.specs.declared.types.Ty.{Ty}
 use Rattle.ae_base.specs.declared.types.Ty.TheVariants as ty
 use Rattle.sql_tree.specs.declared.lexemes.Keyword.TheVariants as keyword
@@ -19,6 +20,7 @@ use Rattle.sql_tree.specs.declared.statements.EncryptionKind.{EncryptionKind}
 use Rattle.sql_tree.specs.declared.statements.EncryptionKind.TheVariants as kind
 use Rattle.sql_tree.specs.declared.statements.Encryption.{Encryption}
 use Rattle.sql_tree.specs.declared.statements.ColumnSpec.{ColumnSpec}
+use Rattle.sql_tree.specs.declared.statements.Definition.{Definition}
 use Rattle.sql_tree.specs.declared.statements.Definition.TheVariants as definition
 use Rattle.sql_tree.specs.declared.statements.UniqueSpec.{UniqueSpec}
 use Rattle.sql_tree.specs.declared.statements.NameAt.{NameAt}
@@ -26,6 +28,7 @@ use Rattle.sql_tree.specs.declared.statements.ColumnAt.{ColumnAt}
 use Rattle.sql_tree.specs.declared.statements.OrderKey.{OrderKey}
 use Rattle.sql_tree.specs.declared.statements.SourceTable.{SourceTable}
 use Rattle.sql_tree.specs.declared.statements.TransactionControl.{TransactionControl}
+use Rattle.sql_tree.specs.declared.statements.WrittenValue.{WrittenValue}
 use Rattle.sql_tree.specs.Tokens.{in_capitals}
 use Rattle.sql_tree.specs.Operands as operands
 use Rattle.sql_tree.specs.Conditions as conditions
@@ -307,6 +310,12 @@ key_in (setting.Value v ∷ setting.Key name ∷ setting.Algorithm ∷ []) = Som
 key_in (setting.Value v ∷ setting.Algorithm ∷ setting.Key name ∷ []) = Some (name, v)
 key_in other = None
 
+abbrev pub written_value : List ℕ × List ℕ → Option WrittenValue
+written_value x = Some (record { master = x.0; wrapped = x.1 })
+
+abbrev pub one_or_two : {A : Type 0} → A × Option A → Option (OneOrTwo A)
+one_or_two x = Some (record { first = x.0; second = x.1 })
+
 abbrev pub encryption : List ℕ × EncryptionKind → Option Encryption
 encryption x = Some (record { key = x.0; kind = x.1 })
 
@@ -356,8 +365,26 @@ create_table x = Some (tree.Definition (definition.CreateTable x.0 x.1.0 x.1.1))
 abbrev pub create_master : List ℕ × List ℕ → Option Statement
 create_master x = Some (tree.Definition (definition.CreateMaster x.0 x.1))
 
-abbrev pub create_key : List ℕ × (List ℕ × List ℕ) → Option Statement
-create_key x = Some (tree.Definition (definition.CreateKey x.0 x.1.0 x.1.1))
+abbrev pub create_key : List ℕ × OneOrTwo WrittenValue → Option Statement
+create_key x = Some (tree.Definition (definition.CreateKey x.0 x.1))
+
+-- what ALTER does to a column key: a value that it adds, or the master key of the value that it drops
+pub data KeyChange : Type 0 where
+  Adds : (value : WrittenValue) → KeyChange
+  Drops : (master : List ℕ) → KeyChange
+
+abbrev pub adds : WrittenValue → Option KeyChange
+adds value = Some (Adds value)
+
+abbrev pub drops : List ℕ → Option KeyChange
+drops master = Some (Drops master)
+
+abbrev pub altered : List ℕ → KeyChange → Definition
+altered key (Adds value) = definition.AddValue key value
+altered key (Drops master) = definition.DropValue key master
+
+abbrev pub alter_key : List ℕ × KeyChange → Option Statement
+alter_key x = Some (tree.Definition (altered x.0 x.1))
 
 abbrev pub drop_table : List ℕ → Option Statement
 drop_table name = Some (tree.Definition (definition.DropTable name))

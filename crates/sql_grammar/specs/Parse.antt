@@ -1,6 +1,6 @@
 -- The readers of the grammar, production by production.
-use Rattle.std.specs.Prelude.{◌≡◌, ℕ, zero, suc, List, [], ◌∷◌, codes, Option, Some, None, Bool, false, ◌&&◌, is_some}
-use Rattle.ae_base.specs.Options.{◌>>=◌}
+use Rattle.std.specs.Prelude.{ℕ, zero, suc, List, [], ◌∷◌, codes, Option, None, Bool, false, ◌&&◌, is_some}
+use Rattle.ae_base.specs.declared.one_or_two.OneOrTwo.{OneOrTwo}
 use Rattle.ae_base.specs.declared.types.Ty.{Ty}
 use Rattle.sql_tree.specs.declared.lexemes.Keyword.{Keyword}
 use Rattle.sql_tree.specs.declared.lexemes.Keyword.TheVariants as keyword
@@ -16,6 +16,7 @@ use Rattle.sql_tree.specs.declared.statements.ColumnAt.{ColumnAt}
 use Rattle.sql_tree.specs.declared.statements.OrderKey.{OrderKey}
 use Rattle.sql_tree.specs.declared.statements.SourceTable.{SourceTable}
 use Rattle.sql_tree.specs.declared.statements.TransactionControl.TheVariants as transaction
+use Rattle.sql_tree.specs.declared.statements.WrittenValue.{WrittenValue}
 use Rattle.sql_tree.specs.Statements.{Operand, Condition, ValueRow, Assignment, Item, Items, ItemValue, Join, Statement}
 use Rattle.sql_grammar.specs.declared.settings.MasterSetting.{MasterSetting}
 use Rattle.sql_grammar.specs.declared.settings.KeySetting.{KeySetting}
@@ -23,7 +24,7 @@ use Rattle.sql_grammar.specs.declared.parts.TablePart.{TablePart}
 use Rattle.sql_grammar.specs.Readers as terminal
 use Rattle.sql_grammar.specs.Readers.{Reading, Terminal, next_among, is_symbol, one, both, made, after, given, choice_by, choice, optional, many}
 use Rattle.sql_grammar.specs.Making as make
-use Rattle.sql_grammar.specs.Making.{Signed, Test, Tail, Inner, Computes, Asks}
+use Rattle.sql_grammar.specs.Making.{Signed, Test, Tail, Inner, Computes, Asks, KeyChange}
 
 -- whether the next token is an identifier that reads as the word
 abbrev pub next_reads : List ℕ → List Token → Bool
@@ -269,12 +270,39 @@ create_master = made make.create_master (made make.behind (both (reads (codes "M
 abbrev pub wrapped_setting : Reading (KeySetting (List ℕ))
 wrapped_setting = key_setting (codes "COLUMN_MASTER_KEY") (codes "AES_256_KW") (codes "ENCRYPTED_VALUE") binary
 
--- CREATE COLUMN ENCRYPTION KEY name WITH VALUES ( .. )
+-- value := ( .. ), the settings in any order, each once
+abbrev pub key_value : Reading WrittenValue
+key_value = made make.written_value (made make.key_in (in_parens (listed wrapped_setting)))
+
+abbrev pub second_key_value : Reading (Option WrittenValue)
+second_key_value = optional (terminal.Sign symbol.Comma ∷ []) (behind_comma key_value)
+
+-- value [, value]
+abbrev pub key_values : Reading (OneOrTwo WrittenValue)
+key_values = made make.one_or_two (both key_value second_key_value)
+
+-- CREATE COLUMN ENCRYPTION KEY name WITH VALUES value [, value]
 abbrev pub create_key : Reading Statement
-create_key = made make.create_key (made make.behind (both (reads (codes "ENCRYPTION")) (made make.behind (both (word keyword.Key) (both name (made make.behind (both (word keyword.With) (made make.behind (both (word keyword.Values) (made make.key_in (in_parens (listed wrapped_setting))))))))))))
+create_key = made make.create_key (made make.behind (both (reads (codes "ENCRYPTION")) (made make.behind (both (word keyword.Key) (both name (made make.behind (both (word keyword.With) (made make.behind (both (word keyword.Values) key_values)))))))))
 
 abbrev pub create : Reading Statement
 create = made make.behind (both (word keyword.Create) (choice (terminal.Word keyword.Table ∷ []) create_table (made make.behind (both (word keyword.Column) (choice_by (next_reads (codes "MASTER")) create_master create_key)))))
+
+-- COLUMN_MASTER_KEY = name
+abbrev pub master_name : Reading (List ℕ)
+master_name = made make.behind (both (reads (codes "COLUMN_MASTER_KEY")) (made make.behind (both (sign symbol.Equal) name)))
+
+-- ADD VALUE value
+abbrev pub add_value : Reading KeyChange
+add_value = made make.adds (made make.behind (both (word keyword.Add) (made make.behind (both (reads (codes "VALUE")) key_value))))
+
+-- DROP VALUE ( COLUMN_MASTER_KEY = name )
+abbrev pub drop_value : Reading KeyChange
+drop_value = made make.drops (made make.behind (both (word keyword.Drop) (made make.behind (both (reads (codes "VALUE")) (in_parens master_name)))))
+
+-- ALTER COLUMN ENCRYPTION KEY name (ADD VALUE value | DROP VALUE ( .. ))
+abbrev pub alter : Reading Statement
+alter = made make.alter_key (made make.behind (both (word keyword.Alter) (made make.behind (both (word keyword.Column) (made make.behind (both (reads (codes "ENCRYPTION")) (made make.behind (both (word keyword.Key) (both name (choice (terminal.Word keyword.Add ∷ []) add_value drop_value))))))))))
 
 abbrev pub drop_column : Reading Statement
 drop_column = made make.behind (both (word keyword.Column) (choice_by (next_reads (codes "MASTER")) (made make.drop_master (made make.behind (both (reads (codes "MASTER")) (made make.behind (both (word keyword.Key) name))))) (made make.drop_key (made make.behind (both (reads (codes "ENCRYPTION")) (made make.behind (both (word keyword.Key) name)))))))
@@ -378,7 +406,7 @@ abbrev pub control : Reading Statement
 control = choice (terminal.Word keyword.Begin ∷ []) begin (choice (terminal.Word keyword.Commit ∷ []) commit rollback)
 
 abbrev pub body : Reading Statement
-body = choice (terminal.Word keyword.Create ∷ []) create (choice (terminal.Word keyword.Drop ∷ []) drop (choice (terminal.Word keyword.Insert ∷ []) insert (choice (terminal.Word keyword.Update ∷ []) update (choice (terminal.Word keyword.Delete ∷ []) delete (choice (terminal.Word keyword.Select ∷ []) select control)))))
+body = choice (terminal.Word keyword.Create ∷ []) create (choice (terminal.Word keyword.Alter ∷ []) alter (choice (terminal.Word keyword.Drop ∷ []) drop (choice (terminal.Word keyword.Insert ∷ []) insert (choice (terminal.Word keyword.Update ∷ []) update (choice (terminal.Word keyword.Delete ∷ []) delete (choice (terminal.Word keyword.Select ∷ []) select control))))))
 
 -- statement := body [;]
 abbrev pub statement : Reading Statement

@@ -1,6 +1,7 @@
 -- What a text parses to: the statement that its tokens spell, or its first fault.
 use Rattle.std.specs.Prelude.{ℕ, ◌+◌, ◌-◌, List, [], ◌∷◌, length, count_by, is_some, Option, Some, None, Result, Ok, Err, Bool, false, ◌||◌, not, nat_lt, nat_le, ◌&&◌, suc, if◌then◌else◌, encode_utf8_all}
-use Rattle.std.specs.List.{list_any}
+use Rattle.std.specs.List.{list_all, list_any}
+use Rattle.ae_base.specs.OneOrTwo.{each_of}
 use Rattle.ae_base.specs.Options.{◌>>=◌}
 use Rattle.ae_base.specs.Values.{is_within}
 use Rattle.ae_base.specs.declared.values.Datum.TheVariants as datum
@@ -16,6 +17,7 @@ use Rattle.sql_tree.specs.declared.statements.ColumnSpec.{ColumnSpec}
 use Rattle.sql_tree.specs.declared.statements.Definition.{Definition}
 use Rattle.sql_tree.specs.declared.statements.Definition.TheVariants as definition
 use Rattle.sql_tree.specs.declared.statements.UniqueSpec.{UniqueSpec}
+use Rattle.sql_tree.specs.declared.statements.WrittenValue.{WrittenValue}
 use Rattle.sql_tree.specs.Statements.{Items, Statement}
 use Rattle.sql_tree.specs.Statements as tree
 use Rattle.sql_grammar.specs.Readers.{is_symbol}
@@ -52,9 +54,12 @@ abbrev pub items_of : Items → ℕ
 items_of (tree.Star at) = 1
 items_of (tree.Listed items) = length items
 
--- a key's path and its wrapped value have 1 to 1,024 bytes
+-- the path of a master key and a wrapped column key have 1 to 1,024 bytes
 abbrev pub is_key_length : ℕ → Bool
 is_key_length bytes = nat_lt 0 bytes && nat_le bytes 1024
+
+abbrev pub has_key_length : WrittenValue → Bool
+has_key_length value = is_key_length (length value.wrapped)
 
 -- a column with the word UNIQUE is a unique key, as a list UNIQUE is
 abbrev pub unique_keys : List ColumnSpec → List UniqueSpec → ℕ
@@ -63,7 +68,8 @@ unique_keys columns uniques = count_by (λ column. is_some column.unique) column
 -- 64 columns of a table, 8 unique keys, 16 columns of a key
 abbrev pub defines_too_much : Definition → Bool
 defines_too_much (definition.CreateMaster word path) = not (is_key_length (length (encode_utf8_all path)))
-defines_too_much (definition.CreateKey word master wrapped) = not (is_key_length (length wrapped))
+defines_too_much (definition.CreateKey word values) = not (list_all has_key_length (each_of values))
+defines_too_much (definition.AddValue key value) = not (has_key_length value)
 defines_too_much (definition.CreateTable table columns uniques) =
     nat_lt 64 (length columns) || nat_lt 8 (unique_keys columns uniques) || list_any (λ unique. nat_lt 16 (length unique.columns)) uniques
 defines_too_much other = false

@@ -1,7 +1,8 @@
 //! Statements past a limit.
 
 ghost use Rattle.std.specs.Prelude.{◌≡◌, ◌==◌, length, nat_lt};
-ghost use Rattle.std.specs.List.{list_any};
+ghost use Rattle.std.specs.List.{list_all, list_any};
+ghost use Rattle.ae_base.specs.OneOrTwo.{each_of};
 ghost use Rattle.sql_tree.specs.Statements.{items_of, statement_of};
 ghost use Rattle.ae_base.specs.declared.values.Datum.TheVariants as datum;
 ghost use Rattle.sql_grammar.specs.Texts as spec;
@@ -10,9 +11,10 @@ use ae_base::limits::{
     MOST_BINARY_BYTES, MOST_ITEMS, MOST_JOINED_TABLES, MOST_KEY_BYTES, MOST_KEY_COLUMNS,
     MOST_OPEN_PARENTHESES, MOST_TABLE_COLUMNS, MOST_TEXT_UNITS, MOST_UNIQUE_KEYS, MOST_VALUES_ROWS,
 };
+use ae_base::one_or_two::OneOrTwo;
 use ae_base::values::has_units_within;
 use sql_tree::lexemes::{Lexeme, Symbol, Token};
-use sql_tree::statements::{ColumnSpec, Definition, Items, Statement, UniqueSpec};
+use sql_tree::statements::{ColumnSpec, Definition, Items, Statement, UniqueSpec, WrittenValue};
 
 /// Whether more than 64 parentheses are open at once. One that closes nothing counts for nothing.
 pub(crate) fn opens_too_deep(tokens: &[Token]) -> bool
@@ -58,13 +60,32 @@ fn is_key_length(bytes: usize) -> bool
     bytes > 0 && bytes <= MOST_KEY_BYTES
 }
 
+/// Whether the wrapped key of a value may be so long.
+fn has_key_length(value: &WrittenValue) -> bool
+    ensures { result ≡ spec.has_key_length value.now }
+{
+    is_key_length(value.wrapped.len())
+}
+
+/// Whether the wrapped key of each value may be so long.
+fn have_key_length(values: &OneOrTwo<WrittenValue>) -> bool
+    ensures { result ≡ list_all spec.has_key_length (each_of values.now) }
+{
+    has_key_length(&values.first)
+        && match &values.second {
+            Some(second) => has_key_length(second),
+            None => true,
+        }
+}
+
 /// Whether the definition has a count, a path or a wrapped key that passes its limit.
 fn defines_too_much(definition: &Definition) -> bool
     ensures { result ≡ spec.defines_too_much definition.now }
 {
     match definition {
         Definition::CreateMaster { path, .. } => !is_key_length(path.as_str().len()),
-        Definition::CreateKey { wrapped, .. } => !is_key_length(wrapped.len()),
+        Definition::CreateKey { values, .. } => !have_key_length(values),
+        Definition::AddValue { value, .. } => !has_key_length(value),
         Definition::CreateTable {
             columns,
             uniques,
@@ -74,7 +95,10 @@ fn defines_too_much(definition: &Definition) -> bool
                 || has_many_keys(columns.as_slice(), uniques.as_slice())
                 || has_wide_key(uniques.as_slice())
         }
-        Definition::DropTable(_) | Definition::DropMaster(_) | Definition::DropKey(_) => false,
+        Definition::DropTable(_)
+        | Definition::DropMaster(_)
+        | Definition::DropKey(_)
+        | Definition::DropValue { .. } => false,
     }
 }
 

@@ -17,7 +17,7 @@ use crate::queries::select;
 use ae_base::lists::Seq;
 use ae_base::names::Name;
 use ae_base::refusals::Refusal;
-use sql_ddl::definitions::{create, drop_named};
+use sql_ddl::definitions::{alter, create, drop_named};
 use sql_expressions::conditions::{ConditionTree, condition};
 use sql_expressions::cursor::{Cursor, syntax};
 use sql_expressions::operands::{OperandReader, operand};
@@ -185,6 +185,9 @@ fn body(alloc: Global, tokens: &mut Cursor) -> Result<Statement, Refusal>
 {
     if tokens.next_is(Keyword::Create) {
         return create(alloc, tokens);
+    }
+    if tokens.next_is(Keyword::Alter) {
+        return alter(alloc, tokens);
     }
     if tokens.next_is(Keyword::Drop) {
         return drop_named(tokens);

@@ -3,6 +3,7 @@ use Rattle.std.specs.Prelude.{◌≡◌, ℕ, ◌+◌, ◌<◌, ◌≤◌, List,
 use Rattle.std.specs.List.{All, flat_map}
 use Rattle.ae_base.specs.Values.{units}
 use Rattle.ae_base.specs.Keys.{IsKeyPath, IsWrappedKey}
+use Rattle.ae_base.specs.OneOrTwo.{each_of}
 use Rattle.ae_base.specs.declared.values.Value.{Value}
 use Rattle.ae_base.specs.declared.values.Value.TheVariants as value
 use Rattle.ae_base.specs.declared.values.Datum.TheVariants as datum
@@ -93,7 +94,9 @@ pub record IsPlacedTable (columns : List ColumnSite) (table : BoundTable) : Type
 
 abbrev pub IsPlacedDefinition : List ColumnSite → BoundDefinition → Type 0
 IsPlacedDefinition columns (definition.CreateMaster name path) = IsKeyPath path
-IsPlacedDefinition columns (definition.CreateKey name master wrapped) = IsWrappedKey wrapped
+IsPlacedDefinition columns (definition.CreateKey name values) = All (λ value. IsWrappedKey value.wrapped) (each_of values)
+IsPlacedDefinition columns (definition.AddValue key value) = IsWrappedKey value.wrapped
+IsPlacedDefinition columns (definition.DropValue key master) = Unit {0}
 IsPlacedDefinition columns (definition.CreateTable table) = IsPlacedTable columns table
 IsPlacedDefinition columns (definition.DropTable name) = Unit {0}
 IsPlacedDefinition columns (definition.DropMaster name) = Unit {0}

@@ -5,6 +5,7 @@ use crate::operands::{ColumnRef, Operand};
 use ae_base::blobs::Blob;
 use ae_base::lists::Seq;
 use ae_base::names::{Name, ParamName};
+use ae_base::one_or_two::OneOrTwo;
 use ae_base::texts::Txt;
 use ae_base::types::Ty;
 
@@ -132,7 +133,15 @@ pub enum TransactionControl {
     Rollback,
 }
 
-/// A CREATE or DROP of a key or a table.
+/// A value of a column encryption key: the name of the master key that wraps it, and the bytes of
+/// its ENCRYPTED_VALUE.
+#[derive(Drop)]
+pub struct WrittenValue {
+    pub master: Name,
+    pub wrapped: Blob,
+}
+
+/// A CREATE, ALTER or DROP of a key, or a CREATE or DROP of a table.
 #[derive(Drop)]
 pub enum Definition {
     CreateMaster {
@@ -141,8 +150,17 @@ pub enum Definition {
     },
     CreateKey {
         name: Name,
+        values: OneOrTwo<WrittenValue>,
+    },
+    /// ALTER COLUMN ENCRYPTION KEY .. ADD VALUE.
+    AddValue {
+        key: Name,
+        value: WrittenValue,
+    },
+    /// ALTER COLUMN ENCRYPTION KEY .. DROP VALUE, which names the value by its master key.
+    DropValue {
+        key: Name,
         master: Name,
-        wrapped: Blob,
     },
     CreateTable {
         table: Name,
