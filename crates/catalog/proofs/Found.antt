@@ -40,6 +40,16 @@ none-passes p (x ∷ xs) e =
     let n = or_parts (p x) (list_any p xs) e in
     All-cons (λ y. p y ≡ false) x xs n.0 (none-passes p xs n.1)
 
+-- ---- what is found is one of the list
+
+pub found-all : {X : Type 0} (P : X → Type 0) (p : X → Bool) (xs : List X) (x : X) → find p xs ≡ Some x → All P xs → P x
+found-all P p [] x e all = cc
+found-all P p (y ∷ ys) x e all = at (p y) e (λ later. found-all P p ys x later (λ k d lt. all (suc k) d (omega arith)))
+  where
+    at : (b : Bool) → cond b (Some y) (find p ys) ≡ Some x → (find p ys ≡ Some x → P x) → P x
+    at true e rest = let same : y ≡ x = cc in subst P same (all 0 y (omega arith))
+    at false e rest = rest e
+
 -- ---- what is found stays found
 
 or-some : {X : Type 0} (a b : Option X) → IsSome a → IsSome (option_or a b)

@@ -3,3 +3,4 @@ mod History
 pub mod Interface
 mod Kept
 mod Tables
+mod Values

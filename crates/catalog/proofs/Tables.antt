@@ -12,6 +12,7 @@ use Rattle.catalog.specs.Catalogs.{Catalog, master_named, key_named, table_named
 use Rattle.catalog.specs.Definitions.{defined_by, effect_of, followed}
 use Rattle.catalog.specs.declared.effects.Effect.TheVariants.{Stays, Adds}
 use Rattle.catalog.proofs.Found.{accepted, dropped}
+use Rattle.catalog.proofs.Values.{added, taken}
 
 -- the tables follow the definition, with that of CREATE TABLE at the end
 pub record TablesFollow (old new : Catalog) (d : BoundDefinition) : Type 0 where
@@ -33,9 +34,11 @@ pub tables_follow : (old new : Catalog) (d : BoundDefinition) → defined_by old
 tables_follow old new (definition.CreateMaster name path) e =
     let a = accepted (is_some (master_named old name)) (is_full_of_masters old) (fault.Exists name) fault.Full _ new e in
     same_tables old new (definition.CreateMaster name path) refl (ap (λ (c : Catalog). c.tables) (sym a.2))
-tables_follow old new (definition.CreateKey name master wrapped) e =
+tables_follow old new (definition.CreateKey name values) e =
     let a = accepted (is_some (key_named old name)) (is_full_of_keys old) (fault.Exists name) fault.Full _ new e in
-    same_tables old new (definition.CreateKey name master wrapped) refl (ap (λ (c : Catalog). c.tables) (sym a.2))
+    same_tables old new (definition.CreateKey name values) refl (ap (λ (c : Catalog). c.tables) (sym a.2))
+tables_follow old new (definition.AddValue key value) e = same_tables old new (definition.AddValue key value) refl (ap (λ (c : Catalog). c.tables) (sym (added old new key value e).is))
+tables_follow old new (definition.DropValue key master) e = same_tables old new (definition.DropValue key master) refl (ap (λ (c : Catalog). c.tables) (sym (taken old new key master e).is))
 tables_follow old new (definition.CreateTable table) e =
     let a = accepted (is_some (table_named old table.def.name)) (is_full_of_tables old) (fault.Exists table.def.name) fault.Full _ new e in
     record { def = table.def; tables = ap (λ (c : Catalog). c.tables) (sym a.2); made = λ adds. (table, refl, refl) }

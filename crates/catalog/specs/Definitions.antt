@@ -7,14 +7,16 @@ use Rattle.ae_base.specs.declared.refusals.Refusal.TheVariants.{Fault, OutOfMemo
 use Rattle.sql_tree.specs.Bound.{BoundStatement, Definition}
 use Rattle.sql_tree.specs.declared.bound.BoundDefinition.{BoundDefinition}
 use Rattle.sql_tree.specs.declared.bound.BoundDefinition.TheVariants as definition
-use Rattle.catalog.specs.Catalogs.{Catalog, master_named, table_place, with_master, with_key, with_table, without_master, without_key, without_table}
-use Rattle.catalog.specs.WellFormed.{AreKeysThere}
+use Rattle.catalog.specs.Catalogs.{Catalog, master_named, key_named, table_place, with_master, with_key, with_value, without_value, with_table, without_master, without_key, without_table}
+use Rattle.catalog.specs.WellFormed.{AreKeysThere, IsMasterThere, AreMastersThere, MastersDiffer}
 use Rattle.catalog.specs.declared.effects.Effect.{Effect}
 use Rattle.catalog.specs.declared.effects.Effect.TheVariants.{Stays, Adds, Removes}
 
 abbrev pub defined_by : Catalog → BoundDefinition → Result Catalog SqlFault
 defined_by catalog (definition.CreateMaster name path) = with_master catalog name path
-defined_by catalog (definition.CreateKey name master wrapped) = with_key catalog name master wrapped
+defined_by catalog (definition.CreateKey name values) = with_key catalog name values
+defined_by catalog (definition.AddValue key value) = with_value catalog key value
+defined_by catalog (definition.DropValue key master) = without_value catalog key master
 defined_by catalog (definition.CreateTable table) = with_table catalog table.def
 defined_by catalog (definition.DropTable name) = without_table catalog name
 defined_by catalog (definition.DropMaster name) = without_master catalog name
@@ -35,9 +37,12 @@ followed new (Removes place) items = remove items place
 
 -- ---- what may be defined
 
--- the keys that it names are there: a column key's master key, and those of a table's columns
+-- the keys that it names are there: master keys of values, the column key whose values are altered, and those of a table's
+-- columns; and the values of a new column key are under different master keys
 abbrev pub IsDefinable : Catalog → BoundDefinition → Type 0
-IsDefinable catalog (definition.CreateKey name master wrapped) = IsSome (master_named catalog master)
+IsDefinable catalog (definition.CreateKey name values) = AreMastersThere catalog values × MastersDiffer values
+IsDefinable catalog (definition.AddValue key value) = IsSome (key_named catalog key) × IsMasterThere catalog value
+IsDefinable catalog (definition.DropValue key master) = IsSome (key_named catalog key) × IsSome (master_named catalog master)
 IsDefinable catalog (definition.CreateTable table) = AreKeysThere catalog table.def
 IsDefinable catalog other = Unit {0}
 

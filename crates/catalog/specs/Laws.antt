@@ -24,10 +24,10 @@ FollowingIsTransitive = (a b c : Catalog) → Follows a b → Follows b c → Fo
 abbrev pub EachFollowsItself : Type 0
 EachFollowsItself = (catalog : Catalog) → Follows catalog catalog
 
--- a number that was used before is never used again: what is found under it later is the key that was found before
+-- a number that was used before is never used again: what is found under it later has the name that was found before
 abbrev pub IdsAreNotReused : Type 0
 IdsAreNotReused = (old new : Catalog) (id : ℕ) (key : ColumnKey) → IsCatalog old → Follows old new → id < old.next_id
-    → key_of new id ≡ Some key → key_of old id ≡ Some key
+    → key_of new id ≡ Some key → (before : ColumnKey) × (key_of old id ≡ Some before) × (before.name ≡ key.name)
 
 -- a key that is there can be told
 abbrev pub KeysAreTold : Type 0

@@ -1,18 +1,21 @@
 //! The catalog: what is defined, with its version.
 
-ghost use Rattle.std.specs.Prelude.{◌≡◌, ◌≤◌, IfOk, IsSome};
+ghost use Rattle.std.specs.Prelude.{◌≡◌, ◌≤◌, IfOk, OnErr, OnOk};
 ghost use Rattle.std.specs.List.{list_any};
 ghost use Rattle.std.specs.Option.{option_copied, option_map};
-ghost use Rattle.catalog.specs.Catalogs.{nothing_defined, master_named, key_named, table_named, master_place, key_place, table_place, key_of, key_meta, is_under, is_table_under, is_master_used, is_key_used, is_at_last_version, is_full_of_masters, is_full_of_keys, is_full_of_tables, with_master, with_key, with_table, without_master, without_key, without_table};
+ghost use Rattle.catalog.specs.Catalogs.{nothing_defined, master_named, key_named, table_named, master_place, key_place, table_place, key_of, key_meta, value_told, values_told, is_under, is_table_under, is_master_used, is_key_used, is_at_last_version, is_full_of_masters, is_full_of_keys, is_full_of_tables, with_master, with_key, with_value, revalued, with_table, without_master, without_key, without_value, without_table};
 ghost use Rattle.catalog.specs.Definitions.{defined_by, effect_of, Defines, IsDefinable};
+ghost use Rattle.catalog.specs.WellFormed.{AreMastersThere, MastersDiffer};
 
 use crate::effects::Effect;
-use crate::keys::{ColumnKey, MasterKey};
+use crate::keys::{ColumnKey, MasterKey, has_value, other_value};
 use ae_base::faults::SqlFault;
-use ae_base::keys::{KeyMeta, KeyPath, WrappedKey};
+use ae_base::key_values::KeyValue;
+use ae_base::keys::{EncryptedValue, KeyMeta, KeyPath};
 use ae_base::limits::{MOST_COLUMN_KEYS, MOST_MASTER_KEYS, MOST_TABLES};
 use ae_base::lists::{Duplicate, Seq};
 use ae_base::names::Name;
+use ae_base::one_or_two::OneOrTwo;
 use ae_base::refusals::Refusal;
 use ae_base::tables::TableDef;
 use ae_base::types::{Enc, KeyId};
@@ -156,17 +159,56 @@ impl Catalog {
         let Some(key) = self.key_of(id) else {
             return Ok(None);
         };
-        let Some(master) = self.master_key(&key.master) else {
+        let Some(values) = self.values_told(&key.values)? else {
             return Ok(None);
         };
-        Ok(Some(key.meta(master)?))
+        Ok(Some(KeyMeta {
+            id: key.id,
+            name: key.name.copy()?,
+            values,
+        }))
     }
 
-    /// Whether a column key names the master key of a name.
+    fn value_told(&self, value: &EncryptedValue) -> Result<Option<KeyValue>, AllocError>
+        ensures { IfOk result (λ told. told ≡ value_told self.now value.now) }
+    {
+        let Some(path) = self.master(&value.master) else {
+            return Ok(None);
+        };
+        Ok(Some(KeyValue {
+            path: path.copy()?,
+            wrapped: value.wrapped.copy()?,
+        }))
+    }
+
+    /// The values of a column key as a client is told of them.
+    fn values_told(
+        &self,
+        values: &OneOrTwo<EncryptedValue>,
+    ) -> Result<Option<OneOrTwo<KeyValue>>, AllocError>
+        ensures { IfOk result (λ told. told ≡ values_told self.now values.now) }
+    {
+        let Some(first) = self.value_told(&values.first)? else {
+            return Ok(None);
+        };
+        let Some(second) = &values.second else {
+            let second = None;
+            return Ok(Some(OneOrTwo { first, second }));
+        };
+        match self.value_told(second)? {
+            None => Ok(None),
+            second => Ok(Some(OneOrTwo { first, second })),
+        }
+    }
+
+    /// Whether a value of a column key names the master key of a name.
     fn is_master_used(&self, name: &Name) -> bool
         ensures { result ≡ is_master_used self.now name.now }
     {
-        self.keys.as_slice().iter().any(|key| key.master == *name)
+        self.keys
+            .as_slice()
+            .iter()
+            .any(|key| has_value(&key.values, name))
     }
 
     /// Whether a column of a table is encrypted under the column key of a number.
@@ -227,11 +269,9 @@ impl Catalog {
     {
         match definition {
             BoundDefinition::CreateMaster { name, path } => self.create_master(name, path),
-            BoundDefinition::CreateKey {
-                name,
-                master,
-                wrapped,
-            } => self.create_key(name, &master, wrapped),
+            BoundDefinition::CreateKey { name, values } => self.create_key(name, values),
+            BoundDefinition::AddValue { key, value } => self.add_value(&key, value),
+            BoundDefinition::DropValue { key, master } => self.drop_value(&key, &master),
             BoundDefinition::CreateTable(table) => {
                 let BoundTable { def, keyed } = table;
                 drop(keyed);
@@ -254,6 +294,8 @@ impl Catalog {
             }
             BoundDefinition::CreateMaster { .. }
             | BoundDefinition::CreateKey { .. }
+            | BoundDefinition::AddValue { .. }
+            | BoundDefinition::DropValue { .. }
             | BoundDefinition::DropMaster(_)
             | BoundDefinition::DropKey(_) => Effect::Stays,
         }
@@ -276,12 +318,13 @@ impl Catalog {
         Ok(())
     }
 
-    /// Defines a column key under a master key that is there, at the end of the list. It gets the
-    /// next number. `Exists` for a name that a column key has, else `Full` where no further one can
-    /// be defined. After a fault or for want of memory the catalog is as before.
-    fn create_key(&mut self, name: Name, master: &Name, wrapped: WrappedKey) -> Result<(), Refusal>
-        requires { IsSome (master_named self.old master.now) }
-        ensures { Defines result self.old self.new (with_key self.old name master.now wrapped) }
+    /// Defines a column key of values under different master keys that are there, at the end of the
+    /// list. It gets the next number. `Exists` for a name that a column key has, else `Full` where no
+    /// further one can be defined. After a fault or for want of memory the catalog is as before.
+    fn create_key(&mut self, name: Name, values: OneOrTwo<EncryptedValue>) -> Result<(), Refusal>
+        requires there { AreMastersThere self.old values }
+        requires differ { MastersDiffer values }
+        ensures { Defines result self.old self.new (with_key self.old name values) }
     {
         if self.key(&name).is_some() {
             return Err(Refusal::Fault(SqlFault::Exists(name)));
@@ -292,11 +335,80 @@ impl Catalog {
         self.keys.push(ColumnKey {
             id: KeyId::from_number(self.next_id as u32).unwrap(),
             name,
-            master: master.copy()?,
-            wrapped,
+            values,
         })?;
         self.next_id += 1;
         self.version += 1;
+        Ok(())
+    }
+
+    /// Adds a value to the column key of a name, which must be there (else `NoSuch`). `Exists` for a
+    /// master key that it has a value under, else `Full` where it has two or the last version is
+    /// used. After a fault or for want of memory the catalog is as before.
+    fn add_value(&mut self, name: &Name, value: EncryptedValue) -> Result<(), Refusal>
+        ensures { Defines result self.old self.new (with_value self.old name.now value) }
+    {
+        let Some(key) = self.column_key(name) else {
+            return Err(Refusal::Fault(SqlFault::NoSuch(name.copy()?)));
+        };
+        if has_value(&key.values, &value.master) {
+            return Err(Refusal::Fault(SqlFault::Exists(value.master)));
+        }
+        if key.values.second.is_some() || self.is_at_last_version() {
+            return Err(Refusal::Fault(SqlFault::Full));
+        }
+        let first = key.values.first.copy()?;
+        let second = Some(value);
+        self.set_values(name, OneOrTwo { first, second })?;
+        self.version += 1;
+        Ok(())
+    }
+
+    /// Drops the value under a master key of the column key of a name, which must be there (else
+    /// `NoSuch`). `NoSuch` for a master key that it has no value under, else `KeyInUse` where that is
+    /// its last value, else `Full` where the last version is used. After a fault or for want of
+    /// memory, which a fault's name may take, the catalog is as before.
+    fn drop_value(&mut self, name: &Name, master: &Name) -> Result<(), Refusal>
+        ensures { Defines result self.old self.new (without_value self.old name.now master.now) }
+    {
+        let Some(key) = self.column_key(name) else {
+            return Err(Refusal::Fault(SqlFault::NoSuch(name.copy()?)));
+        };
+        if !has_value(&key.values, master) {
+            return Err(Refusal::Fault(SqlFault::NoSuch(master.copy()?)));
+        }
+        let Some(value) = other_value(&key.values, master) else {
+            return Err(Refusal::Fault(SqlFault::KeyInUse(name.copy()?)));
+        };
+        if self.is_at_last_version() {
+            return Err(Refusal::Fault(SqlFault::Full));
+        }
+        let first = value.copy()?;
+        let second = None;
+        self.set_values(name, OneOrTwo { first, second })?;
+        self.version += 1;
+        Ok(())
+    }
+
+    /// Gives the column key of a name other values. Without memory nothing changes.
+    fn set_values(
+        &mut self,
+        name: &Name,
+        values: OneOrTwo<EncryptedValue>,
+    ) -> Result<(), AllocError>
+        ensures ok { OnOk result
+            (self.new ≡ record self.old { keys = revalued name.now values self.old.keys }) }
+        ensures err { OnErr result (self.new ≡ self.old) }
+    {
+        if let Some(place) = self.key_place(name) {
+            let key = self.keys.get(place);
+            let key = ColumnKey {
+                id: key.id,
+                name: key.name.copy()?,
+                values,
+            };
+            self.keys.set(place, key);
+        }
         Ok(())
     }
 

@@ -1,11 +1,13 @@
 //! The entries of a catalog for keys.
 
-ghost use Rattle.std.specs.Prelude.{◌≡◌, IfOk};
-ghost use Rattle.catalog.specs.Catalogs.{meta_of};
+ghost use Rattle.std.specs.Prelude.{◌≡◌};
+ghost use Rattle.std.specs.Option.{option_copied};
+ghost use Rattle.catalog.specs.Catalogs.{is_value_under, has_value, other_value};
 
-use ae_base::keys::{KeyMeta, KeyPath, WrappedKey};
+use ae_base::keys::{EncryptedValue, KeyPath};
 use ae_base::lists::Duplicate;
 use ae_base::names::Name;
+use ae_base::one_or_two::OneOrTwo;
 use ae_base::types::KeyId;
 use std::alloc::AllocError;
 
@@ -16,27 +18,46 @@ pub struct MasterKey {
     pub path: KeyPath,
 }
 
-/// A column encryption key: its number, its name, the name of the master key that wraps it, and the
-/// wrapped key.
+/// A column encryption key: its number, its name, and its values in the order in which they were
+/// added.
 #[derive(Drop)]
 pub struct ColumnKey {
     pub id: KeyId,
     pub name: Name,
-    pub master: Name,
-    pub wrapped: WrappedKey,
+    pub values: OneOrTwo<EncryptedValue>,
 }
 
-impl ColumnKey {
-    /// What a client is told of the key, its master key being given.
-    pub fn meta(&self, master: &MasterKey) -> Result<KeyMeta, AllocError>
-        ensures { IfOk result (λ meta. meta ≡ meta_of self.now master.now) }
-    {
-        Ok(KeyMeta {
-            id: self.id,
-            name: self.name.copy()?,
-            path: master.path.copy()?,
-            wrapped: self.wrapped.copy()?,
-        })
+/// Whether a value is under the master key of a name.
+pub fn is_value_under(value: &EncryptedValue, master: &Name) -> bool
+    ensures { result ≡ is_value_under master.now value.now }
+{
+    value.master == *master
+}
+
+/// Whether one of the values is under the master key of a name.
+pub fn has_value(values: &OneOrTwo<EncryptedValue>, master: &Name) -> bool
+    ensures { result ≡ has_value master.now values.now }
+{
+    if is_value_under(&values.first, master) {
+        return true;
+    }
+    match &values.second {
+        Some(second) => is_value_under(second, master),
+        None => false,
+    }
+}
+
+/// The value beside the one under the master key of a name. It takes no memory.
+pub fn other_value<'a>(
+    values: &'a OneOrTwo<EncryptedValue>,
+    master: &Name,
+) -> Option<&'a EncryptedValue>
+    ensures { option_copied result ≡ other_value master.now values.now }
+{
+    if is_value_under(&values.first, master) {
+        values.second.as_ref()
+    } else {
+        Some(&values.first)
     }
 }
 
@@ -54,8 +75,7 @@ impl Duplicate for ColumnKey {
         Ok(ColumnKey {
             id: self.id,
             name: self.name.copy()?,
-            master: self.master.copy()?,
-            wrapped: self.wrapped.copy()?,
+            values: self.values.copy()?,
         })
     }
 }

@@ -3,6 +3,7 @@ use Rattle.std.specs.Prelude.{IfErr}
 use Rattle.std.proofs.Common.{ℕ, ◌+◌, List, [], ◌∷◌, ◌++◌, refl, subst, Bool, true, false, Option, Some, None, Result, Ok, Err, inl, inr, if◌then◌else◌}
 use Rattle.ae_base.specs.Results.{◌>>=◌, each, or_fault, AnswersAs}
 use Rattle.ae_base.specs.declared.batches.ParamDecl.{ParamDecl}
+use Rattle.ae_base.specs.declared.one_or_two.OneOrTwo.{OneOrTwo}
 use Rattle.ae_base.specs.declared.tables.ColumnDef.{ColumnDef}
 use Rattle.ae_base.specs.declared.tables.TableDef.{TableDef}
 use Rattle.ae_base.specs.declared.faults.SqlFault.{SqlFault}
@@ -16,6 +17,7 @@ use Rattle.sql_tree.specs.declared.statements.ColumnSpec.{ColumnSpec}
 use Rattle.sql_tree.specs.declared.statements.Encryption.{Encryption}
 use Rattle.sql_tree.specs.declared.statements.SourceTable.{SourceTable}
 use Rattle.sql_tree.specs.declared.statements.UniqueSpec.{UniqueSpec}
+use Rattle.sql_tree.specs.declared.statements.WrittenValue.{WrittenValue}
 use Rattle.sql_tree.specs.Operands.{Operand, Terms}
 use Rattle.sql_tree.specs.Operands as operands
 use Rattle.sql_tree.specs.Conditions.{Condition, Conditions}
@@ -28,7 +30,7 @@ use Rattle.semantic_checks.specs.Grouping.{ungrouped_places}
 use Rattle.catalog.specs.Catalogs.{Catalog, table_named, key_named, master_named}
 use Rattle.resolve.specs.Bind.{resolution, bind}
 use Rattle.resolve.specs.Changes.{places_for, listed_place, bind_row, bind_assignment, nth_assignment, table_scope, bind_insert, bind_update, bind_delete}
-use Rattle.resolve.specs.Definitions.{key_path, is_key_path, wrapped_key, is_wrapped_key, master_for, enc_for, new_name, column_behind, bind_column, bind_key_column, bind_unique, bind_table, bind_definition}
+use Rattle.resolve.specs.Definitions.{key_path, is_key_path, wrapped_key, is_wrapped_key, master_for, key_for, bind_key_value, bind_second_value, bind_key_values, enc_for, new_name, column_behind, bind_column, bind_key_column, bind_unique, bind_table, bind_definition}
 use Rattle.resolve.specs.Faults.{IsStatementFault, IsBindFault}
 use Rattle.resolve.specs.Names.{short, bind_operand, bind_terms, bind_operands, bind_condition, bind_conditions, bind_filter}
 use Rattle.resolve.specs.Queries.{bind_value, bind_item, bind_items, bind_join, bind_joins, bind_column_at, bind_key, bind_order, bind_over, bind_query}
@@ -251,11 +253,32 @@ query_blames scope ds sources query =
 
 -- ---- the whole statement
 
+master_blames : (catalog : Catalog) (name : List ℕ) → Blames (master_for catalog name)
+master_blames catalog name = alone (or_fault (fault.NoKey name) (master_named catalog name)) _ (looked_up (fault.NoKey name) _ (no_key name))
+
+key_blames : (catalog : Catalog) (name : List ℕ) → Blames (key_for catalog name)
+key_blames catalog name = alone (or_fault (fault.NoKey name) (key_named catalog name)) _ (looked_up (fault.NoKey name) _ (no_key name))
+
+key_value_blames : (catalog : Catalog) (value : WrittenValue) → Blames (bind_key_value catalog value)
+key_value_blames catalog value =
+    both (wrapped_key value.wrapped) _ (only_if (is_wrapped_key value.wrapped) value.wrapped fault.TooLong too_long)
+    (λ w. alone (master_for catalog value.master) _ (master_blames catalog value.master))
+
+second_value_blames : (catalog : Catalog) (first : List ℕ) (second : Option WrittenValue) → Blames (bind_second_value catalog first second)
+second_value_blames catalog first None = tt
+second_value_blames catalog first (Some value) =
+    both (bind_key_value catalog value) _ (key_value_blames catalog value) (λ v. unless _ (Ok (Some v)) (fault.Ambiguous value.master) (ambiguous value.master) tt)
+
+key_values_blame : (catalog : Catalog) (values : OneOrTwo WrittenValue) → Blames (bind_key_values catalog values)
+key_values_blame catalog values =
+    both (bind_key_value catalog values.first) _ (key_value_blames catalog values.first)
+    (λ first. alone (bind_second_value catalog values.first.master values.second) _ (second_value_blames catalog values.first.master values.second))
+
 defined_blames : (catalog : Catalog) (d : Definition) → Blames (bind_definition catalog d)
 defined_blames catalog (written.CreateMaster name path) = alone (key_path path) _ (only_if (is_key_path path) path fault.TooLong too_long)
-defined_blames catalog (written.CreateKey name master wrapped) =
-    both (wrapped_key wrapped) _ (only_if (is_wrapped_key wrapped) wrapped fault.TooLong too_long)
-    (λ w. alone (master_for catalog master) _ (alone (or_fault (fault.NoKey master) (master_named catalog master)) _ (looked_up (fault.NoKey master) _ (no_key master))))
+defined_blames catalog (written.CreateKey name values) = alone (bind_key_values catalog values) _ (key_values_blame catalog values)
+defined_blames catalog (written.AddValue key value) = both (key_for catalog key) _ (key_blames catalog key) (λ there. alone (bind_key_value catalog value) _ (key_value_blames catalog value))
+defined_blames catalog (written.DropValue key master) = both (key_for catalog key) _ (key_blames catalog key) (λ there. alone (master_for catalog master) _ (master_blames catalog master))
 defined_blames catalog (written.CreateTable table columns uniques) = alone (bind_table catalog table columns uniques) _ (definitions_blame catalog table columns uniques)
 defined_blames catalog (written.DropTable name) = tt
 defined_blames catalog (written.DropMaster name) = tt

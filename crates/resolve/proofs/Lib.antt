@@ -2,7 +2,8 @@ pub mod BoundStatements
 pub mod Causes
 pub mod Interface
 pub mod Joins
-pub mod Kept
+pub mod KeyValues
+mod Kept
 pub mod KeptWhole
 pub mod OnCatalog
 pub mod Parts

@@ -27,7 +27,7 @@ use Rattle.sql_tree.specs.Statements as tree
 use Rattle.sql_tree.specs.Bound as bound
 use Rattle.sql_tree.specs.OnTables.{table_among, columns_in, sites_among, AreColumnsOn, IsSourceOn, sources_of, IsStatementOn, IsOnTables}
 use Rattle.sql_tree.specs.Placed.{site_of}
-use Rattle.catalog.specs.Catalogs.{Catalog, master_named, key_named, table_named, key_of}
+use Rattle.catalog.specs.Catalogs.{Catalog, key_named, table_named, key_of}
 use Rattle.catalog.specs.Definitions.{IsDefinable, MayDefine}
 use Rattle.catalog.specs.WellFormed.{IsKeyThere, AreKeysThere, IsCatalog}
 use Rattle.catalog.specs.declared.keys.ColumnKey.{ColumnKey}
@@ -38,8 +38,9 @@ use Rattle.resolve.specs.Names.{bind_condition, bind_filter}
 use Rattle.resolve.specs.Tables.{Joined, Sources, all_sources, visible, table_for, source_for, joined_from, sources_for}
 use Rattle.resolve.specs.Queries.{bind_items, bind_join, bind_joins, bind_column_at, bind_key, bind_query}
 use Rattle.resolve.specs.Changes.{places_for, bind_row, bind_insert, nth_assignment, table_scope, bind_update, bind_delete}
-use Rattle.resolve.specs.Definitions.{key_path, wrapped_key, master_for, enc_of, enc_for, name_of, new_name, bind_column, bind_unique, word_keys, table_of, bind_table, bind_definition, table_sites, new_sites}
+use Rattle.resolve.specs.Definitions.{key_path, master_for, key_for, bind_key_value, bind_key_values, enc_of, enc_for, name_of, new_name, bind_column, bind_unique, word_keys, table_of, bind_table, bind_definition, table_sites, new_sites}
 use Rattle.resolve.specs.Bind.{type_of, bound_over, resolution}
+use Rattle.resolve.proofs.KeyValues.{master_found, key_found, value_bound, values_bound}
 use Rattle.resolve.proofs.Parts.{one_part, two_parts, first_part}
 use Rattle.resolve.proofs.QueryParts.{made, ordered, grouped, filtered, joined, in_parts}
 use Rattle.resolve.proofs.Places.{found}
@@ -185,15 +186,16 @@ pub record StandsOn (catalog : Catalog) (ds : List ParamDecl) (b : bound.Bound) 
 no_columns : (catalog : Catalog) → AreThere catalog []
 no_columns catalog = All-nil (λ (site : ColumnSite). IsKeyThere catalog site.enc)
 
-master_found : (catalog : Catalog) (master : List ℕ) (m : Unit {0}) → master_for catalog master ≡ Ok m → IsSome (master_named catalog master)
-master_found catalog master m e =
-    first_part (or_fault (fault.NoKey master) (master_named catalog master)) (λ key. Ok tt) m (IsSome (master_named catalog master)) e
-    (λ key ek e1. subst IsSome (sym (found (fault.NoKey master) (master_named catalog master) key ek)) refl)
-
 definable : (catalog : Catalog) (d : Definition) (made : BoundDefinition) → bind_definition catalog d ≡ Ok made → IsDefinable catalog made
 definable catalog (written.CreateMaster name path) made e = one_part (key_path path) (λ p. definition.CreateMaster name p) made (IsDefinable catalog) e (λ p ep. tt)
-definable catalog (written.CreateKey name master wrapped) made e =
-    two_parts (wrapped_key wrapped) (master_for catalog master) (λ w m. definition.CreateKey name master w) made (IsDefinable catalog) e (λ w m ew em. master_found catalog master m em)
+definable catalog (written.CreateKey name values) made e =
+    one_part (bind_key_values catalog values) (λ v. definition.CreateKey name v) made (IsDefinable catalog) e (λ v ev. let b = values_bound catalog values v ev in (b.there, b.differ))
+definable catalog (written.AddValue key value) made e =
+    two_parts (key_for catalog key) (bind_key_value catalog value) (λ m v. definition.AddValue key v) made (IsDefinable catalog) e
+    (λ m v em ev. (key_found catalog key m em, (value_bound catalog value v ev).there))
+definable catalog (written.DropValue key master) made e =
+    two_parts (key_for catalog key) (master_for catalog master) (λ k m. definition.DropValue key master) made (IsDefinable catalog) e
+    (λ k m ek em. (key_found catalog key k ek, master_found catalog master m em))
 definable catalog (written.CreateTable table columns uniques) made e =
     one_part (bind_table catalog table columns uniques) definition.CreateTable made (IsDefinable catalog) e (made_there catalog table columns uniques)
 definable catalog (written.DropTable name) made e = let i : definition.DropTable name ≡ made = cc in subst (IsDefinable catalog) i tt
@@ -202,7 +204,9 @@ definable catalog (written.DropKey name) made e = let i : definition.DropKey nam
 
 new_there : (catalog : Catalog) (made : BoundDefinition) → IsDefinable catalog made → AreThere catalog (new_sites made)
 new_there catalog (definition.CreateMaster name path) h = no_columns catalog
-new_there catalog (definition.CreateKey name master wrapped) h = no_columns catalog
+new_there catalog (definition.CreateKey name values) h = no_columns catalog
+new_there catalog (definition.AddValue key value) h = no_columns catalog
+new_there catalog (definition.DropValue key master) h = no_columns catalog
 new_there catalog (definition.CreateTable table) h = def_there catalog table.def h
 new_there catalog (definition.DropTable name) h = no_columns catalog
 new_there catalog (definition.DropMaster name) h = no_columns catalog

@@ -6,7 +6,7 @@ use Rattle.std.proofs.lemmas.Bool.{leb-true, ltb-false, eqb-true, eqb-false}
 use Rattle.std.proofs.lemmas.List.{map-append, length-map}
 use Rattle.std.proofs.lemmas.List.Elements.{All-nil, All-cons, All-head, All-tail, All-append}
 use Rattle.ae_base.specs.Results.{◌>>=◌, each}
-use Rattle.ae_base.specs.Keys.{IsKeyPath, IsWrappedKey}
+use Rattle.ae_base.specs.Keys.{IsKeyPath}
 use Rattle.ae_base.specs.declared.batches.ParamDecl.{ParamDecl}
 use Rattle.ae_base.specs.declared.tables.ColumnDef.{ColumnDef}
 use Rattle.ae_base.specs.declared.tables.TableDef.{TableDef}
@@ -38,8 +38,9 @@ use Rattle.resolve.specs.Names.{bind_operand, bind_operands, bind_condition, bin
 use Rattle.resolve.specs.Tables.{Joined, Sources, all_sources, table_for, sources_for}
 use Rattle.resolve.specs.Queries.{star_items, title_of, bind_value, bind_item, bind_items, bind_join, bind_joins, bind_column_at, bind_key, bind_query}
 use Rattle.resolve.specs.Changes.{table_scope, all_places, places_for, listed_place, bind_row, bind_insert, column_of, bind_assignment, nth_assignment, bind_update, bind_delete}
-use Rattle.resolve.specs.Definitions.{key_path, wrapped_key, master_for, bind_column, word_keys, bind_key_column, bind_unique, listed_name, place_of_key, alone, places_of_list, table_of, bind_table, bind_definition, table_sites, new_sites}
+use Rattle.resolve.specs.Definitions.{key_for, bind_key_value, bind_key_values, key_path, master_for, bind_column, word_keys, bind_key_column, bind_unique, listed_name, place_of_key, alone, places_of_list, table_of, bind_table, bind_definition, table_sites, new_sites}
 use Rattle.resolve.specs.Bind.{type_of, bound_over, resolution}
+use Rattle.resolve.proofs.KeyValues.{value_bound, values_bound}
 use Rattle.resolve.proofs.Parts.{one_part, two_parts, first_part}
 use Rattle.resolve.proofs.QueryParts.{made, ordered, grouped, filtered, joined, in_parts}
 use Rattle.resolve.proofs.Places.{place-within, column-within, operand_placed, operands_placed, condition_placed, filter_placed, each_placed}
@@ -268,14 +269,6 @@ path_is path p e = go (nat_le 1 (length (encode_utf8_all path))) (nat_le (length
     go true false h k e = absurd cc
     go false u h k e = absurd cc
 
-wrapped_is : (bytes w : List ℕ) → wrapped_key bytes ≡ Ok w → IsWrappedKey w
-wrapped_is bytes w e = go (nat_le 1 (length bytes)) (nat_le (length bytes) 1024) refl refl e
-  where
-    go : (t u : Bool) → nat_le 1 (length bytes) ≡ t → nat_le (length bytes) 1024 ≡ u → cond (t && u) (Ok bytes) (Err fault.TooLong) ≡ Ok w → IsWrappedKey w
-    go true true h k e = let i : bytes ≡ w = cc in subst IsWrappedKey i (leb-true 1 (length bytes) h, leb-true (length bytes) 1024 k)
-    go true false h k e = absurd cc
-    go false u h k e = absurd cc
-
 some_items : (n : ℕ) → ((n == 0) || nat_lt 512 n) ≡ false → (1 ≤ n) × (n ≤ 512)
 some_items n e = go (n == 0) (nat_lt 512 n) refl refl e
   where
@@ -298,8 +291,12 @@ WellPlaced made = length (uniques_in made) ≤ 8 → IsPlacedDefinition (new_sit
 definition_placed : (catalog : Catalog) (d : Definition) (made : BoundDefinition) → bind_definition catalog d ≡ Ok made → length (uniques_in made) ≤ 8 → IsPlacedDefinition (new_sites made) made
 definition_placed catalog (written.CreateMaster name path) made e =
     one_part (key_path path) (λ p. definition.CreateMaster name p) made WellPlaced e (λ p ep few. path_is path p ep)
-definition_placed catalog (written.CreateKey name master wrapped) made e =
-    two_parts (wrapped_key wrapped) (master_for catalog master) (λ w m. definition.CreateKey name master w) made WellPlaced e (λ w m ew em few. wrapped_is wrapped w ew)
+definition_placed catalog (written.CreateKey name values) made e =
+    one_part (bind_key_values catalog values) (λ v. definition.CreateKey name v) made WellPlaced e (λ v ev few. (values_bound catalog values v ev).wrapped)
+definition_placed catalog (written.AddValue key value) made e =
+    two_parts (key_for catalog key) (bind_key_value catalog value) (λ m v. definition.AddValue key v) made WellPlaced e (λ m v em ev few. (value_bound catalog value v ev).wrapped)
+definition_placed catalog (written.DropValue key master) made e =
+    two_parts (key_for catalog key) (master_for catalog master) (λ k m. definition.DropValue key master) made WellPlaced e (λ k m ek em few. tt)
 definition_placed catalog (written.CreateTable table columns uniques) made e =
     one_part (bind_table catalog table columns uniques) definition.CreateTable made WellPlaced e (table_placed catalog table columns uniques)
 definition_placed catalog (written.DropTable name) made e = let i : definition.DropTable name ≡ made = cc in subst WellPlaced i (λ few. tt)

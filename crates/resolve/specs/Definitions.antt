@@ -1,8 +1,10 @@
--- The names of CREATE, in text order.
+-- The names of CREATE and ALTER, in text order.
 use Rattle.std.specs.Prelude.{ℕ, ◌+◌, List, [], ◌∷◌, ◌++◌, length, map, take, Option, Some, None, Result, Ok, Err, Bool, ◌&&◌, nat_le, if◌then◌else◌, encode_utf8_all}
 use Rattle.std.specs.List.{list_any, flat_map}
 use Rattle.std.specs.Str.{bytes_eq}
 use Rattle.ae_base.specs.Results.{◌>>=◌, each, or_fault}
+use Rattle.ae_base.specs.declared.keys.EncryptedValue.{EncryptedValue}
+use Rattle.ae_base.specs.declared.one_or_two.OneOrTwo.{OneOrTwo}
 use Rattle.ae_base.specs.declared.tables.ColumnDef.{ColumnDef}
 use Rattle.ae_base.specs.declared.tables.TableDef.{TableDef}
 use Rattle.ae_base.specs.declared.types.Enc.{Enc}
@@ -17,6 +19,7 @@ use Rattle.sql_tree.specs.declared.statements.Encryption.{Encryption}
 use Rattle.sql_tree.specs.declared.statements.ColumnSpec.{ColumnSpec}
 use Rattle.sql_tree.specs.declared.statements.NameAt.{NameAt}
 use Rattle.sql_tree.specs.declared.statements.UniqueSpec.{UniqueSpec}
+use Rattle.sql_tree.specs.declared.statements.WrittenValue.{WrittenValue}
 use Rattle.sql_tree.specs.declared.bound.PlaceAt.{PlaceAt}
 use Rattle.sql_tree.specs.declared.bound.BoundTable.{BoundTable}
 use Rattle.sql_tree.specs.declared.bound.BoundDefinition.{BoundDefinition}
@@ -43,6 +46,25 @@ wrapped_key bytes = if is_wrapped_key bytes then Ok bytes else Err fault.TooLong
 
 abbrev pub master_for : Catalog → List ℕ → Result (Unit {0}) SqlFault
 master_for catalog name = or_fault (fault.NoKey name) (master_named catalog name) >>= λ master. Ok tt
+
+abbrev pub key_for : Catalog → List ℕ → Result (Unit {0}) SqlFault
+key_for catalog name = or_fault (fault.NoKey name) (key_named catalog name) >>= λ key. Ok tt
+
+-- ---- values of a column key
+
+abbrev pub bind_key_value : Catalog → WrittenValue → Result EncryptedValue SqlFault
+bind_key_value catalog value =
+    wrapped_key value.wrapped >>= λ w. master_for catalog value.master >>= λ there. Ok (record { master = value.master; wrapped = w })
+
+-- the second value of a column key is Ambiguous under the master key of the first
+abbrev pub bind_second_value : Catalog → List ℕ → Option WrittenValue → Result (Option EncryptedValue) SqlFault
+bind_second_value catalog first None = Ok None
+bind_second_value catalog first (Some value) =
+    bind_key_value catalog value >>= λ v. if bytes_eq value.master first then Err (fault.Ambiguous value.master) else Ok (Some v)
+
+abbrev pub bind_key_values : Catalog → OneOrTwo WrittenValue → Result (OneOrTwo EncryptedValue) SqlFault
+bind_key_values catalog values =
+    bind_key_value catalog values.first >>= λ first. bind_second_value catalog values.first.master values.second >>= λ second. Ok (record { first = first; second = second })
 
 -- ---- columns
 
@@ -121,8 +143,11 @@ bind_table catalog table columns uniques =
 
 abbrev pub bind_definition : Catalog → Definition → Result BoundDefinition SqlFault
 bind_definition catalog (written.CreateMaster name path) = key_path path >>= λ p. Ok (definition.CreateMaster name p)
-bind_definition catalog (written.CreateKey name master wrapped) =
-    wrapped_key wrapped >>= λ w. master_for catalog master >>= λ there. Ok (definition.CreateKey name master w)
+bind_definition catalog (written.CreateKey name values) = bind_key_values catalog values >>= λ v. Ok (definition.CreateKey name v)
+bind_definition catalog (written.AddValue key value) =
+    key_for catalog key >>= λ there. bind_key_value catalog value >>= λ v. Ok (definition.AddValue key v)
+bind_definition catalog (written.DropValue key master) =
+    key_for catalog key >>= λ there. master_for catalog master >>= λ under. Ok (definition.DropValue key master)
 bind_definition catalog (written.CreateTable table columns uniques) =
     bind_table catalog table columns uniques >>= λ made. Ok (definition.CreateTable made)
 bind_definition catalog (written.DropTable name) = Ok (definition.DropTable name)

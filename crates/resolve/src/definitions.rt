@@ -5,14 +5,15 @@ ghost use Rattle.std.specs.List.{flat_map, list_any};
 ghost use Rattle.std.specs.Str.{bytes_eq};
 ghost use Rattle.ae_base.specs.Results.{each, Answers};
 ghost use Rattle.resolve.specs.Walks.{each_from};
-ghost use Rattle.resolve.specs.Definitions.{alone, bind_column, bind_definition, column_behind, key_column_behind, bind_key_column, bind_table, bind_unique, enc_for, enc_of, key_path, listed_name, master_for, name_of, new_name, place_of_key, places_of_list, word_keys, wrapped_key};
+ghost use Rattle.resolve.specs.Definitions.{alone, bind_column, bind_definition, column_behind, key_column_behind, bind_key_column, bind_table, bind_unique, enc_for, enc_of, key_for, key_path, listed_name, master_for, bind_key_value, bind_second_value, bind_key_values, name_of, new_name, place_of_key, places_of_list, word_keys, wrapped_key};
 
 use crate::scopes::new_place;
 use ae_base::blobs::Blob;
 use ae_base::faults::SqlFault;
-use ae_base::keys::{KeyPath, WrappedKey};
+use ae_base::keys::{EncryptedValue, KeyPath, WrappedKey};
 use ae_base::lists::{Duplicate, Seq};
 use ae_base::names::Name;
+use ae_base::one_or_two::OneOrTwo;
 use ae_base::refusals::Refusal;
 use ae_base::tables::{ColumnDef, TableDef, UniqueKey};
 use ae_base::texts::Txt;
@@ -20,7 +21,7 @@ use ae_base::types::{Enc, KeyId};
 use catalog::catalogs::Catalog;
 use sql_tree::bound::{BoundDefinition, BoundTable, PlaceAt};
 use sql_tree::statements::{
-    ColumnSpec, Definition, Encryption, EncryptionKind, NameAt, UniqueSpec,
+    ColumnSpec, Definition, Encryption, EncryptionKind, NameAt, UniqueSpec, WrittenValue,
 };
 use std::alloc::{AllocError, Global};
 
@@ -50,6 +51,56 @@ fn master_for(catalog: &Catalog, name: &Name) -> Result<(), Refusal>
         Some(_) => Ok(()),
         None => Err(Refusal::Fault(SqlFault::NoKey(name.copy()?))),
     }
+}
+
+/// Whether a column key of the name is there.
+fn key_for(catalog: &Catalog, name: &Name) -> Result<(), Refusal>
+    ensures { Answers result (key_for catalog.now name.now) }
+{
+    match catalog.key(name) {
+        Some(_) => Ok(()),
+        None => Err(Refusal::Fault(SqlFault::NoKey(name.copy()?))),
+    }
+}
+
+/// A value of a column key under a master key that is there.
+fn bind_key_value(catalog: &Catalog, value: &WrittenValue) -> Result<EncryptedValue, Refusal>
+    ensures { Answers result (bind_key_value catalog.now value.now) }
+{
+    let wrapped = wrapped_key(&value.wrapped)?;
+    master_for(catalog, &value.master)?;
+    let master = value.master.copy()?;
+    Ok(EncryptedValue { master, wrapped })
+}
+
+/// The second value of a column key whose first is under the master key of the given name.
+fn bind_second_value(
+    catalog: &Catalog,
+    first: &Name,
+    second: &Option<WrittenValue>,
+) -> Result<Option<EncryptedValue>, Refusal>
+    ensures { Answers result (bind_second_value catalog.now first.now second.now) }
+{
+    let Some(second) = second else {
+        return Ok(None);
+    };
+    let value = bind_key_value(catalog, second)?;
+    if second.master == *first {
+        return Err(Refusal::Fault(SqlFault::Ambiguous(second.master.copy()?)));
+    }
+    Ok(Some(value))
+}
+
+/// The values of a column key, under different master keys that are there.
+fn bind_key_values(
+    catalog: &Catalog,
+    values: &OneOrTwo<WrittenValue>,
+) -> Result<OneOrTwo<EncryptedValue>, Refusal>
+    ensures { Answers result (bind_key_values catalog.now values.now) }
+{
+    let first = bind_key_value(catalog, &values.first)?;
+    let second = bind_second_value(catalog, &values.first.master, &values.second)?;
+    Ok(OneOrTwo { first, second })
 }
 
 fn enc_of(kind: EncryptionKind, id: KeyId) -> Enc
@@ -287,20 +338,23 @@ pub(crate) fn bind_definition(
             let name = name.copy()?;
             Ok(BoundDefinition::CreateMaster { name, path })
         }
-        Definition::CreateKey {
-            name,
-            master,
-            wrapped,
-        } => {
-            let wrapped = wrapped_key(wrapped)?;
-            master_for(catalog, master)?;
+        Definition::CreateKey { name, values } => {
+            let values = bind_key_values(catalog, values)?;
             let name = name.copy()?;
+            Ok(BoundDefinition::CreateKey { name, values })
+        }
+        Definition::AddValue { key, value } => {
+            key_for(catalog, key)?;
+            let value = bind_key_value(catalog, value)?;
+            let key = key.copy()?;
+            Ok(BoundDefinition::AddValue { key, value })
+        }
+        Definition::DropValue { key, master } => {
+            key_for(catalog, key)?;
+            master_for(catalog, master)?;
+            let key = key.copy()?;
             let master = master.copy()?;
-            Ok(BoundDefinition::CreateKey {
-                name,
-                master,
-                wrapped,
-            })
+            Ok(BoundDefinition::DropValue { key, master })
         }
         Definition::CreateTable {
             table,

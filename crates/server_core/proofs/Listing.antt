@@ -1,20 +1,22 @@
 -- The keys that a message lists are those that its encryptions use, and the catalog has them all.
-use Rattle.std.proofs.Common.{◌≡◌, inl, inr, ℕ, ◌+◌, ◌≤◌, Bool, true, false, eqb, ◌||◌, List, [], ◌∷◌, ◌++◌, length, map, Option, Some, None, refl, sym, ap, ◌∙◌, subst, arith, if◌then◌else◌}
+use Rattle.std.proofs.Common.{◌≡◌, inl, inr, ℕ, ◌+◌, ◌≤◌, Bool, true, false, eqb, ◌||◌, List, [], ◌∷◌, ◌++◌, length, map, Option, Some, None, refl, sym, ap, ◌∙◌, subst, arith, if◌then◌else◌, length-append}
 use Rattle.std.specs.Prelude.{IsSome, flat_map}
 use Rattle.std.specs.List.{All, list_any, find}
 use Rattle.std.specs.Option.{option_map, option_and_then}
 use Rattle.std.proofs.lemmas.List.{length-map}
 use Rattle.std.proofs.lemmas.List.Elements.{All-nil, All-cons, All-head, All-tail}
 use Rattle.std.proofs.lemmas.Bool.Decides.{eqb_tells}
+use Rattle.ae_base.specs.OneOrTwo.{behind, each_of}
+use Rattle.ae_base.specs.declared.key_values.KeyValue.{KeyValue}
 use Rattle.ae_base.specs.declared.keys.KeyMeta.{KeyMeta}
+use Rattle.ae_base.specs.declared.one_or_two.OneOrTwo.{OneOrTwo}
 use Rattle.ae_base.specs.declared.types.Enc.{Enc}
 use Rattle.ae_base.specs.declared.types.Enc.TheVariants as enc
-use Rattle.catalog.specs.Catalogs.{Catalog, key_of, key_meta, master_named, meta_of}
+use Rattle.catalog.specs.Catalogs.{Catalog, key_of, key_meta, values_told, meta_of}
 use Rattle.catalog.specs.WellFormed.{IsCatalog, IsKeyThere}
 use Rattle.catalog.specs.Laws.{KeysAreTold}
 use Rattle.catalog.specs.declared.keys.ColumnKey.{ColumnKey}
-use Rattle.catalog.specs.declared.keys.MasterKey.{MasterKey}
-use Rattle.wire_messages.specs.KeyLists.{keys_used, ids_of, AreTheKeysOf}
+use Rattle.wire_messages.specs.KeyLists.{entries_of_key, entries_of, keys_used, ids_of, AreTheKeysOf}
 use Rattle.server_core.specs.Describing.{meta_list, keys_of}
 
 abbrev pub IsThere : Catalog → ℕ → Type 0
@@ -139,14 +141,14 @@ found_id (k ∷ keys) id key e = elim (eqb_tells k.id id) [
   | inr n ↦ let h = n.0 in found_id keys id key (sym (ap (λ b. if b then Some k else find (λ (k : ColumnKey). eqb k.id id) keys) h) ∙ e)
 ]
 
-meta_named : (key : ColumnKey) (m : Option MasterKey) (meta : KeyMeta) → option_map (meta_of key) m ≡ Some meta → meta.id ≡ key.id
+meta_named : (key : ColumnKey) (o : Option (OneOrTwo KeyValue)) (meta : KeyMeta) → option_map (meta_of key) o ≡ Some meta → meta.id ≡ key.id
 meta_named key None meta e = absurd cc
-meta_named key (Some master) meta e = let f : meta_of key master ≡ meta = cc in sym (ap (λ (m : KeyMeta). m.id) f)
+meta_named key (Some values) meta e = let f : meta_of key values ≡ meta = cc in sym (ap (λ (m : KeyMeta). m.id) f)
 
 meta_found : (catalog : Catalog) (id : ℕ) (o : Option ColumnKey) → ((k : ColumnKey) → o ≡ Some k → k.id ≡ id) → (meta : KeyMeta)
-    → option_and_then (λ key. option_map (meta_of key) (master_named catalog key.master)) o ≡ Some meta → meta.id ≡ id
+    → option_and_then (λ key. option_map (meta_of key) (values_told catalog key.values)) o ≡ Some meta → meta.id ≡ id
 meta_found catalog id None h meta e = absurd cc
-meta_found catalog id (Some key) h meta e = meta_named key (master_named catalog key.master) meta e ∙ h key refl
+meta_found catalog id (Some key) h meta e = meta_named key (values_told catalog key.values) meta e ∙ h key refl
 
 told_one : (o : Option KeyMeta) (id : ℕ) (ids : List ℕ) (rest : List KeyMeta) → IsSome o → ((m : KeyMeta) → o ≡ Some m → m.id ≡ id) → ids_of rest ≡ ids → ids_of (meta_list o ++ rest) ≡ id ∷ ids
 told_one None id ids rest s h e = absurd cc
@@ -158,6 +160,21 @@ told_ids catalog c law (id ∷ ids) a =
     told_one (key_meta catalog id) id ids (flat_map (λ id. meta_list (key_meta catalog id)) ids) (law catalog id c (All-head (IsThere catalog) id ids a))
     (λ m e. meta_found catalog id (key_of catalog id) (λ k f. found_id catalog.keys id k f) m e) (told_ids catalog c law ids (All-tail (IsThere catalog) id ids a))
 
+-- ---- each has at most two values
+
+few_behind : (o : Option KeyValue) → length (behind o) ≤ 1
+few_behind None = omega arith
+few_behind (Some value) = omega arith
+
+few_entries : (keys : List KeyMeta) → length (entries_of keys) ≤ length keys + length keys
+few_entries [] = omega arith
+few_entries (key ∷ keys) =
+    let one : length (entries_of_key key) ≡ length (each_of key.values) = length-map (each_of key.values) _ in
+    let b = few_behind key.values.second in
+    let rest = few_entries keys in
+    let both = length-append (entries_of_key key) (entries_of keys) in
+    omega (arith, one, b, rest, both)
+
 pub are_the_keys : (catalog : Catalog) → IsCatalog catalog → KeysAreTold → (encs : List Enc) → All (IsKeyThere catalog) encs → AreTheKeysOf encs (keys_of catalog encs)
 are_the_keys catalog c law encs a =
     let e = told_ids catalog c law (keys_used [] encs) (used_there catalog [] encs a) in
@@ -167,4 +184,5 @@ are_the_keys catalog c law encs a =
     let l = left_nothing (map (λ (key : ColumnKey). key.id) catalog.keys) in
     let k = length-map catalog.keys (λ (key : ColumnKey). key.id) in
     let few = c.few_keys in
-    (e, omega (arith, n, m, le, l, k, few))
+    let entries = few_entries (keys_of catalog encs) in
+    (e, omega (arith, n, m, le, l, k, few, entries))
