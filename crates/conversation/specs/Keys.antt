@@ -1,5 +1,6 @@
 -- The opening of column encryption keys, with the driver's faults.
 use Rattle.std.specs.Prelude.{ℕ, List, [], ◌∷◌, Result, Ok, Err, ◌==◌, if◌then◌else◌}
+use Rattle.ae_base.specs.OneOrTwo.{only}
 use Rattle.ae_base.specs.declared.keys.KeyMeta.{KeyMeta}
 use Rattle.ae_edge.specs.Vaults.{KeyMap}
 use Rattle.hmac_kdf.specs.Keys.{Keys}
@@ -23,5 +24,5 @@ open_key map meta = seen (store.open_key map meta)
 
 -- what is told of the key of a number; a message lists each key that it uses, so the first case isn't met
 abbrev pub meta_of : List KeyMeta → ℕ → KeyMeta
-meta_of [] id = record { id = id; name = []; path = []; wrapped = [] }
+meta_of [] id = record { id = id; name = []; values = only (record { path = []; wrapped = [] }) }
 meta_of (meta ∷ metas) id = if meta.id == id then meta else meta_of metas id

@@ -14,7 +14,7 @@ use Rattle.conversation.specs.declared.faults.DriverFault.{DriverFault}
 use Rattle.conversation.specs.declared.faults.Halt.{Halt}
 use Rattle.conversation.specs.declared.faults.Halt.TheVariants as halt
 use Rattle.conversation.specs.declared.sessions.Session.{Session}
-use Rattle.conversation.specs.declared.sessions.Session.TheVariants.{Idle, Begun, Pending, Sent, Reading, Skipping}
+use Rattle.conversation.specs.declared.sessions.Session.TheVariants.{Idle, Pending, Sent, Reading, Skipping}
 use Rattle.conversation.specs.declared.sessions.Turn.{Turn}
 use Rattle.conversation.specs.Devices.{Devices, Goes, Fails, IsOfKeys}
 use Rattle.conversation.specs.Sessions.{Told, Tells, Shows, Stray, replied, session_at, with_session, titles_of, types_of}

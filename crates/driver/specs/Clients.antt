@@ -1,7 +1,7 @@
 -- A driver, as contracts see it.
 use Rattle.std.specs.Prelude.{ℕ, List, Option}
+use Rattle.ae_base.specs.declared.key_values.KeyValue.{KeyValue}
 use Rattle.ae_edge.specs.Vaults.{KeyMap}
-use Rattle.key_store.specs.declared.origins.Origin.{Origin}
 use Rattle.key_store.specs.Stores.{IsOf}
 use Rattle.conversation.specs.declared.sessions.Session.{Session}
 use Rattle.conversation.specs.Sessions.{session_at}
@@ -9,7 +9,7 @@ use Rattle.conversation.specs.Sessions.{session_at}
 -- what each session holds, and the keys that are kept
 pub record Client : Type 0 where
   pub sessions : List Session
-  pub kept : List (Origin × List ℕ)
+  pub kept : List (KeyValue × List ℕ)
 
 abbrev pub session_of : Client → ℕ → Session
 session_of client number = session_at client.sessions number

@@ -6,7 +6,7 @@ ghost use Rattle.wire_reading.specs.Reading as read;
 
 use crate::faults::fault_of;
 use crate::found::{Body, Found};
-use crate::listing::{declarations_of, few_of, many_of, sent_params_of, used_params_of};
+use crate::listing::{declarations_of, keys_of, many_of, sent_params_of, used_params_of};
 use std::alloc::Global;
 use wire_messages::replies::Reply;
 use wire_messages::requests::Request;
@@ -88,7 +88,7 @@ fn described_of(alloc: Global, body: &[u8]) -> Body<Reply<'_>>
     let Some((version, rest)) = u64_of(body) else {
         return Body::Bad;
     };
-    match few_of(alloc, rest) {
+    match keys_of(alloc, rest) {
         Found::One(keys, rest) => match used_params_of(alloc, rest) {
             Found::One(params, rest) => match checks::description(version, keys, params) {
                 Some(description) if rest.is_empty() => { Body::One(Reply::Described(description)) }
@@ -106,7 +106,7 @@ fn described_of(alloc: Global, body: &[u8]) -> Body<Reply<'_>>
 fn columns_of(alloc: Global, body: &[u8]) -> Body<Reply<'_>>
     ensures { GivesBody result (read.columns_at body.now) }
 {
-    match few_of(alloc, body) {
+    match keys_of(alloc, body) {
         Found::One(keys, rest) => match many_of(alloc, rest) {
             Found::One(columns, rest) => match checks::header(keys, columns) {
                 Some(header) if rest.is_empty() => Body::One(Reply::Columns(header)),

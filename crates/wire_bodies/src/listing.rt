@@ -11,13 +11,14 @@ use ae_base::lists::Seq;
 use ae_base::params::{Named, ParamList};
 use std::alloc::Global;
 use wire_messages::columns::SentColumn;
+use wire_messages::key_entries::{KeyEntry, gather};
 use wire_messages::params::{
     Declaration, DeclarationParts, SentParam, SentParams, UsedParam, UsedParams,
 };
 use wire_parts::atoms::AtomPart;
 use wire_parts::keys::KeyPart;
 use wire_reading::checks;
-use wire_reading::reading::{atom_of, enc_of, key_of, param_name_of, title_of, ty_of, u16_of};
+use wire_reading::reading::{atom_of, enc_of, entry_of, param_name_of, title_of, ty_of, u16_of};
 
 /// A part of a message that can be read from the front of some bytes.
 pub trait ReadPart<'a>: Sized + Drop {
@@ -48,7 +49,7 @@ fn parts_of<'a, P: ReadPart<'a>>(alloc: Global, count: usize, bytes: &'a [u8]) -
 
 /// As many parts as a byte counts.
 #[tactic(auto, unfolding(wire_reading::specs::Reading::few_at))]
-pub fn few_of<'a, P: ReadPart<'a>>(alloc: Global, bytes: &'a [u8]) -> Found<'a, Seq<P>>
+fn few_of<'a, P: ReadPart<'a>>(alloc: Global, bytes: &'a [u8]) -> Found<'a, Seq<P>>
     ensures { GivesFound result (read.few_at P.reading bytes.now) }
 {
     match bytes {
@@ -65,6 +66,21 @@ pub fn many_of<'a, P: ReadPart<'a>>(alloc: Global, bytes: &'a [u8]) -> Found<'a,
     match u16_of(bytes) {
         Some((count, rest)) => parts_of(alloc, count as usize, rest),
         None => Found::Bad,
+    }
+}
+
+/// Keys, which are listed value by value.
+#[tactic(auto, unfolding(wire_reading::specs::Reading::keys_at))]
+pub fn keys_of(alloc: Global, bytes: &[u8]) -> Found<'_, Seq<KeyPart<'_>>>
+    ensures { GivesFound result (read.keys_at bytes.now) }
+{
+    match few_of(alloc, bytes) {
+        Found::One(entries, rest) => match gather(alloc, entries) {
+            Ok(keys) => Found::One(keys, rest),
+            Err(_) => Found::OutOfMemory,
+        },
+        Found::Bad => Found::Bad,
+        Found::OutOfMemory => Found::OutOfMemory,
     }
 }
 
@@ -115,11 +131,11 @@ impl<'a> ReadPart<'a> for AtomPart<'a> {
     }
 }
 
-impl<'a> ReadPart<'a> for KeyPart<'a> {
-    ghost reading = { read.key_at };
+impl<'a> ReadPart<'a> for KeyEntry<'a> {
+    ghost reading = { read.entry_at };
 
-    fn read(bytes: &'a [u8]) -> Option<(KeyPart<'a>, &'a [u8])> {
-        key_of(bytes)
+    fn read(bytes: &'a [u8]) -> Option<(KeyEntry<'a>, &'a [u8])> {
+        entry_of(bytes)
     }
 }
 

@@ -6,10 +6,11 @@ use Rattle.std.proofs.lemmas.Slice.Eq.{bytes_eq-Decides}
 use Rattle.std.proofs.lemmas.Bool.{eq-eqb}
 use Rattle.std.proofs.lemmas.Bool.Decides.{eqb_tells}
 use Rattle.std.proofs.lemmas.List.{take-map, drop-map, drop_more, map_more, length-map, drop_all}
+use Rattle.ae_base.specs.OneOrTwo.{only}
 use Rattle.ae_base.specs.declared.types.Enc.{Enc}
 use Rattle.ae_base.specs.declared.types.Enc.TheVariants as enc
 use Rattle.ae_base.specs.declared.keys.KeyMeta.{KeyMeta}
-use Rattle.wire_messages.specs.KeyLists.{keys_used, ids_of, lists_from, AreTheKeysOf}
+use Rattle.wire_messages.specs.KeyLists.{keys_used, ids_of, lists_from, entries_of, AreTheKeysOf}
 
 -- where the key is among those before, it is used again
 pub used_again : (keys : List KeyMeta) (used key : ℕ) → list_any (λ id. eqb id key) (ids_of (take used keys)) ≡ true → (encs : List Enc)
@@ -67,7 +68,7 @@ used_none keys used key le h encs =
     rw (f, d) refl
 
 -- from the first encryption on
-pub lists_all : (encs : List Enc) (keys : List KeyMeta) → lists_from (ids_of keys) 0 encs ≡ true → length keys ≤ 64 → AreTheKeysOf encs keys
+pub lists_all : (encs : List Enc) (keys : List KeyMeta) → lists_from (ids_of keys) 0 encs ≡ true → length (entries_of keys) ≤ 128 → AreTheKeysOf encs keys
 lists_all encs keys h few = ((bytes_eq-Decides (ids_of keys) (keys_used [] encs)).0 h, few)
 
 pub lists_if : (encs : List Enc) (keys : List KeyMeta) → AreTheKeysOf encs keys → lists_from (ids_of keys) 0 encs ≡ true
@@ -77,11 +78,11 @@ lists_if encs keys h = (bytes_eq-Decides (ids_of keys) (keys_used [] encs)).1 h.
 pub lists_end : (keys : List KeyMeta) (used : ℕ) → used ≤ length keys → lists_from (ids_of keys) used [] ≡ eqb used (length keys)
 lists_end keys used le = elim (eqb_tells used (length keys)) [
   | inl t ↦ let n : length (ids_of keys) ≡ length keys = length-map keys (λ (k : KeyMeta). k.id) in let d = drop_all used (ids_of keys) (omega (arith, t.1)) in let e = t.0 in rw (d, e) refl
-  | inr f ↦ let d : KeyMeta = record { id = 0; name = []; path = []; wrapped = [] } in let l = left_is keys used d (omega (arith, f.1)) in let e = f.0 in rw (l, e) refl
+  | inr f ↦ let d : KeyMeta = record { id = 0; name = []; values = only (record { path = []; wrapped = [] }) } in let l = left_is keys used d (omega (arith, f.1)) in let e = f.0 in rw (l, e) refl
 ]
 
 -- the answer
-pub tells : (b : Bool) (encs : List Enc) (keys : List KeyMeta) → lists_from (ids_of keys) 0 encs ≡ b → length keys ≤ 64 → (b ≡ true → AreTheKeysOf encs keys) × (AreTheKeysOf encs keys → b ≡ true)
+pub tells : (b : Bool) (encs : List Enc) (keys : List KeyMeta) → lists_from (ids_of keys) 0 encs ≡ b → length (entries_of keys) ≤ 128 → (b ≡ true → AreTheKeysOf encs keys) × (AreTheKeysOf encs keys → b ≡ true)
 tells b encs keys e few = (λ t. lists_all encs keys (e ∙ t) few, λ h. sym e ∙ lists_if encs keys h)
 
 -- the encryptions that are left

@@ -1,2 +1,4 @@
 mod CopiedNames
+mod Gathering
+pub mod Interface
 mod KeyOrder

@@ -18,9 +18,11 @@ use Rattle.ae_base.specs.declared.keys.KeyMeta.{KeyMeta}
 use Rattle.ae_base.specs.declared.faults.SqlFault.{SqlFault}
 use Rattle.ae_base.specs.declared.faults.SqlFault.TheVariants as fault
 use Rattle.wire_parts.specs.AtomBounds.{IsSendable}
+use Rattle.wire_messages.specs.KeyLists.{entries_of_key}
 use Rattle.wire_messages.specs.Messages.{IsDescription, IsHeader, IsFew}
 use Rattle.wire_parts.specs.Texts.{IsStatementText}
 use Rattle.wire_messages.specs.declared.columns.SentColumn.{SentColumn}
+use Rattle.wire_messages.specs.declared.key_entries.KeyEntry.{KeyEntry}
 use Rattle.wire_messages.specs.declared.params.SentParam.{SentParam}
 use Rattle.wire_messages.specs.declared.params.UsedParam.{UsedParam}
 use Rattle.wire_messages.specs.declared.replies.Done.{Done}
@@ -77,11 +79,15 @@ IsProperAtom (Sealed cell) = IsBytes cell
 abbrev pub IsAtom : AtomOf (List ℕ) → Type 0
 IsAtom a = IsProperAtom a × IsSendable a
 
-pub record IsKey (key : KeyMeta) : Type 0 where
-  pub id : IsKeyId key.id
-  pub name : IsWord key.name
-  pub path : IsPath key.path
-  pub wrapped : IsWrapped key.wrapped
+pub record IsEntry (e : KeyEntry) : Type 0 where
+  pub id : IsKeyId e.id
+  pub name : IsWord e.name
+  pub path : IsPath e.value.path
+  pub wrapped : IsWrapped e.value.wrapped
+
+-- with each of its values
+abbrev pub IsKey : KeyMeta → Type 0
+IsKey key = All IsEntry (entries_of_key key)
 
 -- ---- faults
 

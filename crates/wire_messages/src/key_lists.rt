@@ -7,8 +7,8 @@ ghost use Rattle.ae_base.specs.declared.types.Enc.TheVariants as enc;
 ghost use Rattle.wire_messages.specs.KeyLists.{AreTheKeysOf, lists_from, ids_of};
 
 use crate::columns::SentColumn;
+use crate::key_entries::are_few;
 use crate::params::UsedParam;
-use ae_base::limits::MOST_COLUMN_KEYS;
 use ae_base::types::{Enc, KeyId};
 use wire_parts::keys::KeyPart;
 
@@ -38,11 +38,12 @@ impl<'a> Encrypted for SentColumn<'a> {
     }
 }
 
-/// Whether the keys are those of the items, in the order of their first use, and at most 64.
+/// Whether the keys are those of the items, in the order of their first use, and have at most 128
+/// entries.
 pub fn are_the_keys_of<T: Encrypted>(items: &[T], keys: &[KeyPart<'_>]) -> bool
     ensures { IsTrue result ↔ AreTheKeysOf (map T.enc_of items.now) keys.now }
 {
-    if keys.len() > MOST_COLUMN_KEYS {
+    if !are_few(keys) {
         return false;
     }
     let mut used = 0;

@@ -3,6 +3,7 @@
 #![tactic(auto)]
 
 pub mod columns;
+pub mod key_entries;
 pub mod key_lists;
 pub mod params;
 pub mod replies;

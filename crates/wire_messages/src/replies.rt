@@ -38,7 +38,7 @@ impl<'a> Model for Description<'a> {
 
 impl<'a> Description<'a> {
     /// The description, where the keys are those of the parameters in the order of their first use,
-    /// and at most 64. It takes no memory.
+    /// and have at most 128 entries. It takes no memory.
     pub fn new(
         version: u64,
         keys: Seq<KeyPart<'a>>,
@@ -131,7 +131,7 @@ impl<'a> Model for Header<'a> {
 
 impl<'a> Header<'a> {
     /// The header, where there are 1 to 512 columns and the keys are theirs in the order of their
-    /// first use, at most 64. It takes no memory.
+    /// first use, with at most 128 entries. It takes no memory.
     pub fn new(keys: Seq<KeyPart<'a>>, columns: Seq<SentColumn<'a>>) -> Option<Header<'a>>
         ensures header { IfSome result
             (λ h. h ≡ record { keys = keys.entry; columns = columns.entry }) }

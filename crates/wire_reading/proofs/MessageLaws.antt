@@ -11,7 +11,7 @@ use Rattle.ae_base.specs.declared.types.Enc.{Enc}
 use Rattle.ae_base.specs.declared.batches.ParamDecl.{ParamDecl}
 use Rattle.ae_base.specs.declared.keys.KeyMeta.{KeyMeta}
 use Rattle.ae_base.specs.declared.atoms.AtomOf.{AtomOf}
-use Rattle.wire_messages.specs.KeyLists.{AreTheKeysOf, keys_used, ids_of}
+use Rattle.wire_messages.specs.KeyLists.{AreTheKeysOf, keys_used, ids_of, entries_of}
 use Rattle.wire_messages.specs.Messages.{Description, IsDescription, Header, IsHeader, IsFew}
 use Rattle.wire_messages.specs.Conditions.{IsStatement, IsDeclaration, IsSent, IsUsed, IsColumn, IsKey, IsAtom, IsDone, AreParams, IsRequest, IsReply}
 use Rattle.wire_messages.specs.declared.columns.SentColumn.{SentColumn}
@@ -23,11 +23,12 @@ use Rattle.wire_messages.specs.declared.replies.Reply.{Reply}
 use Rattle.wire_messages.specs.declared.replies.Reply.TheVariants.{Described, Columns, Row, Ended, Refused}
 use Rattle.wire_messages.specs.declared.requests.Request.{Request}
 use Rattle.wire_messages.specs.declared.requests.Request.TheVariants.{Describe, Execute}
+use Rattle.wire_messages.proofs.Interface.{gathered_again}
 use Rattle.wire_spelling.specs.Spelling as spell
-use Rattle.wire_reading.specs.Reading.{◌and◌, mapped, kept, pick, choice, number_at, session_at, text_at, declarations_at, sent_params_at, used_params_at, key_at, column_at, atom_at, few_at, many_at, are_keys, is_description, is_few, is_header, describe_of, describe_at, execute_of, execute_at, description_of, described_at, header_of, columns_at, row_at, defined, dones, done_at, ended_at, fault_at, faults, refused_at, requests, replies, request_at, reply_at}
+use Rattle.wire_reading.specs.Reading.{◌and◌, mapped, kept, pick, choice, number_at, session_at, text_at, declarations_at, sent_params_at, used_params_at, keys_at, column_at, atom_at, many_at, are_keys, is_description, is_few, is_header, describe_of, describe_at, execute_of, execute_at, description_of, described_at, header_of, columns_at, row_at, defined, dones, done_at, ended_at, fault_at, faults, refused_at, requests, replies, request_at, reply_at}
 use Rattle.wire_reading.proofs.Takes.{AreBytes, AreBytes-rest, Reads, AllTake, AllTakeBodies, ◌also◌, Reads-and, Reads-kept, Reads-mapped, Reads-choice, behind, behind_tried, mapped_again, tried_again, ended_body, pick_body, ends_again, cond_some, bind_some, some_is}
 use Rattle.wire_reading.proofs.FieldLaws.{u64_reads, session_reads, text_reads, within_from, within_to}
-use Rattle.wire_reading.proofs.PartLaws.{declarations_read, sent_params_read, used_params_read, key_reads, column_reads, atom_reads, few_reads, many_reads, fault_takes, fault_again}
+use Rattle.wire_reading.proofs.PartLaws.{declarations_read, sent_params_read, used_params_read, HasKeys, keys_read, column_reads, atom_reads, many_reads, fault_takes, fault_again}
 
 -- ---- requests
 
@@ -81,41 +82,38 @@ request_again (Execute session version text params) h =
 
 pub are_keys_from : (encs : List Enc) (keys : List KeyMeta) → are_keys encs keys ≡ true → AreTheKeysOf encs keys
 are_keys_from encs keys t =
-    let b = and_parts (bytes_eq (ids_of keys) (keys_used [] encs)) (leb (length keys) 64) t in
-    ((bytes_eq-Decides (ids_of keys) (keys_used [] encs)).0 b.0, leb-true (length keys) 64 b.1)
+    let b = and_parts (bytes_eq (ids_of keys) (keys_used [] encs)) (leb (length (entries_of keys)) 128) t in
+    ((bytes_eq-Decides (ids_of keys) (keys_used [] encs)).0 b.0, leb-true (length (entries_of keys)) 128 b.1)
 
 pub are_keys_to : (encs : List Enc) (keys : List KeyMeta) → AreTheKeysOf encs keys → are_keys encs keys ≡ true
 are_keys_to encs keys h =
-    and_from (bytes_eq (ids_of keys) (keys_used [] encs)) (leb (length keys) 64) ((bytes_eq-Decides (ids_of keys) (keys_used [] encs)).1 h.0) (le-leb (length keys) 64 h.1)
+    and_from (bytes_eq (ids_of keys) (keys_used [] encs)) (leb (length (entries_of keys)) 128) ((bytes_eq-Decides (ids_of keys) (keys_used [] encs)).1 h.0) (le-leb (length (entries_of keys)) 128 h.1)
 
 -- ---- replies
 
 abbrev description_body : Description → List ℕ
-description_body d = spell.u64 d.version ++ spell.few spell.key d.keys ++ spell.few spell.used d.params
+description_body d = spell.u64 d.version ++ spell.keys d.keys ++ spell.few spell.used d.params
 
 abbrev IsGoodDescription : Description → Type 0
 IsGoodDescription d = (d.version < 2 ^ 64) × All IsKey d.keys × AreParams IsUsed (λ p. p.name) d.params × IsDescription d
 
-abbrev HasKeys : List KeyMeta → Type 0
-HasKeys keys = (length keys < 256) × All IsKey keys
-
 abbrev IsOpenDescription : Description → Type 0
 IsOpenDescription d = ((d.version < 2 ^ 64) × HasKeys d.keys) × AreParams IsUsed (λ p. p.name) d.params
 
-description_reads : Reads description_body IsGoodDescription (kept is_description (mapped description_of (number_at w64 and few_at key_at and used_params_at)))
+description_reads : Reads description_body IsGoodDescription (kept is_description (mapped description_of (number_at w64 and keys_at and used_params_at)))
 description_reads =
-    Reads-kept description_body IsOpenDescription IsGoodDescription (mapped description_of (number_at w64 and few_at key_at and used_params_at)) is_description
+    Reads-kept description_body IsOpenDescription IsGoodDescription (mapped description_of (number_at w64 and keys_at and used_params_at)) is_description
     (λ d h t. (h.0.0, h.0.1.1, h.1, are_keys_from (map (λ p. p.enc) d.params) d.keys t))
-    (λ d h. (((h.0, (omega (arith, h.3.1), h.1)), h.2), are_keys_to (map (λ p. p.enc) d.params) d.keys h.3))
-    (Reads-mapped (λ (d : (ℕ × List KeyMeta) × List UsedParam). spell.u64 d.0.0 ++ spell.few spell.key d.0.1 ++ spell.few spell.used d.1)
-    (λ d. ((d.0.0 < 2 ^ 64) × HasKeys d.0.1) × AreParams IsUsed (λ p. p.name) d.1) (number_at w64 and few_at key_at and used_params_at)
+    (λ d h. (((h.0, (omega (arith, h.3.1), h.1, gathered_again (map (λ p. p.enc) d.params) d.keys h.3)), h.2), are_keys_to (map (λ p. p.enc) d.params) d.keys h.3))
+    (Reads-mapped (λ (d : (ℕ × List KeyMeta) × List UsedParam). spell.u64 d.0.0 ++ spell.keys d.0.1 ++ spell.few spell.used d.1)
+    (λ d. ((d.0.0 < 2 ^ 64) × HasKeys d.0.1) × AreParams IsUsed (λ p. p.name) d.1) (number_at w64 and keys_at and used_params_at)
     description_of (λ d. ((d.version, d.keys), d.params)) description_body IsOpenDescription (λ d. refl) (λ d. refl) (λ d h. h) (λ d h. h)
-    (Reads-and (λ (h : ℕ × List KeyMeta). spell.u64 h.0 ++ spell.few spell.key h.1) (λ h. (h.0 < 2 ^ 64) × HasKeys h.1) (number_at w64 and few_at key_at)
+    (Reads-and (λ (h : ℕ × List KeyMeta). spell.u64 h.0 ++ spell.keys h.1) (λ h. (h.0 < 2 ^ 64) × HasKeys h.1) (number_at w64 and keys_at)
     (spell.few spell.used) (AreParams IsUsed (λ p. p.name)) used_params_at
-    (Reads-and spell.u64 (λ n. n < 2 ^ 64) (number_at w64) (spell.few spell.key) HasKeys (few_at key_at) u64_reads (few_reads spell.key IsKey key_at key_reads)) used_params_read))
+    (Reads-and spell.u64 (λ n. n < 2 ^ 64) (number_at w64) (spell.keys) HasKeys (keys_at) u64_reads keys_read) used_params_read))
 
 abbrev header_body : Header → List ℕ
-header_body h = spell.few spell.key h.keys ++ spell.many spell.column h.columns
+header_body h = spell.keys h.keys ++ spell.many spell.column h.columns
 
 abbrev IsGoodHeader : Header → Type 0
 IsGoodHeader h = All IsKey h.keys × All IsColumn h.columns × IsHeader h
@@ -140,15 +138,15 @@ is_header_from h t =
 pub is_header_to : (h : Header) → IsHeader h → is_header h ≡ true
 is_header_to h g = and_from (are_keys (map (λ c. c.enc) h.columns) h.keys) (is_few h.columns) (are_keys_to (map (λ c. c.enc) h.columns) h.keys g.0) (few_to h.columns g.1)
 
-header_reads : Reads header_body IsGoodHeader (kept is_header (mapped header_of (few_at key_at and many_at column_at)))
+header_reads : Reads header_body IsGoodHeader (kept is_header (mapped header_of (keys_at and many_at column_at)))
 header_reads =
-    Reads-kept header_body IsOpenHeader IsGoodHeader (mapped header_of (few_at key_at and many_at column_at)) is_header
+    Reads-kept header_body IsOpenHeader IsGoodHeader (mapped header_of (keys_at and many_at column_at)) is_header
     (λ h g t. (g.0.1, g.1.1, is_header_from h t))
-    (λ h g. (((omega (arith, g.2.0.1), g.0), (omega (arith, g.2.1.1), g.1)), is_header_to h g.2))
-    (Reads-mapped (λ (h : List KeyMeta × List SentColumn). spell.few spell.key h.0 ++ spell.many spell.column h.1) (λ h. HasKeys h.0 × HasColumns h.1) (few_at key_at and many_at column_at)
+    (λ h g. (((omega (arith, g.2.0.1), g.0, gathered_again (map (λ c. c.enc) h.columns) h.keys g.2.0), (omega (arith, g.2.1.1), g.1)), is_header_to h g.2))
+    (Reads-mapped (λ (h : List KeyMeta × List SentColumn). spell.keys h.0 ++ spell.many spell.column h.1) (λ h. HasKeys h.0 × HasColumns h.1) (keys_at and many_at column_at)
     header_of (λ h. (h.keys, h.columns)) header_body IsOpenHeader (λ h. refl) (λ h. refl) (λ h g. g) (λ h g. g)
-    (Reads-and (spell.few spell.key) HasKeys (few_at key_at) (spell.many spell.column) HasColumns (many_at column_at)
-    (few_reads spell.key IsKey key_at key_reads) (many_reads spell.column IsColumn column_at column_reads)))
+    (Reads-and (spell.keys) HasKeys (keys_at) (spell.many spell.column) HasColumns (many_at column_at)
+    keys_read (many_reads spell.column IsColumn column_at column_reads)))
 
 abbrev IsGoodRow : List (AtomOf (List ℕ)) → Type 0
 IsGoodRow xs = All IsAtom xs × IsFew xs
@@ -194,9 +192,9 @@ refused_takes (code ∷ bytes) reply fits e =
 replies_take : AllTakeBodies spell.reply_kind spell.reply_body IsReply replies
 unfolding described_at columns_at row_at ended_at
 replies_take =
-    ended_body description_body IsGoodDescription (kept is_description (mapped description_of (number_at w64 and few_at key_at and used_params_at))) description_reads
+    ended_body description_body IsGoodDescription (kept is_description (mapped description_of (number_at w64 and keys_at and used_params_at))) description_reads
     Described spell.reply_kind spell.reply_body IsReply 0x81 (λ d. refl) (λ d. refl) (λ d h. h)
-    also ended_body header_body IsGoodHeader (kept is_header (mapped header_of (few_at key_at and many_at column_at))) header_reads
+    also ended_body header_body IsGoodHeader (kept is_header (mapped header_of (keys_at and many_at column_at))) header_reads
     Columns spell.reply_kind spell.reply_body IsReply 0x82 (λ h. refl) (λ h. refl) (λ h g. g)
     also ended_body (spell.many spell.atom) IsGoodRow (kept is_few (many_at atom_at)) row_reads
     Row spell.reply_kind spell.reply_body IsReply 0x83 (λ xs. refl) (λ xs. refl) (λ xs h. h)
@@ -212,8 +210,8 @@ reply_takes = pick_body spell.reply_kind spell.reply_body IsReply replies replie
 pub reply_again : (reply : Reply) → IsReply reply → reply_at (spell.reply_kind reply) (spell.reply_body reply) ≡ Some reply
 unfolding reply_at described_at columns_at row_at ended_at refused_at fault_at
 reply_again (Described d) h =
-    ends_again description_body IsGoodDescription (kept is_description (mapped description_of (number_at w64 and few_at key_at and used_params_at))) description_reads Described d h
-reply_again (Columns h) g = ends_again header_body IsGoodHeader (kept is_header (mapped header_of (few_at key_at and many_at column_at))) header_reads Columns h g
+    ends_again description_body IsGoodDescription (kept is_description (mapped description_of (number_at w64 and keys_at and used_params_at))) description_reads Described d h
+reply_again (Columns h) g = ends_again header_body IsGoodHeader (kept is_header (mapped header_of (keys_at and many_at column_at))) header_reads Columns h g
 reply_again (Row xs) h = ends_again (spell.many spell.atom) IsGoodRow (kept is_few (many_at atom_at)) row_reads Row xs h
 reply_again (Ended d) h = ends_again spell.done IsDone done_at done_reads Ended d h
 reply_again (Refused f) h = rw (fault_again f h) refl

@@ -19,12 +19,16 @@ use Rattle.ae_base.specs.declared.types.Enc.TheVariants as enc
 use Rattle.ae_base.specs.declared.values.Datum.TheVariants.{Num, Text, Bin}
 use Rattle.ae_base.specs.declared.atoms.AtomOf.{AtomOf}
 use Rattle.ae_base.specs.declared.atoms.AtomOf.TheVariants.{Null, Plain, Sealed}
+use Rattle.ae_base.specs.declared.keys.KeyMeta.{KeyMeta}
 use Rattle.ae_base.specs.declared.faults.SqlFault.{SqlFault}
 use Rattle.ae_base.specs.declared.faults.SqlFault.TheVariants as fault
-use Rattle.wire_messages.specs.Conditions.{IsBytes, IsScalars, IsWord, IsParamWord, IsTitleText, IsPath, IsWrapped, IsKeyId, IsEnc, IsAtom, IsKey, IsConflict, IsFault, IsDeclaration, IsSent, IsUsed, IsColumn, AreParams}
+use Rattle.wire_messages.specs.Conditions.{IsBytes, IsScalars, IsWord, IsParamWord, IsTitleText, IsPath, IsWrapped, IsKeyId, IsEnc, IsAtom, IsEntry, IsKey, IsConflict, IsFault, IsDeclaration, IsSent, IsUsed, IsColumn, AreParams}
+use Rattle.wire_messages.specs.KeyLists.{entries_of, gathered}
+use Rattle.wire_messages.specs.declared.key_entries.KeyEntry.{KeyEntry}
+use Rattle.wire_messages.proofs.Interface.{entries_meet, entries_of_gathered, keys_meet}
 use Rattle.wire_spelling.specs.Spelling as spell
-use Rattle.wire_reading.specs.Reading.{Reader, ◌and◌, mapped, kept, pick, ends, bare, choice, number_at, byte_at, types, type_at, encryptions, encryption_at, atoms, atom_at, null, integer, text, binary, sealed, name_at, param_name_at, title_at, path_at, wrapped_at, key_id_at, text_size_at, binary_size_at, unique_number_at, short_text_at, short_blob_at, key_of, key_at, declaration_of, declaration_at, sent_of, sent_at, used_of, used_at, column_of, column_at, few_at, many_at, are_params, declarations_at, sent_params_at, used_params_at, versions_of, versions_at, differ, counts_of, counts_at, conflict_at, conflict_of, rose, faults}
-use Rattle.wire_reading.proofs.Takes.{AreBytes, Reads, AllTake, TakesBody, AllTakeBodies, ended_body, pick_body, ends_again, cond_some, Reads-and, Reads-kept, Reads-mapped, Reads-choice, Reads-listed, mapped_again, behind, alone, ◌also◌}
+use Rattle.wire_reading.specs.Reading.{Reader, ◌and◌, mapped, kept, pick, ends, bare, choice, number_at, byte_at, types, type_at, encryptions, encryption_at, atoms, atom_at, null, integer, text, binary, sealed, name_at, param_name_at, title_at, path_at, wrapped_at, key_id_at, text_size_at, binary_size_at, unique_number_at, short_text_at, short_blob_at, entry_of, entry_at, keys_at, declaration_of, declaration_at, sent_of, sent_at, used_of, used_at, column_of, column_at, few_at, many_at, are_params, declarations_at, sent_params_at, used_params_at, versions_of, versions_at, differ, counts_of, counts_at, conflict_at, conflict_of, rose, faults}
+use Rattle.wire_reading.proofs.Takes.{AreBytes, Reads, AllTake, TakesBody, AllTakeBodies, some, some_is, Reads-tried, ended_body, pick_body, ends_again, cond_some, Reads-and, Reads-kept, Reads-mapped, Reads-choice, Reads-listed, mapped_again, behind, alone, ◌also◌}
 use Rattle.wire_reading.proofs.FieldLaws.{u16_reads, u32_reads, u64_reads, byte_reads, name_reads, param_name_reads, title_reads, path_reads, wrapped_reads, key_id_reads, text_size_reads, binary_size_reads, unique_number_reads, short_text_reads, short_blob_reads}
 
 -- ---- types, encryptions and atoms
@@ -133,13 +137,13 @@ column_reads =
     (Reads-and (λ (p : List ℕ × Ty). spell.str p.0 ++ spell.type p.1) (λ p. IsTitleText p.0 × IsType p.1) (title_at and type_at) spell.encryption IsEnc encryption_at
     (Reads-and spell.str IsTitleText title_at spell.type IsType type_at title_reads type_reads) encryption_reads)
 
-pub key_reads : Reads spell.key IsKey key_at
-unfolding key_at
-key_reads =
+entry_reads : Reads spell.entry IsEntry entry_at
+unfolding entry_at
+entry_reads =
     Reads-mapped (λ (k : ((ℕ × List ℕ) × List ℕ) × List ℕ). spell.u32 k.0.0.0 ++ spell.str k.0.0.1 ++ spell.str k.0.1 ++ spell.blob k.1)
     (λ k. ((IsKeyId k.0.0.0 × IsWord k.0.0.1) × IsPath k.0.1) × IsWrapped k.1) (key_id_at and name_at and path_at and wrapped_at)
-    key_of (λ k. (((k.id, k.name), k.path), k.wrapped)) spell.key IsKey (λ k. refl) (λ k. refl)
-    (λ k h. record { id = h.0.0.0; name = h.0.0.1; path = h.0.1; wrapped = h.1 }) (λ k h. (((h.id, h.name), h.path), h.wrapped))
+    entry_of (λ e. (((e.id, e.name), e.value.path), e.value.wrapped)) spell.entry IsEntry (λ e. refl) (λ e. refl)
+    (λ e h. record { id = h.0.0.0; name = h.0.0.1; path = h.0.1; wrapped = h.1 }) (λ e h. (((h.id, h.name), h.path), h.wrapped))
     (Reads-and (λ (k : (ℕ × List ℕ) × List ℕ). spell.u32 k.0.0 ++ spell.str k.0.1 ++ spell.str k.1) (λ k. (IsKeyId k.0.0 × IsWord k.0.1) × IsPath k.1) (key_id_at and name_at and path_at) spell.blob IsWrapped wrapped_at
     (Reads-and (λ (k : ℕ × List ℕ). spell.u32 k.0 ++ spell.str k.1) (λ k. IsKeyId k.0 × IsWord k.1) (key_id_at and name_at) spell.str IsPath path_at
     (Reads-and spell.u32 IsKeyId key_id_at spell.str IsWord name_at key_id_reads name_reads) path_reads) wrapped_reads)
@@ -155,6 +159,22 @@ pub many_reads : {A : Type 0} (spell_of : A → List ℕ) (Good : A → Type 0) 
     → Reads (spell.many spell_of) (λ xs. (length xs < 2 ^ 16) × All Good xs) (many_at part)
 unfolding many_at
 many_reads spell_of Good part r = Reads-listed spell.u16 (2 ^ 16) (number_at w16) spell_of Good part u16_reads r
+
+-- the entries are those of the keys that are gathered from them
+abbrev pub HasKeys : List KeyMeta → Type 0
+HasKeys keys = (length (entries_of keys) < 256) × All IsKey keys × (gathered (entries_of keys) ≡ keys)
+
+pub keys_read : Reads spell.keys HasKeys keys_at
+unfolding keys_at
+keys_read =
+    Reads-tried (spell.few spell.entry) (λ es. (length es < 256) × All IsEntry es) (few_at entry_at) (λ es. Some (gathered es)) spell.keys HasKeys
+    (λ es keys h e.
+    let same = entries_of_gathered es in
+    let meets = subst (λ (fs : List KeyEntry). (length fs < 256) × All IsEntry fs) (sym same) h in
+    subst (λ ks. (spell.keys ks ≡ spell.few spell.entry es) × HasKeys ks) (some_is (gathered es) keys e)
+    (ap (spell.few spell.entry) same, (meets.0, keys_meet (gathered es) meets.1, ap gathered same)))
+    (λ keys h. (entries_of keys, (h.0, entries_meet keys h.1), ap some h.2, refl))
+    (few_reads spell.entry IsEntry entry_at entry_reads)
 
 pub params_from : {P : Type 0} (called : P → List ℕ) (ps : List P) → are_params called ps ≡ true → (length ps ≤ 128) × IsTrue (all_differ (map called ps))
 params_from called ps t = let b = and_parts (leb (length ps) 128) (all_differ (map called ps)) t in (leb-true (length ps) 128 b.0, b.1)

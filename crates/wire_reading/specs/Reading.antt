@@ -14,12 +14,14 @@ use Rattle.ae_base.specs.declared.values.Datum.TheVariants.{Num, Text, Bin}
 use Rattle.ae_base.specs.declared.atoms.AtomOf.{AtomOf}
 use Rattle.ae_base.specs.declared.atoms.AtomOf.TheVariants.{Null, Plain, Sealed}
 use Rattle.ae_base.specs.declared.batches.ParamDecl.{ParamDecl}
+use Rattle.ae_base.specs.declared.key_values.KeyValue.{KeyValue}
 use Rattle.ae_base.specs.declared.keys.KeyMeta.{KeyMeta}
 use Rattle.ae_base.specs.declared.faults.SqlFault.{SqlFault}
 use Rattle.ae_base.specs.declared.faults.SqlFault.TheVariants as fault
-use Rattle.wire_messages.specs.KeyLists.{keys_used, ids_of}
+use Rattle.wire_messages.specs.KeyLists.{keys_used, ids_of, entries_of, gathered}
 use Rattle.wire_messages.specs.Messages.{Description, Header}
 use Rattle.wire_messages.specs.declared.columns.SentColumn.{SentColumn}
+use Rattle.wire_messages.specs.declared.key_entries.KeyEntry.{KeyEntry}
 use Rattle.wire_messages.specs.declared.params.SentParam.{SentParam}
 use Rattle.wire_messages.specs.declared.params.UsedParam.{UsedParam}
 use Rattle.wire_messages.specs.declared.replies.Done.{Done}
@@ -151,7 +153,7 @@ abbrev pub are_params : {P : Type 0} → (P → List ℕ) → List P → Bool
 are_params called ps = nat_le (length ps) 128 && all_differ (map called ps)
 
 abbrev pub are_keys : List Enc → List KeyMeta → Bool
-are_keys encs keys = bytes_eq (ids_of keys) (keys_used [] encs) && nat_le (length keys) 64
+are_keys encs keys = bytes_eq (ids_of keys) (keys_used [] encs) && nat_le (length (entries_of keys)) 128
 
 abbrev pub is_description : Description → Bool
 is_description d = are_keys (map (λ p. p.enc) d.params) d.keys
@@ -235,11 +237,14 @@ atoms = (0, only null) ∷ (1, mapped integer (number_at w64)) ∷ (2, mapped te
 unfoldable pub atom_at : Reader (AtomOf (List ℕ))
 atom_at = choice atoms
 
-abbrev pub key_of : ((ℕ × List ℕ) × List ℕ) × List ℕ → KeyMeta
-key_of k = record { id = k.0.0.0; name = k.0.0.1; path = k.0.1; wrapped = k.1 }
+abbrev pub value_of : List ℕ → List ℕ → KeyValue
+value_of path wrapped = record { path = path; wrapped = wrapped }
 
-unfoldable pub key_at : Reader KeyMeta
-key_at = mapped key_of (key_id_at and name_at and path_at and wrapped_at)
+abbrev pub entry_of : ((ℕ × List ℕ) × List ℕ) × List ℕ → KeyEntry
+entry_of e = record { id = e.0.0.0; name = e.0.0.1; value = value_of e.0.1 e.1 }
+
+unfoldable pub entry_at : Reader KeyEntry
+entry_at = mapped entry_of (key_id_at and name_at and path_at and wrapped_at)
 
 abbrev pub declaration_of : List ℕ × Ty → ParamDecl
 declaration_of d = record { name = d.0; ty = d.1 }
@@ -271,6 +276,10 @@ few_at part = listed byte_at part
 
 unfoldable pub many_at : {A : Type 0} → Reader A → Reader (List A)
 many_at part = listed (number_at w16) part
+
+-- the values of a key stand together
+unfoldable pub keys_at : Reader (List KeyMeta)
+keys_at = mapped gathered (few_at entry_at)
 
 unfoldable pub declarations_at : Reader (List ParamDecl)
 declarations_at = kept (are_params (λ d. d.name)) (few_at declaration_at)
@@ -357,13 +366,13 @@ abbrev pub description_of : (ℕ × List KeyMeta) × List UsedParam → Descript
 description_of d = record { version = d.0.0; keys = d.0.1; params = d.1 }
 
 unfoldable pub described_at : List ℕ → Option Reply
-described_at = ends Described (kept is_description (mapped description_of (number_at w64 and few_at key_at and used_params_at)))
+described_at = ends Described (kept is_description (mapped description_of (number_at w64 and keys_at and used_params_at)))
 
 abbrev pub header_of : List KeyMeta × List SentColumn → Header
 header_of h = record { keys = h.0; columns = h.1 }
 
 unfoldable pub columns_at : List ℕ → Option Reply
-columns_at = ends Columns (kept is_header (mapped header_of (few_at key_at and many_at column_at)))
+columns_at = ends Columns (kept is_header (mapped header_of (keys_at and many_at column_at)))
 
 unfoldable pub row_at : List ℕ → Option Reply
 row_at = ends Row (kept is_few (many_at atom_at))

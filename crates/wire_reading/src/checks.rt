@@ -14,7 +14,7 @@ use wire_messages::columns::SentColumn;
 use wire_messages::params::UsedParams;
 use wire_messages::replies::{Description, Header, RowParts};
 use wire_parts::atoms::AtomPart;
-use wire_parts::keys::KeyPart;
+use wire_parts::keys::{KeyPart, ValuePart};
 use wire_parts::parts::{BlobPart, CellPart, TxtPart};
 use wire_parts::texts::{NamePart, ParamNamePart, PathPart, StatementPart, TitlePart};
 
@@ -111,17 +111,10 @@ pub fn sealed_atom(bytes: &[u8]) -> Option<AtomPart<'_>>
     AtomPart::sealed(CellPart::lent(bytes))
 }
 
-pub fn key<'a>(
-    id: KeyId,
-    name: NamePart<'a>,
-    path: PathPart<'a>,
-    wrapped: &'a [u8],
-) -> Option<KeyPart<'a>>
-    ensures { result
-        ≡ read.made_when read.is_wrapped (λ w. read.key_of (((id, name.entry), path.entry), w))
-        wrapped.now }
+pub fn value<'a>(path: PathPart<'a>, wrapped: &'a [u8]) -> Option<ValuePart<'a>>
+    ensures { result ≡ read.made_when read.is_wrapped (read.value_of path.entry) wrapped.now }
 {
-    KeyPart::new(id, name, path, BlobPart::lent(wrapped))
+    ValuePart::new(path, BlobPart::lent(wrapped))
 }
 
 pub fn params<P: Named>(parts: Seq<P>) -> Option<ParamList<P>>

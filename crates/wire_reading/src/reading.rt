@@ -11,9 +11,9 @@ use crate::checks;
 use ae_base::sessions::SessionId;
 use ae_base::types::{Enc, KeyId, Ty};
 use ae_base::versions::{ChangeCounts, Versions};
+use wire_messages::key_entries::KeyEntry;
 use wire_messages::replies::Done;
 use wire_parts::atoms::AtomPart;
-use wire_parts::keys::KeyPart;
 use wire_parts::texts::{NamePart, ParamNamePart, PathPart, StatementPart, TitlePart};
 
 /// A number in two bytes.
@@ -269,10 +269,10 @@ pub fn atom_of(bytes: &[u8]) -> Option<(AtomPart<'_>, &[u8])>
     }
 }
 
-/// What is told of a key.
-#[tactic(auto, unfolding(crate::specs::Reading::key_at, crate::specs::Reading::wrapped_at))]
-pub fn key_of(bytes: &[u8]) -> Option<(KeyPart<'_>, &[u8])>
-    ensures { Gives (λ x. (x.0, x.1.now)) result (read.key_at bytes.now) }
+/// An entry of a list of keys.
+#[tactic(auto, unfolding(crate::specs::Reading::entry_at, crate::specs::Reading::wrapped_at))]
+pub fn entry_of(bytes: &[u8]) -> Option<(KeyEntry<'_>, &[u8])>
+    ensures { Gives (λ x. (x.0, x.1.now)) result (read.entry_at bytes.now) }
 {
     let Some((id, rest)) = key_id_of(bytes) else {
         return None;
@@ -280,7 +280,8 @@ pub fn key_of(bytes: &[u8]) -> Option<(KeyPart<'_>, &[u8])>
     let (name, rest) = name_of(rest)?;
     let (path, rest) = path_of(rest)?;
     let (wrapped, rest) = blob_of(rest)?;
-    Some((checks::key(id, name, path, wrapped)?, rest))
+    let value = checks::value(path, wrapped)?;
+    Some((KeyEntry { id, name, value }, rest))
 }
 
 /// Two versions that differ.

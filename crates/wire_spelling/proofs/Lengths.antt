@@ -27,7 +27,10 @@ use Rattle.wire_messages.specs.declared.replies.Reply.{Reply}
 use Rattle.wire_messages.specs.declared.replies.Reply.TheVariants.{Described, Columns, Row, Ended, Refused}
 use Rattle.wire_messages.specs.declared.requests.Request.{Request}
 use Rattle.wire_messages.specs.declared.requests.Request.TheVariants.{Describe, Execute}
-use Rattle.wire_messages.specs.Conditions.{IsRequest, IsReply, IsAtom, IsDeclaration, IsSent, IsUsed, IsColumn, IsKey, IsFault}
+use Rattle.wire_messages.specs.Conditions.{IsRequest, IsReply, IsAtom, IsDeclaration, IsSent, IsUsed, IsColumn, IsEntry, IsKey, IsFault}
+use Rattle.wire_messages.specs.KeyLists.{entries_of}
+use Rattle.wire_messages.specs.declared.key_entries.KeyEntry.{KeyEntry}
+use Rattle.wire_messages.proofs.Interface.{entries_meet}
 use Rattle.wire_spelling.specs.Spelling as spell
 
 -- a character has at most four bytes
@@ -91,16 +94,16 @@ column_within c h = omega (
   encryption_within c.enc,
 )
 
-key_within : (k : KeyMeta) → IsKey k → length (spell.key k) ≤ 2570
-key_within k h = omega (
+entry_within : (e : KeyEntry) → IsEntry e → length (spell.entry e) ≤ 2570
+entry_within e h = omega (
   arith,
-  length-append (spell.u32 k.id ++ spell.str k.name ++ spell.str k.path) (spell.blob k.wrapped),
-  length-append (spell.u32 k.id ++ spell.str k.name) (spell.str k.path),
-  length-append (spell.u32 k.id) (spell.str k.name),
-  name_within k.name h.name.1,
-  blob_length (encode_utf8_all k.path),
+  length-append (spell.u32 e.id ++ spell.str e.name ++ spell.str e.value.path) (spell.blob e.value.wrapped),
+  length-append (spell.u32 e.id ++ spell.str e.name) (spell.str e.value.path),
+  length-append (spell.u32 e.id) (spell.str e.name),
+  name_within e.name h.name.1,
+  blob_length (encode_utf8_all e.value.path),
   h.path.1.1,
-  blob_length k.wrapped,
+  blob_length e.value.wrapped,
   h.wrapped.1.1,
 )
 
@@ -124,6 +127,9 @@ many_within P part most count xs each all few =
     let p = parts_within P part most count xs each all few in
     let l = length-append (spell.u16 (length xs)) (flat_map part xs) in
     omega arith
+
+keys_within : (keys : List KeyMeta) → All IsKey keys → length (entries_of keys) ≤ 128 → length (spell.keys keys) ≤ 328961
+keys_within keys all few = few_within IsEntry spell.entry 2570 128 (entries_of keys) entry_within (entries_meet keys all) few
 
 -- ---- faults
 
@@ -198,17 +204,17 @@ request_within (Execute session version characters params) h =
 
 pub reply_within : (reply : Reply) → IsReply reply → length (spell.reply_body reply) ≤ 16777216
 reply_within (Described d) h =
-    let k = few_within IsKey spell.key 2570 64 d.keys key_within h.1 h.3.1 in
+    let k = keys_within d.keys h.1 h.3.1 in
     let p = few_within IsUsed spell.used 519 128 d.params used_within h.2.0 h.2.1 in
     omega (
       arith,
-      length-append (spell.u64 d.version ++ spell.few spell.key d.keys) (spell.few spell.used d.params),
-      length-append (spell.u64 d.version) (spell.few spell.key d.keys),
+      length-append (spell.u64 d.version ++ spell.keys d.keys) (spell.few spell.used d.params),
+      length-append (spell.u64 d.version) (spell.keys d.keys),
     )
 reply_within (Columns header) h =
-    let k = few_within IsKey spell.key 2570 64 header.keys key_within h.0 h.2.0.1 in
+    let k = keys_within header.keys h.0 h.2.0.1 in
     let c = many_within IsColumn spell.column 522 512 header.columns column_within h.1 h.2.1.1 in
-    omega (arith, length-append (spell.few spell.key header.keys) (spell.many spell.column header.columns))
+    omega (arith, length-append (spell.keys header.keys) (spell.many spell.column header.columns))
 reply_within (Row atoms) h = let a = many_within IsAtom spell.atom 16387 512 atoms atom_within h.0 h.1.1 in omega arith
 reply_within (Ended what) h = omega (arith, done_within what)
 reply_within (Refused f) h = omega (arith, fields_within f h)

@@ -1,3 +1,4 @@
 pub mod Interface
 mod Lengths
+mod Listing
 mod Mending

@@ -16,7 +16,9 @@ use Rattle.ae_base.specs.declared.keys.KeyMeta.{KeyMeta}
 use Rattle.ae_base.specs.declared.faults.SqlFault.{SqlFault}
 use Rattle.ae_base.specs.declared.faults.SqlFault.TheVariants as fault
 use Rattle.wire_messages.specs.Conditions.{IsRequest, IsReply}
+use Rattle.wire_messages.specs.KeyLists.{entries_of}
 use Rattle.wire_messages.specs.declared.columns.SentColumn.{SentColumn}
+use Rattle.wire_messages.specs.declared.key_entries.KeyEntry.{KeyEntry}
 use Rattle.wire_messages.specs.declared.params.SentParam.{SentParam}
 use Rattle.wire_messages.specs.declared.params.UsedParam.{UsedParam}
 use Rattle.wire_messages.specs.declared.replies.Done.{Done}
@@ -67,8 +69,8 @@ atom (Plain (Text characters)) = 2 ∷ str characters
 atom (Plain (Bin bytes)) = 3 ∷ blob bytes
 atom (Sealed cell) = 4 ∷ blob cell
 
-abbrev pub key : KeyMeta → List ℕ
-key k = u32 k.id ++ str k.name ++ str k.path ++ blob k.wrapped
+abbrev pub entry : KeyEntry → List ℕ
+entry e = u32 e.id ++ str e.name ++ str e.value.path ++ blob e.value.wrapped
 
 abbrev pub declaration : ParamDecl → List ℕ
 declaration d = str d.name ++ type d.ty
@@ -88,6 +90,10 @@ few part xs = length xs ∷ flat_map part xs
 
 abbrev pub many : {A : Type 0} → (A → List ℕ) → List A → List ℕ
 many part xs = u16 (length xs) ++ flat_map part xs
+
+-- keys are listed value by value
+abbrev pub keys : List KeyMeta → List ℕ
+keys ks = few entry (entries_of ks)
 
 -- a table's name, and how its change count rose
 abbrev pub conflict : List ℕ → ChangeCounts → List ℕ
@@ -147,8 +153,8 @@ reply_kind (Ended what) = 0x84
 reply_kind (Refused f) = 0x85
 
 abbrev pub reply_body : Reply → List ℕ
-reply_body (Described d) = u64 d.version ++ few key d.keys ++ few used d.params
-reply_body (Columns h) = few key h.keys ++ many column h.columns
+reply_body (Described d) = u64 d.version ++ keys d.keys ++ few used d.params
+reply_body (Columns h) = keys h.keys ++ many column h.columns
 reply_body (Row atoms) = many atom atoms
 reply_body (Ended what) = done what
 reply_body (Refused f) = code_of f ∷ fields f

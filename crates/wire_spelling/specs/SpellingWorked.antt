@@ -1,7 +1,10 @@
--- The frames of a plain table's definition, and of a refused question, byte by byte.
-use Rattle.std.specs.Prelude.{◌≡◌, [], ◌∷◌, codes, refl}
-use lib.Utf8.{encodes, encode}
+-- The frames of a plain table's definition, of a refused question, and of a description with a key of two values, byte by
+-- byte.
+use Rattle.std.specs.Prelude.{◌≡◌, [], ◌∷◌, Some, codes, refl}
+use lib.Utf8.{encode}
 use Rattle.ae_base.specs.declared.faults.SqlFault.TheVariants as fault
+use Rattle.ae_base.specs.declared.keys.KeyMeta.{KeyMeta}
+use Rattle.ae_base.specs.declared.types.Enc.TheVariants.{Det}
 use Rattle.wire_messages.specs.declared.replies.Done.TheVariants.{Defined}
 use Rattle.wire_messages.specs.declared.replies.Reply.TheVariants.{Described, Ended, Refused}
 use Rattle.wire_messages.specs.declared.requests.Request.TheVariants.{Describe, Execute}
@@ -37,3 +40,21 @@ pub refused : reply_frame (Refused (fault.NoTable (codes "t")))
     ≡ 0x01 ∷ 0x85 ∷ 0x00 ∷ 0x00 ∷ 0x00 ∷ 0x04 ∷ 0x14 ∷ 0x00 ∷ 0x01 ∷ 0x74 ∷ []
 unfolding encode
 refused = refl
+
+abbrev two_valued : KeyMeta
+two_valued = record {
+  id = 1;
+  name = codes "K";
+  values = record {
+    first = record { path = codes "main"; wrapped = 0x01 ∷ 0x02 ∷ [] };
+    second = Some (record { path = codes "next"; wrapped = 0x03 ∷ [] });
+  };
+}
+
+pub two_values : reply_frame (Described (record { version = 3; keys = two_valued ∷ []; params = record { name = codes "p"; enc = Det 1 } ∷ [] }))
+    ≡ 0x01 ∷ 0x81 ∷ 0x00 ∷ 0x00 ∷ 0x00 ∷ 0x33 ∷ 0x00 ∷ 0x00 ∷ 0x00 ∷ 0x00 ∷ 0x00 ∷ 0x00 ∷ 0x00 ∷ 0x03 ∷ 0x02
+    ∷ 0x00 ∷ 0x00 ∷ 0x00 ∷ 0x01 ∷ 0x00 ∷ 0x01 ∷ 0x4b ∷ 0x00 ∷ 0x04 ∷ 0x6d ∷ 0x61 ∷ 0x69 ∷ 0x6e ∷ 0x00 ∷ 0x02 ∷ 0x01 ∷ 0x02
+    ∷ 0x00 ∷ 0x00 ∷ 0x00 ∷ 0x01 ∷ 0x00 ∷ 0x01 ∷ 0x4b ∷ 0x00 ∷ 0x04 ∷ 0x6e ∷ 0x65 ∷ 0x78 ∷ 0x74 ∷ 0x00 ∷ 0x01 ∷ 0x03
+    ∷ 0x01 ∷ 0x00 ∷ 0x01 ∷ 0x70 ∷ 0x01 ∷ 0x00 ∷ 0x00 ∷ 0x00 ∷ 0x01 ∷ []
+unfolding encode
+two_values = refl

@@ -26,7 +26,7 @@ pub trait Part {
 }
 
 /// Puts the spellings of parts at the end, one after another.
-fn push_all<P: Part>(out: &mut Vec<u8>, parts: &[P]) -> Result<(), AllocError>
+pub fn push_all<P: Part>(out: &mut Vec<u8>, parts: &[P]) -> Result<(), AllocError>
     ensures bytes { OnOk result (out.new.items ≡ out.old.items ++ flat_map P.spelling parts.now) }
     ensures meet { OnOk result (All P.meets parts.now) }
 {

@@ -9,7 +9,7 @@ ghost use Rattle.wire_spelling.specs.Spelling as spell;
 ghost use Rattle.wire_spelling.specs.Spelling.{SpellsRequest, SpellsReply};
 
 use crate::fields::{push_few, push_many, push_text};
-use crate::writing::{push_done, push_fault};
+use crate::writing::{push_done, push_fault, push_keys};
 use ae_base::sessions::SessionId;
 use std::alloc::{AllocError, Global};
 use wire_messages::params::{DeclarationParts, SentParams};
@@ -68,7 +68,7 @@ fn push_described(out: &mut Vec<u8>, description: &Description<'_>) -> Result<()
     ensures meets { OnOk result (IsReply (Described description.now)) }
 {
     out.extend_from_slice(&description.version().to_be_bytes())?;
-    push_few(out, description.keys())?;
+    push_keys(out, description.keys())?;
     push_few(out, description.params().as_slice())
 }
 
@@ -77,7 +77,7 @@ fn push_columns(out: &mut Vec<u8>, header: &Header<'_>) -> Result<(), AllocError
         (out.new.items ≡ out.old.items ++ spell.reply_body (Columns header.now)) }
     ensures meets { OnOk result (IsReply (Columns header.now)) }
 {
-    push_few(out, header.keys())?;
+    push_keys(out, header.keys())?;
     push_many(out, header.columns())
 }
 

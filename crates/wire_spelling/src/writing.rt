@@ -1,20 +1,23 @@
 //! The parts of messages to bytes.
 
-ghost use Rattle.std.specs.Prelude.{◌≡◌, ◌≢◌, ◌<◌, ◌^◌, ◌++◌, ◌∷◌, OnOk};
+ghost use Rattle.std.specs.Prelude.{◌≡◌, ◌≢◌, ◌<◌, ◌≤◌, ◌^◌, ◌++◌, ◌∷◌, All, OnOk, length};
+ghost use Rattle.std.specs.List.{flat_map};
 ghost use Rattle.ae_base.specs.Faults.{code_of};
 ghost use Rattle.wire_messages.specs.Conditions as conditions;
+ghost use Rattle.wire_messages.specs.KeyLists.{entries_of, entries_of_key, entry_of};
 ghost use Rattle.wire_spelling.specs.Spelling as spell;
 
-use crate::fields::{Part, push_blob, push_enc, push_short, push_str, push_ty};
+use crate::fields::{Part, push_all, push_blob, push_enc, push_short, push_str, push_ty};
 use ae_base::faults::SqlFault;
 use ae_base::names::{Name, ParamName};
 use ae_base::versions::{ChangeCounts, Versions};
 use std::alloc::AllocError;
 use wire_messages::columns::SentColumn;
+use wire_messages::key_entries::entry_count;
 use wire_messages::params::{Declaration, SentParam, UsedParam};
 use wire_messages::replies::Done;
 use wire_parts::atoms::{AtomCase, AtomPart};
-use wire_parts::keys::KeyPart;
+use wire_parts::keys::{KeyPart, ValuePart};
 
 impl<'a> Part for AtomPart<'a> {
     ghost spelling = { λ a. spell.atom a };
@@ -95,17 +98,43 @@ impl<'a> Part for SentColumn<'a> {
     }
 }
 
+/// An entry of a list of keys: a key with one of its values.
+fn push_entry(out: &mut Vec<u8>, key: &KeyPart<'_>, value: &ValuePart<'_>) -> Result<(), AllocError>
+    ensures bytes { OnOk result
+        (out.new.items ≡ out.old.items ++ spell.entry (entry_of key.now value.now)) }
+    ensures meets { OnOk result (conditions.IsEntry (entry_of key.now value.now)) }
+{
+    out.extend_from_slice(&key.id().number().to_be_bytes())?;
+    push_short(out, key.name().as_str())?;
+    push_str(out, value.path().as_str())?;
+    push_blob(out, value.wrapped())
+}
+
 impl<'a> Part for KeyPart<'a> {
-    ghost spelling = { λ k. spell.key k };
+    ghost spelling = { λ k. flat_map spell.entry (entries_of_key k) };
 
     ghost meets = { λ k. conditions.IsKey k };
 
     fn push(&self, out: &mut Vec<u8>) -> Result<(), AllocError> {
-        out.extend_from_slice(&self.id().number().to_be_bytes())?;
-        push_short(out, self.name().as_str())?;
-        push_str(out, self.path().as_str())?;
-        push_blob(out, self.wrapped())
+        let values = self.values();
+        push_entry(out, self, &values.first)?;
+        match &values.second {
+            Some(second) => push_entry(out, self, second),
+            None => Ok(()),
+        }
     }
+}
+
+/// Keys, value by value, behind the count of their entries in one byte.
+#[tactic(auto, using(wire_messages::proofs::Interface::entries_within))]
+pub fn push_keys(out: &mut Vec<u8>, keys: &[KeyPart<'_>]) -> Result<(), AllocError>
+    requires count { length (entries_of keys.now) ≤ 128 }
+    ensures bytes { OnOk result (out.new.items ≡ out.old.items ++ spell.keys keys.now) }
+    ensures meet { OnOk result (All conditions.IsKey keys.now) }
+{
+    out.push(entry_count(keys) as u8)?;
+    push_all(out, keys)?;
+    Ok(())
 }
 
 /// What a request has done.

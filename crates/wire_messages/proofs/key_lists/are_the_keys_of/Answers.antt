@@ -13,7 +13,7 @@ returns-in-None g c =
     tells _ encs c.args.keys.now
     (c.loop-item.invariant.left ∙ ap (lists_from (ids_of c.args.keys.now) c.loop-item.used) (l ∙ ap (λ x. x ∷ drop (c.loop-item.item-index + 1) encs) (sym e))
     ∙ c.in-None.ensures (drop (c.loop-item.item-index + 1) encs))
-    c.if-keys-gt-MOST_COLUMN_KEYS.false
+    (c.are_few.ensures.0 c.if-not-are_few.false)
 
 pub loop-item-preserved : goal.loop-item-preserved
 loop-item-preserved g c =
@@ -33,4 +33,4 @@ returns g c =
     let d = drop_all c.loop-item.item-index encs (omega (arith, c.loop-item-test.false)) in
     tells _ encs c.args.keys.now
     (c.loop-item.invariant.left ∙ ap (lists_from (ids_of c.args.keys.now) c.loop-item.used) d ∙ lists_end c.args.keys.now c.loop-item.used c.loop-item.invariant.within)
-    c.if-keys-gt-MOST_COLUMN_KEYS.false
+    (c.are_few.ensures.0 c.if-not-are_few.false)
