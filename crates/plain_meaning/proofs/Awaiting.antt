@@ -1,20 +1,23 @@
 -- Over the server from the empty state each reply is awaited: whatever is asked, the server's replies are of their kinds, and its rows of their columns.
+-- And where the keys are a vault's, and the scripts proper, no refusal is of a parameter as it is sent: each suits what was described.
 use Rattle.std.proofs.Common.{◌≡◌, ℕ, zero, suc, ◌+◌, ◌-◌, List, [], ◌∷◌, ◌++◌, map, length, Option, Some, None, Result, Ok, Err, Bool, true, false, cond, refl, sym, ap, ◌∙◌, subst, arith, eq-eqb}
 use Rattle.std.specs.Prelude.{◌==◌, replicate}
 use Rattle.std.specs.List.{All, AllZip}
+use Rattle.std.proofs.lemmas.Bool.{eqb-true}
 use Rattle.std.proofs.lemmas.List.{length-map}
-use Rattle.std.proofs.lemmas.List.Elements.{All-nil, All-cons, All-head, All-tail}
+use Rattle.std.proofs.lemmas.List.Elements.{All-nil, All-cons, All-head, All-tail, All-weaker}
 use Rattle.ae_base.specs.Atoms.{Atom}
 use Rattle.ae_base.specs.Results.{◌>>=◌}
 use Rattle.ae_base.specs.declared.batches.Batch.{Batch}
 use Rattle.ae_base.specs.declared.keys.KeyMeta.{KeyMeta}
-use Rattle.ae_base.specs.declared.batches.Param.{Param}
 use Rattle.ae_base.specs.declared.faults.SqlFault.{SqlFault}
 use Rattle.ae_base.specs.declared.faults.SqlFault.TheVariants.{Moved}
 use Rattle.ae_base.specs.declared.values.Value.{Value}
+use Rattle.ae_edge.specs.Vaults.{KeyMap}
 use Rattle.aes_block.specs.Aes.{IsBlock}
+use Rattle.aes_block.specs.Bytes.{AreBytes}
 use Rattle.hmac_kdf.specs.Keys.{Keys}
-use Rattle.enc_types.specs.UsedAlone.{is_used}
+use Rattle.enc_types.specs.UsedAlone.{alone, is_used}
 use Rattle.resolve.specs.Bind.{type_of}
 use Rattle.scalar.specs.Classes.{BothAnswer, RowsCorrespond}
 use Rattle.engine.specs.BoundOn.{IsBoundOn}
@@ -22,7 +25,7 @@ use Rattle.engine.specs.Correspond.{Related, AnswersCorrespond, class_of_result}
 use Rattle.catalog.specs.Catalogs.{Catalog}
 use Rattle.catalog.specs.Laws.{DefinitionsKeepCatalogs}
 use Rattle.transactions.specs.Counted.{Execution, nothing_counted, execution}
-use Rattle.transactions.specs.Stores.{ask_of, world_of, transact}
+use Rattle.transactions.specs.Stores.{ask_of, transaction_at, world_of, transact}
 use Rattle.transactions.specs.WellKept.{IsOpen}
 use Rattle.transactions.proofs.Interface.{asks_alike, may_ask}
 use Rattle.server_core.proofs.Interface.{no_sessions, parts_of, own_cell, own_cells, own_is_one_to_one, own_is_within}
@@ -39,42 +42,38 @@ use Rattle.server_core.specs.Params.{declaration_of, suited}
 use Rattle.server_core.specs.Serve.{State, empty_state, catalog_of, serve, header, described, answered, executed}
 use Rattle.conversation.specs.Batches.{why_unfit, unless}
 use Rattle.conversation.specs.Cells.{read_atoms}
+use Rattle.conversation.specs.Drive.{over}
 use Rattle.conversation.specs.Pending.{Pending, uses_of}
-use Rattle.conversation.specs.Sessions.{begun, described_params, row_read, titles_of, with_session}
+use Rattle.conversation.specs.Sessions.{nobody, begun, described_params, row_read, titles_of, with_session}
 use Rattle.conversation.specs.Talk.{Talk, Draws, Hears, Opens, Prints, Heard, Said, heard_answer, nothing_shown, with_row}
 use Rattle.conversation.specs.Turns.{asked, described_on, describing, executing, answered_on, rows_on, reading, over_on}
 use Rattle.conversation.specs.declared.faults.DriverFault.{DriverFault}
+use Rattle.conversation.specs.declared.faults.DriverFault.TheVariants.{StillPending, NothingPending}
 use Rattle.conversation.specs.declared.outcomes.Listing.{Listing}
+use Rattle.conversation.specs.declared.outcomes.Outcome as outcomes
 use Rattle.conversation.specs.declared.outcomes.Outcome.TheVariants as outcome
 use Rattle.conversation.specs.declared.sessions.Session.{Session}
 use Rattle.conversation.specs.declared.sessions.Session.TheVariants as session
-use Rattle.script_lang.specs.Limits.{HasParams, IsWithinLimits}
+use Rattle.script_lang.specs.Limits.{HasParams, HasProperParams, IsProperStep, IsWithinLimits}
 use Rattle.script_lang.specs.declared.steps.Step.{Step}
 use Rattle.script_lang.specs.declared.steps.Step.TheVariants as steps_of
 use Rattle.wire_messages.specs.declared.requests.Request.TheVariants as request
-use Rattle.plain_meaning.specs.Awaits.{IsHeardBy, IsHeard, Awaits}
+use Rattle.plain_meaning.specs.Awaits.{IsHeardBy, IsHeard}
 use Rattle.plain_meaning.specs.Below.{LawsBelow}
 use Rattle.plain_meaning.specs.Laws.{RepliesAreAwaited}
+use Rattle.plain_meaning.specs.PlainOutcomes.{IsPlainFault, IsPlainRefusal}
 use Rattle.plain_meaning.specs.Steps.{number_of, turn, talk}
 use Rattle.plain_meaning.specs.Reference.{declarations_of, nothing_held, held_at, with_held}
 use Rattle.plain_meaning.proofs.Agreement.{whole_count}
-use Rattle.plain_meaning.proofs.Between.{resting, all_resting, at_resting, set_resting}
+use Rattle.plain_meaning.proofs.Between.{Always, HoldsBatch, HoldsIn, AllHold, Goes, stays_so, goes_by, all_go, all_held, hold_place, resting, all_resting, at_resting, set_resting}
+use Rattle.plain_meaning.proofs.Causes.{Blames, understood_blames, transact_blames}
 use Rattle.plain_meaning.proofs.ItsOwn.{any_cell, are_own, IsOwnState}
-use Rattle.plain_meaning.proofs.Sending.{encs_found, told_among}
+use Rattle.plain_meaning.proofs.Saying.{Says, awaits_all, says_all}
+use Rattle.plain_meaning.proofs.Sending.{told_among}
+use Rattle.plain_meaning.proofs.Suiting.{encs_alone, suits, is_held}
+use Rattle.plain_meaning.proofs.Used.{atoms_in}
 use Rattle.plain_meaning.proofs.Rows.{IsAt, row_awaited, count_rows}
-use Rattle.plain_meaning.proofs.Walk.{types_shown, same_uses, sealing_goes, reading_goes}
-
--- ---- keys and random bytes, whichever they are
-
-abbrev any_key : KeyMeta → Result Keys DriverFault → Type 0
-any_key m r = Unit {0}
-
-module _ (now : State) (queue : List Reply) where
-  opens : (m : KeyMeta) (f g : Result Keys DriverFault → Talk) → ((r : Result Keys DriverFault) → any_key m r → Awaits serve (f r) now queue) → Awaits serve (Opens m f) now queue
-  opens m f g h = λ r. h r tt
-
-  draws : (f g : List ℕ → Talk) → ((iv vi : List ℕ) → IsBlock iv → IsBlock vi → Awaits serve (f iv) now queue) → Awaits serve (Draws f) now queue
-  draws f g h = λ iv n b. h iv iv (n, b) (n, b)
+use Rattle.plain_meaning.proofs.Walk.{AnswersOf, AreSealed, sealed_as, types_shown, same_uses, sealing_goes, reading_goes}
 
 -- ---- rows of their columns
 
@@ -100,9 +99,10 @@ module _ (columns : List ResultColumn) (total : ℕ) where
       let s : total ≡ (count + 1) + length rows = e ∙ sym (count_rows count row rows) in
       rw x (skipped P rows (All-tail (AllZip (IsAt any_cell) columns) row rows t) c.1 shown (count + 1) s h)
 
-  module _ (now : State) (k : Session → Talk) (go : Awaits serve (k session.Idle) now []) (os : List (Option Keys)) where
+  module _ (IsAnswer : KeyMeta → Result Keys DriverFault → Type 0) (Fine : outcomes.Outcome → Type 0) (fine : (comes : outcomes.Outcome) → IsPlainRefusal comes → Fine comes)
+      (now : State) (k : Session → Talk) (go : Says IsAnswer Fine (k session.Idle) now []) (os : List (Option Keys)) where
     abbrev P : Heard → List Reply → Type 0
-    P heard left = Awaits serve (rows_on k heard) now left
+    P heard left = Says IsAnswer Fine (rows_on k heard) now left
 
     on_read : (rest : List Reply) (shown : Listing) (n : ℕ) (r : Result (List Value) DriverFault) → ((values : List Value) → IsHeard P rest (session.Reading (types_shown columns) os n) (with_row shown values))
         → ((f : DriverFault) → P (Said (Some (outcome.Broken shown (Some f))) (session.Skipping (types_shown columns) n)) rest)
@@ -115,48 +115,70 @@ module _ (columns : List ResultColumn) (total : ℕ) where
     read [] t c shown count e =
         let same : total ≡ count = omega (arith, e) in
         let s = eq-eqb total count same in
-        rw s go
+        rw s (fine (outcome.Rows shown) tt, go)
     read (row ∷ rows) t c shown count e =
         let x = row_awaited any_cell (Related own_cell) own_cells columns row row (All-head (AllZip (IsAt any_cell) columns) row rows t) c.0 in
         let s : total ≡ (count + 1) + length rows = e ∙ sym (count_rows count row rows) in
         let more = All-tail (AllZip (IsAt any_cell) columns) row rows t in
         rw x (on_read (queue_of rows) shown (count + 1) (read_atoms (count + 1) 1 (types_shown columns) os row)
         (λ values. read rows more c.1 (with_row shown values) (count + 1) s)
-        (λ f. skipped (λ heard left. Awaits serve (over_on k heard) now left) rows more c.1 nothing_shown (count + 1) s go))
+        (λ f. (fine (outcome.Broken shown (Some f)) tt, skipped (λ heard left. Says IsAnswer Fine (over_on k heard) now left) rows more c.1 nothing_shown (count + 1) s go)))
 
-module _ (laws : LawsBelow) where
-  -- whatever a turn comes to, the conversation goes on so that each reply is awaited
-  abbrev Onward : (Session → Talk) → Type 0
-  Onward k = (after : Option Pending) (now : State) → IsOwnState now → Awaits serve (k (resting after)) now []
+-- where the scripts are proper the keys are a vault's, and no refusal is of a parameter as it is sent
+module _ (laws : LawsBelow) (keys : KeyMap) (Proper : Type 0) where
+  abbrev IsAnswer : KeyMeta → Result Keys DriverFault → Type 0
+  IsAnswer m r = Proper → AnswersOf keys m r
 
-  module _ (state : State) (n : ℕ) (own : IsOwnState state) (k : Session → Talk) (go : Onward k) where
+  abbrev Fine : outcomes.Outcome → Type 0
+  Fine comes = Proper → IsPlainRefusal comes
+
+  abbrev Goes_on : Talk → State → List Reply → Type 0
+  Goes_on t state queue = Says IsAnswer Fine t state queue
+
+  module _ (now : State) (queue : List Reply) where
+    opens : (m : KeyMeta) (f g : Result Keys DriverFault → Talk) → ((r : Result Keys DriverFault) → IsAnswer m r → Goes_on (f r) now queue) → Goes_on (Opens m f) now queue
+    opens m f g h = h
+
+    draws : (f g : List ℕ → Talk) → ((iv vi : List ℕ) → IsBlock iv → IsBlock vi → Goes_on (f iv) now queue) → Goes_on (Draws f) now queue
+    draws f g h = λ iv n b. h iv iv (n, b) (n, b)
+
+  -- whatever a turn comes to, the conversation goes on so
+  abbrev Onward : State → ℕ → (Session → Talk) → Type 0
+  Onward state n k = (after : Option Pending) (now : State) → IsOwnState now → Goes Proper state n now after → Goes_on (k (resting after)) now []
+
+  module _ (state : State) (n : ℕ) (own : IsOwnState state) (k : Session → Talk) (go : Onward state n k) where
     abbrev here : Catalog
     here = catalog_of state n
 
+    -- nothing is asked of the server
+    prints : (comes : outcomes.Outcome) → IsPlainRefusal comes → (after : Option Pending) → HoldsIn Proper state.shared (transaction_at state n) after → Goes_on (Prints comes (k (resting after))) state []
+    prints comes p after h = (λ is. p, go after state own (stays_so Proper state n after h))
+
     -- ---- an answer
 
-    rows_await : (now : State) → IsOwnState now → (columns : List ResultColumn) (rows : List (List Atom)) → AreResults any_cell columns rows → AllZip (RowsCorrespond (Related own_cell) (map class_of_result columns)) rows rows
-        → Awaits serve (reading (header here columns) k) now (map Row rows ++ Ended (Answered (length rows)) ∷ [])
-    rows_await now o columns rows t c =
-        let queue : List Reply = map Row rows ++ Ended (Answered (length rows)) ∷ [] in
-        reading_goes any_key (λ t u. Awaits serve t now queue) (opens now queue) here columns k k
-        (λ os none opened. read columns (length rows) now k (go None now o) os rows t c (record { titles = titles_of (header here columns); rows = [] }) 0 (whole_count rows))
-        (λ f some. skipped columns (length rows) (λ heard left. Awaits serve (over_on k heard) now left) rows t c nothing_shown 0 (whole_count rows) (go None now o))
+    module _ (now : State) (onward : Goes_on (k session.Idle) now []) where
+      rows_await : (columns : List ResultColumn) (rows : List (List Atom)) → AreResults any_cell columns rows → AllZip (RowsCorrespond (Related own_cell) (map class_of_result columns)) rows rows
+          → Goes_on (reading (header here columns) k) now (map Row rows ++ Ended (Answered (length rows)) ∷ [])
+      rows_await columns rows t c =
+          let queue : List Reply = map Row rows ++ Ended (Answered (length rows)) ∷ [] in
+          reading_goes IsAnswer (λ t u. Goes_on t now queue) (opens now queue) here columns k k
+          (λ os none opened. read columns (length rows) IsAnswer Fine (λ comes p is. p) now k onward os rows t c (record { titles = titles_of (header here columns); rows = [] }) 0 (whole_count rows))
+          (λ f some. (λ is. tt, skipped columns (length rows) (λ heard left. Goes_on (over_on k heard) now left) rows t c nothing_shown 0 (whole_count rows) onward))
 
-    answer_awaits : (now : State) → IsOwnState now → (x : Result Answer SqlFault) → IsAnswerOf any_cell x → BothAnswer (AnswersCorrespond (Related own_cell)) x x
-        → let s = answered here x now in Awaits serve (Hears session.Sent nothing_shown (answered_on k)) s.after s.replies
-    answer_awaits now o (Ok (Rows columns rows)) t c = rows_await now o columns rows t c.1
-    answer_awaits now o (Ok (Changed count)) t c = go None now o
-    answer_awaits now o (Ok Defined) t c = go None now o
-    answer_awaits now o (Err f) t c = go None now o
+      answer_awaits : (x : Result Answer SqlFault) → Blames x → IsAnswerOf any_cell x → BothAnswer (AnswersCorrespond (Related own_cell)) x x
+          → let s = answered here x now in Goes_on (Hears session.Sent nothing_shown (answered_on k)) s.after s.replies
+      answer_awaits (Ok (Rows columns rows)) b t c = rows_await columns rows t c.1
+      answer_awaits (Ok (Changed count)) b t c = (λ is. tt, onward)
+      answer_awaits (Ok Defined) b t c = (λ is. tt, onward)
+      answer_awaits (Err f) b t c = (λ is. b, onward)
 
     -- ---- what is pending is executed, whatever values are sent
 
-    step_awaits : (version : ℕ) (text : List ℕ) (sent : List SentParam) (meant : Meant) (atoms : List Atom) → understood here text (map declaration_of sent) ≡ Ok meant → suited meant.encs sent ≡ Ok atoms
+    step_awaits : (text : List ℕ) (sent : List SentParam) (meant : Meant) (atoms : List Atom) → understood here text (map declaration_of sent) ≡ Ok meant → suited meant.encs sent ≡ Ok atoms
         → let done = transact state n (ask_of (execution meant.bound meant.encs atoms)) in
         let s = answered here done.answer done.after in
-        Awaits serve (Hears session.Sent nothing_shown (answered_on k)) s.after s.replies
-    step_awaits version text sent meant atoms u s =
+        Goes_on (Hears session.Sent nothing_shown (answered_on k)) s.after s.replies
+    step_awaits text sent meant atoms u s =
         let b = meant.bound in
         let declarations = map declaration_of sent in
         let parts = parts_of here text declarations meant u in
@@ -181,81 +203,102 @@ module _ (laws : LawsBelow) where
         let kept = laws.keeps_stores any_cell state n (ask_of e) own.typed may in
         let sim = laws.simulates any_cell own_cell state state n (ask_of e) (ask_of e) own_is_one_to_one own_is_within own.typed own.paired alike_asked may in
         let done = transact state n (ask_of e) in
-        answer_awaits done.after (record { typed = kept.0; paired = sim.stores }) done.answer kept.1 sim.answers
+        answer_awaits done.after (go None done.after (record { typed = kept.0; paired = sim.stores }) (goes_by Proper state n e)) done.answer (transact_blames state n (ask_of e)) kept.1 sim.answers
 
-    suits_await : (version : ℕ) (text : List ℕ) (sent : List SentParam) (meant : Meant) → understood here text (map declaration_of sent) ≡ Ok meant → (r : Result (List Atom) SqlFault) → suited meant.encs sent ≡ r
-        → let s = executed state n (r >>= λ atoms. Ok (meant, atoms)) in Awaits serve (Hears session.Sent nothing_shown (answered_on k)) s.after s.replies
-    suits_await version text sent meant u (Ok atoms) s = step_awaits version text sent meant atoms u s
-    suits_await version text sent meant u (Err f) s = go None state own
+    -- what is sent suits what it means
+    record IsSuited (text : List ℕ) (sent : List SentParam) : Type 0 where
+      meant : Meant
+      means : understood here text (map declaration_of sent) ≡ Ok meant
+      atoms : List Atom
+      suits : suited meant.encs sent ≡ Ok atoms
 
-    means_await : (version : ℕ) (text : List ℕ) (sent : List SentParam) (r : Result Meant SqlFault) → understood here text (map declaration_of sent) ≡ r
-        → let s = executed state n (r >>= λ meant. suited meant.encs sent >>= λ atoms. Ok (meant, atoms)) in Awaits serve (Hears session.Sent nothing_shown (answered_on k)) s.after s.replies
-    means_await version text sent (Ok meant) u = suits_await version text sent meant u (suited meant.encs sent) refl
-    means_await version text sent (Err f) u = go None state own
+    suits_await : (text : List ℕ) (sent : List SentParam) (meant : Meant) → (Proper → IsSuited text sent) → understood here text (map declaration_of sent) ≡ Ok meant → (r : Result (List Atom) SqlFault) → suited meant.encs sent ≡ r
+        → let s = executed state n (r >>= λ atoms. Ok (meant, atoms)) in Goes_on (Hears session.Sent nothing_shown (answered_on k)) s.after s.replies
+    suits_await text sent meant f u (Ok atoms) s = step_awaits text sent meant atoms u s
+    suits_await text sent meant f u (Err e) s = (λ is. never (f is), go None state own (stays_so Proper state n None tt))
+      where
+        never : IsSuited text sent → IsPlainFault e
+        never x =
+            let i : Ok meant ≡ Ok x.meant = sym u ∙ x.means in
+            let m : meant ≡ x.meant = cc in
+            let j : Err e ≡ Ok x.atoms = sym s ∙ ap (λ (m : Meant). suited m.encs sent) m ∙ x.suits in
+            absurd cc
 
-    asked_awaits : (version : ℕ) (text : List ℕ) (sent : List SentParam) (t : Bool)
-        → let moved : SqlFault = Moved (record { seen = version; now = here.version }) in
-        let s = executed state n (cond t (understood here text (map declaration_of sent)) (Err moved) >>= λ meant. suited meant.encs sent >>= λ atoms. Ok (meant, atoms)) in
-        Awaits serve (Hears session.Sent nothing_shown (answered_on k)) s.after s.replies
-    asked_awaits version text sent true = means_await version text sent (understood here text (map declaration_of sent)) refl
-    asked_awaits version text sent false = go None state own
+    means_await : (text : List ℕ) (sent : List SentParam) → (Proper → IsSuited text sent) → (r : Result Meant SqlFault) → Blames r → understood here text (map declaration_of sent) ≡ r
+        → let s = executed state n (r >>= λ meant. suited meant.encs sent >>= λ atoms. Ok (meant, atoms)) in Goes_on (Hears session.Sent nothing_shown (answered_on k)) s.after s.replies
+    means_await text sent f (Ok meant) b u = suits_await text sent meant f u (suited meant.encs sent) refl
+    means_await text sent f (Err e) b u = prints (outcome.Refused e) b None tt
 
-    pending_awaits : (p : Pending) → Awaits serve (executing n (session.Pending p) k) state []
-    pending_awaits p =
+    asked_awaits : (p : Pending) → HoldsBatch Proper here p → (sent : List SentParam) → (Proper → AreSealed keys p.keys (uses_of p) sent) → (t : Bool) → (p.version == here.version) ≡ t
+        → let moved : SqlFault = Moved (record { seen = p.version; now = here.version }) in
+        let s = executed state n (cond t (understood here p.batch.text (map declaration_of sent)) (Err moved) >>= λ meant. suited meant.encs sent >>= λ atoms. Ok (meant, atoms)) in
+        Goes_on (Hears session.Sent nothing_shown (answered_on k)) s.after s.replies
+    asked_awaits p h sent sealed true e =
+        means_await p.batch.text sent
+        (λ is.
+        let d = h.same (eqb-true p.version here.version e) in
+        let s = suits laws keys here p (h.sendable is) d sent (sealed is) in
+        record { meant = record { bound = alone d.meant.bound; encs = encs_alone d.meant }; means = s.understood; atoms = atoms_in sent; suits = s.suited })
+        (understood here p.batch.text (map declaration_of sent)) (understood_blames here p.batch.text (map declaration_of sent)) refl
+    asked_awaits p h sent sealed false e = prints (outcome.Refused (Moved (record { seen = p.version; now = here.version }))) tt None tt
+
+    pending_awaits : (p : Pending) → HoldsBatch Proper here p → Goes_on (executing n (session.Pending p) k) state []
+    pending_awaits p h =
         let onward : Session → Talk = λ after. Hears after nothing_shown (answered_on k) in
         let sends : List SentParam → Talk = λ params. asked onward k (Ok (request.Execute n p.version p.batch.text params)) session.Sent in
         let fails : DriverFault → Talk = λ f. asked onward k (Err f) session.Idle in
-        sealing_goes any_key (λ t u. Awaits serve t state []) (opens state []) p.keys (draws state []) (uses_of p) (uses_of p) (same_uses (uses_of p)) sends sends fails fails
-        (λ sent other none s z. asked_awaits p.version p.batch.text sent (p.version == here.version)) (λ f some. go None state own)
+        sealing_goes IsAnswer (λ t u. Goes_on t state []) (opens state []) p.keys (draws state []) (uses_of p) (uses_of p) (same_uses (uses_of p)) sends sends fails fails
+        (λ sent other none s z. asked_awaits p h sent (λ is. sealed_as IsAnswer (AnswersOf keys) (λ m r a. a is) p.keys (uses_of p) sent s) (p.version == here.version) refl)
+        (λ f some. prints (outcome.Failed f) tt None tt)
 
-    executing_awaits : (before : Option Pending) → Awaits serve (executing n (resting before) k) state []
-    executing_awaits (Some p) = pending_awaits p
-    executing_awaits None = go None state own
+    executing_awaits : (before : Option Pending) → HoldsIn Proper state.shared (transaction_at state n) before → Goes_on (executing n (resting before) k) state []
+    executing_awaits (Some p) h = pending_awaits p h
+    executing_awaits None h = prints (outcome.Failed NothingPending) tt None tt
 
     -- ---- a batch is described
 
-    module _ (batch : Batch) (params : HasParams batch) (ready : Pending → Talk) (ready_awaits : (p : Pending) → Awaits serve (ready p) state []) where
-      described_awaits : (r : Result Meant SqlFault) → understood here batch.text (declarations_of batch) ≡ r
+    module _ (batch : Batch) (params : HasParams batch) (proper : Proper → HasProperParams batch) (ready : Pending → Talk) (ready_awaits : (p : Pending) → HoldsBatch Proper here p → Goes_on (ready p) state []) where
+      described_awaits : why_unfit batch ≡ None → (r : Result Meant SqlFault) → Blames r → understood here batch.text (declarations_of batch) ≡ r
           → let s = described state (r >>= λ meant. Ok (description here (declarations_of batch) meant)) in
-          Awaits serve (Hears (session.Begun batch) nothing_shown (described_on ready k)) s.after s.replies
-      described_awaits (Ok meant) e =
-          let parts = parts_of here batch.text (declarations_of batch) meant e in
-          let bound = laws.bound here parts.statement (declarations_of batch) meant.bound parts.binds in
-          let long : length meant.encs ≡ length batch.params =
-          (laws.typings meant.bound meant.encs parts.infers).0 ∙ ap length bound.params ∙ length-map (declarations_of batch) type_of ∙ length-map batch.params (λ (q : Param). q.declaration) in
-          let found = encs_found meant.bound 0 batch.params meant.encs long params.1 in
-          let told = told_among (is_used meant.bound) 0 meant.encs in
-          let d = description here (declarations_of batch) meant in
-          rw found (ready_awaits (record { batch = batch; version = here.version; keys = d.keys; encs = told }))
-      described_awaits (Err f) e = go None state own
+          Goes_on (Hears (session.Begun batch) nothing_shown (described_on ready k)) s.after s.replies
+      described_awaits fit (Ok meant) b e =
+          let h = is_held laws Proper here batch params proper fit meant e in
+          let found = h.0 in
+          let p : Pending = record { batch = batch; version = here.version; keys = (description here (declarations_of batch) meant).keys; encs = told_among (is_used meant.bound) 0 meant.encs } in
+          rw found (ready_awaits p h.1)
+      described_awaits fit (Err f) b e = prints (outcome.Refused f) b None tt
 
-      begun_awaits : (o : Option DriverFault)
-          → let t = begun n (unless o batch) in Awaits serve (asked (λ after. Hears after nothing_shown (described_on ready k)) k t.answer t.after) state []
-      begun_awaits (Some f) = go None state own
-      begun_awaits None = described_awaits (understood here batch.text (declarations_of batch)) refl
+      begun_awaits : (o : Option DriverFault) → why_unfit batch ≡ o
+          → let t = begun n (unless o batch) in Goes_on (asked (λ after. Hears after nothing_shown (described_on ready k)) k t.answer t.after) state []
+      begun_awaits (Some f) e = prints (outcome.Failed f) tt None tt
+      begun_awaits None e = described_awaits e (understood here batch.text (declarations_of batch)) (understood_blames here batch.text (declarations_of batch)) refl
 
-      describing_awaits : (before : Option Pending) → Awaits serve (describing n batch (resting before) ready k) state []
-      describing_awaits None = begun_awaits (why_unfit batch)
-      describing_awaits (Some p) = go (Some p) state own
+      describing_awaits : (before : Option Pending) → HoldsIn Proper state.shared (transaction_at state n) before → Goes_on (describing n batch (resting before) ready k) state []
+      describing_awaits None h = begun_awaits (why_unfit batch) refl
+      describing_awaits (Some p) h = prints (outcome.Failed StillPending) tt (Some p) h
 
   -- ---- a turn
 
-  turn_awaits : (step : Step) (state : State) → IsOwnState state → (k : Session → Talk) → Onward k → IsWithinLimits step → (before : Option Pending) → Awaits serve (turn step (resting before) k) state []
-  turn_awaits (steps_of.Whole number batch) state own k go within before =
-      describing_awaits state number own k go batch within.1 (λ p. executing number (session.Pending p) k) (pending_awaits state number own k go) before
-  turn_awaits (steps_of.Half number batch) state own k go within before =
-      describing_awaits state number own k go batch within.1 (λ p. Prints (outcome.Described (described_params p.keys (uses_of p))) (k (session.Pending p))) (λ p. go (Some p) state own) before
-  turn_awaits (steps_of.Execute number) state own k go within before = executing_awaits state number own k go before
+  turn_awaits : (step : Step) (state : State) → IsOwnState state → (k : Session → Talk) → Onward state (number_of step) k → IsWithinLimits step → (Proper → IsProperStep step)
+      → (before : Option Pending) → HoldsIn Proper state.shared (transaction_at state (number_of step)) before → Goes_on (turn step (resting before) k) state []
+  turn_awaits (steps_of.Whole number batch) state own k go within proper before h =
+      describing_awaits state number own k go batch within.1 proper (λ p. executing number (session.Pending p) k) (pending_awaits state number own k go) before h
+  turn_awaits (steps_of.Half number batch) state own k go within proper before h =
+      describing_awaits state number own k go batch within.1 proper (λ p. Prints (outcome.Described (described_params p.keys (uses_of p))) (k (session.Pending p)))
+      (λ p held. prints state number own k go (outcome.Described (described_params p.keys (uses_of p))) tt (Some p) held) before h
+  turn_awaits (steps_of.Execute number) state own k go within proper before h = executing_awaits state number own k go before h
 
-  talk_awaits : (steps : List Step) → All IsWithinLimits steps → (holds : List (Option Pending)) (state : State) → IsOwnState state → Awaits serve (talk steps (all_resting holds)) state []
-  talk_awaits [] within holds state own = refl
-  talk_awaits (step ∷ steps) within holds state own =
+  talk_awaits : (steps : List Step) → All IsWithinLimits steps → (Proper → All IsProperStep steps) → (holds : List (Option Pending)) (state : State) → IsOwnState state → AllHold Proper state holds
+      → Goes_on (talk steps (all_resting holds)) state []
+  talk_awaits [] within proper holds state own h = refl
+  talk_awaits (step ∷ steps) within proper holds state own h =
       let number = number_of step in
       let onward : Session → Talk = λ after. talk steps (with_session (all_resting holds) number after) in
-      subst (λ before. Awaits serve (turn step before onward) state []) (sym (at_resting holds (number - 1)))
+      subst (λ before. Goes_on (turn step before onward) state []) (sym (at_resting holds (number - 1)))
       (turn_awaits step state own onward
-      (λ after now o. subst (λ sessions. Awaits serve (talk steps sessions) now []) (sym (set_resting holds (number - 1) after)) (talk_awaits steps (All-tail IsWithinLimits step steps within) (with_held holds number after) now o))
-      (All-head IsWithinLimits step steps within) (held_at holds number))
+      (λ after now o goes. subst (λ sessions. Goes_on (talk steps sessions) now []) (sym (set_resting holds (number - 1) after))
+      (talk_awaits steps (All-tail IsWithinLimits step steps within) (λ is. All-tail IsProperStep step steps (proper is)) (with_held holds number after) now o (all_go Proper state now number holds after goes h)))
+      (All-head IsWithinLimits step steps within) (λ is. All-head IsProperStep step steps (proper is)) (held_at holds number) (hold_place Proper state number holds h))
 
 -- ---- from the beginning
 
@@ -270,4 +313,14 @@ empty_is_own law = record {
 }
 
 pub replies_are_awaited : LawsBelow → RepliesAreAwaited
-replies_are_awaited laws steps within = talk_awaits laws steps within nothing_held empty_state (empty_is_own laws.catalogs)
+replies_are_awaited laws steps within =
+    awaits_all (IsAnswer laws [] ⊥) (Fine laws [] ⊥) (λ m r is. absurd is) (talk steps (all_resting nothing_held)) empty_state []
+    (talk_awaits laws [] ⊥ steps within (λ is. absurd is) nothing_held empty_state (empty_is_own laws.catalogs) (all_held ⊥))
+
+-- whatever the keys open to
+pub refusals_are_plain : LawsBelow → (keys : KeyMap) (steps : List Step) → All IsWithinLimits steps → All IsProperStep steps → (entropy : List ℕ) → AreBytes entropy
+    → All IsPlainRefusal (over serve keys (talk steps nobody) 0 entropy empty_state []).outcomes
+refusals_are_plain laws keys steps within proper entropy bytes =
+    All-weaker (Fine laws keys Always) IsPlainRefusal (λ comes h. h tt) _
+    (says_all keys (IsAnswer laws keys Always) (Fine laws keys Always) (λ m is. refl) (talk steps (all_resting nothing_held)) empty_state []
+    (talk_awaits laws keys Always steps within (λ is. proper) nothing_held empty_state (empty_is_own laws.catalogs) (all_held Always)) 0 entropy bytes)

@@ -1,16 +1,18 @@
 -- The faults of parsing, binding, typing and executing: none is of parameters as they are sent.
 use Rattle.std.specs.Prelude.{IfErr, IfSome, is_some}
 use Rattle.std.specs.List.{flat_map}
-use Rattle.std.proofs.Common.{ℕ, ◌+◌, List, [], ◌∷◌, ◌++◌, map, length, Bool, true, false, Option, Some, None, Result, Ok, Err, inl, inr, sym, subst, if◌then◌else◌, encode_utf8_all}
+use Rattle.std.proofs.Common.{ℕ, ◌+◌, List, [], ◌∷◌, ◌++◌, map, length, Bool, true, false, not, ◌||◌, Option, Some, None, Result, Ok, Err, inl, inr, sym, subst, if◌then◌else◌, encode_utf8_all}
 use Rattle.std.specs.Prelude.{◌==◌}
 use Rattle.std.proofs.lemmas.Result.{IfErr-weaker}
 use Rattle.ae_base.specs.Atoms.{Atom}
+use Rattle.ae_base.specs.OneOrTwo as one_or_two
 use Rattle.ae_base.specs.Results.{◌>>=◌, each, or_fault}
 use Rattle.ae_base.specs.Values.{is_within}
 use Rattle.ae_base.specs.declared.atoms.AtomOf.TheVariants.{Null, Plain, Sealed}
 use Rattle.ae_base.specs.declared.batches.ParamDecl.{ParamDecl}
 use Rattle.ae_base.specs.declared.faults.SqlFault.{SqlFault}
 use Rattle.ae_base.specs.declared.faults.SqlFault.TheVariants as fault
+use Rattle.ae_base.specs.declared.keys.EncryptedValue.{EncryptedValue}
 use Rattle.ae_base.specs.declared.tables.ColumnDef.{ColumnDef}
 use Rattle.ae_base.specs.declared.types.Enc.{Enc}
 use Rattle.sql_tree.specs.declared.bound.BoundDefinition.{BoundDefinition}
@@ -22,7 +24,7 @@ use Rattle.sql_tree.specs.Sorts.{is_definition, target}
 use Rattle.sql_tree.specs.Statements.{Statement}
 use Rattle.sql_tree.specs.Tokens.{tokens_of}
 use Rattle.sql_grammar.specs.Texts.{parsed_tree, parsed_narrow, parsed_tokens, statement_in}
-use Rattle.catalog.specs.Catalogs.{Catalog, master_named, key_named, table_named, master_place, key_place, table_place, is_full_of_masters, is_full_of_keys, is_full_of_tables, is_master_used, is_key_used, is_at_last_version}
+use Rattle.catalog.specs.Catalogs.{Catalog, master_named, key_named, table_named, master_place, key_place, table_place, is_full_of_masters, is_full_of_keys, is_full_of_tables, is_master_used, is_key_used, is_at_last_version, has_value, other_value, with_values}
 use Rattle.catalog.specs.Definitions.{defined_by}
 use Rattle.enc_types.specs.Least.{inferred_encs}
 use Rattle.resolve.specs.Bind.{bind}
@@ -138,9 +140,20 @@ used_or_full : (used last : Bool) (name : List ℕ) (c : Catalog) → Blames (if
 used_or_full true last name c = tt
 used_or_full false last name c = full_or last c
 
+dropped_blames : (lacks : Bool) (other : Option EncryptedValue) (last : Bool) (master name : List ℕ) (left : EncryptedValue → Catalog)
+    → Blames (if lacks then Err (fault.NoSuch master) else or_fault (fault.KeyInUse name) other >>= λ value. if last then Err fault.Full else Ok (left value))
+dropped_blames true other last master name left = tt
+dropped_blames false other last master name left = both (or_fault (fault.KeyInUse name) other) _ (looked_up (fault.KeyInUse name) other tt) (λ value. full_or last (left value))
+
 defined_blames : (catalog : Catalog) (d : BoundDefinition) → Blames (defined_by catalog d)
 defined_blames catalog (definition.CreateMaster name path) = exists_or_full (is_some (master_named catalog name)) (is_full_of_masters catalog) name _
-defined_blames catalog (definition.CreateKey name master wrapped) = exists_or_full (is_some (key_named catalog name)) (is_full_of_keys catalog) name _
+defined_blames catalog (definition.CreateKey name values) = exists_or_full (is_some (key_named catalog name)) (is_full_of_keys catalog) name _
+defined_blames catalog (definition.AddValue name value) =
+    both (or_fault (fault.NoSuch name) (key_named catalog name)) _ (looked_up (fault.NoSuch name) (key_named catalog name) tt)
+    (λ key. exists_or_full (has_value value.master key.values) (is_some key.values.second || is_at_last_version catalog) value.master _)
+defined_blames catalog (definition.DropValue name master) =
+    both (or_fault (fault.NoSuch name) (key_named catalog name)) _ (looked_up (fault.NoSuch name) (key_named catalog name) tt)
+    (λ key. dropped_blames (not (has_value master key.values)) (other_value master key.values) (is_at_last_version catalog) master name (λ value. with_values catalog name (one_or_two.only value)))
 defined_blames catalog (definition.CreateTable table) = exists_or_full (is_some (table_named catalog table.def.name)) (is_full_of_tables catalog) table.def.name _
 defined_blames catalog (definition.DropTable name) =
     both (or_fault (fault.NoSuch name) (table_place catalog name)) _ (looked_up (fault.NoSuch name) (table_place catalog name) tt) (λ place. full_or (is_at_last_version catalog) _)

@@ -2,15 +2,15 @@ mod Agreement
 mod Awaiting
 mod Between
 mod Causes
-mod Growing
-mod History
 pub mod Interface
 mod ItsOwn
 mod NeverFails
 mod Pairs
 mod Rows
+mod Saying
 mod Sealed
 mod Sending
+mod Suiting
 mod Told
 mod Understood
 mod Used

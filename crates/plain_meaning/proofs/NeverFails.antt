@@ -36,10 +36,12 @@ use Rattle.conversation.specs.declared.outcomes.Outcome.{Outcome}
 use Rattle.conversation.specs.declared.outcomes.Outcome.TheVariants as outcome
 use Rattle.script_lang.specs.declared.steps.Step.{Step}
 use Rattle.script_lang.specs.declared.steps.Step.TheVariants.{Whole, Half, Execute}
+use Rattle.plain_meaning.specs.Below.{LawsBelow}
 use Rattle.plain_meaning.specs.Laws.{EndsWith, ServedIsPlain, CellsNeverFail}
 use Rattle.plain_meaning.specs.PlainOutcomes.{IsPlainFailure, IsPlainOutcome}
 use Rattle.plain_meaning.specs.Reference.{Came, came, declarations_of, unopened_or, why_unopened, titled, shown, encs_shown, answered, stepped, executed_with, execution_of, pending, described, begun, begins, waits, means, nothing_held, held_at, with_held, reference}
 use Rattle.plain_meaning.specs.Steps.{number_of, talk}
+use Rattle.plain_meaning.proofs.Awaiting.{refusals_are_plain}
 use Rattle.plain_meaning.proofs.Causes.{Blames, understood_blames, describe_blames, transact_blames}
 
 -- ---- keys
@@ -140,11 +142,12 @@ ends_plain (Done sessions) outcomes wanted e h = subst (All IsPlainOutcome) (sym
 ends_plain Dry outcomes wanted e h = front_all outcomes e.rest (subst (All IsPlainOutcome) e.is h)
 ends_plain (BadReply taken) outcomes wanted e h = absurd e
 
-pub cells_never_fail : ServedIsPlain → CellsNeverFail
-cells_never_fail law = record {
+pub cells_never_fail : LawsBelow → ServedIsPlain → CellsNeverFail
+cells_never_fail laws law = record {
   meaning = reference_plain;
-  served = λ keys steps within proper entropy bytes.
+  served = λ keys steps within proper alike entropy bytes.
       let p = over serve keys (talk steps nobody) 0 entropy empty_state [] in
       let wanted = reference keys steps nothing_held empty_state in
-      ends_plain p.end p.outcomes wanted (law keys steps within proper entropy bytes) (reference_plain keys steps nothing_held empty_state);
+      ends_plain p.end p.outcomes wanted (law keys steps within proper alike entropy bytes) (reference_plain keys steps nothing_held empty_state);
+  refusals = refusals_are_plain laws;
 }

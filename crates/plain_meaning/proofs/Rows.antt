@@ -14,7 +14,7 @@ use Rattle.ae_base.specs.declared.values.Datum.TheVariants as datum
 use Rattle.ae_base.specs.declared.values.Value.{Value}
 use Rattle.ae_base.specs.declared.values.Value.TheVariants as value
 use Rattle.ae_edge.specs.Vaults.{KeyMap}
-use Rattle.hmac_kdf.specs.Keys.{Keys}
+use Rattle.hmac_kdf.specs.Keys.{Keys, keys_of}
 use Rattle.cell_codec.specs.Cells.{content_of}
 use Rattle.scalar.specs.Classes.{Class, Det, Rnd, Pairing, Correspond, RowsCorrespond, class_of}
 use Rattle.engine.specs.Correspond.{class_of_result}
@@ -24,15 +24,13 @@ use Rattle.wire_messages.specs.declared.replies.Done.TheVariants.{Answered}
 use Rattle.wire_messages.specs.declared.replies.Reply.TheVariants.{Row, Ended}
 use Rattle.conversation.specs.Cells.{is_of_kind, is_atom_of, is_row_of, read_atom, read_atoms, value_in}
 use Rattle.conversation.specs.Drive.{Caught, listen}
-use Rattle.conversation.specs.Keys.{open_key, meta_of}
 use Rattle.conversation.specs.Talk.{Said}
 use Rattle.conversation.specs.declared.outcomes.Listing.{Listing}
 use Rattle.conversation.specs.declared.outcomes.Outcome.TheVariants as outcome
 use Rattle.conversation.specs.declared.sessions.Session.TheVariants.{Idle, Reading, Skipping}
 use Rattle.plain_meaning.specs.Reference.{value_of}
-use Rattle.plain_meaning.proofs.Pairs.{found, opened, keys_in, key_in, Standing, pair_is, Opens, rnd_opens, det_opens}
-use Rattle.plain_meaning.proofs.Sending.{Each}
-use Rattle.plain_meaning.proofs.Told.{IsMetaOf}
+use Rattle.plain_meaning.proofs.Pairs.{Standing, pair_is, Opens, rnd_opens, det_opens}
+use Rattle.plain_meaning.proofs.Told.{OpenAs}
 use Rattle.plain_meaning.proofs.Walk.{AnswersOf, AreOpened, OpensAt, types_shown}
 
 pub kind_of_type : (t : Ty) (d : Datum) → IsOfType t d → is_of_kind d t ≡ true
@@ -77,53 +75,63 @@ count_rows count row rows = omega arith
 
 -- ---- rows that stand for plain ones
 
-standing_cells : (keys : KeyMap) (history : List KeyMeta) (c : Class) (a b : Atom) → Standing keys history c a b → (x : List ℕ) × (a ≡ atom.Sealed x)
-standing_cells keys history c a b h = let p = pair_is keys history c a b h in (p.0, p.2)
+standing_cells : (key_for : ℕ → List ℕ) (c : Class) (a b : Atom) → Standing key_for c a b → (x : List ℕ) × (a ≡ atom.Sealed x)
+standing_cells key_for c a b h = let p = pair_is key_for c a b h in (p.0, p.2)
 
-module _ (keys : KeyMap) (cell : List ℕ → Bool) (history metas : List KeyMeta) where
-  cell_awaited : (t : Ty) (id : ℕ) (a b : Atom) (ks : Keys) → key_in keys history id ≡ Some ks → Opens keys history id t a b
+-- what can't be read is skipped to its end
+pub rows_skipped : (cell : List ℕ → Bool) (key_for : ℕ → List ℕ) (columns : List ResultColumn) (rows others : List (List Atom)) → All (AllZip (IsAt cell) columns) rows
+    → AllZip (RowsCorrespond (Standing key_for) (map class_of_result columns)) rows others
+    → (shown : Listing) (count total taken : ℕ) → total ≡ count + length rows
+    → (n : ℕ) × (listen (map Row rows ++ Ended (Answered total) ∷ []) (Skipping (types_shown columns) count) shown taken ≡ Caught (Said None Idle) n [])
+rows_skipped cell key_for columns [] [] a c shown count total taken e =
+    let same : total ≡ count = omega (arith, e) in
+    let t = eq-eqb total count same in
+    (suc taken, rw t refl)
+rows_skipped cell key_for columns (row ∷ rows) (other ∷ others) a c shown count total taken e =
+    let x = row_awaited cell (Standing key_for) (standing_cells key_for) columns row other (All-head (AllZip (IsAt cell) columns) row rows a) c.0 in
+    let s : total ≡ (count + 1) + length rows = e ∙ sym (count_rows count row rows) in
+    let more = rows_skipped cell key_for columns rows others (All-tail (AllZip (IsAt cell) columns) row rows a) c.1 shown (count + 1) total (suc taken) s in
+    (more.0, rw x more.1)
+rows_skipped cell key_for columns rows others a c shown count total taken e = absurd c
+
+module _ (keys : KeyMap) (cell : List ℕ → Bool) (key_for : ℕ → List ℕ) (metas : List KeyMeta) (told : OpenAs keys key_for metas) where
+  cell_awaited : (t : Ty) (id : ℕ) (a b : Atom) (ks own : Keys) → ks ≡ own → Opens own t a b
       → (is_atom_of (record { ty = t; enc = enc.Det id }) a ≡ true) × (is_atom_of (record { ty = t; enc = enc.Rnd id }) a ≡ true) × (read_atom (Some ks) t a ≡ Ok (value_of b))
-  cell_awaited t id a b ks k o =
-      let f : Some ks ≡ Some o.ks = sym k ∙ o.key in
-      let s : ks ≡ o.ks = cc in
+  cell_awaited t id a b ks own s o =
       let l = o.left in
       let r = o.right in
       let v : value_in t (content_of ks o.cell) ≡ Ok (value.Is o.datum) = ap (λ k. value_in t (content_of k o.cell)) s ∙ o.value in
       rw (l, r, v) (refl, refl, refl)
 
-  opened_key : (id : ℕ) (ks : Keys) → found history id ≡ Some (meta_of metas id) → open_key keys (meta_of metas id) ≡ Ok ks → key_in keys history id ≡ Some ks
-  opened_key id ks f o = ap (opened keys) f ∙ ap keys_in o
-
-  at_column : (t : Ty) (e : Enc) (o : Option Keys) (a b : Atom) → IsMetaOf metas history e → OpensAt (AnswersOf keys) e o metas → IsAtomOf cell t e a → Correspond (Standing keys history) (class_of t e) a b
+  at_column : (t : Ty) (e : Enc) (o : Option Keys) (a b : Atom) → OpensAt (AnswersOf keys) e o metas → IsAtomOf cell t e a → Correspond (Standing key_for) (class_of t e) a b
       → (is_atom_of (record { ty = t; enc = e }) a ≡ true) × (read_atom o t a ≡ Ok (value_of b))
-  at_column t enc.Plain o a b m h i c = rw h (plain_awaited cell t a b i c.0)
-  at_column t (enc.Det id) o a b m h i (inl n) = let x = n.0 in let y = n.1 in rw (x, y) (refl, refl)
-  at_column t (enc.Det id) o a b m h i (inr s) =
+  at_column t enc.Plain o a b h i c = rw h (plain_awaited cell t a b i c.0)
+  at_column t (enc.Det id) o a b h i (inl n) = let x = n.0 in let y = n.1 in rw (x, y) (refl, refl)
+  at_column t (enc.Det id) o a b h i (inr s) =
       let g = h.2 in
-      let z = cell_awaited t id a b h.0 (opened_key id h.0 m h.1) (det_opens keys history id t a b s).opens in
+      let own = keys_of (key_for id) in
+      let z = cell_awaited t id a b h.0 own (told id h.0 h.1) (det_opens own t a b s).opens in
       rw g (z.0, z.2)
-  at_column t (enc.Rnd id) o a b m h i (inl n) = let x = n.0 in let y = n.1 in rw (x, y) (refl, refl)
-  at_column t (enc.Rnd id) o a b m h i (inr s) =
+  at_column t (enc.Rnd id) o a b h i (inl n) = let x = n.0 in let y = n.1 in rw (x, y) (refl, refl)
+  at_column t (enc.Rnd id) o a b h i (inr s) =
       let g = h.2 in
-      let z = cell_awaited t id a b h.0 (opened_key id h.0 m h.1) (rnd_opens keys history id t a b s) in
+      let own = keys_of (key_for id) in
+      let z = cell_awaited t id a b h.0 own (told id h.0 h.1) (rnd_opens own t a b s) in
       rw g (z.1, z.2)
 
-  abbrev pub AreTold : List ResultColumn → Type 0
-  AreTold columns = Each (λ (c : ResultColumn). IsMetaOf metas history c.enc) columns
-
-  row_read : (number at : ℕ) (columns : List ResultColumn) (os : List (Option Keys)) (row other : List Atom) → AreTold columns → AreOpened (AnswersOf keys) metas columns os → AllZip (IsAt cell) columns row
-      → RowsCorrespond (Standing keys history) (map class_of_result columns) row other
+  row_read : (number at : ℕ) (columns : List ResultColumn) (os : List (Option Keys)) (row other : List Atom) → AreOpened (AnswersOf keys) metas columns os → AllZip (IsAt cell) columns row
+      → RowsCorrespond (Standing key_for) (map class_of_result columns) row other
       → (is_row_of (types_shown columns) row ≡ true) × (read_atoms number at (types_shown columns) os row ≡ Ok (map value_of other))
-  row_read number at [] [] [] [] m o t c = (refl, refl)
-  row_read number at [] [] [] (b ∷ bs) m o t c = absurd c
-  row_read number at [] [] (a ∷ row) bs m o t c = absurd c
-  row_read number at [] (k ∷ os) row bs m o t c = absurd o
-  row_read number at (x ∷ cs) [] row bs m o t c = absurd o
-  row_read number at (x ∷ cs) (k ∷ os) [] bs m o t c = absurd t
-  row_read number at (x ∷ cs) (k ∷ os) (a ∷ row) [] m o t c = absurd c
-  row_read number at (x ∷ cs) (k ∷ os) (a ∷ row) (b ∷ bs) m o t c =
-      let one = at_column x.ty x.enc k a b m.0 o.0 t.0 c.0 in
-      let rest = row_read number (at + 1) cs os row bs m.1 o.1 t.1 c.1 in
+  row_read number at [] [] [] [] o t c = (refl, refl)
+  row_read number at [] [] [] (b ∷ bs) o t c = absurd c
+  row_read number at [] [] (a ∷ row) bs o t c = absurd c
+  row_read number at [] (k ∷ os) row bs o t c = absurd o
+  row_read number at (x ∷ cs) [] row bs o t c = absurd o
+  row_read number at (x ∷ cs) (k ∷ os) [] bs o t c = absurd t
+  row_read number at (x ∷ cs) (k ∷ os) (a ∷ row) [] o t c = absurd c
+  row_read number at (x ∷ cs) (k ∷ os) (a ∷ row) (b ∷ bs) o t c =
+      let one = at_column x.ty x.enc k a b o.0 t.0 c.0 in
+      let rest = row_read number (at + 1) cs os row bs o.1 t.1 c.1 in
       let p = one.0 in
       let q = one.1 in
       let y = rest.0 in
@@ -131,36 +139,21 @@ module _ (keys : KeyMap) (cell : List ℕ → Bool) (history metas : List KeyMet
       (rw (p, y) refl, rw (q, z) refl)
 
   -- all rows are heard, and then their end
-  pub rows_opened : (columns : List ResultColumn) (os : List (Option Keys)) → AreTold columns → AreOpened (AnswersOf keys) metas columns os → (rows others : List (List Atom)) → All (AllZip (IsAt cell) columns) rows
-      → AllZip (RowsCorrespond (Standing keys history) (map class_of_result columns)) rows others → (titles : List (List ℕ)) (before : List (List Value)) (count total taken : ℕ) → total ≡ count + length rows
+  pub rows_opened : (columns : List ResultColumn) (os : List (Option Keys)) → AreOpened (AnswersOf keys) metas columns os → (rows others : List (List Atom)) → All (AllZip (IsAt cell) columns) rows
+      → AllZip (RowsCorrespond (Standing key_for) (map class_of_result columns)) rows others → (titles : List (List ℕ)) (before : List (List Value)) (count total taken : ℕ) → total ≡ count + length rows
       → (n : ℕ) × (listen (map Row rows ++ Ended (Answered total) ∷ []) (Reading (types_shown columns) os count) (record { titles = titles; rows = before }) taken
       ≡ Caught (Said (Some (outcome.Rows (record { titles = titles; rows = before ++ map (map value_of) others }))) Idle) n [])
-  rows_opened columns os m o [] [] a c titles before count total taken e =
+  rows_opened columns os o [] [] a c titles before count total taken e =
       let same : total ≡ count = omega (arith, e) in
       let t = eq-eqb total count same in
       let n = append-nil before in
       (suc taken, rw (t, n) refl)
-  rows_opened columns os m o (row ∷ rows) (other ∷ others) a c titles before count total taken e =
-      let r = row_read (count + 1) 1 columns os row other m o (All-head (AllZip (IsAt cell) columns) row rows a) c.0 in
+  rows_opened columns os o (row ∷ rows) (other ∷ others) a c titles before count total taken e =
+      let r = row_read (count + 1) 1 columns os row other o (All-head (AllZip (IsAt cell) columns) row rows a) c.0 in
       let x = r.0 in
       let y = r.1 in
       let s : total ≡ (count + 1) + length rows = e ∙ sym (count_rows count row rows) in
-      let more = rows_opened columns os m o rows others (All-tail (AllZip (IsAt cell) columns) row rows a) c.1 titles (before ++ map value_of other ∷ []) (count + 1) total (suc taken) s in
+      let more = rows_opened columns os o rows others (All-tail (AllZip (IsAt cell) columns) row rows a) c.1 titles (before ++ map value_of other ∷ []) (count + 1) total (suc taken) s in
       let z = append_assoc before (map value_of other ∷ []) (map (map value_of) others) in
       (more.0, rw (x, y) (more.1 ∙ ap (λ xs. Caught (Said (Some (outcome.Rows (record { titles = titles; rows = xs }))) Idle) more.0 []) z))
-  rows_opened columns os m o rows others a c titles before count total taken e = absurd c
-
-  -- what can't be read is skipped to its end
-  pub rows_skipped : (columns : List ResultColumn) (rows others : List (List Atom)) → All (AllZip (IsAt cell) columns) rows → AllZip (RowsCorrespond (Standing keys history) (map class_of_result columns)) rows others
-      → (shown : Listing) (count total taken : ℕ) → total ≡ count + length rows
-      → (n : ℕ) × (listen (map Row rows ++ Ended (Answered total) ∷ []) (Skipping (types_shown columns) count) shown taken ≡ Caught (Said None Idle) n [])
-  rows_skipped columns [] [] a c shown count total taken e =
-      let same : total ≡ count = omega (arith, e) in
-      let t = eq-eqb total count same in
-      (suc taken, rw t refl)
-  rows_skipped columns (row ∷ rows) (other ∷ others) a c shown count total taken e =
-      let x = row_awaited cell (Standing keys history) (standing_cells keys history) columns row other (All-head (AllZip (IsAt cell) columns) row rows a) c.0 in
-      let s : total ≡ (count + 1) + length rows = e ∙ sym (count_rows count row rows) in
-      let more = rows_skipped columns rows others (All-tail (AllZip (IsAt cell) columns) row rows a) c.1 shown (count + 1) total (suc taken) s in
-      (more.0, rw x more.1)
-  rows_skipped columns rows others a c shown count total taken e = absurd c
+  rows_opened columns os o rows others a c titles before count total taken e = absurd c

@@ -81,6 +81,17 @@ pub data AreSealedBy (IsKey : KeyMeta → Result Keys DriverFault → Type 0) (m
 abbrev pub AreSealed : KeyMap → List KeyMeta → List Use → List SentParam → Type 0
 AreSealed keys metas us sent = AreSealedBy (AnswersOf keys) metas us sent
 
+module _ (IsKey IsOther : KeyMeta → Result Keys DriverFault → Type 0) (more : (m : KeyMeta) (r : Result Keys DriverFault) → IsKey m r → IsOther m r) (metas : List KeyMeta) where
+  value_as : (e : Enc) (t : Ty) (v : Value) (a : Atom) → IsSealedBy IsKey metas e t v a → IsSealedBy IsOther metas e t v a
+  value_as enc.Plain t v a h = h
+  value_as (enc.Det id) t v a h = (h.0, more (meta_of metas id) (Ok h.0) h.1, h.2)
+  value_as (enc.Rnd id) t v a h = (h.0, more (meta_of metas id) (Ok h.0) h.1, h.2)
+
+  -- what is sealed by keys that are answered so is sealed by those that are answered otherwise
+  pub sealed_as : (us : List Use) (sent : List SentParam) → AreSealedBy IsKey metas us sent → AreSealedBy IsOther metas us sent
+  sealed_as _ _ none_sealed = none_sealed
+  sealed_as _ _ (one_sealed u a us sent s rest) = one_sealed u a us sent (value_as u.enc u.param.declaration.ty u.param.value a s) (sealed_as us sent rest)
+
 -- the key of a column, none for a plain one
 abbrev pub OpensAt : (KeyMeta → Result Keys DriverFault → Type 0) → Enc → Option Keys → List KeyMeta → Type 0
 OpensAt IsKey enc.Plain o metas = o ≡ None

@@ -9,7 +9,7 @@ use Rattle.ae_base.specs.declared.types.Ty.TheVariants as ty
 use Rattle.ae_base.specs.declared.values.Datum.TheVariants.{Num}
 use Rattle.ae_base.specs.declared.values.Value.TheVariants as value
 use Rattle.ae_edge.specs.Vaults.{KeyMap}
-use Rattle.key_store.specs.Opening.{opened}
+use Rattle.key_store.specs.Opening.{column_key, open_key, opened}
 use Rattle.sql_grammar.specs.Parse.{operand_in, inner_in}
 use Rattle.sql_grammar.specs.Texts.{tree_of, statement_in}
 use Rattle.semantic_checks.specs.Checks.{check_of}
@@ -46,17 +46,17 @@ one_number title n = Rows (record { titles = title ∷ []; rows = (value.Is (Num
 abbrev shows : List ℕ → ℕ → Enc → List ℕ → Came
 shows title n enc wrapped = record { comes = one_number title n; columns = record { title = title; ty = ty.Int; enc = enc } ∷ []; held = None; state = filled wrapped }
 
-module _ (master wrapped key : List ℕ) (unwraps : opened (vault master) (codes "main") wrapped ≡ Some key) where
+module _ (master wrapped key : List ℕ) (unwraps : opened (vault master) (record { path = codes "main"; wrapped = wrapped }) ≡ Some key) where
   inserted : means (vault master) insertion None (keyed wrapped) ≡ came (Changed 1) None (filled wrapped)
-  unfolding understood statement_in tree_of operand_in inner_in bind check_of inferred_encs least has_typing clash_behind rules encode
+  unfolding understood statement_in tree_of operand_in inner_in bind check_of inferred_encs least has_typing clash_behind rules encode open_key column_key
   inserted = rw unwraps refl
 
   found : means (vault master) selection None (filled wrapped) ≡ shows (codes "b") 7 enc.Plain wrapped
-  unfolding understood statement_in tree_of operand_in inner_in bind check_of inferred_encs least has_typing clash_behind rules encode
+  unfolding understood statement_in tree_of operand_in inner_in bind check_of inferred_encs least has_typing clash_behind rules encode open_key column_key
   found = rw unwraps refl
 
   listed : means (vault master) listing None (filled wrapped) ≡ shows (codes "a") 5 (enc.Det 1) wrapped
-  unfolding understood statement_in tree_of operand_in inner_in bind check_of inferred_encs least has_typing clash_behind rules encode
+  unfolding understood statement_in tree_of operand_in inner_in bind check_of inferred_encs least has_typing clash_behind rules encode open_key column_key
   listed = rw unwraps refl
 
   pub an_opened_column : reference (vault master) (insertion ∷ selection ∷ listing ∷ []) nothing_held (keyed wrapped) ≡ Changed 1 ∷ one_number (codes "b") 7 ∷ one_number (codes "a") 5 ∷ []

@@ -3,12 +3,14 @@
 use Rattle.std.specs.Prelude.{◌≡◌, ℕ, pos, List, [], ◌∷◌, map, None, false, codes, replicate, refl}
 use lib.Utf8.{encode}
 use Rattle.ae_base.specs.Atoms.{Atom}
+use Rattle.ae_base.specs.OneOrTwo.{only}
 use Rattle.ae_base.specs.declared.batches.Param.{Param}
 use Rattle.ae_base.specs.declared.faults.SqlFault.TheVariants.{Moved, Conflict, NoTransaction}
 use Rattle.ae_base.specs.declared.types.Enc.TheVariants as enc
 use Rattle.ae_base.specs.declared.types.Ty.TheVariants as ty
 use Rattle.ae_base.specs.declared.values.Datum.TheVariants.{Num}
 use Rattle.ae_base.specs.declared.values.Value.TheVariants as value
+use Rattle.key_store.specs.Opening.{column_key, open_key}
 use Rattle.sql_grammar.specs.Parse.{operand_in, inner_in}
 use Rattle.sql_grammar.specs.Texts.{tree_of, statement_in}
 use Rattle.semantic_checks.specs.Checks.{check_of}
@@ -107,7 +109,7 @@ a_value_that_does_not_fit = refl
 abbrev pub keyed_catalog : List ℕ → Catalog
 keyed_catalog wrapped = record {
   masters = record { name = codes "M"; path = codes "main" } ∷ [];
-  keys = record { id = 1; name = codes "K"; master = codes "M"; wrapped = wrapped } ∷ [];
+  keys = record { id = 1; name = codes "K"; values = only (record { master = codes "M"; wrapped = wrapped }) } ∷ [];
   tables = record {
     name = codes "t";
     columns = record { name = codes "a"; ty = ty.Int; enc = enc.Det 1; not_null = false } ∷ record { name = codes "b"; ty = ty.Int; enc = enc.Plain; not_null = false } ∷ [];
@@ -142,5 +144,5 @@ pub a_protected_column : (wrapped : List ℕ) →
     ∷ Rows (record { titles = codes "b" ∷ []; rows = (value.Is (Num (pos 7)) ∷ []) ∷ [] })
     ∷ Failed (NoMasterKey (codes "main"))
     ∷ []
-unfolding understood statement_in tree_of operand_in inner_in bind check_of inferred_encs least has_typing clash_behind rules encode
+unfolding understood statement_in tree_of operand_in inner_in bind check_of inferred_encs least has_typing clash_behind rules encode open_key column_key
 a_protected_column wrapped = refl

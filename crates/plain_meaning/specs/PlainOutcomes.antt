@@ -23,3 +23,8 @@ IsPlainOutcome (Broken listing why) = ⊥
 IsPlainOutcome (Refused f) = IsPlainFault f
 IsPlainOutcome (Failed f) = IsPlainFailure f
 IsPlainOutcome other = Unit {0}
+
+-- a refusal is such a fault
+abbrev pub IsPlainRefusal : Outcome → Type 0
+IsPlainRefusal (Refused f) = IsPlainFault f
+IsPlainRefusal other = Unit {0}

@@ -3,12 +3,11 @@
 ghost use Rattle.plain_meaning.specs.Below.{LawsBelow};
 ghost use Rattle.plain_meaning.specs.Laws.{CellsNeverFail, RepliesAreAwaited, ServedIsPlain};
 
-use catalog::laws::{
-    definitions_are_followed, definitions_keep_catalogs, ids_are_not_reused, keys_are_told,
-};
+use catalog::laws::definitions_keep_catalogs;
 use cell_codec::{derived_keys_are_keys, sealing_is_read_back, sealing_makes_cells};
 use enc_types::laws::typings_are_of_columns;
-use engine::laws::{rows_are_shown, step_keeps_worlds, typed_statements_are_admitted};
+use engine::laws::typed_statements_are_admitted;
+use key_store::opened_are_keys;
 use resolve::laws::{bound_statements_are, prepared_alone};
 use transactions::laws::{transactions_keep_stores, transactions_simulate};
 use value_norm::{norm_is_bounded, value_of_is_the_one};
@@ -21,14 +20,10 @@ pub fn laws_below()
     prepared_alone();
     typings_are_of_columns();
     typed_statements_are_admitted();
-    step_keeps_worlds();
     transactions_keep_stores();
-    rows_are_shown();
     transactions_simulate();
     definitions_keep_catalogs();
-    ids_are_not_reused();
-    definitions_are_followed();
-    keys_are_told();
+    opened_are_keys();
     sealing_is_read_back();
     sealing_makes_cells();
     derived_keys_are_keys();
@@ -38,8 +33,9 @@ pub fn laws_below()
 
 /// Over a fresh server the conversation of each script comes to the script's plaintext meaning, or
 /// to a front of it where random bytes are short; no reply is one that isn't awaited. So it is
-/// whatever columns are protected, over proper values and random bytes: a cell stands for the value
-/// that it opens to under its class's key, and in a deterministic class it is that value's seal.
+/// whatever columns are protected, over proper values and random bytes, where all values that a
+/// column key ever has open to one key, as far as they open: a cell stands for the value that it
+/// opens to under that key, and in a deterministic class it is that value's seal.
 pub fn served_is_plain()
     ensures { ServedIsPlain }
 {
@@ -55,9 +51,11 @@ pub fn replies_are_awaited()
 }
 
 /// No outcome of a plaintext meaning is `CellFailed`, `BadCell` or `ParamClash`, and no answer of it
-/// breaks off. So over a fresh server no script comes to one.
+/// breaks off. So over a fresh server no script comes to one, where all values of a column key that
+/// open do so to one key. Whatever they open to, none comes to `BadCell` or `ParamClash`.
 pub fn cells_never_fail()
     ensures { CellsNeverFail }
 {
+    laws_below();
     served_is_plain();
 }

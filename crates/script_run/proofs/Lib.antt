@@ -1,6 +1,7 @@
 mod Awaited
 mod Fetched
 mod Framed
+mod Fronts
 mod Heeded
 pub mod Interface
 mod Lacking
@@ -13,6 +14,7 @@ mod Places
 mod Plainly
 mod Queued
 mod RunsAre
+mod Saying
 mod Serving
 mod Summed
 mod Tapping

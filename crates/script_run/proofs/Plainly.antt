@@ -18,6 +18,7 @@ use Rattle.conversation.specs.Talk.{Talk, Ends, Stops, Asks, Hears, Draws, Opens
 use Rattle.conversation.proofs.Interface.{drawn_are_bytes}
 use Rattle.script_lang.specs.Limits.{IsProperStep, IsWithinLimits}
 use Rattle.script_lang.specs.declared.steps.Step.{Step}
+use Rattle.plain_meaning.specs.Alike.{Alike}
 use Rattle.plain_meaning.specs.Laws.{EndsWith, Agrees, ServedIsPlain}
 use Rattle.plain_meaning.specs.Steps.{talk}
 use Rattle.outcome_text.specs.Counting.{errors_in, rows_in, nothing, has_errors, counted}
@@ -83,33 +84,37 @@ quiet_front : (outcomes last wanted : List Outcome) → last ≡ [] → IsFront 
 quiet_front outcomes last wanted n h = subst (λ xs. IsFront xs wanted) (sym (ap (λ xs. outcomes ++ xs) n ∙ append-nil outcomes)) h
 
 -- what was drawn is bytes
-drew_bytes : (t u : Talk) (events : List Event) → Follows t events u → AreBytes (flat_map drawn_in events ++ [])
+pub drew_bytes : (t u : Talk) (events : List Event) → Follows t events u → AreBytes (flat_map drawn_in events ++ [])
 drew_bytes t u events f = subst AreBytes (sym (append-nil (flat_map drawn_in events))) (drawn_are_bytes t u events f)
 
-module _ (keys : KeyMap) (steps : List Step) (wanted : List Outcome) (agrees : (entropy : List ℕ) → AreBytes entropy → Agrees (over serve keys (talk steps nobody) 0 entropy empty_state []) wanted) where
+module _ (keys : KeyMap) (steps : List Step) where
   pub record Reached (u : Talk) (events : List Event) (left : List Reply) : Type 0 where
     pub state : State
     pub taken : ℕ
     pub is : over serve keys (talk steps nobody) 0 (flat_map drawn_in events ++ []) empty_state [] ≡ ahead events (over serve keys u taken [] state left)
 
-  module _ (u : Talk) (old new : Outside) (st : Starts keys old) (g : Proceeds (talk steps nobody) u old new) where
-    reached : Reached u g.events new.wire.waiting
-    reached =
-        let v = served g.events old.wire.state new.wire.state empty_state st.state g.put.wire.state in
-        let q : Waits g.events [] new.wire.waiting = subst (λ q. Waits g.events q new.wire.waiting) st.waiting (waits_of g.events old.wire.stream new.wire.stream old.wire.waiting new.wire.waiting st.queue g.read.wire.comes) in
-        let o : OpensAll g.events keys = subst (λ x. IfSome x (OpensAll g.events)) st.keys g.put.client.opened in
-        record {
-          state = v.0;
-          taken = 0 + length (flat_map taken_in g.events);
-          is = path_passes keys (talk steps nobody) u g.events g.follows [] new.wire.waiting q o empty_state v.0 v.1 0 [];
-        }
+  pub reached : (u : Talk) (old new : Outside) → Starts keys old → (g : Proceeds (talk steps nobody) u old new) → Reached u g.events new.wire.waiting
+  reached u old new st g =
+      let v = served g.events old.wire.state new.wire.state empty_state st.state g.put.wire.state in
+      let q : Waits g.events [] new.wire.waiting = subst (λ q. Waits g.events q new.wire.waiting) st.waiting (waits_of g.events old.wire.stream new.wire.stream old.wire.waiting new.wire.waiting st.queue g.read.wire.comes) in
+      let o : OpensAll g.events keys = subst (λ x. IfSome x (OpensAll g.events)) st.keys g.put.client.opened in
+      record {
+        state = v.0;
+        taken = 0 + length (flat_map taken_in g.events);
+        is = path_passes keys (talk steps nobody) u g.events g.follows [] new.wire.waiting q o empty_state v.0 v.1 0 [];
+      }
 
-    ahead_agrees : (r : Reached u g.events new.wire.waiting) → Agrees (ahead g.events (over serve keys u r.taken [] r.state new.wire.waiting)) wanted
+module _ (keys : KeyMap) (steps : List Step) (wanted : List Outcome) (agrees : (entropy : List ℕ) → AreBytes entropy → Agrees (over serve keys (talk steps nobody) 0 entropy empty_state []) wanted) where
+  module _ (u : Talk) (old new : Outside) (st : Starts keys old) (g : Proceeds (talk steps nobody) u old new) where
+    abbrev from_here : Reached keys steps u g.events new.wire.waiting
+    from_here = reached keys steps u old new st g
+
+    ahead_agrees : (r : Reached keys steps u g.events new.wire.waiting) → Agrees (ahead g.events (over serve keys u r.taken [] r.state new.wire.waiting)) wanted
     ahead_agrees r = subst (λ p. Agrees p wanted) r.is (agrees (flat_map drawn_in g.events ++ []) (drew_bytes (talk steps nobody) u g.events g.follows))
 
     goes_front : IsFront (flat_map outcome_in g.events) wanted
     goes_front =
-        let r = reached in
+        let r = from_here in
         let p = over serve keys u r.taken [] r.state new.wire.waiting in
         front_means p.end (flat_map outcome_in g.events) (flat_map outcome_in g.events ++ p.outcomes) p.outcomes wanted refl (ahead_agrees r)
 
@@ -121,7 +126,7 @@ module _ (keys : KeyMap) (steps : List Step) (wanted : List Outcome) (agrees : (
     -- with a print that is cut
     print_front : (comes : Outcome) (v : Talk) → Follows u (Printed comes ∷ []) v → IsFront (flat_map outcome_in g.events ++ comes ∷ []) wanted
     print_front comes v f =
-        let r = reached in
+        let r = from_here in
         let p = over serve keys u r.taken [] r.state new.wire.waiting in
         let q = over serve keys v (r.taken + 0) [] r.state new.wire.waiting in
         let i : p ≡ ahead (Printed comes ∷ []) q = path_passes keys u v (Printed comes ∷ []) f new.wire.waiting new.wire.waiting refl tt r.state r.state refl r.taken [] in
@@ -151,7 +156,7 @@ module _ (keys : KeyMap) (steps : List Step) (wanted : List Outcome) (agrees : (
 
     never_stuck : IsStuck u new.wire.waiting → ⊥
     never_stuck s =
-        let r = reached in
+        let r = from_here in
         let p = over serve keys u r.taken [] r.state new.wire.waiting in
         let b = stuck_ends keys u r.taken r.state new.wire.waiting s in
         subst (λ e. EndsWith e (flat_map outcome_in g.events ++ p.outcomes) wanted) b.1 (ahead_agrees r)
@@ -161,7 +166,7 @@ module _ (keys : KeyMap) (steps : List Step) (wanted : List Outcome) (agrees : (
   module _ (old new : Outside) (st : Starts keys old) where
     done_is : (sessions : List Session) (g : Proceeds (talk steps nobody) (Ends sessions) old new) → new.wire.waiting ≡ [] → flat_map outcome_in g.events ≡ wanted
     done_is sessions g e =
-        let r = reached (Ends sessions) old new st g in
+        let r = reached keys steps (Ends sessions) old new st g in
         let a = ahead_agrees (Ends sessions) old new st g r in
         let b : (flat_map outcome_in g.events ++ []) ≡ wanted = subst (λ w. EndsWith (end_at sessions r.taken w) (flat_map outcome_in g.events ++ []) wanted) e a in
         sym (append-nil (flat_map outcome_in g.events)) ∙ b
@@ -190,9 +195,9 @@ module _ (keys : KeyMap) (steps : List Step) (wanted : List Outcome) (agrees : (
 
 -- ---- a run of a script
 
-module _ (law : ServedIsPlain) (keys : KeyMap) (steps : List Step) (limits : All IsWithinLimits steps) (proper : All IsProperStep steps) (old new : RunDevices) (state : old.state ≡ Some empty_state) (told : old.keys ≡ Some keys) where
+module _ (law : ServedIsPlain) (keys : KeyMap) (steps : List Step) (limits : All IsWithinLimits steps) (proper : All IsProperStep steps) (alike : Alike keys steps) (old new : RunDevices) (state : old.state ≡ Some empty_state) (told : old.keys ≡ Some keys) where
   agrees_so : (entropy : List ℕ) → AreBytes entropy → Agrees (over serve keys (talk steps nobody) 0 entropy empty_state []) (meaning keys steps)
-  agrees_so entropy are = law keys steps limits proper entropy are
+  agrees_so entropy are = law keys steps limits proper alike entropy are
 
   starts : (ended : Result (Unit {0}) Stop) (tally : Tally) (c : CameTo ended tally steps old new) → Starts keys (outside c.out c.entropy c.vault c.wire nothing [] 0 old)
   starts ended tally c = record { state = state; keys = told; waiting = refl; queue = refl }
@@ -232,13 +237,14 @@ pub one_script : (bytes : List ℕ) (steps others : List Step) → IsScript byte
 one_script bytes steps others s o = let a = s.read in let b = o.read in cc
 
 runs_so : (law : ServedIsPlain) (r : Ran) (count : Count) (keys : KeyMap) (bytes : List ℕ) (steps : List Step) (old new : RunDevices) → old.state ≡ Some empty_state → old.keys ≡ Some keys
-    → IsScript bytes steps → RunsSteps r count bytes old new → PrintsPlain r keys steps old.out new.out
-runs_so law r count keys bytes steps old new w k s h =
-    subst (λ ss. PrintsPlain r keys ss old.out new.out) (one_script bytes steps h.steps s h.script.script) (steps_plain law keys h.steps h.script.limits h.script.proper old new w k r count.tally h.runs)
+    → IsScript bytes steps → Alike keys steps → RunsSteps r count bytes old new → PrintsPlain r keys steps old.out new.out
+runs_so law r count keys bytes steps old new w k s alike h =
+    let one = one_script bytes steps h.steps s h.script.script in
+    subst (λ ss. PrintsPlain r keys ss old.out new.out) one (steps_plain law keys h.steps h.script.limits h.script.proper (subst (Alike keys) (sym one) alike) old new w k r count.tally h.runs)
 
 pub runs_plain : (law : ServedIsPlain) (r : Ran) (count : Count) (keys : KeyMap) (bytes : List ℕ) (steps : List Step) (old new : RunDevices) → old.state ≡ Some empty_state → old.keys ≡ Some keys
-    → IsScript bytes steps → RunsScript r count bytes old new → PrintsPlain r keys steps old.out new.out
-runs_plain law ran.Done count keys bytes steps old new w k s h = runs_so law ran.Done count keys bytes steps old new w k s h
-runs_plain law ran.Refusals count keys bytes steps old new w k s h = runs_so law ran.Refusals count keys bytes steps old new w k s h
-runs_plain law (ran.Stopped why) count keys bytes steps old new w k s h = runs_so law (ran.Stopped why) count keys bytes steps old new w k s h
-runs_plain law (ran.Unread why) count keys bytes steps old new w k s h = ap (λ (x : RunDevices). x.out) h.1
+    → IsScript bytes steps → Alike keys steps → RunsScript r count bytes old new → PrintsPlain r keys steps old.out new.out
+runs_plain law ran.Done count keys bytes steps old new w k s alike h = runs_so law ran.Done count keys bytes steps old new w k s alike h
+runs_plain law ran.Refusals count keys bytes steps old new w k s alike h = runs_so law ran.Refusals count keys bytes steps old new w k s alike h
+runs_plain law (ran.Stopped why) count keys bytes steps old new w k s alike h = runs_so law (ran.Stopped why) count keys bytes steps old new w k s alike h
+runs_plain law (ran.Unread why) count keys bytes steps old new w k s alike h = ap (λ (x : RunDevices). x.out) h.1

@@ -17,6 +17,6 @@ run_of plain awaited law r count bytes old new h = record {
   content = h;
   complete = λ w steps s. runs_whole awaited r count bytes steps old new w s h;
   serial = λ w. runs_serially law r count bytes old new h w;
-  plain = λ w steps s keys k. runs_plain plain r count keys bytes steps old new w k s h;
+  plain = λ w steps s keys k alike. runs_plain plain r count keys bytes steps old new w k s alike h;
   transcript = λ w steps s keys k. runs_tap r count keys bytes steps old new w k s h;
 }

@@ -2,6 +2,7 @@
 use Rattle.std.proofs.Common.{◌≡◌, ◌≤◌, ◌⊎◌, ℕ, List, Option, Some, Ok, sym, ◌∙◌, subst, inl, inr, arith}
 use Rattle.ae_edge.specs.Devices.{Rose, WhereTold}
 use Rattle.ae_edge.specs.Vaults.{KeyMap}
+use Rattle.plain_meaning.specs.Alike.{Alike}
 use Rattle.plain_meaning.specs.Laws.{RepliesAreAwaited, ServedIsPlain}
 use Rattle.server_core.specs.Laws.{RequestsAreSerial}
 use Rattle.server_core.specs.Serve.{empty_state}
@@ -13,7 +14,7 @@ use Rattle.script_run.specs.declared.runs.Ran.{Ran}
 use Rattle.script_run.specs.declared.runs.Ran.TheVariants as ran
 use Rattle.script_source.specs.Scripts.{IsScript, TakesScript}
 use Rattle.script_run.specs.Ends.{RunDevices, CameTo, IsOfPeer, RunsSteps, RunsScript, read_by}
-use Rattle.script_run.specs.SummaryOf.{CountsIn, CountsPlain, IsSummaryOf, PutsText, Sums, silent}
+use Rattle.script_run.specs.SummaryOf.{CountsAsked, CountsPlain, IfEnded, IsSummaryOf, PutsText, Sums, silent}
 use Rattle.script_run.proofs.NoStray.{runs_whole}
 use Rattle.script_run.proofs.Plainly.{counts, one_script, runs_plain}
 use Rattle.script_run.proofs.Serving.{runs_serially}
@@ -21,22 +22,38 @@ use Rattle.script_run.proofs.Tapping.{asks, runs_tap}
 
 -- ---- what was counted
 
+asked_counts : (r : Ran) (count : Count) (keys : KeyMap) (bytes : List ℕ) (old new : RunDevices) → old.state ≡ Some empty_state → old.keys ≡ Some keys
+    → (h : RunsSteps r count bytes old new) → CameTo (Ok tt) count.tally h.steps old new → CountsAsked count keys h.steps old.entropy new.entropy
+asked_counts r count keys bytes old new w k h c = let a = asks keys h.steps old new w k count.tally c in record { step_count = h.counts; drawn = a.0; share = a.1; request_count = a.2 }
+
 came_counts : (law : ServedIsPlain) (r : Ran) (count : Count) (keys : KeyMap) (bytes : List ℕ) (old new : RunDevices) → old.state ≡ Some empty_state → old.keys ≡ Some keys
-    → (h : RunsSteps r count bytes old new) → CameTo (Ok tt) count.tally h.steps old new → CountsPlain count keys h.steps old.entropy new.entropy
-came_counts law r count keys bytes old new w k h c =
-    let n = counts law keys h.steps h.script.limits h.script.proper old new w k count.tally c in
-    let a = asks keys h.steps old new w k count.tally c in
-    record { step_count = h.counts; error_count = n.1; row_count = n.2; drawn = a.0; share = a.1; request_count = a.2 }
+    → (h : RunsSteps r count bytes old new) → Alike keys h.steps → CameTo (Ok tt) count.tally h.steps old new → CountsPlain count keys h.steps
+came_counts law r count keys bytes old new w k h alike c =
+    let n = counts law keys h.steps h.script.limits h.script.proper alike old new w k count.tally c in
+    record { error_count = n.1; row_count = n.2 }
 
-module _ (law : ServedIsPlain) (count : Count) (keys : KeyMap) (bytes : List ℕ) (steps : List Step) (old new : RunDevices) (w : old.state ≡ Some empty_state) (k : old.keys ≡ Some keys) (s : IsScript bytes steps) where
-  abbrev Counts : List Step → Type 0
-  Counts ss = CountsPlain count keys ss old.entropy new.entropy
+module _ (count : Count) (keys : KeyMap) (bytes : List ℕ) (steps : List Step) (old new : RunDevices) (w : old.state ≡ Some empty_state) (k : old.keys ≡ Some keys) (s : IsScript bytes steps) where
+  module _ (r : Ran) (h : RunsSteps r count bytes old new) (c : CameTo (Ok tt) count.tally h.steps old new) where
+    abbrev one : h.steps ≡ steps
+    one = one_script bytes steps h.steps s h.script.script
 
-  pub runs_count : (r : Ran) → RunsScript r count bytes old new → CountsIn r count keys steps old.entropy new.entropy
-  runs_count ran.Done h = subst Counts (one_script bytes steps h.steps s h.script.script) (came_counts law ran.Done count keys bytes old new w k h h.runs.0)
-  runs_count ran.Refusals h = subst Counts (one_script bytes steps h.steps s h.script.script) (came_counts law ran.Refusals count keys bytes old new w k h h.runs.0)
-  runs_count (ran.Stopped why) h = tt
-  runs_count (ran.Unread why) h = tt
+    asked_so : CountsAsked count keys steps old.entropy new.entropy
+    asked_so = subst (λ ss. CountsAsked count keys ss old.entropy new.entropy) one (asked_counts r count keys bytes old new w k h c)
+
+    counted_so : ServedIsPlain → Alike keys steps → CountsPlain count keys steps
+    counted_so law alike = subst (CountsPlain count keys) one (came_counts law r count keys bytes old new w k h (subst (Alike keys) (sym one) alike) c)
+
+  pub runs_ask : (r : Ran) → RunsScript r count bytes old new → IfEnded r (CountsAsked count keys steps old.entropy new.entropy)
+  runs_ask ran.Done h = asked_so ran.Done h h.runs.0
+  runs_ask ran.Refusals h = asked_so ran.Refusals h h.runs.0
+  runs_ask (ran.Stopped why) h = tt
+  runs_ask (ran.Unread why) h = tt
+
+  pub runs_count : ServedIsPlain → Alike keys steps → (r : Ran) → RunsScript r count bytes old new → IfEnded r (CountsPlain count keys steps)
+  runs_count law alike ran.Done h = counted_so ran.Done h h.runs.0 law alike
+  runs_count law alike ran.Refusals h = counted_so ran.Refusals h h.runs.0 law alike
+  runs_count law alike (ran.Stopped why) h = tt
+  runs_count law alike (ran.Unread why) h = tt
 
 pub summary_of : (plain : ServedIsPlain) (awaited : RepliesAreAwaited) (law : RequestsAreSerial) (ended r : Ran) (count : Count) (bytes : List ℕ) (old new : RunDevices) → RunsScript ended count bytes (silent old) (silent new)
     → Sums ended r (summary count.steps count.tally) old.out new.out old.out_faults new.out_faults → IsSummaryOf r bytes old new
@@ -47,11 +64,12 @@ summary_of plain awaited law ended r count bytes old new h s = record {
     content = h;
     complete = λ w steps script. runs_whole awaited ended count bytes steps (silent old) (silent new) w script h;
     serial = λ w. runs_serially law ended count bytes (silent old) (silent new) h w;
-    plain = λ w steps script keys k. runs_plain plain ended count keys bytes steps (silent old) (silent new) w k script h;
+    plain = λ w steps script keys k alike. runs_plain plain ended count keys bytes steps (silent old) (silent new) w k script alike h;
     transcript = λ w steps script keys k. runs_tap ended count keys bytes steps (silent old) (silent new) w k script h;
   };
   sums = s;
-  counts = λ w steps script keys k. runs_count plain count keys bytes steps (silent old) (silent new) w k script ended h;
+  asked = λ w steps script keys k. runs_ask count keys bytes steps (silent old) (silent new) w k script ended h;
+  counts = λ w steps script keys k alike. runs_count count keys bytes steps (silent old) (silent new) w k script plain alike ended h;
 }
 
 -- ---- how it ended, where the summary was put or not

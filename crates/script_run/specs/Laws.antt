@@ -4,17 +4,19 @@ use Rattle.std.specs.List.{All}
 use Rattle.ae_edge.specs.Devices.{AddsFront}
 use Rattle.conversation.specs.declared.outcomes.Outcome.{Outcome}
 use Rattle.outcome_text.specs.Printing.{print}
-use Rattle.plain_meaning.specs.PlainOutcomes.{IsPlainOutcome}
+use Rattle.plain_meaning.specs.PlainOutcomes.{IsPlainOutcome, IsPlainRefusal}
 use Rattle.script_run.specs.declared.runs.Ran.{Ran}
 use Rattle.script_run.specs.Ends.{RunDevices}
-use Rattle.script_run.specs.RunOf.{IsRunOf, WhereOpened}
+use Rattle.script_run.specs.RunOf.{IsRunOf, WhereAlike, WhereOpened}
 
--- the text of outcomes, or a front of it: none is a fault of cells or of parameters, and none breaks off
-pub record AddsPlainText (old new : Option (List ℕ)) : Type 0 where
+-- the text of outcomes that are so, or a front of it
+pub record AddsTextOf (IsSo : Outcome → Type 0) (old new : Option (List ℕ)) : Type 0 where
   pub outcomes : List Outcome
-  pub plain : All IsPlainOutcome outcomes
+  pub are : All IsSo outcomes
   pub text : AddsFront (print outcomes) old new
 
--- each run over a peer that serves from the empty state, with keys that are told, prints that
-abbrev pub RunsPrintPlainText : Type 0
-RunsPrintPlainText = (r : Ran) (bytes : List ℕ) (old new : RunDevices) → IsRunOf r bytes old new → WhereOpened old bytes (λ keys steps. AddsPlainText old.out new.out)
+-- Each run over a peer that serves from the empty state, with keys that are told, prints outcomes of which no refusal is of a parameter as it
+-- is sent; and where all values of a column key open to one key, none is a fault of cells either, and none breaks off.
+pub record RunsPrintPlainText : Type 0 where
+  pub refusals : (r : Ran) (bytes : List ℕ) (old new : RunDevices) → IsRunOf r bytes old new → WhereOpened old bytes (λ keys steps. AddsTextOf IsPlainRefusal old.out new.out)
+  pub outcomes : (r : Ran) (bytes : List ℕ) (old new : RunDevices) → IsRunOf r bytes old new → WhereAlike old bytes (λ keys steps. AddsTextOf IsPlainOutcome old.out new.out)

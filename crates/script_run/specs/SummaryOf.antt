@@ -10,7 +10,7 @@ use Rattle.script_run.specs.declared.runs.Ran.{Ran}
 use Rattle.script_run.specs.declared.runs.Ran.TheVariants as ran
 use Rattle.script_run.specs.Ends.{RunDevices}
 use Rattle.script_run.specs.Plain.{meaning}
-use Rattle.script_run.specs.RunOf.{IsRunOf, WhereOpened}
+use Rattle.script_run.specs.RunOf.{IsRunOf, WhereAlike, WhereOpened}
 use Rattle.script_run.specs.Transcript.{Drew, exchanges}
 
 -- with an output that tells nothing and doesn't fail
@@ -29,27 +29,31 @@ Sums ran.Refusals r text old new before now = PutsText ran.Refusals r text old n
 Sums (ran.Stopped why) r text old new before now = (r ≡ ran.Stopped why) × (new ≡ old)
 Sums (ran.Unread why) r text old new before now = (r ≡ ran.Unread why) × (new ≡ old)
 
--- the steps, the refusals and rows of what they mean over plain values, and the requests of their conversation over a server that serves
--- from the empty state, where these random bytes were drawn
-pub record CountsPlain (count : Count) (keys : KeyMap) (steps : List Step) (before after : Option (List ℕ)) : Type 0 where
+-- the steps, and the requests of their conversation over a server that serves from the empty state, where these random bytes were drawn
+pub record CountsAsked (count : Count) (keys : KeyMap) (steps : List Step) (before after : Option (List ℕ)) : Type 0 where
   pub step_count : count.steps ≡ length steps
-  pub error_count : count.tally.errors ≡ errors_in (meaning keys steps)
-  pub row_count : count.tally.rows ≡ rows_in (meaning keys steps)
   pub drawn : List ℕ
   pub share : Drew drawn before after
   pub request_count : count.tally.requests ≡ length (exchanges keys steps drawn)
 
+-- the refusals and rows of what the steps mean over plain values
+pub record CountsPlain (count : Count) (keys : KeyMap) (steps : List Step) : Type 0 where
+  pub error_count : count.tally.errors ≡ errors_in (meaning keys steps)
+  pub row_count : count.tally.rows ≡ rows_in (meaning keys steps)
+
 -- of a run that came to its end
-abbrev pub CountsIn : Ran → Count → KeyMap → List Step → Option (List ℕ) → Option (List ℕ) → Type 0
-CountsIn ran.Done count keys steps before after = CountsPlain count keys steps before after
-CountsIn ran.Refusals count keys steps before after = CountsPlain count keys steps before after
-CountsIn (ran.Stopped why) count keys steps before after = Unit {0}
-CountsIn (ran.Unread why) count keys steps before after = Unit {0}
+abbrev pub IfEnded : Ran → Type 0 → Type 0
+IfEnded ran.Done P = P
+IfEnded ran.Refusals P = P
+IfEnded (ran.Stopped why) P = Unit {0}
+IfEnded (ran.Unread why) P = Unit {0}
 
 -- It is a run whose text goes nowhere; where that came to its end, its summary was put. Over a peer that serves from the empty state, with
--- keys that are told, the summary counts the refusals and rows of plain SQL over the same values.
+-- keys that are told, the summary counts the requests of the conversation over that server; and where all values of a column key open to one
+-- key, it counts the refusals and rows of plain SQL over the same values.
 pub record IsSummaryOf (r : Ran) (bytes : List ℕ) (old new : RunDevices) : Type 0 where
   pub ran : Ran
   pub run : IsRunOf ran bytes (silent old) (silent new)
   pub sums : Sums ran r (summary run.count.steps run.count.tally) old.out new.out old.out_faults new.out_faults
-  pub counts : WhereOpened old bytes (λ keys steps. CountsIn ran run.count keys steps old.entropy new.entropy)
+  pub asked : WhereOpened old bytes (λ keys steps. IfEnded ran (CountsAsked run.count keys steps old.entropy new.entropy))
+  pub counts : WhereAlike old bytes (λ keys steps. IfEnded ran (CountsPlain run.count keys steps))

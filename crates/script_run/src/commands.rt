@@ -107,10 +107,10 @@ pub fn run<S: Source, V: Vault, E: Entropy, W: Sink, T: Sink, P: Peer>(
     // other devices of it, and why it was followed no further (`content`). Over a peer that serves
     // from the empty state: a good script is run to its end, unless memory or a device fails
     // (`complete`); its requests are served one after another, and transactions take effect one
-    // after another, each whole at its COMMIT (`serial`); and with keys that are told, the text is
-    // plain SQL's over the same values, whatever columns are protected (`plain`), and the tap has the
+    // after another, each whole at its COMMIT (`serial`); with keys that are told, the tap has the
     // frames of the conversation over that server, with the cells sealed under the random bytes that
-    // were drawn (`transcript`).
+    // were drawn (`transcript`); and where all values of a column key open to one key, the text is
+    // plain SQL's over the same values, whatever columns are protected (`plain`).
     ensures run { (bytes : List ℕ) × IfSome (S.left script.old) (λ left. bytes ≡ left)
         × IsRunOf result bytes
         (record {

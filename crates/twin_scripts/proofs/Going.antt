@@ -41,24 +41,22 @@ use Rattle.wire_messages.specs.Exchanges.{Exchange}
 use Rattle.wire_messages.specs.declared.replies.Done.TheVariants.{Answered}
 use Rattle.wire_messages.specs.declared.replies.Reply.{Reply}
 use Rattle.wire_messages.specs.declared.replies.Reply.TheVariants.{Row, Ended}
-use Rattle.plain_meaning.specs.Reference.{why_unopened}
+use Rattle.plain_meaning.specs.Alike.{Fits}
+use Rattle.plain_meaning.specs.Below.{LawsBelow}
 use Rattle.plain_meaning.specs.Reference as plain
-use Rattle.plain_meaning.proofs.Interface.{whole_count, Extends, Each, rows_opened, rows_skipped, AnswersOf, AreBoth, same_both, AreUsesAlike, none_used, one_used, with_value, types_shown, reading_goes, sixteen, IsMetaOf}
+use Rattle.plain_meaning.proofs.Interface.{whole_count, told_here, rows_opened, rows_skipped, AnswersOf, AreBoth, same_both, AreUsesAlike, none_used, one_used, with_value, types_shown, reading_goes, sixteen}
 use Rattle.twin_scripts.specs.Laws.{TwinOutcomes, AllTwinOutcomes, IsNotDry}
-use Rattle.twin_scripts.proofs.Gathered.{exchange_wider}
-use Rattle.twin_scripts.proofs.Twinning.{Twinning, twinning_longer, rows_stand}
+use Rattle.twin_scripts.proofs.Twinning.{Twinning, rows_stand}
 use Rattle.twin_scripts.specs.Twins.{AreTwinLiterals}
 
--- what passed corresponds under the keys that were made by then, and what was printed is paired at those columns
-pub record TwinPassed (keys : KeyMap) (literals : List Entry) (history : List KeyMeta) (columns : List (List ResultColumn)) (p q : Passed State) : Type 0 where
-  pub after : List KeyMeta
-  pub longer : Extends history after
-  pub exchanges : ExchangesCorrespond (Twinning keys literals after) p.exchanges q.exchanges
+-- what passed corresponds, and what was printed is paired at those columns
+pub record TwinPassed (key_for : ℕ → List ℕ) (literals : List Entry) (columns : List (List ResultColumn)) (p q : Passed State) : Type 0 where
+  pub exchanges : ExchangesCorrespond (Twinning key_for literals) p.exchanges q.exchanges
   pub outcomes : AllTwinOutcomes (Listing literals) columns p.outcomes q.outcomes
 
 -- where random bytes sufficed in both
-abbrev pub Goes : KeyMap → List Entry → List KeyMeta → List (List ResultColumn) → Passed State → Passed State → Type 0
-Goes keys literals history columns p q = IsNotDry p.end → IsNotDry q.end → TwinPassed keys literals history columns p q
+abbrev pub Goes : (ℕ → List ℕ) → List Entry → List (List ResultColumn) → Passed State → Passed State → Type 0
+Goes key_for literals columns p q = IsNotDry p.end → IsNotDry q.end → TwinPassed key_for literals columns p q
 
 -- ---- parameters that are twins
 
@@ -90,97 +88,89 @@ module _ (literals : List Entry) (twins : AreTwinLiterals literals) where
   uses_alike _ _ no_twins = none_used
   uses_alike _ _ (one_twin u v us xs h more) = one_used u v us xs (paired_both u.enc u.param.declaration.ty u.param.value v h) (uses_alike us xs more)
 
-module _ (keys : KeyMap) (literals : List Entry) (twins : AreTwinLiterals literals) where
-  pub asks_goes : (history later : List KeyMeta) → Extends history later → (columns : List (List ResultColumn)) (e f : Exchange) (p q : Passed State) → ExchangeCorresponds (Twinning keys literals history) e f
-      → Goes keys literals later columns p q → Goes keys literals history columns (passing e p) (passing f q)
-  asks_goes history later longer columns e f p q c g = λ a b.
-      let t = g a b in
-      let long : Extends history t.after = λ id m x. t.longer id m (longer id m x) in
-      record {
-        after = t.after;
-        longer = long;
-        exchanges = (exchange_wider (Twinning keys literals history) (λ c a b h. h.cells) (Twinning keys literals t.after) (twinning_longer keys literals history t.after long) e f c, t.exchanges);
-        outcomes = t.outcomes;
-      }
+module _ (laws : LawsBelow) (keys : KeyMap) (key_for : ℕ → List ℕ) (literals : List Entry) (twins : AreTwinLiterals literals) where
+  pub asks_goes : (columns : List (List ResultColumn)) (e f : Exchange) (p q : Passed State) → ExchangeCorresponds (Twinning key_for literals) e f
+      → Goes key_for literals columns p q → Goes key_for literals columns (passing e p) (passing f q)
+  asks_goes columns e f p q c g = λ a b. let t = g a b in record { exchanges = (c, t.exchanges); outcomes = t.outcomes }
 
-  pub prints_goes : (history : List KeyMeta) (own : List ResultColumn) (columns : List (List ResultColumn)) (comes other : Outcome) (p q : Passed State) → TwinOutcomes (Listing literals) own comes other
-      → Goes keys literals history columns p q → Goes keys literals history (own ∷ columns) (coming comes p) (coming other q)
-  prints_goes history own columns comes other p q o g = λ a b. let t = g a b in record { after = t.after; longer = t.longer; exchanges = t.exchanges; outcomes = (o, t.outcomes) }
+  pub prints_goes : (own : List ResultColumn) (columns : List (List ResultColumn)) (comes other : Outcome) (p q : Passed State) → TwinOutcomes (Listing literals) own comes other
+      → Goes key_for literals columns p q → Goes key_for literals (own ∷ columns) (coming comes p) (coming other q)
+  prints_goes own columns comes other p q o g = λ a b. let t = g a b in record { exchanges = t.exchanges; outcomes = (o, t.outcomes) }
 
   -- whatever random bytes are there, and however many replies were taken
-  abbrev pub AreFollowed : List KeyMeta → List (List ResultColumn) → State → State → List Reply → List Reply → Talk → Talk → Type 0
-  AreFollowed history columns w v queue others t u =
-      (n m : ℕ) (left right : List ℕ) → AreBytes left → AreBytes right → Goes keys literals history columns (over serve keys t n left w queue) (over serve keys u m right v others)
+  abbrev pub AreFollowed : List (List ResultColumn) → State → State → List Reply → List Reply → Talk → Talk → Type 0
+  AreFollowed columns w v queue others t u =
+      (n m : ℕ) (left right : List ℕ) → AreBytes left → AreBytes right → Goes key_for literals columns (over serve keys t n left w queue) (over serve keys u m right v others)
 
   -- ---- node by node
 
-  module _ (history : List KeyMeta) (columns : List (List ResultColumn)) (w v : State) (queue others : List Reply) where
-    pub opens : (meta : KeyMeta) (f g : Result Keys DriverFault → Talk) → ((r : Result Keys DriverFault) → AnswersOf keys meta r → AreFollowed history columns w v queue others (f r) (g r)) → AreFollowed history columns w v queue others (Opens meta f) (Opens meta g)
+  module _ (columns : List (List ResultColumn)) (w v : State) (queue others : List Reply) where
+    pub opens : (meta : KeyMeta) (f g : Result Keys DriverFault → Talk) → ((r : Result Keys DriverFault) → AnswersOf keys meta r → AreFollowed columns w v queue others (f r) (g r)) → AreFollowed columns w v queue others (Opens meta f) (Opens meta g)
     opens meta f g h = h (open_key keys meta) refl
 
-    pub draws : (f g : List ℕ → Talk) → ((iv vi : List ℕ) → IsBlock iv → IsBlock vi → AreFollowed history columns w v queue others (f iv) (g vi)) → AreFollowed history columns w v queue others (Draws f) (Draws g)
+    pub draws : (f g : List ℕ → Talk) → ((iv vi : List ℕ) → IsBlock iv → IsBlock vi → AreFollowed columns w v queue others (f iv) (g vi)) → AreFollowed columns w v queue others (Draws f) (Draws g)
     draws f g h = λ n m left right a b. at n m left right (nat_lt (length left) 16) (nat_lt (length right) 16) refl refl a b
       where
         at : (n m : ℕ) (left right : List ℕ) (b c : Bool) → nat_lt (length left) 16 ≡ b → nat_lt (length right) 16 ≡ c → AreBytes left → AreBytes right
-            → Goes keys literals history columns (passed_by (λ bytes l. over serve keys (f bytes) n l w queue) left w b) (passed_by (λ bytes r. over serve keys (g bytes) m r v others) right v c)
+            → Goes key_for literals columns (passed_by (λ bytes l. over serve keys (f bytes) n l w queue) left w b) (passed_by (λ bytes r. over serve keys (g bytes) m r v others) right v c)
         at n m left right true c e k a b = λ x y. absurd x
         at n m left right false true e k a b = λ x y. absurd y
         at n m left right false false e k a b = let s = sixteen left a e in let t = sixteen right b k in h (take 16 left) (take 16 right) s.0 t.0 n m (drop 16 left) (drop 16 right) s.1 t.1
 
-    pub says : (own : List ResultColumn) (comes second : Outcome) (t u : Talk) → TwinOutcomes (Listing literals) own comes second → AreFollowed history columns w v queue others t u
-        → AreFollowed history (own ∷ columns) w v queue others (Prints comes t) (Prints second u)
-    says own comes second t u o h = λ n m left right a b. prints_goes history own columns comes second _ _ o (h n m left right a b)
+    pub says : (own : List ResultColumn) (comes second : Outcome) (t u : Talk) → TwinOutcomes (Listing literals) own comes second → AreFollowed columns w v queue others t u
+        → AreFollowed (own ∷ columns) w v queue others (Prints comes t) (Prints second u)
+    says own comes second t u o h = λ n m left right a b. prints_goes own columns comes second _ _ o (h n m left right a b)
 
     hears : (before : Session) (shown beside : Shown) (f g : Heard → Talk) (heard second : Heard) → ((n : ℕ) → (l : ℕ) × (listen queue before shown n ≡ Caught heard l [])) → ((m : ℕ) → (r : ℕ) × (listen others before beside m ≡ Caught second r []))
-        → AreFollowed history columns w v [] [] (f heard) (g second) → AreFollowed history columns w v queue others (Hears before shown f) (Hears before beside g)
+        → AreFollowed columns w v [] [] (f heard) (g second) → AreFollowed columns w v queue others (Hears before shown f) (Hears before beside g)
     hears before shown beside f g heard second one two h = λ n m left right a b.
         at left right (listen queue before shown n) (listen others before beside m) (one n).0 (two m).0 (one n).1 (two m).1 (h (one n).0 (two m).0 left right a b)
       where
-        at : (left right : List ℕ) (x y : Listened) (l r : ℕ) → x ≡ Caught heard l [] → y ≡ Caught second r [] → Goes keys literals history columns (over serve keys (f heard) l left w []) (over serve keys (g second) r right v [])
-            → Goes keys literals history columns (passed_on (λ heard n more. over serve keys (f heard) n left w more) left w x) (passed_on (λ heard n more. over serve keys (g heard) n right v more) right v y)
+        at : (left right : List ℕ) (x y : Listened) (l r : ℕ) → x ≡ Caught heard l [] → y ≡ Caught second r [] → Goes key_for literals columns (over serve keys (f heard) l left w []) (over serve keys (g second) r right v [])
+            → Goes key_for literals columns (passed_on (λ heard n more. over serve keys (f heard) n left w more) left w x) (passed_on (λ heard n more. over serve keys (g heard) n right v more) right v y)
         at left right x y l r e i h = rw (e, i) h
 
   -- ---- an answer
 
-  module _ (history later : List KeyMeta) (here : Catalog) (now next : State) (k j : Session → Talk) (more : List (List ResultColumn)) (go : AreFollowed later more now next [] [] (k session.Idle) (j session.Idle)) where
+  module _ (here : Catalog) (fits : Fits keys key_for here) (now next : State) (k j : Session → Talk) (more : List (List ResultColumn)) (go : AreFollowed more now next [] [] (k session.Idle) (j session.Idle)) where
     abbrev rows_of : List (List Atom) → List Reply
     rows_of rows = map Row rows ++ Ended (Answered (length rows)) ∷ []
 
-    rows_goes : (columns : List ResultColumn) (rows others : List (List Atom)) → Each (λ (c : ResultColumn). IsMetaOf (keys_of here (plain.encs_shown columns)) history c.enc) columns → AreResults is_short columns rows → AreResults is_short columns others
-        → AllZip (RowsCorrespond (Twinning keys literals history) (map class_of_result columns)) rows others
-        → AreFollowed later (columns ∷ more) now next (rows_of rows) (rows_of others) (reading (header here columns) k) (reading (header here columns) j)
-    rows_goes columns rows others told typed types pairs =
+    rows_goes : (columns : List ResultColumn) (rows others : List (List Atom)) → AreResults is_short columns rows → AreResults is_short columns others
+        → AllZip (RowsCorrespond (Twinning key_for literals) (map class_of_result columns)) rows others
+        → AreFollowed (columns ∷ more) now next (rows_of rows) (rows_of others) (reading (header here columns) k) (reading (header here columns) j)
+    rows_goes columns rows others typed types pairs =
         let metas = keys_of here (plain.encs_shown columns) in
+        let told = told_here laws keys key_for here fits (plain.encs_shown columns) in
         let titles = titles_of (header here columns) in
-        let stand = rows_stand keys literals twins history (map class_of_result columns) rows others pairs in
+        let stand = rows_stand key_for literals twins (map class_of_result columns) rows others pairs in
         let listing : List (List Atom) → Outcome = λ rows. outcome.Rows (record { titles = titles; rows = map (map plain.value_of) rows }) in
         let none : Shown = record { titles = titles; rows = [] } in
         let skips : (Session → Talk) → Talk = λ k. rested k (session.Skipping (types_shown columns) 0) in
-        reading_goes (AnswersOf keys) (AreFollowed later (columns ∷ more) now next (rows_of rows) (rows_of others)) (opens later (columns ∷ more) now next (rows_of rows) (rows_of others)) here columns k j
+        reading_goes (AnswersOf keys) (AreFollowed (columns ∷ more) now next (rows_of rows) (rows_of others)) (opens (columns ∷ more) now next (rows_of rows) (rows_of others)) here columns k j
         (λ os opened_all opened.
-        hears later (columns ∷ more) now next (rows_of rows) (rows_of others) (session.Reading (types_shown columns) os 0) none none (rows_on k) (rows_on j) (Said (Some (listing stand.from)) session.Idle) (Said (Some (listing stand.to)) session.Idle)
-        (λ n. rows_opened keys is_short history metas columns os told opened rows stand.from typed stand.left titles [] 0 (length rows) n (whole_count rows))
-        (λ m. rows_opened keys is_short history metas columns os told opened others stand.to types stand.right titles [] 0 (length others) m (whole_count others))
-        (says later more now next [] [] columns (listing stand.from) (listing stand.to) (k session.Idle) (j session.Idle) (refl, stand.twins) go))
+        hears (columns ∷ more) now next (rows_of rows) (rows_of others) (session.Reading (types_shown columns) os 0) none none (rows_on k) (rows_on j) (Said (Some (listing stand.from)) session.Idle) (Said (Some (listing stand.to)) session.Idle)
+        (λ n. rows_opened keys is_short key_for metas told columns os opened rows stand.from typed stand.left titles [] 0 (length rows) n (whole_count rows))
+        (λ m. rows_opened keys is_short key_for metas told columns os opened others stand.to types stand.right titles [] 0 (length others) m (whole_count others))
+        (says more now next [] [] columns (listing stand.from) (listing stand.to) (k session.Idle) (j session.Idle) (refl, stand.twins) go))
         (λ f some.
-        says later more now next (rows_of rows) (rows_of others) columns (outcome.Failed f) (outcome.Failed f) (skips k) (skips j) refl
-        (hears later more now next (rows_of rows) (rows_of others) (session.Skipping (types_shown columns) 0) nothing_shown nothing_shown (over_on k) (over_on j) (Said None session.Idle) (Said None session.Idle)
-        (λ n. rows_skipped keys is_short history metas columns rows stand.from typed stand.left nothing_shown 0 (length rows) n (whole_count rows))
-        (λ m. rows_skipped keys is_short history metas columns others stand.to types stand.right nothing_shown 0 (length others) m (whole_count others)) go))
+        says more now next (rows_of rows) (rows_of others) columns (outcome.Failed f) (outcome.Failed f) (skips k) (skips j) refl
+        (hears more now next (rows_of rows) (rows_of others) (session.Skipping (types_shown columns) 0) nothing_shown nothing_shown (over_on k) (over_on j) (Said None session.Idle) (Said None session.Idle)
+        (λ n. rows_skipped is_short key_for columns rows stand.from typed stand.left nothing_shown 0 (length rows) n (whole_count rows))
+        (λ m. rows_skipped is_short key_for columns others stand.to types stand.right nothing_shown 0 (length others) m (whole_count others)) go))
 
     abbrev awaiting : (Session → Talk) → Talk
     awaiting k = Hears session.Sent nothing_shown (answered_on k)
 
-    pub answer_goes : (x y : Result Answer SqlFault) → BothAnswer (AnswersCorrespond (Twinning keys literals history)) x y → IsAnswerOf is_short x → IsAnswerOf is_short y
-        → ((columns : List ResultColumn) (rows : List (List Atom)) → x ≡ Ok (Rows columns rows) → Each (λ (c : ResultColumn). IsMetaOf (keys_of here (plain.encs_shown columns)) history c.enc) columns)
+    pub answer_goes : (x y : Result Answer SqlFault) → BothAnswer (AnswersCorrespond (Twinning key_for literals)) x y → IsAnswerOf is_short x → IsAnswerOf is_short y
         → let s = answered here x now in
         let t = answered here y next in
-        AreFollowed later (plain.columns_of x ∷ more) s.after t.after s.replies t.replies (awaiting k) (awaiting j)
-    answer_goes (Ok (Rows columns rows)) (Ok (Rows others besides)) c typed types told = λ n m left right a b.
+        AreFollowed (plain.columns_of x ∷ more) s.after t.after s.replies t.replies (awaiting k) (awaiting j)
+    answer_goes (Ok (Rows columns rows)) (Ok (Rows others besides)) c typed types = λ n m left right a b.
         let e = c.0 in
         let types2 : AreResults is_short columns besides = subst (λ cs. AreResults is_short cs besides) e types in
-        rw e (rows_goes columns rows besides (told columns rows refl) typed types2 c.1 (suc n) (suc m) left right a b)
-    answer_goes (Ok (Changed count)) (Ok (Changed other)) c typed types told = λ n m. says later more now next [] [] [] (outcome.Changed count) (outcome.Changed other) (k session.Idle) (j session.Idle) (ap outcome.Changed c) go (suc n) (suc m)
-    answer_goes (Ok Defined) (Ok Defined) c typed types told = λ n m. says later more now next [] [] [] outcome.Defined outcome.Defined (k session.Idle) (j session.Idle) refl go (suc n) (suc m)
-    answer_goes (Err f) (Err g) c typed types told = λ n m. says later more now next [] [] [] (outcome.Refused f) (outcome.Refused g) (k session.Idle) (j session.Idle) (ap outcome.Refused c) go (suc n) (suc m)
-    answer_goes x y c typed types told = absurd c
+        rw e (rows_goes columns rows besides typed types2 c.1 (suc n) (suc m) left right a b)
+    answer_goes (Ok (Changed count)) (Ok (Changed other)) c typed types = λ n m. says more now next [] [] [] (outcome.Changed count) (outcome.Changed other) (k session.Idle) (j session.Idle) (ap outcome.Changed c) go (suc n) (suc m)
+    answer_goes (Ok Defined) (Ok Defined) c typed types = λ n m. says more now next [] [] [] outcome.Defined outcome.Defined (k session.Idle) (j session.Idle) refl go (suc n) (suc m)
+    answer_goes (Err f) (Err g) c typed types = λ n m. says more now next [] [] [] (outcome.Refused f) (outcome.Refused g) (k session.Idle) (j session.Idle) (ap outcome.Refused c) go (suc n) (suc m)
+    answer_goes x y c typed types = absurd c

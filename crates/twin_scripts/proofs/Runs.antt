@@ -1,5 +1,5 @@
 -- Two runs of twin scripts: what passes in the one corresponds to what passes in the other.
-use Rattle.std.proofs.Common.{◌≡◌, inl, ℕ, suc, ◌-◌, List, [], ◌∷◌, map, Option, Some, None, Result, Ok, Err, Bool, true, false, cond, refl, sym, ap, ◌∙◌, subst}
+use Rattle.std.proofs.Common.{◌≡◌, ℕ, suc, ◌-◌, List, [], ◌∷◌, map, Option, Some, None, Result, Ok, Err, Bool, true, false, cond, refl, sym, ap, ◌∙◌, subst}
 use Rattle.std.specs.Prelude.{◌==◌}
 use Rattle.std.specs.List.{All, AllZip}
 use Rattle.std.proofs.lemmas.Bool.{eqb-true}
@@ -28,12 +28,11 @@ use Rattle.conversation.specs.declared.sessions.Session.{Session}
 use Rattle.conversation.specs.declared.sessions.Session.TheVariants as session
 use Rattle.conversation.proofs.Interface.{fit_fits}
 use Rattle.enc_types.specs.UsedAlone.{used_among, is_used, alone}
-use Rattle.catalog.specs.WellFormed.{IsCatalog}
 use Rattle.transactions.specs.Counted.{Execution, execution}
 use Rattle.transactions.specs.Stores.{Transacted, ask_of, transaction_at, transact}
 use Rattle.transactions.specs.Correspond.{StoresCorrespond}
 use Rattle.transactions.specs.WellKept.{IsStore}
-use Rattle.transactions.proofs.Interface.{transact_alike, asks_alike, seen_well, seen_alike, set_back, zip_at, zip_set}
+use Rattle.transactions.proofs.Interface.{transact_alike, asks_alike, seen_alike, zip_at, zip_set}
 use Rattle.engine.specs.Correspond.{AnswersCorrespond}
 use Rattle.engine.specs.Step.{Answer, Rows, Changed, Defined}
 use Rattle.engine.specs.Typed.{param_classes}
@@ -51,52 +50,52 @@ use Rattle.server_core.specs.States.{is_short}
 use Rattle.wire_messages.specs.Exchanges.{Exchange, Served}
 use Rattle.wire_messages.specs.declared.params.SentParam.{SentParam}
 use Rattle.wire_messages.specs.declared.requests.Request.TheVariants as request
+use Rattle.plain_meaning.specs.Alike.{Fits, FitThroughout}
 use Rattle.plain_meaning.specs.Reference.{Came, came, declarations_of, means, held_at, with_held}
 use Rattle.plain_meaning.specs.Reference as plain
 use Rattle.plain_meaning.specs.Steps.{number_of, turn, talk}
 use Rattle.plain_meaning.specs.Below.{LawsBelow}
-use Rattle.plain_meaning.proofs.Interface.{encs_alone, plain_atoms_of, execution_alone, is_ready, is_held, keys_told, stands_on, StandsFor, IsSendableParam, DescribedAs, HoldsBatch, HoldsIn, AllHold, seen_told, all_go, hold_place, stores_wider, resting, all_resting, at_resting, set_resting, IsTold, Extends, Standing, Each, told_among, all_fit, AnswersOf, AreSealed, none_sealed, one_sealed, encs_in, sealing_goes, unopened_is, IsMetaOf, transact_alone, tys_in, atoms_in, uses_sendable}
+use Rattle.plain_meaning.proofs.Interface.{encs_alone, plain_atoms_of, execution_alone, is_ready, is_held, keys_told, stands_on, StandsFor, IsSendableParam, DescribedAs, Always, HoldsBatch, HoldsIn, AllHold, stays_so, seen_fits, all_go, hold_place, resting, all_resting, at_resting, set_resting, Standing, Each, told_among, all_fit, AnswersOf, AreSealed, none_sealed, one_sealed, encs_in, sealing_goes, unopened_is, OpenAs, transact_alone, tys_in, atoms_in, uses_sendable}
 use Rattle.plain_meaning.proofs.Interface as plainly
 use Rattle.twin_scripts.specs.Twins.{AreTwinLiterals, AllTwinParams, encs_of_description, encs_where_fit, encs_described, TwinSteps, AreTwins}
-use Rattle.twin_scripts.proofs.Between.{untold_same, declarations_same, uses_twins, twin_few, twins_fit, twins_proper, other_fits, twin_of, AreTwinPending, AreTwinHeld, AllTwinHeld, all_longer, twin_described}
+use Rattle.twin_scripts.proofs.Between.{untold_same, declarations_same, uses_twins, twin_few, twins_fit, twins_proper, other_fits, twin_of, AreTwinPending, AreTwinHeld, AllTwinHeld, twin_described}
 use Rattle.twin_scripts.specs.Laws.{TwinOutcomes, columns_met}
 use Rattle.twin_scripts.proofs.Going.{Goes, TwinUses, no_twins, one_twin, uses_alike, AreFollowed, asks_goes, opens, draws, says, answer_goes}
-use Rattle.twin_scripts.proofs.Twinning.{Twinning, twinning_cells, twinning_one_to_one, twinning_longer, sent_where, sealed_twins}
+use Rattle.twin_scripts.proofs.Twinning.{Twinning, twinning_cells, twinning_one_to_one, sent_where, sealed_twins}
 
 -- the same is told of the parameters
 described_same : (R : Pairing) (metas : List KeyMeta) (us xs : List Use) → TwinUses R us xs → described_params metas xs ≡ described_params metas us
 described_same R metas _ _ no_twins = refl
 described_same R metas _ _ (one_twin u v us xs h more) = ap (λ ds. record { name = u.param.declaration.name; enc = named_enc metas u.enc } ∷ ds) (described_same R metas us xs more)
 
-module _ (laws : LawsBelow) (keys : KeyMap) (literals : List Entry) (twins : AreTwinLiterals literals) where
+module _ (laws : LawsBelow) (keys : KeyMap) (key_for : ℕ → List ℕ) (literals : List Entry) (twins : AreTwinLiterals literals) where
   -- ---- what is sent
 
-  record SentAlike (history : List KeyMeta) (us : List Use) (sent other : List SentParam) : Type 0 where
-    params : AllZip (ParamsCorrespond (Twinning keys literals history)) sent other
-    atoms : RowsCorrespond (Twinning keys literals history) (param_classes (tys_in us) (encs_in us)) (atoms_in sent) (atoms_in other)
+  record SentAlike (us : List Use) (sent other : List SentParam) : Type 0 where
+    params : AllZip (ParamsCorrespond (Twinning key_for literals)) sent other
+    atoms : RowsCorrespond (Twinning key_for literals) (param_classes (tys_in us) (encs_in us)) (atoms_in sent) (atoms_in other)
 
-  sent_twins : (history metas : List KeyMeta) (us xs : List Use) (sent other : List SentParam) → TwinUses (Listing literals) us xs → Each (IsMetaOf metas history) (encs_in us) → Each (λ (u : Use). IsSendableParam u.param) us
-      → Each (λ (u : Use). IsSendableParam u.param) xs → AreSealed keys metas us sent → AreSealed keys metas xs other → SentAlike history us sent other
-  sent_twins history metas _ _ _ _ no_twins m f g none_sealed none_sealed = record { params = tt; atoms = tt }
-  sent_twins history metas _ _ _ _ (one_twin u v us xs h more) m f g (one_sealed _ a _ sent s rest) (one_sealed _ b _ other t again) =
-      let R = Twinning keys literals history in
+  sent_twins : (metas : List KeyMeta) → OpenAs keys key_for metas → (us xs : List Use) (sent other : List SentParam) → TwinUses (Listing literals) us xs → Each (λ (u : Use). IsSendableParam u.param) us
+      → Each (λ (u : Use). IsSendableParam u.param) xs → AreSealed keys metas us sent → AreSealed keys metas xs other → SentAlike us sent other
+  sent_twins metas m _ _ _ _ no_twins f g none_sealed none_sealed = record { params = tt; atoms = tt }
+  sent_twins metas m _ _ _ _ (one_twin u v us xs h more) f g (one_sealed _ a _ sent s rest) (one_sealed _ b _ other t again) =
+      let R = Twinning key_for literals in
       let ty = u.param.declaration.ty in
-      let c : Correspond R (class_of ty u.enc) a b = sealed_twins laws.seals keys literals twins history metas ty u.enc u.param.value v a b m.0 f.0 g.0 s t h in
-      let all = sent_twins history metas us xs sent other more m.1 f.1 g.1 rest again in
-      record { params = ((refl, sent_where R (twinning_cells keys literals twins history) (class_of ty u.enc) a b c), all.params); atoms = (c, all.atoms) }
+      let c : Correspond R (class_of ty u.enc) a b = sealed_twins laws.seals keys key_for literals twins metas m ty u.enc u.param.value v a b f.0 g.0 s t h in
+      let all = sent_twins metas m us xs sent other more f.1 g.1 rest again in
+      record { params = ((refl, sent_where R (twinning_cells key_for literals twins) (class_of ty u.enc) a b c), all.params); atoms = (c, all.atoms) }
 
   -- ---- the states of two servers, the plain one of the first, and what goes on from them
 
-  pub record TwinStates (history : List KeyMeta) (state other walk : State) : Type 0 where
-    pub stands : StandsFor keys history state walk
+  pub record TwinStates (state other walk : State) : Type 0 where
+    pub stands : StandsFor keys key_for state walk
     pub right : IsStore is_short other
-    pub stores : StoresCorrespond (Twinning keys literals history) state other
+    pub stores : StoresCorrespond (Twinning key_for literals) state other
 
   -- the further steps' answers have these columns
-  abbrev Onward : List KeyMeta → State → ℕ → (Session → Talk) → (Session → Talk) → List (List ResultColumn) → (Option Pending → State → Type 0) → Type 0
-  Onward before state number k j more Rest = (after later : Option Pending) (now others walk : State) (history : List KeyMeta) → Extends before history
-      → TwinStates history now others walk → plainly.Goes laws keys state number now after → AreTwinHeld literals history after later → Rest after walk
-      → AreFollowed keys literals twins history more now others [] [] (k (resting after)) (j (resting later))
+  abbrev Onward : State → ℕ → (Session → Talk) → (Session → Talk) → List (List ResultColumn) → (Option Pending → State → Type 0) → Type 0
+  Onward state number k j more Rest = (after later : Option Pending) (now others walk : State) → TwinStates now others walk → plainly.Goes Always state number now after
+      → AreTwinHeld keys key_for literals after later → Rest after walk → AreFollowed laws keys key_for literals twins more now others [] [] (k (resting after)) (j (resting later))
 
   columns_same : (R : Pairing) (x y : Result Answer SqlFault) → BothAnswer (AnswersCorrespond R) x y → plain.columns_of y ≡ plain.columns_of x
   columns_same R (Ok (Rows columns rows)) (Ok (Rows others more)) h = h.0
@@ -105,28 +104,22 @@ module _ (laws : LawsBelow) (keys : KeyMap) (literals : List Entry) (twins : Are
   columns_same R (Err f) (Err g) h = refl
   columns_same R x y h = absurd h
 
-  module _ (w v walk : State) (number : ℕ) (history : List KeyMeta) (st : TwinStates history w v walk) (k j : Session → Talk) (own : List ResultColumn) (more : List (List ResultColumn))
-      (Rest : Option Pending → State → Type 0) (go : Onward history w number k j more Rest) where
+  module _ (w v walk : State) (number : ℕ) (fits : Fits keys key_for (catalog_of w number)) (st : TwinStates w v walk) (k j : Session → Talk) (own : List ResultColumn) (more : List (List ResultColumn))
+      (Rest : Option Pending → State → Type 0) (go : Onward w number k j more Rest) where
     abbrev here : Catalog
     here = catalog_of w number
 
     abbrev R : Pairing
-    R = Twinning keys literals history
+    R = Twinning key_for literals
 
     there_is : catalog_of v number ≡ here
     there_is = (seen_alike R w v number st.stores).worlds.catalog
 
     walk_is : catalog_of walk number ≡ here
-    walk_is = (seen_alike (Standing keys history) w walk number st.stands.stores).worlds.catalog
-
-    told_here : IsTold history here
-    told_here = seen_told keys history w walk number st.stands
-
-    well_here : IsCatalog here
-    well_here = (seen_well is_short w number st.stands.state).world.catalog
+    walk_is = (seen_alike (Standing key_for) w walk number st.stands.stores).worlds.catalog
 
     abbrev Held : Option Pending → Type 0
-    Held s = HoldsIn w.shared (transaction_at w number) s
+    Held s = HoldsIn Always w.shared (transaction_at w number) s
 
     nothing : Held None
     nothing = tt
@@ -135,13 +128,12 @@ module _ (laws : LawsBelow) (keys : KeyMap) (literals : List Entry) (twins : Are
     RestOf c = (own ≡ c.columns) × Rest c.held c.state
 
     abbrev Follow : Talk → Talk → Type 0
-    Follow t u = AreFollowed keys literals twins history (own ∷ more) w v [] [] t u
+    Follow t u = AreFollowed laws keys key_for literals twins (own ∷ more) w v [] [] t u
 
-    prints : (comes second : outcomes.Outcome) → TwinOutcomes (Listing literals) own comes second → (after later : Option Pending) → Held after → AreTwinHeld literals history after later → RestOf (came comes after walk)
+    prints : (comes second : outcomes.Outcome) → TwinOutcomes (Listing literals) own comes second → (after later : Option Pending) → Held after → AreTwinHeld keys key_for literals after later → RestOf (came comes after walk)
         → Follow (Prints comes (k (resting after))) (Prints second (j (resting later)))
     prints comes second o after later held same rest =
-        says keys literals twins history more w v [] [] own comes second (k (resting after)) (j (resting later)) o (go after later w v walk history (λ id m e. e) st
-        (record { newer = inl refl; slot = transaction_at w number; sessions = set_back w.sessions (number - 1) None; held = held }) same rest.1)
+        says laws keys key_for literals twins more w v [] [] own comes second (k (resting after)) (j (resting later)) o (go after later w v walk st (stays_so Always w number after held) same rest.1)
 
     abbrev awaiting : (Session → Talk) → Talk
     awaiting k = Hears session.Sent nothing_shown (answered_on k)
@@ -155,14 +147,14 @@ module _ (laws : LawsBelow) (keys : KeyMap) (literals : List Entry) (twins : Are
     abbrev exchange_of : Pending → List SentParam → Served State → Exchange
     exchange_of p sent s = record { request = request.Execute number p.version p.batch.text sent; replies = s.replies }
 
-    module _ (p : Pending) (held : HoldsBatch here p) (qs : List Param) (params : AllTwinParams (Listing literals) p.encs p.batch.params qs) (sendable : Each IsSendableParam qs)
+    module _ (p : Pending) (held : HoldsBatch Always here p) (qs : List Param) (params : AllTwinParams (Listing literals) p.encs p.batch.params qs) (sendable : Each IsSendableParam qs)
         (sent second : List SentParam) (sealed : AreSealed keys p.keys (uses_of p) sent) (resealed : AreSealed keys p.keys (uses_in qs p.encs) second) where
       abbrev q : Pending
       q = twin_of p qs
 
       abbrev After : Served State → Served State → Type 0
       After s t = (n m : ℕ) (left right : List ℕ) → AreBytes left → AreBytes right
-          → Goes keys literals history (own ∷ more) (passing (exchange_of p sent s) (over serve keys (awaiting k) n left s.after s.replies)) (passing (exchange_of q second t) (over serve keys (awaiting j) m right t.after t.replies))
+          → Goes key_for literals (own ∷ more) (passing (exchange_of p sent s) (over serve keys (awaiting k) n left s.after s.replies)) (passing (exchange_of q second t) (over serve keys (awaiting j) m right t.after t.replies))
 
       runs_goes : DescribedAs here p → RestOf (plain.stepped keys walk number p.batch (understood (catalog_of walk number) p.batch.text (declarations_of p.batch))) → After (found_by w here p sent true) (found_by v (catalog_of v number) q second true)
       runs_goes d rest =
@@ -177,15 +169,15 @@ module _ (laws : LawsBelow) (keys : KeyMap) (literals : List Entry) (twins : Are
             encs = twin.encs;
             metas = twin.metas ∙ ap (λ (x : Catalog). keys_of x (used_among (is_used d.meant.bound) 0 d.meant.encs)) (sym there_is);
           } in
-          let one = is_ready laws keys history w number told_here well_here p held.sendable d sent sealed in
-          let two = is_ready laws keys history v number (subst (IsTold history) (sym there_is) told_here) (seen_well is_short v number st.right).world.catalog q sendable e second resealed in
-          let alike = sent_twins history p.keys (uses_of p) (uses_in qs p.encs) sent second (uses_twins (Listing literals) p.encs p.batch.params qs params) one.metas (uses_sendable p.batch.params p.encs held.sendable)
+          let one = is_ready laws keys key_for w number fits p (held.sendable tt) d sent sealed in
+          let two = is_ready laws keys key_for v number (subst (Fits keys key_for) (sym there_is) fits) q sendable e second resealed in
+          let alike = sent_twins p.keys (keys_told laws keys key_for here fits p d) (uses_of p) (uses_in qs p.encs) sent second (uses_twins (Listing literals) p.encs p.batch.params qs params) (uses_sendable p.batch.params p.encs (held.sendable tt))
           (uses_sendable qs p.encs sendable) sealed resealed in
           let pairs : RowsCorrespond R (param_classes c.params es) (atoms_in sent) (atoms_in second) =
           subst (λ tys. RowsCorrespond R (param_classes tys es) (atoms_in sent) (atoms_in second)) one.types
           (subst (λ es. RowsCorrespond R (param_classes (tys_in (uses_of p)) es) (atoms_in sent) (atoms_in second)) one.encs alike.atoms) in
-          let cells = twinning_cells keys literals twins history in
-          let single = twinning_one_to_one keys literals twins history in
+          let cells = twinning_cells key_for literals twins in
+          let single = twinning_one_to_one key_for literals twins in
           let within = served.cells_within R cells in
           let x1 = execution_alone meant sent in
           let x2 : Execution = record { bound = c; encs = es; params = atoms_in second } in
@@ -194,33 +186,31 @@ module _ (laws : LawsBelow) (keys : KeyMap) (literals : List Entry) (twins : Are
           let alike_asked = asks_alike R c.statement x1 x2 (record { bound = refl; encs = refl; params = pairs }) in
           let sim = transact_alike R single within is_short w v number (ask_of x1) (ask_of x2) st.stands.state st.stores alike_asked one.may in
           let kept2 = laws.keeps_stores is_short v number (ask_of x2) st.right two.may in
-          let plain_after = stands_on laws keys w walk number history st.stands meant sent p one in
-          let later = plain_after.later in
-          let wide = stores_wider R (Twinning keys literals later) (twinning_longer keys literals history later plain_after.longer) did.after next.after sim.stores in
+          let plain_after = stands_on laws keys key_for w walk number fits st.stands meant sent p one in
           let meaning = transact walk number (ask_of (execution meant.bound meant.encs (plain_atoms_of p.batch))) in
           let same = transact_alone walk number meant.bound meant.encs (plain_atoms_of p.batch) in
-          let after : TwinStates later did.after next.after meaning.after = record { stands = subst (λ (x : Transacted). StandsFor keys later did.after x.after) same plain_after.stands; right = kept2.0; stores = wide } in
+          let after : TwinStates did.after next.after meaning.after = record { stands = subst (λ (x : Transacted). StandsFor keys key_for did.after x.after) same plain_after.stands; right = kept2.0; stores = sim.stores } in
           let u : understood (catalog_of walk number) p.batch.text (declarations_of p.batch) ≡ Ok meant = ap (λ (x : Catalog). understood x p.batch.text (declarations_of p.batch)) walk_is ∙ d.understood in
           let rest2 : (own ≡ plain.columns_of meaning.answer) × Rest None meaning.after = rw u at rest in
-          let own_is : own ≡ plain.columns_of did.answer = rest2.0 ∙ sym (ap (λ (x : Transacted). plain.columns_of x.answer) same) ∙ columns_same (Standing keys history) did.answer _ plain_after.answers in
-          let next_goes : AreFollowed keys literals twins later more did.after next.after [] [] (k session.Idle) (j session.Idle) =
-          go None None did.after next.after meaning.after later plain_after.longer after plain_after.goes tt rest2.1 in
+          let own_is : own ≡ plain.columns_of did.answer = rest2.0 ∙ sym (ap (λ (x : Transacted). plain.columns_of x.answer) same) ∙ columns_same (Standing key_for) did.answer _ plain_after.answers in
+          let next_goes : AreFollowed laws keys key_for literals twins more did.after next.after [] [] (k session.Idle) (j session.Idle) =
+          go None None did.after next.after meaning.after after plain_after.goes tt rest2.1 in
           let replies = served.answers_told R here did.after next.after [] did.answer next.answer sim.answers in
-          let told = answer_goes keys literals twins history later here did.after next.after k j more next_goes did.answer next.answer sim.answers plain_after.typed kept2.1 one.shown in
+          let told = answer_goes laws keys key_for literals twins here fits did.after next.after k j more next_goes did.answer next.answer sim.answers plain_after.typed kept2.1 in
           let s = answered here did.answer did.after in
           let t = answered here next.answer next.after in
-          let goes : AreFollowed keys literals twins later (own ∷ more) s.after t.after s.replies t.replies (awaiting k) (awaiting j) =
-          subst (λ (cs : List ResultColumn). AreFollowed keys literals twins later (cs ∷ more) s.after t.after s.replies t.replies (awaiting k) (awaiting j)) (sym own_is) told in
+          let goes : AreFollowed laws keys key_for literals twins (own ∷ more) s.after t.after s.replies t.replies (awaiting k) (awaiting j) =
+          subst (λ (cs : List ResultColumn). AreFollowed laws keys key_for literals twins (cs ∷ more) s.after t.after s.replies t.replies (awaiting k) (awaiting j)) (sym own_is) told in
           let x = one.served in
           let y : executed v number (understood (catalog_of v number) p.batch.text (map declaration_of second) >>= λ meant. suited meant.encs second >>= λ atoms. Ok (meant, atoms)) ≡ answered here next.answer next.after =
           two.served ∙ ap (λ (x : Catalog). answered x next.answer next.after) there_is in
           λ n m left right a b. rw (x, y)
-          (asks_goes keys literals twins history later plain_after.longer (own ∷ more) _ _ _ _ ((refl, refl, refl, alike.params), replies) (goes n m left right a b))
+          (asks_goes laws keys key_for literals twins (own ∷ more) _ _ _ _ ((refl, refl, refl, alike.params), replies) (goes n m left right a b))
 
       moved_goes : RestOf (came (outcome.Refused (Moved (record { seen = p.version; now = here.version }))) None walk) → ExchangeCorresponds R (exchange_of p sent (found_by w here p sent false)) (exchange_of q second (found_by v here q second false)) → After (found_by w here p sent false) (found_by v here q second false)
       moved_goes rest c =
           let moved : SqlFault = Moved (record { seen = p.version; now = here.version }) in
-          λ n m left right a b. asks_goes keys literals twins history history (λ id m e. e) (own ∷ more) _ _ _ _ c (prints (outcome.Refused moved) (outcome.Refused moved) refl None None nothing tt rest (suc n) (suc m) left right a b)
+          λ n m left right a b. asks_goes laws keys key_for literals twins (own ∷ more) _ _ _ _ c (prints (outcome.Refused moved) (outcome.Refused moved) refl None None nothing tt rest (suc n) (suc m) left right a b)
 
       asked_goes : (t : Bool) → (p.version == here.version) ≡ t
           → RestOf (cond t (plain.stepped keys walk number p.batch (understood here p.batch.text (declarations_of p.batch))) (came (outcome.Refused (Moved (record { seen = p.version; now = here.version }))) None walk))
@@ -230,7 +220,7 @@ module _ (laws : LawsBelow) (keys : KeyMap) (literals : List Entry) (twins : Are
           (runs_goes (held.same (eqb-true p.version here.version e)) (subst (λ (x : Catalog). RestOf (plain.stepped keys walk number p.batch (understood x p.batch.text (declarations_of p.batch)))) (sym walk_is) rest))
       asked_goes false e rest c = moved_goes rest ((refl, refl, refl, c), (refl, tt))
 
-    executing_goes : (p : Pending) → HoldsBatch here p → Each (IsMetaOf p.keys history) (encs_in (uses_of p)) → (qs : List Param) → AllTwinParams (Listing literals) p.encs p.batch.params qs → Each IsSendableParam qs
+    executing_goes : (p : Pending) → HoldsBatch Always here p → OpenAs keys key_for p.keys → (qs : List Param) → AllTwinParams (Listing literals) p.encs p.batch.params qs → Each IsSendableParam qs
         → RestOf (plain.execution_of keys walk number p) → Follow (executing number (session.Pending p) k) (executing number (session.Pending (twin_of p qs)) j)
     executing_goes p held told qs params sendable rest =
         let q = twin_of p qs in
@@ -238,16 +228,16 @@ module _ (laws : LawsBelow) (keys : KeyMap) (literals : List Entry) (twins : Are
         let sends : (Session → Talk) → List SentParam → Talk = λ k params. asked (onward k) k (Ok (request.Execute number p.version p.batch.text params)) session.Sent in
         let fails : (Session → Talk) → DriverFault → Talk = λ k f. asked (onward k) k (Err f) session.Idle in
         let uses = uses_twins (Listing literals) p.encs p.batch.params qs params in
-        sealing_goes (AnswersOf keys) Follow (opens keys literals twins history (own ∷ more) w v [] []) p.keys (draws keys literals twins history (own ∷ more) w v [] []) (uses_of p) (uses_in qs p.encs) (uses_alike literals twins (uses_of p) (uses_in qs p.encs) uses)
+        sealing_goes (AnswersOf keys) Follow (opens laws keys key_for literals twins (own ∷ more) w v [] []) p.keys (draws laws keys key_for literals twins (own ∷ more) w v [] []) (uses_of p) (uses_in qs p.encs) (uses_alike literals twins (uses_of p) (uses_in qs p.encs) uses)
         (sends k) (sends j) (fails k) (fails j)
         (λ sent second opened s t.
         let none = unopened_is keys p.keys (encs_in (uses_of p)) None opened in
         let rest0 : RestOf (plain.executed_with keys walk number p None) = rw none at rest in
         let rest1 : RestOf (at_catalog p here) = subst (λ (c : Catalog). RestOf (at_catalog p c)) walk_is rest0 in
-        let alike = sent_twins history p.keys (uses_of p) (uses_in qs p.encs) sent second uses told (uses_sendable p.batch.params p.encs held.sendable) (uses_sendable qs p.encs sendable) s t in
+        let alike = sent_twins p.keys told (uses_of p) (uses_in qs p.encs) sent second uses (uses_sendable p.batch.params p.encs (held.sendable tt)) (uses_sendable qs p.encs sendable) s t in
         let goes = asked_goes p held qs params sendable sent second s t (p.version == here.version) refl rest1 alike.params in
         λ n m l r x y. subst (λ (c : Catalog). let sc = found_by v c q second (p.version == c.version) in
-        Goes keys literals history (own ∷ more) (passing (exchange_of p sent (found_by w here p sent (p.version == here.version))) (over serve keys (awaiting k) n l (found_by w here p sent (p.version == here.version)).after (found_by w here p sent (p.version == here.version)).replies))
+        Goes key_for literals (own ∷ more) (passing (exchange_of p sent (found_by w here p sent (p.version == here.version))) (over serve keys (awaiting k) n l (found_by w here p sent (p.version == here.version)).after (found_by w here p sent (p.version == here.version)).replies))
         (passing (exchange_of q second sc) (over serve keys (awaiting j) m r sc.after sc.replies))) (sym there_is) (goes n m l r x y))
         (λ f opened.
         let some = unopened_is keys p.keys (encs_in (uses_of p)) (Some f) opened in
@@ -261,7 +251,7 @@ module _ (laws : LawsBelow) (keys : KeyMap) (literals : List Entry) (twins : Are
 
     module _ (text : List ℕ) (ps qs : List Param) (few : HasParams (record { text = text; params = ps })) (many : HasParams (record { text = text; params = qs }))
         (proper : HasProperParams (record { text = text; params = ps })) (right_proper : HasProperParams (record { text = text; params = qs })) (ready again : Pending → Talk) (readied : Pending → Came)
-        (ready_goes : (p : Pending) (qs : List Param) → HoldsBatch here p → p.version ≡ here.version → Each (IsMetaOf p.keys history) (encs_in (uses_of p)) → AllTwinParams (Listing literals) p.encs p.batch.params qs → Each IsSendableParam qs → RestOf (readied p)
+        (ready_goes : (p : Pending) (qs : List Param) → HoldsBatch Always here p → p.version ≡ here.version → OpenAs keys key_for p.keys → AllTwinParams (Listing literals) p.encs p.batch.params qs → Each IsSendableParam qs → RestOf (readied p)
         → Follow (ready p) (again (twin_of p qs))) where
       abbrev one_batch : Batch
       one_batch = record { text = text; params = ps }
@@ -277,7 +267,7 @@ module _ (laws : LawsBelow) (keys : KeyMap) (literals : List Entry) (twins : Are
       DescribesBy c ds = (n m : ℕ) (left right : List ℕ) → AreBytes left → AreBytes right →
           let s = described w (describe here text (declarations_of one_batch)) in
           let t = described v (describe c text ds) in
-          Goes keys literals history (own ∷ more) (passing (record { request = request.Describe number text (declarations_of one_batch); replies = s.replies }) (over serve keys (described_talk one_batch ready k) n left s.after s.replies))
+          Goes key_for literals (own ∷ more) (passing (record { request = request.Describe number text (declarations_of one_batch); replies = s.replies }) (over serve keys (described_talk one_batch ready k) n left s.after s.replies))
           (passing (record { request = request.Describe number text ds; replies = t.replies }) (over serve keys (described_talk two_batch again j) m right t.after t.replies))
 
       abbrev Describes : List ParamDecl → Type 0
@@ -292,21 +282,21 @@ module _ (laws : LawsBelow) (keys : KeyMap) (literals : List Entry) (twins : Are
           → (n m : ℕ) (left right : List ℕ) → AreBytes left → AreBytes right →
           let s = described w d in
           let t = described v d in
-          Goes keys literals history (own ∷ more) (passing (record { request = request.Describe number text (declarations_of one_batch); replies = s.replies }) (over serve keys (described_talk one_batch ready k) n left s.after s.replies))
+          Goes key_for literals (own ∷ more) (passing (record { request = request.Describe number text (declarations_of one_batch); replies = s.replies }) (over serve keys (described_talk one_batch ready k) n left s.after s.replies))
           (passing (record { request = request.Describe number text (declarations_of one_batch); replies = t.replies }) (over serve keys (described_talk two_batch again j) m right t.after t.replies))
       described_goes fit refit (Ok meant) e same params rest =
-          let x = is_held laws keys history w number told_here well_here one_batch few proper fit meant e in
-          let y = is_held laws keys history w number told_here well_here two_batch many right_proper refit meant (ap (understood here text) same ∙ e) in
+          let x = is_held laws Always here one_batch few (λ is. proper) fit meant e in
+          let y = is_held laws Always here two_batch many (λ is. right_proper) refit meant (ap (understood here text) same ∙ e) in
           let found = x.0 in
           let refound : encs_of qs (description here (declarations_of one_batch) meant).params ≡ Some (told_among (is_used meant.bound) 0 meant.encs) =
           ap (λ ds. encs_of qs (description here ds meant).params) (sym same) ∙ y.0 in
           let p : Pending = record { batch = one_batch; version = here.version; keys = (description here (declarations_of one_batch) meant).keys; encs = told_among (is_used meant.bound) 0 meant.encs } in
           let params2 : AllTwinParams (Listing literals) (told_among (is_used meant.bound) 0 meant.encs) ps qs = rw found at params in
           let rest2 : RestOf (readied p) = rw found at rest in
-          let told = keys_told laws keys history w number told_here well_here p (x.1.same refl) in
-          λ n m left right a b. asks_goes keys literals twins history history (λ id m e. e) (own ∷ more) _ _ _ _ (refl, (refl, tt)) (rw (found, refound) (ready_goes p qs x.1 refl told params2 y.1.sendable rest2 (suc n) (suc m) left right a b))
+          let told = keys_told laws keys key_for here fits p (x.1.same refl) in
+          λ n m left right a b. asks_goes laws keys key_for literals twins (own ∷ more) _ _ _ _ (refl, (refl, tt)) (rw (found, refound) (ready_goes p qs x.1 refl told params2 (y.1.sendable tt) rest2 (suc n) (suc m) left right a b))
       described_goes fit refit (Err f) e same params rest =
-          λ n m left right a b. asks_goes keys literals twins history history (λ id m e. e) (own ∷ more) _ _ _ _ (refl, (refl, tt)) (prints (outcome.Refused f) (outcome.Refused f) refl None None nothing tt rest (suc n) (suc m) left right a b)
+          λ n m left right a b. asks_goes laws keys key_for literals twins (own ∷ more) _ _ _ _ (refl, (refl, tt)) (prints (outcome.Refused f) (outcome.Refused f) refl None None nothing tt rest (suc n) (suc m) left right a b)
 
       begun_goes : (o : Option DriverFault) → why_unfit one_batch ≡ o → AllTwinParams (Listing literals) (encs_where_fit o (encs_of_description one_batch (describe here text (declarations_of one_batch)))) ps qs → RestOf (plain.begun walk number one_batch readied o)
           → let t = begun number (unless o one_batch) in
@@ -322,7 +312,7 @@ module _ (laws : LawsBelow) (keys : KeyMap) (literals : List Entry) (twins : Are
           let same : declarations_of two_batch ≡ declarations_of one_batch = declarations_same (Listing literals) encs ps qs params in
           λ n m left right a b. rw fit (subst Describes (sym same) (there_too (described_goes e fit (understood here text (declarations_of one_batch)) refl same params (subst (λ (c : Catalog). RestOf (plain.described walk one_batch readied (describe c text (declarations_of one_batch)))) walk_is rest))) n m left right a b)
 
-      begins_goes : (before other : Option Pending) → Held before → AreTwinHeld literals history before other → AllTwinParams (Listing literals) (encs_described (catalog_of walk number) one_batch before) ps qs → RestOf (plain.begins walk number one_batch readied before)
+      begins_goes : (before other : Option Pending) → Held before → AreTwinHeld keys key_for literals before other → AllTwinParams (Listing literals) (encs_described (catalog_of walk number) one_batch before) ps qs → RestOf (plain.begins walk number one_batch readied before)
           → Follow (describing number one_batch (resting before) ready k) (describing number two_batch (resting other) again j)
       begins_goes None None h z params rest = begun_goes (why_unfit one_batch) refl (subst (λ (c : Catalog). AllTwinParams (Listing literals) (encs_where_fit (why_unfit one_batch) (encs_of_description one_batch (describe c text (declarations_of one_batch)))) ps qs) walk_is params) rest
       begins_goes (Some p) (Some q) h z params rest = prints (outcome.Failed StillPending) (outcome.Failed StillPending) refl (Some p) (Some q) h z rest
@@ -330,10 +320,10 @@ module _ (laws : LawsBelow) (keys : KeyMap) (literals : List Entry) (twins : Are
 
     -- ---- a turn
 
-    pending_same : (p q : Pending) → AreTwinPending literals history p q → session.Pending q ≡ session.Pending (twin_of p q.batch.params)
+    pending_same : (p q : Pending) → AreTwinPending keys key_for literals p q → session.Pending q ≡ session.Pending (twin_of p q.batch.params)
     pending_same p q z = ap (λ x. session.Pending x) z.is
 
-    executes_goes : (before other : Option Pending) → Held before → AreTwinHeld literals history before other
+    executes_goes : (before other : Option Pending) → Held before → AreTwinHeld keys key_for literals before other
         → RestOf (plain.executes keys walk number before) → Follow (executing number (resting before) k) (executing number (resting other) j)
     executes_goes None None h z rest = prints (outcome.Failed NothingPending) (outcome.Failed NothingPending) refl None None nothing tt rest
     executes_goes (Some p) (Some q) h z rest =
@@ -344,34 +334,34 @@ module _ (laws : LawsBelow) (keys : KeyMap) (literals : List Entry) (twins : Are
   same_batch batch other e = ap (λ text. let c : Batch = record { text = text; params = other.params } in c) (sym e)
 
   -- the second is of the same session, over the same text
-  turn_goes : (step other : Step) (w v walk : State) (history : List KeyMeta) (st : TwinStates history w v walk) (k j : Session → Talk) (own : List ResultColumn) (more : List (List ResultColumn)) (Rest : Option Pending → State → Type 0)
-      (go : Onward history w (number_of step) k j more Rest)
-      → IsWithinLimits step → IsProperStep step → (before later : Option Pending) → HoldsIn w.shared (transaction_at w (number_of step)) before → AreTwinHeld literals history before later → TwinSteps (Listing literals) walk before step other
+  turn_goes : (step other : Step) (w v walk : State) (fits : Fits keys key_for (catalog_of w (number_of step))) (st : TwinStates w v walk) (k j : Session → Talk) (own : List ResultColumn) (more : List (List ResultColumn)) (Rest : Option Pending → State → Type 0)
+      (go : Onward w (number_of step) k j more Rest)
+      → IsWithinLimits step → IsProperStep step → (before later : Option Pending) → HoldsIn Always w.shared (transaction_at w (number_of step)) before → AreTwinHeld keys key_for literals before later → TwinSteps (Listing literals) walk before step other
       → (own ≡ (means keys step before walk).columns) × Rest (means keys step before walk).held (means keys step before walk).state
-      → AreFollowed keys literals twins history (own ∷ more) w v [] [] (turn step (resting before) k) (turn other (resting later) j)
-  turn_goes (steps_of.Whole number batch) (steps_of.Whole x other) w v walk history st k j own more Rest go within proper before later h z t rest =
+      → AreFollowed laws keys key_for literals twins (own ∷ more) w v [] [] (turn step (resting before) k) (turn other (resting later) j)
+  turn_goes (steps_of.Whole number batch) (steps_of.Whole x other) w v walk fits st k j own more Rest go within proper before later h z t rest =
       let encs = encs_described (catalog_of walk number) batch before in
-      let at : ℕ → Batch → Type 0 = λ y c. AreFollowed keys literals twins history (own ∷ more) w v [] [] (turn (steps_of.Whole number batch) (resting before) k) (turn (steps_of.Whole y c) (resting later) j) in
+      let at : ℕ → Batch → Type 0 = λ y c. AreFollowed laws keys key_for literals twins (own ∷ more) w v [] [] (turn (steps_of.Whole number batch) (resting before) k) (turn (steps_of.Whole y c) (resting later) j) in
       subst (at x) (same_batch batch other t.1.0)
       (subst (λ y. at y (record { text = batch.text; params = other.params })) (sym t.0)
-      (begins_goes w v walk number history st k j own more Rest go batch.text batch.params other.params within.1 (twin_few (Listing literals) encs batch.text batch.params other.params t.1.1 within.1) proper
+      (begins_goes w v walk number fits st k j own more Rest go batch.text batch.params other.params within.1 (twin_few (Listing literals) encs batch.text batch.params other.params t.1.1 within.1) proper
       (twins_proper literals twins encs batch.params other.params proper t.1.1) (λ p. executing number (session.Pending p) k) (λ p. executing number (session.Pending p) j) (plain.execution_of keys walk number)
-      (λ p qs held same told params sendable rest. executing_goes w v walk number history st k j own more Rest go p held told qs params sendable rest) before later h z t.1.1 rest))
-  turn_goes (steps_of.Half number batch) (steps_of.Half x other) w v walk history st k j own more Rest go within proper before later h z t rest =
+      (λ p qs held same told params sendable rest. executing_goes w v walk number fits st k j own more Rest go p held told qs params sendable rest) before later h z t.1.1 rest))
+  turn_goes (steps_of.Half number batch) (steps_of.Half x other) w v walk fits st k j own more Rest go within proper before later h z t rest =
       let encs = encs_described (catalog_of walk number) batch before in
-      let at : ℕ → Batch → Type 0 = λ y c. AreFollowed keys literals twins history (own ∷ more) w v [] [] (turn (steps_of.Half number batch) (resting before) k) (turn (steps_of.Half y c) (resting later) j) in
+      let at : ℕ → Batch → Type 0 = λ y c. AreFollowed laws keys key_for literals twins (own ∷ more) w v [] [] (turn (steps_of.Half number batch) (resting before) k) (turn (steps_of.Half y c) (resting later) j) in
       let told_of : Pending → outcomes.Outcome = λ p. outcome.Described (described_params p.keys (uses_of p)) in
       subst (at x) (same_batch batch other t.1.0)
       (subst (λ y. at y (record { text = batch.text; params = other.params })) (sym t.0)
-      (begins_goes w v walk number history st k j own more Rest go batch.text batch.params other.params within.1 (twin_few (Listing literals) encs batch.text batch.params other.params t.1.1 within.1) proper
+      (begins_goes w v walk number fits st k j own more Rest go batch.text batch.params other.params within.1 (twin_few (Listing literals) encs batch.text batch.params other.params t.1.1 within.1) proper
       (twins_proper literals twins encs batch.params other.params proper t.1.1) (λ p. Prints (told_of p) (k (session.Pending p))) (λ p. Prints (told_of p) (j (session.Pending p))) (plain.waits walk)
       (λ p qs held same told params sendable rest.
       let described = ap outcome.Described (described_same (Listing literals) p.keys (uses_of p) (uses_in qs p.encs) (uses_twins (Listing literals) p.encs p.batch.params qs params)) in
-      prints w v walk number history st k j own more Rest go (told_of p) (told_of (twin_of p qs)) described (Some p) (Some (twin_of p qs)) held (record { is = refl; told = told; params = params; sendable = sendable }) rest)
+      prints w v walk number fits st k j own more Rest go (told_of p) (told_of (twin_of p qs)) described (Some p) (Some (twin_of p qs)) held (record { is = refl; told = told; params = params; sendable = sendable }) rest)
       before later h z t.1.1 rest))
-  turn_goes (steps_of.Execute number) (steps_of.Execute x) w v walk history st k j own more Rest go within proper before later h z t rest =
-      subst (λ y. AreFollowed keys literals twins history (own ∷ more) w v [] [] (executing number (resting before) k) (executing y (resting later) j)) (sym t) (executes_goes w v walk number history st k j own more Rest go before later h z rest)
-  turn_goes step other w v walk history st k j own more Rest go within proper before later h z t rest = absurd t
+  turn_goes (steps_of.Execute number) (steps_of.Execute x) w v walk fits st k j own more Rest go within proper before later h z t rest =
+      subst (λ y. AreFollowed laws keys key_for literals twins (own ∷ more) w v [] [] (executing number (resting before) k) (executing y (resting later) j)) (sym t) (executes_goes w v walk number fits st k j own more Rest go before later h z rest)
+  turn_goes step other w v walk fits st k j own more Rest go within proper before later h z t rest = absurd t
 
   -- ---- the steps
 
@@ -382,39 +372,40 @@ module _ (laws : LawsBelow) (keys : KeyMap) (literals : List Entry) (twins : Are
   number_same R w before step other t = absurd t
 
   abbrev Next : List Step → List Step → Type 0
-  Next steps others = (holds laters : List (Option Pending)) (w v walk : State) (history : List KeyMeta) → TwinStates history w v walk
-      → AllHold w holds → AllTwinHeld literals history holds laters → AreTwins (Listing literals) keys steps others holds walk
-      → AreFollowed keys literals twins history (columns_met keys steps holds walk) w v [] [] (talk steps (all_resting holds)) (talk others (all_resting laters))
+  Next steps others = (holds laters : List (Option Pending)) (w v walk : State) → TwinStates w v walk
+      → AllHold Always w holds → AllTwinHeld keys key_for literals holds laters → FitThroughout keys key_for steps holds walk → AreTwins (Listing literals) keys steps others holds walk
+      → AreFollowed laws keys key_for literals twins (columns_met keys steps holds walk) w v [] [] (talk steps (all_resting holds)) (talk others (all_resting laters))
 
   step_goes : (step other : Step) (steps others : List Step) → IsWithinLimits step → IsProperStep step → Next steps others → Next (step ∷ steps) (other ∷ others)
-  step_goes step other steps others within proper next holds laters w v walk history st held z t =
+  step_goes step other steps others within proper next holds laters w v walk st held z f t =
       let number = number_of step in
+      let fits = seen_fits keys key_for w walk number (subst (Fits keys key_for) st.stands.stores.shared.worlds.catalog f.0) st.stands in
       let numbers = number_same (Listing literals) walk (held_at holds number) step other t.0 in
       let met = means keys step (held_at holds number) walk in
       let more = columns_met keys steps (with_held holds number met.held) met.state in
       let k : Session → Talk = λ after. talk steps (with_session (all_resting holds) number after) in
       let j : Session → Talk = λ after. talk others (with_session (all_resting laters) number after) in
       let onto : (x : ℕ) → Type 0 = λ x.
-      AreFollowed keys literals twins history (met.columns ∷ more) w v [] [] (turn step (session_at (all_resting holds) number) k) (turn other (session_at (all_resting laters) x) (λ after. talk others (with_session (all_resting laters) x after))) in
-      let at : (x y : Session) → Type 0 = λ x y. AreFollowed keys literals twins history (met.columns ∷ more) w v [] [] (turn step x k) (turn other y j) in
+      AreFollowed laws keys key_for literals twins (met.columns ∷ more) w v [] [] (turn step (session_at (all_resting holds) number) k) (turn other (session_at (all_resting laters) x) (λ after. talk others (with_session (all_resting laters) x after))) in
+      let at : (x y : Session) → Type 0 = λ x y. AreFollowed laws keys key_for literals twins (met.columns ∷ more) w v [] [] (turn step x k) (turn other y j) in
       subst onto (sym numbers)
       (subst (λ x. at x (session_at (all_resting laters) number)) (sym (at_resting holds (number - 1))) (subst (λ y. at (resting (held_at holds number)) y) (sym (at_resting laters (number - 1)))
-      (turn_goes step other w v walk history st k j met.columns more
-      (λ after state. AreTwins (Listing literals) keys steps others (with_held holds number after) state × (more ≡ columns_met keys steps (with_held holds number after) state))
-      (λ after later now others_now walk newer_history longer st goes same rest.
-      let next_to : (x y : List Session) → Type 0 = λ x y. AreFollowed keys literals twins newer_history more now others_now [] [] (talk steps x) (talk others y) in
-      let with_more : List (List ResultColumn) → Type 0 = λ cs. AreFollowed keys literals twins newer_history cs now others_now [] [] (talk steps (all_resting (with_held holds number after))) (talk others (all_resting (with_held laters number later))) in
+      (turn_goes step other w v walk fits st k j met.columns more
+      (λ after state. AreTwins (Listing literals) keys steps others (with_held holds number after) state × (more ≡ columns_met keys steps (with_held holds number after) state)
+      × FitThroughout keys key_for steps (with_held holds number after) state)
+      (λ after later now others_now walk st goes same rest.
+      let next_to : (x y : List Session) → Type 0 = λ x y. AreFollowed laws keys key_for literals twins more now others_now [] [] (talk steps x) (talk others y) in
+      let with_more : List (List ResultColumn) → Type 0 = λ cs. AreFollowed laws keys key_for literals twins cs now others_now [] [] (talk steps (all_resting (with_held holds number after))) (talk others (all_resting (with_held laters number later))) in
       subst (λ x. next_to x (with_session (all_resting laters) number (resting later))) (sym (set_resting holds (number - 1) after))
       (subst (λ y. next_to (all_resting (with_held holds number after)) y) (sym (set_resting laters (number - 1) later))
-      (subst with_more (sym rest.1) (next (with_held holds number after) (with_held laters number later) now others_now walk newer_history st
-      (all_go w now number holds after goes.slot goes.newer goes.sessions goes.held held)
-      (zip_set (AreTwinHeld literals newer_history) holds laters (number - 1) after later (all_longer literals history newer_history longer holds laters z) same) rest.0))))
-      within proper (held_at holds number) (held_at laters number) (hold_place w number holds held) (zip_at (AreTwinHeld literals history) holds laters (number - 1) None None z tt) t.0 (refl, (t.1, refl)))))
+      (subst with_more (sym rest.1) (next (with_held holds number after) (with_held laters number later) now others_now walk st (all_go Always w now number holds after goes held)
+      (zip_set (AreTwinHeld keys key_for literals) holds laters (number - 1) after later z same) rest.2 rest.0))))
+      within proper (held_at holds number) (held_at laters number) (hold_place Always w number holds held) (zip_at (AreTwinHeld keys key_for literals) holds laters (number - 1) None None z tt) t.0 (refl, (t.1, refl, f.1)))))
 
   pub talk_goes : (steps others : List Step) → All IsWithinLimits steps → All IsProperStep steps → Next steps others
-  talk_goes [] [] within proper holds laters w v walk history st held z t = λ n m left right a b x y. record { after = history; longer = λ id m e. e; exchanges = tt; outcomes = tt }
-  talk_goes (step ∷ steps) (other ∷ others) within proper holds laters w v walk history st held z t =
+  talk_goes [] [] within proper holds laters w v walk st held z f t = λ n m left right a b x y. record { exchanges = tt; outcomes = tt }
+  talk_goes (step ∷ steps) (other ∷ others) within proper holds laters w v walk st held z f t =
       step_goes step other steps others (All-head IsWithinLimits step steps within) (All-head IsProperStep step steps proper)
       (talk_goes steps others (All-tail IsWithinLimits step steps within) (All-tail IsProperStep step steps proper))
-      holds laters w v walk history st held z t
-  talk_goes steps others within proper holds laters w v walk history st held z t = absurd t
+      holds laters w v walk st held z f t
+  talk_goes steps others within proper holds laters w v walk st held z f t = absurd t
