@@ -79,7 +79,8 @@ impl Durable {
 
     /// Whether what is held of a session stays, after a request with these replies.
     fn goes_on(&self, session: SessionId, replies: &[Reply<'_>]) -> bool
-        ensures { result ≡ (records.is_done replies.now || records.has_transaction self.now.state session) }
+        ensures { result
+            ≡ (records.is_done replies.now || records.has_transaction self.now.state session) }
     {
         is_done(replies) || self.server.has_transaction(session)
     }

@@ -35,10 +35,13 @@ const MAIN: [u8; 32] = [
 /// The master key of the path `spare`.
 const SPARE: [u8; 32] = [0xff; 32];
 
-/// Runs a script over an empty server, with two master keys, and with random bytes for sixteen cells.
+/// The master key of the path `next`.
+const NEXT: [u8; 32] = [0x5a; 32];
+
+/// Runs a script over an empty server, with three master keys, and with random bytes for sixteen cells.
 pub(crate) fn come_to(alloc: Global, script: Vec<u8>, puts: Puts) -> Result<Came, AllocError> {
     let mut script = MemSource::new(script, 4096, Vec::new(alloc));
-    let mut vault = two_keys(alloc)?;
+    let mut vault = three_keys(alloc)?;
     let mut entropy = each_byte_once(alloc)?;
     let mut text = MemSink::new(alloc, Vec::new(alloc));
     let mut tap = MemSink::new(alloc, Vec::new(alloc));
@@ -70,10 +73,11 @@ pub(crate) fn come_to(alloc: Global, script: Vec<u8>, puts: Puts) -> Result<Came
     })
 }
 
-fn two_keys(alloc: Global) -> Result<MemVault, AllocError> {
+fn three_keys(alloc: Global) -> Result<MemVault, AllocError> {
     let mut keys = Vec::new(alloc);
     keys.push((Txt::copied(alloc, "main")?, MAIN))?;
     keys.push((Txt::copied(alloc, "spare")?, SPARE))?;
+    keys.push((Txt::copied(alloc, "next")?, NEXT))?;
     Ok(MemVault::new(keys, Vec::new(alloc)))
 }
 
