@@ -19,8 +19,16 @@ most_rules = 8192
 
 -- the most rows of a table
 abbrev pub most_table_rows : ℕ
-most_table_rows = 100000
+most_table_rows = 1000000
 
 -- the most rows of an answer
 abbrev pub most_answer_rows : ℕ
 most_answer_rows = 1000000
+
+-- the most rows of a frame
+abbrev pub most_frame_rows : ℕ
+most_frame_rows = 4096
+
+-- the most bytes of the body of a frame of several rows
+abbrev pub most_frame_bytes : ℕ
+most_frame_bytes = 1048576

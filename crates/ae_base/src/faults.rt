@@ -51,7 +51,7 @@ pub enum SqlFault {
     Truncated(Name),
     /// More than 1,000,000 rows.
     TooManyRows,
-    /// More than 100,000 rows in a table.
+    /// More than 1,000,000 rows in a table.
     TableFull,
     /// Two rows alike on a unique key.
     DuplicateKey(UniqueNumber),

@@ -7,6 +7,7 @@ pub mod batches;
 pub mod blobs;
 pub mod cells;
 pub mod faults;
+pub mod frames;
 pub mod key_values;
 pub mod keys;
 pub mod limits;

@@ -67,10 +67,16 @@ pub const MOST_VALUES_ROWS: usize = 1_000;
 pub const MOST_RULES: usize = 8_192;
 
 /// The most rows of a table.
-pub const MOST_TABLE_ROWS: usize = 100_000;
+pub const MOST_TABLE_ROWS: usize = 1_000_000;
 
 /// The most rows of an answer.
 pub const MOST_ANSWER_ROWS: usize = 1_000_000;
+
+/// The most rows of a frame.
+pub const MOST_FRAME_ROWS: usize = 4_096;
+
+/// The most bytes of the body of a frame of several rows.
+pub const MOST_FRAME_BYTES: usize = 1_048_576;
 
 /// The most master keys.
 pub const MOST_MASTER_KEYS: usize = 64;

@@ -91,52 +91,52 @@ completed_width place given (column ∷ columns) row e =
 
 -- ---- the rows
 
-room_left : (n : ℕ) → n < 100000 → nat_le 100000 n ≡ false
+room_left : (n : ℕ) → n < 1000000 → nat_le 1000000 n ≡ false
 room_left n lt = grind (arith, nat_tests)
 
-below : (n : ℕ) → nat_le 100000 n ≡ false → n < 100000
+below : (n : ℕ) → nat_le 1000000 n ≡ false → n < 1000000
 below n e = grind (arith, nat_tests)
 
-pub no_room : (n : ℕ) → 100000 ≤ n → nat_le 100000 n ≡ true
+pub no_room : (n : ℕ) → 1000000 ≤ n → nat_le 1000000 n ≡ true
 no_room n le = grind (arith, nat_tests)
 
 module _ {V : Type 0} (columns : List ColumnDef) (named : List ℕ) (params : List Atom) (row_of : V → BoundRow) (count : ℕ) (all : List V) (i : ℕ) (bound : V)
     (lt : i < length all) (e : bound ≡ get_or all i bound) (whole : Result (List (List Atom)) SqlFault) (rows : List (List Atom)) where
-  rows_at : (b : Bool) → nat_le 100000 (count + length rows) ≡ b → whole ≡ collected rows (new_rows columns named params (count + length rows) (map row_of (drop i all)))
+  rows_at : (b : Bool) → nat_le 1000000 (count + length rows) ≡ b → whole ≡ collected rows (new_rows columns named params (count + length rows) (map row_of (drop i all)))
       → whole ≡ collected rows (before (if b then Err fault.TableFull else new_row columns named params (row_of bound).values) (new_rows columns named params ((count + length rows) + 1) (map row_of (drop (i + 1) all))))
   rows_at b t w =
       w ∙ ap (λ vs. collected rows (new_rows columns named params (count + length rows) vs)) (map_there row_of all i bound lt e)
       ∙ ap (λ b. collected rows (before (if b then Err fault.TableFull else new_row columns named params (row_of bound).values) (new_rows columns named params ((count + length rows) + 1) (map row_of (drop (i + 1) all))))) t
 
-  pub new_rows_more : (row : List Atom) → count + length rows < 100000 → whole ≡ collected rows (new_rows columns named params (count + length rows) (map row_of (drop i all)))
+  pub new_rows_more : (row : List Atom) → count + length rows < 1000000 → whole ≡ collected rows (new_rows columns named params (count + length rows) (map row_of (drop i all)))
       → new_row columns named params (row_of bound).values ≡ Ok row
       → whole ≡ collected (rows ++ row ∷ []) (new_rows columns named params (count + length (rows ++ row ∷ [])) (map row_of (drop (i + 1) all)))
   new_rows_more row room w h =
       let n : (count + length rows) + 1 ≡ count + length (rows ++ row ∷ []) = omega (arith, length-append rows (row ∷ [])) in
       collected_more whole rows _ _ row (rows_at false (room_left (count + length rows) room) w) h ∙ ap (λ m. collected (rows ++ row ∷ []) (new_rows columns named params m (map row_of (drop (i + 1) all)))) n
 
-  pub new_rows_fault : (f : SqlFault) → count + length rows < 100000 → whole ≡ collected rows (new_rows columns named params (count + length rows) (map row_of (drop i all)))
+  pub new_rows_fault : (f : SqlFault) → count + length rows < 1000000 → whole ≡ collected rows (new_rows columns named params (count + length rows) (map row_of (drop i all)))
       → new_row columns named params (row_of bound).values ≡ Err f → whole ≡ Err f
   new_rows_fault f room w h = collected_fault whole rows _ _ f (rows_at false (room_left (count + length rows) room) w) h
 
-  pub new_rows_full : 100000 ≤ count + length rows → whole ≡ collected rows (new_rows columns named params (count + length rows) (map row_of (drop i all))) → whole ≡ Err fault.TableFull
+  pub new_rows_full : 1000000 ≤ count + length rows → whole ≡ collected rows (new_rows columns named params (count + length rows) (map row_of (drop i all))) → whole ≡ Err fault.TableFull
   new_rows_full le w =
       collected_fault whole rows (Err fault.TableFull) (new_rows columns named params ((count + length rows) + 1) (map row_of (drop (i + 1) all))) fault.TableFull (rows_at true (no_room (count + length rows) le) w) refl
 
 pub record AreNewRows (columns : List ColumnDef) (count : ℕ) (rows : List (List Atom)) : Type 0 where
   pub wide : All (λ row. length row ≡ length columns) rows
-  pub most : count + length rows ≤ 100000
+  pub most : count + length rows ≤ 1000000
 
-pub new_rows_shape : (columns : List ColumnDef) (named : List ℕ) (params : List Atom) (count : ℕ) (bound : List BoundRow) (rows : List (List Atom)) → count ≤ 100000 → new_rows columns named params count bound ≡ Ok rows
+pub new_rows_shape : (columns : List ColumnDef) (named : List ℕ) (params : List Atom) (count : ℕ) (bound : List BoundRow) (rows : List (List Atom)) → count ≤ 1000000 → new_rows columns named params count bound ≡ Ok rows
     → AreNewRows columns count rows
 new_rows_shape columns named params count [] rows le e =
     let f : [] ≡ rows = cc in
     subst (AreNewRows columns count) f (record { wide = All-nil (λ row. length row ≡ length columns); most = omega arith })
 new_rows_shape columns named params count (b ∷ bound) rows le e =
-    let c = came_before (if nat_le 100000 count then Err fault.TableFull else new_row columns named params b.values) (new_rows columns named params (count + 1) bound) rows e in
-    by_test c.first c.others c.all (λ room. new_rows_shape columns named params (count + 1) bound c.others room c.then) (nat_le 100000 count) refl c.is
+    let c = came_before (if nat_le 1000000 count then Err fault.TableFull else new_row columns named params b.values) (new_rows columns named params (count + 1) bound) rows e in
+    by_test c.first c.others c.all (λ room. new_rows_shape columns named params (count + 1) bound c.others room c.then) (nat_le 1000000 count) refl c.is
   where
-    by_test : (row : List Atom) (others : List (List Atom)) → rows ≡ row ∷ others → (count + 1 ≤ 100000 → AreNewRows columns (count + 1) others) → (t : Bool) → nat_le 100000 count ≡ t
+    by_test : (row : List Atom) (others : List (List Atom)) → rows ≡ row ∷ others → (count + 1 ≤ 1000000 → AreNewRows columns (count + 1) others) → (t : Bool) → nat_le 1000000 count ≡ t
         → cond t (Err fault.TableFull) (new_row columns named params b.values) ≡ Ok row → AreNewRows columns count rows
     by_test row others all rest true t f = absurd cc
     by_test row others all rest false t f =

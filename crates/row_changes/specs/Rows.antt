@@ -64,7 +64,7 @@ completed place given (column ∷ columns) =
 abbrev pub new_row : List ColumnDef → List ℕ → List Atom → List BoundOperand → Result (List Atom) SqlFault
 new_row columns named params values = values_into columns [] params named values >>= λ given. completed 0 given columns
 
--- row by row behind so many rows: TableFull where the table would have 100,001 rows, else the row or its fault
+-- row by row behind so many rows: TableFull where the table would have 1,000,001 rows, else the row or its fault
 abbrev pub new_rows : List ColumnDef → List ℕ → List Atom → ℕ → List BoundRow → Result (List (List Atom)) SqlFault
 new_rows columns named params count [] = Ok []
 new_rows columns named params count (row ∷ rows) =

@@ -33,7 +33,7 @@ pub fn new_rows<K: Same>(
     requires named { All (λ place. place < length columns.now) named.now }
     requires rows { All (λ row. (length row.values ≡ length named.now)
         × All (IsPlaced 0 (length params.now)) row.values) (map row_of bound.now) }
-    requires most { count ≤ 100000 }
+    requires most { count ≤ 1000000 }
     ensures { Answers result
         (rows.new_rows columns.now named.now params.now count (map row_of bound.now)) }
 {

@@ -23,7 +23,7 @@ new_row-requires-clause-values g c =
 pub loop-row-preserved : goal.loop-row-preserved
 loop-row-preserved g c =
     let most = c.requires.most in
-    let room : c.args.count + length c.loop-row.rows < 100000 = omega arith in
+    let room : c.args.count + length c.loop-row.rows < 1000000 = omega arith in
     let made = ap (λ vs. new_row c.args.columns.now c.args.named.now c.args.params.now (map operand_of vs)) (sym c.as_slice.ensures) ∙ c.in_ok-new_row.ensures in
     rw c.in_ok-push.ensures.ok (record {
       so_far = new_rows_more c.args.columns.now c.args.named.now c.args.params.now row_of c.args.count c.args.bound.now c.loop-row.row-index c.row-item.result c.loop-row-test.true c.row-item.is

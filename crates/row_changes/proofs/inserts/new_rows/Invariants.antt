@@ -8,5 +8,5 @@ use Rattle.row_changes.proofs.inserts.new_rows.Given as goal
 abbrev pub invariant-loop-row : goal.invariant-loop-row
 invariant-loop-row g l = record {
   so_far : new_rows l.columns l.named l.params l.count (map row_of l.bound) ≡ collected l.rows (new_rows l.columns l.named l.params (l.count + length l.rows) (map row_of (drop l.row-index l.bound)));
-  most : l.count + length l.rows ≤ 100000;
+  most : l.count + length l.rows ≤ 1000000;
 }
