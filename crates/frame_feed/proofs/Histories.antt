@@ -2,7 +2,7 @@
 use Rattle.std.proofs.Common.{◌≡◌, ◌<◌, ◌≤◌, ◌+◌, ◌-◌, ◌^◌, ◌∙◌, ℕ, List, [], ◌∷◌, ◌++◌, length, take, drop, min, Bool, true, false, eqb, Some, None, if◌then◌else◌, refl, sym, ap, subst, append_assoc, length-append, arith}
 use Rattle.std.proofs.lemmas.Bool.{ne_eqb}
 use Rattle.std.proofs.lemmas.List.{append-nil, take-append-drop, length-take-le}
-use Rattle.wire_frames.specs.Decoding.{has_kind}
+use Rattle.wire_frames.specs.Decoding.{has_head}
 use Rattle.wire_frames.specs.Frames.{Placed, End, EndsSo, ReadsAs, IsRefused}
 use Rattle.wire_frames.specs.declared.decoding.Way.{Way}
 use Rattle.frame_feed.specs.Calls.{Call, Fed, Given, Shown, Lead, bytes_of, given_by, messages_of, TellsEnd, ToldAfter, Frames}
@@ -21,7 +21,7 @@ pub record Has (bytes : List ℕ) (ms : List (Placed Message)) (f : Feeding) : T
   pub more : List ℕ
   pub comes : Comes (SpellsMessage f.way) 0 bytes ms f.at (f.held ++ more)
   pub none : f.failed ≡ false → more ≡ []
-  pub refused : f.failed ≡ true → IsRefused (has_kind f.way) (SpellsMessage f.way) f.held
+  pub refused : f.failed ≡ true → IsRefused (has_head f.way) (SpellsMessage f.way) f.held
 
 start : (way : Way) → Has [] [] (empty_feed way)
 start way = record { more = []; comes = (refl, refl); none = λ e. refl; refused = λ e. absurd (both_ways false e refl) }
@@ -74,7 +74,7 @@ has_none : (old new : Feeding) (bytes : List ℕ) (ms : List (Placed Message)) �
 has_none old new bytes ms h e =
     subst (λ (f : Feeding). Has bytes (ms ++ []) f) (sym e) (subst (λ (l : List (Placed Message)). Has bytes l old) (sym (append-nil ms)) h)
 
-has_refused : (f : Feeding) (bytes : List ℕ) (ms : List (Placed Message)) → Has bytes ms f → IsRefused (has_kind f.way) (SpellsMessage f.way) f.held → Has bytes ms (refused f)
+has_refused : (f : Feeding) (bytes : List ℕ) (ms : List (Placed Message)) → Has bytes ms f → IsRefused (has_head f.way) (SpellsMessage f.way) f.held → Has bytes ms (refused f)
 has_refused f bytes ms h bad = record { more = h.more; comes = h.comes; none = λ e. absurd (both_ways true refl e); refused = λ e. bad }
 
 has_given : (answer : Next) (old new : Feeding) (bytes : List ℕ) (ms : List (Placed Message)) → Has bytes ms old → length bytes < 2 ^ 64 → Steps answer old new → Has bytes (ms ++ given_by answer) new
@@ -115,23 +115,23 @@ lead_way (Shown answer ∷ calls) old new lead = lead_way calls old new lead.1
 -- ---- the end
 
 reads_so : (answer : Next) (now after : Feeding) (bytes : List ℕ) (ms : List (Placed Message)) (end : End) → Has bytes ms now → Steps answer now after → TellsEnd answer (rest_of now) end
-    → ReadsAs (has_kind now.way) (SpellsMessage now.way) 0 bytes ms end
+    → ReadsAs (has_head now.way) (SpellsMessage now.way) 0 bytes ms end
 reads_so (next.One place used message) now after bytes ms end h s t = absurd t
 reads_so next.NotYet now after bytes ms end h s t =
     let held : now.held ++ h.more ≡ now.held = ap (λ (m : List ℕ). now.held ++ m) (h.none s.0) ∙ append-nil now.held in
-    comes_whole (has_kind now.way) (SpellsMessage now.way) 0 bytes ms now.at now.held end
+    comes_whole (has_head now.way) (SpellsMessage now.way) 0 bytes ms now.at now.held end
     (subst (λ (l : List ℕ). Comes (SpellsMessage now.way) 0 bytes ms now.at l) held h.comes)
-    (rest_ends (has_kind now.way) (SpellsMessage now.way) now.at now.held end (eqb (length now.held) 0) refl s.2 t)
+    (rest_ends (has_head now.way) (SpellsMessage now.way) now.at now.held end (eqb (length now.held) 0) refl s.2 t)
 reads_so (next.Bad place) now after bytes ms end h s t =
-    comes_whole (has_kind now.way) (SpellsMessage now.way) 0 bytes ms now.at (now.held ++ h.more) end h.comes
-    (subst (λ (x : End). EndsSo (has_kind now.way) (SpellsMessage now.way) now.at (now.held ++ h.more) x) (sym t)
-    (s.0, refused_more (has_kind now.way) (SpellsMessage now.way) now.held h.more s.1))
+    comes_whole (has_head now.way) (SpellsMessage now.way) 0 bytes ms now.at (now.held ++ h.more) end h.comes
+    (subst (λ (x : End). EndsSo (has_head now.way) (SpellsMessage now.way) now.at (now.held ++ h.more) x) (sym t)
+    (s.0, refused_more (has_head now.way) (SpellsMessage now.way) now.held h.more s.1))
 reads_so next.OutOfMemory now after bytes ms end h s t = absurd t
 
 pub frames_given : (way : Way) (calls : List Call) (end : End) → length (bytes_of calls) < 2 ^ 64 → ToldAfter way calls end → Frames way (bytes_of calls) (messages_of calls) end
 frames_given way calls end short t =
     let h = has_called calls [] [] (empty_feed way) t.now (start way) t.lead short in
-    subst (λ (w : Way). ReadsAs (has_kind w) (SpellsMessage w) 0 (bytes_of calls) (messages_of calls) end) (lead_way calls (empty_feed way) t.now t.lead)
+    subst (λ (w : Way). ReadsAs (has_head w) (SpellsMessage w) 0 (bytes_of calls) (messages_of calls) end) (lead_way calls (empty_feed way) t.now t.lead)
     (reads_so t.answer t.now t.after (bytes_of calls) (messages_of calls) end h t.steps t.tells)
 
 -- ---- after a fault

@@ -33,24 +33,24 @@ comes_length Spells at bytes (m ∷ ms) now rest h =
     omega (arith, ap length h.2, length-append h.0 h.1, comes_length Spells (at + length h.0) h.1 ms now rest h.5)
 
 -- where the rest ends so, the stream is read so
-pub comes_whole : {M : Type 0} (is_kind : ℕ → Bool) (Spells : M → List ℕ → Type 0) (at : ℕ) (bytes : List ℕ) (ms : List (Placed M)) (now : ℕ) (rest : List ℕ) (end : End)
-    → Comes Spells at bytes ms now rest → EndsSo is_kind Spells now rest end → ReadsAs is_kind Spells at bytes ms end
-comes_whole is_kind Spells at bytes [] now rest end h e =
-    subst (λ (a : ℕ). EndsSo is_kind Spells a bytes end) h.0 (subst (λ (l : List ℕ). EndsSo is_kind Spells now l end) h.1 e)
-comes_whole is_kind Spells at bytes (m ∷ ms) now rest end h e =
-    (h.0, h.1, h.2, h.3, h.4, comes_whole is_kind Spells (at + length h.0) h.1 ms now rest end h.5 e)
+pub comes_whole : {M : Type 0} (is_head : ℕ → ℕ → Bool) (Spells : M → List ℕ → Type 0) (at : ℕ) (bytes : List ℕ) (ms : List (Placed M)) (now : ℕ) (rest : List ℕ) (end : End)
+    → Comes Spells at bytes ms now rest → EndsSo is_head Spells now rest end → ReadsAs is_head Spells at bytes ms end
+comes_whole is_head Spells at bytes [] now rest end h e =
+    subst (λ (a : ℕ). EndsSo is_head Spells a bytes end) h.0 (subst (λ (l : List ℕ). EndsSo is_head Spells now l end) h.1 e)
+comes_whole is_head Spells at bytes (m ∷ ms) now rest end h e =
+    (h.0, h.1, h.2, h.3, h.4, comes_whole is_head Spells (at + length h.0) h.1 ms now rest end h.5 e)
 
 -- ---- ends
 
 -- what is refused is refused whatever follows
-pub refused_more : {M : Type 0} (is_kind : ℕ → Bool) (Spells : M → List ℕ → Type 0) (bytes more : List ℕ) → IsRefused is_kind Spells bytes → IsRefused is_kind Spells (bytes ++ more)
-refused_more is_kind Spells [] more h = absurd (omega (arith, h.0))
-refused_more is_kind Spells (v ∷ []) more h = absurd (omega (arith, h.0))
-refused_more is_kind Spells (v ∷ k ∷ []) more h = absurd (omega (arith, h.0))
-refused_more is_kind Spells (v ∷ k ∷ a ∷ []) more h = absurd (omega (arith, h.0))
-refused_more is_kind Spells (v ∷ k ∷ a ∷ b ∷ []) more h = absurd (omega (arith, h.0))
-refused_more is_kind Spells (v ∷ k ∷ a ∷ b ∷ c ∷ []) more h = absurd (omega (arith, h.0))
-refused_more {M} is_kind Spells (v ∷ k ∷ a ∷ b ∷ c ∷ d ∷ rest) more h =
+pub refused_more : {M : Type 0} (is_head : ℕ → ℕ → Bool) (Spells : M → List ℕ → Type 0) (bytes more : List ℕ) → IsRefused is_head Spells bytes → IsRefused is_head Spells (bytes ++ more)
+refused_more is_head Spells [] more h = absurd (omega (arith, h.0))
+refused_more is_head Spells (v ∷ []) more h = absurd (omega (arith, h.0))
+refused_more is_head Spells (v ∷ k ∷ []) more h = absurd (omega (arith, h.0))
+refused_more is_head Spells (v ∷ k ∷ a ∷ []) more h = absurd (omega (arith, h.0))
+refused_more is_head Spells (v ∷ k ∷ a ∷ b ∷ []) more h = absurd (omega (arith, h.0))
+refused_more is_head Spells (v ∷ k ∷ a ∷ b ∷ c ∷ []) more h = absurd (omega (arith, h.0))
+refused_more {M} is_head Spells (v ∷ k ∷ a ∷ b ∷ c ∷ d ∷ rest) more h =
     let bytes : List ℕ = v ∷ k ∷ a ∷ b ∷ c ∷ d ∷ rest in
     let long = length-append bytes more in (
       omega (arith, h.0, long),
@@ -63,9 +63,9 @@ refused_more {M} is_kind Spells (v ∷ k ∷ a ∷ b ∷ c ∷ d ∷ rest) more 
     )
 
 -- where less than a frame is held, the end is told by whether anything is
-pub rest_ends : {M : Type 0} (is_kind : ℕ → Bool) (Spells : M → List ℕ → Type 0) (at : ℕ) (held : List ℕ) (end : End) (empty : Bool) → eqb (length held) 0 ≡ empty
-    → IsNotYet is_kind held → TellsEnd next.NotYet (if empty then None else Some at) end → EndsSo is_kind Spells at held end
-rest_ends is_kind Spells at held end true e waits t =
-    subst (λ (x : End). EndsSo is_kind Spells at held x) (sym t) (nil_from_length held (eqb-true (length held) 0 e))
-rest_ends is_kind Spells at held end false e waits t =
-    subst (λ (x : End). EndsSo is_kind Spells at held x) (sym t) (refl, omega (arith, eqb-false (length held) 0 e), waits)
+pub rest_ends : {M : Type 0} (is_head : ℕ → ℕ → Bool) (Spells : M → List ℕ → Type 0) (at : ℕ) (held : List ℕ) (end : End) (empty : Bool) → eqb (length held) 0 ≡ empty
+    → IsNotYet is_head held → TellsEnd next.NotYet (if empty then None else Some at) end → EndsSo is_head Spells at held end
+rest_ends is_head Spells at held end true e waits t =
+    subst (λ (x : End). EndsSo is_head Spells at held x) (sym t) (nil_from_length held (eqb-true (length held) 0 e))
+rest_ends is_head Spells at held end false e waits t =
+    subst (λ (x : End). EndsSo is_head Spells at held x) (sym t) (refl, omega (arith, eqb-false (length held) 0 e), waits)

@@ -1,6 +1,6 @@
 -- The calls of a feed, one after another: what was fed, and what was given for it.
 use Rattle.std.specs.Prelude.{◌≡◌, ℕ, List, [], ◌∷◌, ◌++◌, Option, Some, None}
-use Rattle.wire_frames.specs.Decoding.{has_kind}
+use Rattle.wire_frames.specs.Decoding.{has_head}
 use Rattle.wire_frames.specs.Frames.{Placed, End, Whole, Refused, Rest, ReadsAs}
 use Rattle.wire_frames.specs.declared.decoding.Way.{Way}
 use Rattle.frame_feed.specs.Feeding.{Feeding, SpellsMessage, empty_feed, with_piece, rest_of}
@@ -12,7 +12,7 @@ use Rattle.frame_feed.specs.declared.messages.Message.{Message}
 
 -- the messages of a stream in a direction with their places, and how it ends
 abbrev pub Frames : Way → List ℕ → List (Placed Message) → End → Type 0
-Frames way bytes messages end = ReadsAs (has_kind way) (SpellsMessage way) 0 bytes messages end
+Frames way bytes messages end = ReadsAs (has_head way) (SpellsMessage way) 0 bytes messages end
 
 -- a piece was fed; or this was given next, by `next`, or by `front` with `advance` behind its message; or `front` showed it
 pub data Call : Type 0 where

@@ -1,6 +1,7 @@
 -- What a feed holds, and the messages of either direction.
 use Rattle.std.specs.Prelude.{ℕ, ◌+◌, ◌-◌, ◌≤◌, ◌^◌, List, [], ◌++◌, length, take, drop, min, Bool, true, false, Option, Some, None, ◌==◌, if◌then◌else◌}
-use Rattle.wire_spelling.specs.Spelling.{SpellsRequest, SpellsReply}
+use Rattle.wire_spelling.specs.Packing.{SpellsPayload}
+use Rattle.wire_spelling.specs.Spelling.{SpellsRequest}
 use Rattle.wire_frames.specs.declared.decoding.Way.{Way}
 use Rattle.wire_frames.specs.declared.decoding.Way.TheVariants.{ToServer, ToDriver}
 use Rattle.frame_feed.specs.declared.messages.Message.{Message}
@@ -8,10 +9,10 @@ use Rattle.frame_feed.specs.declared.messages.Message.TheVariants.{Asks, Tells}
 
 -- the frame of a message of the direction
 abbrev pub SpellsMessage : Way → Message → List ℕ → Type 0
-SpellsMessage ToServer (Asks request) bytes = SpellsRequest request bytes
-SpellsMessage ToServer (Tells reply) bytes = ⊥
-SpellsMessage ToDriver (Asks request) bytes = ⊥
-SpellsMessage ToDriver (Tells reply) bytes = SpellsReply reply bytes
+SpellsMessage ToServer (Asks asked) bytes = SpellsRequest asked bytes
+SpellsMessage ToServer (Tells payload) bytes = ⊥
+SpellsMessage (ToDriver version) (Asks asked) bytes = ⊥
+SpellsMessage (ToDriver version) (Tells payload) bytes = SpellsPayload version payload bytes
 
 -- the direction, the place of the first byte that is held, the bytes held, and whether a frame was refused
 pub record Feeding : Type 0 where

@@ -4,9 +4,12 @@ use Rattle.std.specs.List.{All}
 use Rattle.wire_messages.specs.Conditions.{IsRequest, IsReply}
 use Rattle.wire_messages.specs.declared.replies.Reply.{Reply}
 use Rattle.wire_messages.specs.declared.requests.Request.{Request}
-use Rattle.wire_spelling.specs.Spelling.{request_frame, reply_frame}
-use Rattle.wire_frames.specs.Frames.{Placed, End, Whole, RequestFrames, ReplyFrames}
-use Rattle.wire_frames.specs.Laws.{placed_from}
+use Rattle.ae_base.specs.declared.frames.FrameVersion.{FrameVersion}
+use Rattle.wire_payloads.specs.declared.payloads.Payload.{Payload}
+use Rattle.wire_payloads.specs.declared.versioned.Versioned.{Versioned}
+use Rattle.wire_spelling.specs.Packing.{packed, payload_frame, payloads_of}
+use Rattle.wire_spelling.specs.Spelling.{asked_frame}
+use Rattle.wire_frames.specs.Frames.{Placed, End, Whole, RequestFrames, ReplyFrames, placed_from}
 use Rattle.wire_frames.specs.declared.decoding.Way.{Way}
 use Rattle.wire_frames.specs.declared.decoding.Way.TheVariants.{ToServer, ToDriver}
 use Rattle.frame_feed.specs.Calls.{Call, Lead, Frames, bytes_of, messages_of, ToldAfter}
@@ -44,26 +47,30 @@ KeepsRefusal =
 
 -- ---- each direction
 
-abbrev pub asked : Placed Request → Placed Message
+abbrev pub asked : Placed (Versioned Request) → Placed Message
 asked request = record { at = request.at; message = Asks request.message }
 
-abbrev pub told : Placed Reply → Placed Message
-told reply = record { at = reply.at; message = Tells reply.message }
+abbrev pub told : Placed Payload → Placed Message
+told payload = record { at = payload.at; message = Tells payload.message }
 
 -- the frames to the server are requests, those to the driver replies
 abbrev pub AreRequests : Type 0
 AreRequests =
     (bytes : List ℕ) (messages : List (Placed Message)) (end : End)
-    → Frames ToServer bytes messages end ↔ ((requests : List (Placed Request)) × (messages ≡ map asked requests) × RequestFrames bytes requests end)
+    → Frames ToServer bytes messages end ↔ ((requests : List (Placed (Versioned Request))) × (messages ≡ map asked requests) × RequestFrames bytes requests end)
 
-abbrev pub AreReplies : Type 0
-AreReplies =
+abbrev pub AreReplies : FrameVersion → Type 0
+AreReplies version =
     (bytes : List ℕ) (messages : List (Placed Message)) (end : End)
-    → Frames ToDriver bytes messages end ↔ ((replies : List (Placed Reply)) × (messages ≡ map told replies) × ReplyFrames bytes replies end)
+    → Frames (ToDriver version) bytes messages end ↔ ((payloads : List (Placed Payload)) × (messages ≡ map told payloads) × ReplyFrames version bytes payloads end)
 
 -- what was written, one after another, is given back
 abbrev pub GivesRequestsBack : Type 0
-GivesRequestsBack = (requests : List Request) → All IsRequest requests → Frames ToServer (flat_map request_frame requests) (map asked (placed_from request_frame 0 requests)) Whole
+GivesRequestsBack =
+    (requests : List (Versioned Request)) → All (λ asked. IsRequest asked.message) requests
+    → Frames ToServer (flat_map asked_frame requests) (map asked (placed_from asked_frame 0 requests)) Whole
 
-abbrev pub GivesRepliesBack : Type 0
-GivesRepliesBack = (replies : List Reply) → All IsReply replies → Frames ToDriver (flat_map reply_frame replies) (map told (placed_from reply_frame 0 replies)) Whole
+abbrev pub GivesRepliesBack : FrameVersion → Type 0
+GivesRepliesBack version =
+    (replies : List Reply) → All IsReply replies
+    → Frames (ToDriver version) (packed version replies) (map told (placed_from (payload_frame version) 0 (payloads_of version replies))) Whole

@@ -1,6 +1,6 @@
 -- What a feed gives next.
 use Rattle.std.specs.Prelude.{◌≡◌, ◌≤◌, length, take, false}
-use Rattle.wire_frames.specs.Decoding.{has_kind}
+use Rattle.wire_frames.specs.Decoding.{has_head}
 use Rattle.wire_frames.specs.Frames.{IsNotYet, IsRefused}
 use Rattle.frame_feed.specs.Feeding.{Feeding, SpellsMessage, behind, refused}
 use Rattle.frame_feed.specs.declared.feeds.Next.{Next}
@@ -11,8 +11,8 @@ use Rattle.frame_feed.specs.declared.feeds.Next.TheVariants as next
 abbrev pub Steps : Next → Feeding → Feeding → Type 0
 Steps (next.One place used message) old new =
     (old.failed ≡ false) × (place ≡ old.at) × (6 ≤ used) × (used ≤ length old.held) × SpellsMessage old.way message (take used old.held) × (new ≡ behind old used)
-Steps next.NotYet old new = (old.failed ≡ false) × (new ≡ old) × IsNotYet (has_kind old.way) old.held
-Steps (next.Bad place) old new = (place ≡ old.at) × IsRefused (has_kind old.way) (SpellsMessage old.way) old.held × (new ≡ refused old)
+Steps next.NotYet old new = (old.failed ≡ false) × (new ≡ old) × IsNotYet (has_head old.way) old.held
+Steps (next.Bad place) old new = (place ≡ old.at) × IsRefused (has_head old.way) (SpellsMessage old.way) old.held × (new ≡ refused old)
 Steps next.OutOfMemory old new = (old.failed ≡ false) × (new ≡ old)
 
 -- the feed after an answer

@@ -23,7 +23,7 @@ pub struct FrameFeed {
 
 impl Model for FrameFeed {
     ghost use Rattle.std.specs.Prelude.{◌≡◌, true};
-    ghost use Rattle.wire_frames.specs.Decoding.{has_kind};
+    ghost use Rattle.wire_frames.specs.Decoding.{has_head};
     ghost use Rattle.wire_frames.specs.Frames.{IsRefused};
     ghost use Rattle.frame_feed.specs.Feeding.{Feeding, SpellsMessage};
 
@@ -32,7 +32,7 @@ impl Model for FrameFeed {
     ghost view = { λ f. record { way = f.way; at = f.at; held = f.held.items; failed = f.failed } };
 
     ghost invariant = { λ f. f.failed ≡ true
-        → IsRefused (has_kind f.way) (SpellsMessage f.way) f.held.items };
+        → IsRefused (has_head f.way) (SpellsMessage f.way) f.held.items };
 }
 
 /// What stands next.

@@ -1,5 +1,6 @@
 //! Laws of a feed.
 
+ghost use Rattle.ae_base.specs.declared.frames.FrameVersion.{FrameVersion};
 ghost use Rattle.frame_feed.specs.Laws.{GivesFrames, GivesTheSameHoweverCut, KeepsFault, KeepsRefusal, AreRequests, AreReplies, GivesRequestsBack, GivesRepliesBack};
 
 use wire_frames::{frames_are_read_back, streams_are_read_once};
@@ -21,12 +22,13 @@ pub fn faults_stay()
     streams_are_read_once();
 }
 
-/// The frames to the server are requests, those to the driver replies; what was written is given back.
+/// The frames to the server are requests, in either version; those to the driver carry replies, in
+/// the version that it speaks. What was written is given back.
 pub fn frames_of_each_way()
     ensures requests { AreRequests }
-    ensures replies { AreReplies }
+    ensures replies { (version : FrameVersion) → AreReplies version }
     ensures requests_back { GivesRequestsBack }
-    ensures replies_back { GivesRepliesBack }
+    ensures replies_back { (version : FrameVersion) → GivesRepliesBack version }
 {
     frames_are_read_back();
 }

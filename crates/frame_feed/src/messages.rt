@@ -1,22 +1,24 @@
 //! Messages of either direction.
 
 ghost use Rattle.std.specs.Prelude.{◌≡◌, IfOk};
-ghost use Rattle.wire_frames.specs.Decoding.{Decodes, has_kind};
-ghost use Rattle.wire_frames.specs.Frames.{is_request_kind, is_reply_kind};
+ghost use Rattle.wire_frames.specs.Decoding.{Decodes, has_head};
+ghost use Rattle.wire_frames.specs.Frames.{is_request_head, is_reply_head};
 ghost use Rattle.frame_feed.specs.Feeding.{SpellsMessage};
 
+use ae_base::frames::FrameVersion;
 use std::alloc::{AllocError, Global};
 use wire_frames::{Decoded, Way, decode_reply, decode_request};
-use wire_messages::replies::Reply;
 use wire_messages::requests::Request;
+use wire_payloads::payloads::Payload;
+use wire_payloads::versioned::Versioned;
 
 /// A message of either direction.
 #[derive(Drop)]
 pub enum Message<'a> {
-    /// To the server.
-    Asks(Request<'a>),
-    /// To the driver.
-    Tells(Reply<'a>),
+    /// To the server, in the version that it is asked in.
+    Asks(Versioned<Request<'a>>),
+    /// To the driver: what a frame carries.
+    Tells(Payload<'a>),
 }
 
 impl<'a> Message<'a> {
@@ -25,28 +27,29 @@ impl<'a> Message<'a> {
         ensures { IfOk result (λ own. own ≡ self.now) }
     {
         match self {
-            Message::Asks(request) => Ok(Message::Asks(request.to_own(alloc)?)),
-            Message::Tells(reply) => Ok(Message::Tells(reply.to_own(alloc)?)),
+            Message::Asks(asked) => Ok(Message::Asks(asked.to_own(alloc)?)),
+            Message::Tells(payload) => Ok(Message::Tells(payload.to_own(alloc)?)),
         }
     }
 }
 
 fn asks(alloc: Global, bytes: &[u8]) -> Decoded<Message<'_>>
-    ensures { Decodes is_request_kind (SpellsMessage Way.ToServer) result bytes.now }
+    ensures { Decodes is_request_head (SpellsMessage Way.ToServer) result bytes.now }
 {
     match decode_request(alloc, bytes) {
-        Decoded::One(request, used) => Decoded::One(Message::Asks(request), used),
+        Decoded::One(asked, used) => Decoded::One(Message::Asks(asked), used),
         Decoded::NotYet => Decoded::NotYet,
         Decoded::Bad => Decoded::Bad,
         Decoded::OutOfMemory => Decoded::OutOfMemory,
     }
 }
 
-fn tells(alloc: Global, bytes: &[u8]) -> Decoded<Message<'_>>
-    ensures { Decodes is_reply_kind (SpellsMessage Way.ToDriver) result bytes.now }
+fn tells(alloc: Global, version: FrameVersion, bytes: &[u8]) -> Decoded<Message<'_>>
+    ensures { Decodes (is_reply_head version) (SpellsMessage (Way.ToDriver version)) result
+        bytes.now }
 {
-    match decode_reply(alloc, bytes) {
-        Decoded::One(reply, used) => Decoded::One(Message::Tells(reply), used),
+    match decode_reply(alloc, version, bytes) {
+        Decoded::One(payload, used) => Decoded::One(Message::Tells(payload), used),
         Decoded::NotYet => Decoded::NotYet,
         Decoded::Bad => Decoded::Bad,
         Decoded::OutOfMemory => Decoded::OutOfMemory,
@@ -55,10 +58,10 @@ fn tells(alloc: Global, bytes: &[u8]) -> Decoded<Message<'_>>
 
 /// The message of a direction that stands at the front. Its parts borrow from the bytes.
 pub fn decode(alloc: Global, way: Way, bytes: &[u8]) -> Decoded<Message<'_>>
-    ensures { Decodes (has_kind way) (SpellsMessage way) result bytes.now }
+    ensures { Decodes (has_head way) (SpellsMessage way) result bytes.now }
 {
     match way {
         Way::ToServer => asks(alloc, bytes),
-        Way::ToDriver => tells(alloc, bytes),
+        Way::ToDriver(version) => tells(alloc, version, bytes),
     }
 }

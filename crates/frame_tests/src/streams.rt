@@ -1,13 +1,20 @@
 //! Frames, and streams of them, in pieces.
 
+use crate::long::{columns_under_keys, fives, nulls, plain_columns, shared_nulls};
 use crate::tables::{
-    cut_replies, cut_requests, no_replies, no_requests, worked_replies, worked_requests,
+    cut_replies, cut_replies_of_2, cut_requests, no_replies, no_replies_of_2, no_requests,
+    worked_replies, worked_replies_of_2, worked_requests,
 };
+use ae_base::frames::FrameVersion;
+use ae_base::lists::Seq;
 use frame_feed::{FrameFeed, Message, Next};
 use std::alloc::{AllocError, Global};
 use std::test::Fail;
 use wire_frames::Way;
-use wire_spelling::{encode_reply, encode_request};
+use wire_messages::replies::{Reply, RowParts};
+use wire_parts::atoms::AtomPart;
+use wire_payloads::payloads::Payload;
+use wire_spelling::{encode_request, pack};
 
 // How a stream ends: after a frame, at what is no frame, or inside a frame.
 #[derive(Clone, Copy, PartialEq, Eq, Debug)]
@@ -18,16 +25,39 @@ enum End {
     OutOfMemory,
 }
 
-fn frame_of(alloc: Global, message: &Message<'_>) -> Result<Vec<u8>, AllocError> {
+// The replies that a frame carries.
+fn replies_of(alloc: Global, payload: &Payload<'_>) -> Result<Vec<Reply<'static>>, AllocError> {
+    let mut replies = Vec::new(alloc);
+    match payload {
+        Payload::One(reply) => replies.push(reply.to_own(alloc)?)?,
+        Payload::Rows(batch) => {
+            for row in batch.rows() {
+                replies.push(Reply::Row(row.to_own(alloc)?))?;
+            }
+        }
+    }
+    Ok(replies)
+}
+
+fn told_frame(alloc: Global, way: Way, payload: &Payload<'_>) -> Result<Vec<u8>, AllocError> {
+    let replies = replies_of(alloc, payload)?;
+    match way {
+        Way::ToServer => Ok(Vec::new(alloc)),
+        Way::ToDriver(version) => pack(alloc, version, &replies),
+    }
+}
+
+fn frame_of(alloc: Global, way: Way, message: &Message<'_>) -> Result<Vec<u8>, AllocError> {
     match message {
-        Message::Asks(request) => encode_request(alloc, request),
-        Message::Tells(reply) => encode_reply(alloc, reply),
+        Message::Asks(asked) => encode_request(alloc, asked.version, &asked.message),
+        Message::Tells(payload) => told_frame(alloc, way, payload),
     }
 }
 
 // Writes the message that is given. Where none is, how the stream ends if no byte follows.
 fn end_at(
     alloc: Global,
+    way: Way,
     next: &Next<'_>,
     rest: Option<u64>,
     out: &mut Vec<u8>,
@@ -38,7 +68,7 @@ fn end_at(
             used: _,
             message,
         } => {
-            out.extend_from_slice(&frame_of(alloc, message)?)?;
+            out.extend_from_slice(&frame_of(alloc, way, message)?)?;
             Ok(None)
         }
         Next::NotYet => match rest {
@@ -50,9 +80,14 @@ fn end_at(
     }
 }
 
-fn step(alloc: Global, feed: &mut FrameFeed, out: &mut Vec<u8>) -> Result<Option<End>, AllocError> {
+fn step(
+    alloc: Global,
+    way: Way,
+    feed: &mut FrameFeed,
+    out: &mut Vec<u8>,
+) -> Result<Option<End>, AllocError> {
     let next = feed.next(alloc);
-    end_at(alloc, &next, feed.finish(), out)
+    end_at(alloc, way, &next, feed.finish(), out)
 }
 
 // What a stream in pieces of so many bytes is: the messages that are given, written again, and the end
@@ -64,7 +99,7 @@ fn read(alloc: Global, way: Way, stream: &[u8], size: usize) -> Result<(Vec<u8>,
     for piece in stream.chunks(size.max(1)) {
         feed.feed(piece)?;
         for _ in 0..=piece.len() {
-            if let Some(told) = step(alloc, &mut feed, &mut out)? {
+            if let Some(told) = step(alloc, way, &mut feed, &mut out)? {
                 end = told;
                 break;
             }
@@ -138,11 +173,29 @@ fn end_so(
     Ok(true)
 }
 
+// So many rows of one number, the five.
+fn five_rows(alloc: Global, count: u32) -> Result<Vec<Reply<'static>>, AllocError> {
+    let mut rows = Vec::new(alloc);
+    for _ in 0..count {
+        let mut atoms = Seq::new(alloc);
+        atoms.push(AtomPart::number(5))?;
+        if let Some(row) = RowParts::new(atoms) {
+            rows.push(Reply::Row(row))?;
+        }
+    }
+    Ok(rows)
+}
+
+const OF_1: Way = Way::ToDriver(FrameVersion::V1);
+
+const OF_2: Way = Way::ToDriver(FrameVersion::V2);
+
 #[test]
 fn reads_and_writes_each_frame(rt: HostRuntime) -> Result<(), Fail> {
     let alloc = rt.alloc();
     assert!(rt; are_read(alloc, Way::ToServer, worked_requests())?);
-    assert!(rt; are_read(alloc, Way::ToDriver, worked_replies())?);
+    assert!(rt; are_read(alloc, OF_1, worked_replies())?);
+    assert!(rt; are_read(alloc, OF_2, worked_replies_of_2())?);
     Ok(())
 }
 
@@ -151,7 +204,25 @@ fn refuses_each_broken_condition(rt: HostRuntime) -> Result<(), Fail> {
     let alloc = rt.alloc();
     let end = End::Refused(0);
     assert!(rt; end_so(alloc, Way::ToServer, worked_requests(), no_requests(), end)?);
-    assert!(rt; end_so(alloc, Way::ToDriver, worked_replies(), no_replies(), end)?);
+    assert!(rt; end_so(alloc, OF_1, worked_replies(), no_replies(), end)?);
+    assert!(rt; end_so(alloc, OF_2, worked_replies_of_2(), no_replies_of_2(), end)?);
+    Ok(())
+}
+
+#[test]
+fn counts_what_a_frame_holds(rt: HostRuntime) -> Result<(), Fail> {
+    let alloc = rt.alloc();
+    let most_keys = columns_under_keys(alloc, 128)?;
+    let most_nulls = shared_nulls(alloc, 512)?;
+    assert!(rt; are_read(alloc, OF_1, &[&most_keys])?);
+    assert!(rt; are_read(alloc, OF_2, &[&most_nulls])?);
+    let keys = columns_under_keys(alloc, 129)?;
+    let columns = plain_columns(alloc, 513)?;
+    let row = nulls(alloc, 513)?;
+    let shared = shared_nulls(alloc, 513)?;
+    let rows = fives(alloc, 4097)?;
+    assert!(rt; end_so(alloc, OF_1, &[], &[&keys, &columns, &row], End::Refused(0))?);
+    assert!(rt; end_so(alloc, OF_2, &[], &[&shared, &rows], End::Refused(0))?);
     Ok(())
 }
 
@@ -160,6 +231,20 @@ fn waits_for_the_rest(rt: HostRuntime) -> Result<(), Fail> {
     let alloc = rt.alloc();
     let end = End::Rest(0);
     assert!(rt; end_so(alloc, Way::ToServer, worked_requests(), cut_requests(), end)?);
-    assert!(rt; end_so(alloc, Way::ToDriver, worked_replies(), cut_replies(), end)?);
+    assert!(rt; end_so(alloc, OF_1, worked_replies(), cut_replies(), end)?);
+    assert!(rt; end_so(alloc, OF_2, worked_replies_of_2(), cut_replies_of_2(), end)?);
+    Ok(())
+}
+
+#[test]
+fn rows_share_frames(rt: HostRuntime) -> Result<(), Fail> {
+    let alloc = rt.alloc();
+    let first = fives(alloc, 4096)?;
+    let second = fives(alloc, 904)?;
+    let frames = joined(alloc, &[&first, &second])?;
+    let rows = five_rows(alloc, 5000)?;
+    let packed = pack(alloc, FrameVersion::V2, &rows)?;
+    assert!(rt; packed.as_slice() == frames.as_slice());
+    assert!(rt; is_read(alloc, OF_2, &frames, &frames, End::Whole)?);
     Ok(())
 }

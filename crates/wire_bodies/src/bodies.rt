@@ -7,9 +7,12 @@ ghost use Rattle.wire_reading.specs.Reading as read;
 use crate::faults::fault_of;
 use crate::found::{Body, Found};
 use crate::listing::{declarations_of, keys_of, many_of, sent_params_of, used_params_of};
+use crate::rows::rows_of;
+use ae_base::frames::FrameVersion;
 use std::alloc::Global;
 use wire_messages::replies::Reply;
 use wire_messages::requests::Request;
+use wire_payloads::payloads::Payload;
 use wire_reading::checks;
 use wire_reading::reading::{done_of, session_of, statement_of, u64_of};
 
@@ -162,7 +165,7 @@ fn refused_of(alloc: Global, body: &[u8]) -> Body<Reply<'_>>
 
 /// The body of a reply of a kind.
 #[tactic(auto, unfolding(wire_reading::specs::Reading::reply_at))]
-pub fn reply_body_of(alloc: Global, kind: u8, body: &[u8]) -> Body<Reply<'_>>
+fn reply_body_of(alloc: Global, kind: u8, body: &[u8]) -> Body<Reply<'_>>
     ensures { GivesBody result (read.reply_at kind body.now) }
 {
     match kind {
@@ -172,5 +175,51 @@ pub fn reply_body_of(alloc: Global, kind: u8, body: &[u8]) -> Body<Reply<'_>>
         0x84 => ended_of(body),
         0x85 => refused_of(alloc, body),
         _ => Body::Bad,
+    }
+}
+
+/// A reply that has the frame of a kind to itself.
+fn alone_of(alloc: Global, kind: u8, body: &[u8]) -> Body<Payload<'_>>
+    ensures { GivesBody result (read.alone (read.reply_at kind body.now)) }
+{
+    match reply_body_of(alloc, kind, body) {
+        Body::One(reply) => Body::One(Payload::One(reply)),
+        Body::Bad => Body::Bad,
+        Body::OutOfMemory => Body::OutOfMemory,
+    }
+}
+
+/// Rows that share a frame.
+#[tactic(auto, unfolding(wire_reading::specs::Reading::batch_at))]
+fn batch_of(alloc: Global, body: &[u8]) -> Body<Payload<'_>>
+    ensures { GivesBody result (read.batch_at body.now) }
+{
+    match rows_of(alloc, body) {
+        Found::One(rows, rest) => match checks::batch(rows) {
+            Some(batch) if rest.is_empty() => Body::One(Payload::Rows(batch)),
+            _ => Body::Bad,
+        },
+        Found::Bad => Body::Bad,
+        Found::OutOfMemory => Body::OutOfMemory,
+    }
+}
+
+/// What a frame of a kind carries to the driver, in a version.
+#[tactic(auto, unfolding(wire_reading::specs::Reading::payload_at))]
+pub fn payload_body_of(
+    alloc: Global,
+    version: FrameVersion,
+    kind: u8,
+    body: &[u8],
+) -> Body<Payload<'_>>
+    ensures { GivesBody result (read.payload_at version kind body.now) }
+{
+    match version {
+        FrameVersion::V1 => alone_of(alloc, kind, body),
+        FrameVersion::V2 => match kind {
+            0x83 => Body::Bad,
+            0x86 => batch_of(alloc, body),
+            _ => alone_of(alloc, kind, body),
+        },
     }
 }

@@ -5,6 +5,7 @@ mod bodies;
 mod faults;
 mod found;
 mod listing;
+mod rows;
 
-pub use bodies::{reply_body_of, request_body_of};
+pub use bodies::{payload_body_of, request_body_of};
 pub use found::Body;

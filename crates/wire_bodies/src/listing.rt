@@ -30,7 +30,12 @@ pub trait ReadPart<'a>: Sized + Drop {
         ensures { Gives (λ x. (x.0, x.1.now)) result (reading bytes.now) };
 }
 
-fn parts_of<'a, P: ReadPart<'a>>(alloc: Global, count: usize, bytes: &'a [u8]) -> Found<'a, Seq<P>>
+/// So many parts, one after another.
+pub fn parts_of<'a, P: ReadPart<'a>>(
+    alloc: Global,
+    count: usize,
+    bytes: &'a [u8],
+) -> Found<'a, Seq<P>>
     ensures { GivesFound result (read.parts_at P.reading count bytes.now) }
 {
     let mut parts = Seq::new(alloc);

@@ -1,6 +1,8 @@
 -- What a decoder answers.
-use Rattle.std.specs.Prelude.{◌≡◌, ◌≤◌, ◌+◌, ℕ, List, ◌++◌, length, take, drop, Bool, true, false, slice_index}
-use Rattle.wire_frames.specs.Frames.{is_request_kind, is_reply_kind, stated, is_no_header, IsNotYet, IsRefused}
+use Rattle.std.specs.Prelude.{◌≡◌, ◌≤◌, ◌+◌, ℕ, List, ◌++◌, length, take, drop, Bool, true, false, Option, Some, None, slice_index}
+use Rattle.ae_base.specs.declared.frames.FrameVersion.{FrameVersion}
+use Rattle.wire_spelling.specs.Spelling.{version_byte}
+use Rattle.wire_frames.specs.Frames.{is_request_head, is_reply_head, stated, is_no_header, IsNotYet, IsRefused}
 use Rattle.wire_frames.specs.declared.decoding.Way.{Way}
 use Rattle.wire_frames.specs.declared.decoding.Way.TheVariants.{ToServer, ToDriver}
 use Rattle.wire_frames.specs.declared.decoding.Framed.{Framed}
@@ -8,25 +10,30 @@ use Rattle.wire_frames.specs.declared.decoding.Framed.TheVariants as framed
 use Rattle.wire_frames.specs.declared.decoding.Decoded.{Decoded}
 use Rattle.wire_frames.specs.declared.decoding.Decoded.TheVariants as decoded
 
--- the kinds of a direction
-abbrev pub has_kind : Way → ℕ → Bool
-has_kind ToServer = is_request_kind
-has_kind ToDriver = is_reply_kind
+-- the first two bytes of a direction's frames
+abbrev pub has_head : Way → ℕ → ℕ → Bool
+has_head ToServer = is_request_head
+has_head (ToDriver version) = is_reply_head version
 
--- the kind and the body of a whole frame, less than a frame, or no header
-abbrev pub IsFramed : (ℕ → Bool) → List ℕ → Framed → Type 0
-IsFramed is_kind bytes (framed.Whole kind body) =
-    (6 + stated bytes ≤ length bytes) × (is_no_header is_kind bytes ≡ false) × (kind ≡ slice_index bytes 1) × (body.now ≡ take (stated bytes) (drop 6 bytes))
-IsFramed is_kind bytes framed.NotYet = IsNotYet is_kind bytes
-IsFramed is_kind bytes framed.Bad = (6 ≤ length bytes) × (is_no_header is_kind bytes ≡ true)
+-- the version of a frame that begins with a byte and a kind, where such a frame is one of the direction
+abbrev pub NamesVersion : (ℕ → ℕ → Bool) → ℕ → ℕ → Option FrameVersion → Type 0
+NamesVersion is_head byte kind None = is_head byte kind ≡ false
+NamesVersion is_head byte kind (Some version) = (is_head byte kind ≡ true) × (version_byte version ≡ byte)
+
+-- the version, the kind and the body of a whole frame, less than a frame, or no header
+abbrev pub IsFramed : (ℕ → ℕ → Bool) → List ℕ → Framed → Type 0
+IsFramed is_head bytes (framed.Whole version kind body) =
+    (6 + stated bytes ≤ length bytes) × (is_no_header is_head bytes ≡ false) × (version_byte version ≡ slice_index bytes 0) × (kind ≡ slice_index bytes 1) × (body.now ≡ take (stated bytes) (drop 6 bytes))
+IsFramed is_head bytes framed.NotYet = IsNotYet is_head bytes
+IsFramed is_head bytes framed.Bad = (6 ≤ length bytes) × (is_no_header is_head bytes ≡ true)
 
 -- What is read stands at the front, spelled so. Else less than a frame stands there, or what is refused, unless memory
 -- ran out.
-abbrev pub Decodes : {M : Type 0} → (ℕ → Bool) → (M → List ℕ → Type 0) → Decoded M → List ℕ → Type 0
-Decodes is_kind Spells (decoded.One message used) bytes = (used ≤ length bytes) × Spells message (take used bytes)
-Decodes is_kind Spells decoded.NotYet bytes = IsNotYet is_kind bytes
-Decodes is_kind Spells decoded.Bad bytes = IsRefused is_kind Spells bytes
-Decodes is_kind Spells decoded.OutOfMemory bytes = Unit {0}
+abbrev pub Decodes : {M : Type 0} → (ℕ → ℕ → Bool) → (M → List ℕ → Type 0) → Decoded M → List ℕ → Type 0
+Decodes is_head Spells (decoded.One message used) bytes = (used ≤ length bytes) × Spells message (take used bytes)
+Decodes is_head Spells decoded.NotYet bytes = IsNotYet is_head bytes
+Decodes is_head Spells decoded.Bad bytes = IsRefused is_head Spells bytes
+Decodes is_head Spells decoded.OutOfMemory bytes = Unit {0}
 
 -- this message was read, and so many bytes used, unless memory ran out
 abbrev pub IsRead : {M : Type 0} → Decoded M → M → ℕ → Type 0

@@ -1,7 +1,26 @@
 -- Laws of the spellings.
-use Rattle.std.specs.Prelude.{◌≡◌, ◌<◌, ℕ, ◌+◌, List, [], ◌∷◌, ◌++◌, length, flat_map, Bool}
+use Rattle.std.specs.Prelude.{◌≡◌, ◌<◌, ℕ, List, [], ◌++◌, flat_map, Bool}
 use Rattle.std.specs.List.{All}
-use Rattle.wire_frames.specs.Frames.{Placed, End, Whole, ReadsAs}
+use Rattle.ae_base.specs.declared.frames.FrameVersion.{FrameVersion}
+use Rattle.wire_messages.specs.Conditions.{IsReply, IsRequest}
+use Rattle.wire_messages.specs.declared.replies.Reply.{Reply}
+use Rattle.wire_messages.specs.declared.requests.Request.{Request}
+use Rattle.wire_payloads.specs.Payloads.{replies_of}
+use Rattle.wire_payloads.specs.declared.payloads.Payload.{Payload}
+use Rattle.wire_payloads.specs.declared.versioned.Versioned.{Versioned}
+use Rattle.wire_spelling.specs.Packing.{HasFrame, SpellsPayload, packed, payload_frame, payloads_of}
+use Rattle.wire_frames.specs.Frames.{Placed, End, Whole, ReadsAs, is_reply_head, placed_from}
+
+-- a request that is asked in a version
+abbrev pub IsAsked : Versioned Request → Type 0
+IsAsked asked = IsRequest asked.message
+
+-- a payload that is told in a version, and its frame
+abbrev pub IsTold : Versioned Payload → Type 0
+IsTold told = HasFrame told.version told.message
+
+abbrev pub told_frame : Versioned Payload → List ℕ
+told_frame told = payload_frame told.version told.message
 
 -- no spelling is the beginning of another's
 abbrev pub BeginsNoOther : {M : Type 0} → (M → Type 0) → (M → List ℕ) → Type 0
@@ -14,23 +33,25 @@ HasOneReading {M} Spells = (m n : M) (front other x y : List ℕ) → Spells m f
 -- ---- streams
 
 -- a stream is one list of messages with their places, and has one end
-abbrev pub IsReadOnce : {M : Type 0} → (ℕ → Bool) → (M → List ℕ → Type 0) → Type 0
-IsReadOnce {M} is_kind Spells =
+abbrev pub IsReadOnce : {M : Type 0} → (ℕ → ℕ → Bool) → (M → List ℕ → Type 0) → Type 0
+IsReadOnce {M} is_head Spells =
     (at : ℕ) (bytes : List ℕ) (ms ns : List (Placed M)) (end other : End)
-    → ReadsAs is_kind Spells at bytes ms end → ReadsAs is_kind Spells at bytes ns other → (ms ≡ ns) × (end ≡ other)
+    → ReadsAs is_head Spells at bytes ms end → ReadsAs is_head Spells at bytes ns other → (ms ≡ ns) × (end ≡ other)
 
 -- bytes are a list of messages with their places, and have an end
-abbrev pub HasReading : {M : Type 0} → (ℕ → Bool) → (M → List ℕ → Type 0) → Type 0
-HasReading {M} is_kind Spells =
+abbrev pub HasReading : {M : Type 0} → (ℕ → ℕ → Bool) → (M → List ℕ → Type 0) → Type 0
+HasReading {M} is_head Spells =
     (at : ℕ) (bytes : List ℕ) → All (λ byte. byte < 256) bytes
-    → (ms : List (Placed M)) × (end : End) × ReadsAs is_kind Spells at bytes ms end
-
--- messages one after another, each with its place
-abbrev pub placed_from : {M : Type 0} → (M → List ℕ) → ℕ → List M → List (Placed M)
-placed_from frame at [] = []
-placed_from frame at (m ∷ ms) = record { at = at; message = m } ∷ placed_from frame (at + length (frame m)) ms
+    → (ms : List (Placed M)) × (end : End) × ReadsAs is_head Spells at bytes ms end
 
 -- the frames of messages, one after another, are read as those messages, to the end
-abbrev pub IsReadBack : {M : Type 0} → (ℕ → Bool) → (M → List ℕ → Type 0) → (M → Type 0) → (M → List ℕ) → Type 0
-IsReadBack {M} is_kind Spells IsMessage frame =
-    (at : ℕ) (ms : List M) → All IsMessage ms → ReadsAs is_kind Spells at (flat_map frame ms) (placed_from frame at ms) Whole
+abbrev pub IsReadBack : {M : Type 0} → (ℕ → ℕ → Bool) → (M → List ℕ → Type 0) → (M → Type 0) → (M → List ℕ) → Type 0
+IsReadBack {M} is_head Spells IsMessage frame =
+    (at : ℕ) (ms : List M) → All IsMessage ms → ReadsAs is_head Spells at (flat_map frame ms) (placed_from frame at ms) Whole
+
+-- the frames of an answer are read as what they carry, to the end, and carry its replies in order
+abbrev pub IsUnpacked : FrameVersion → Type 0
+IsUnpacked version =
+    (at : ℕ) (replies : List Reply) → All IsReply replies
+    → ReadsAs (is_reply_head version) (SpellsPayload version) at (packed version replies) (placed_from (payload_frame version) at (payloads_of version replies)) Whole
+    × (flat_map replies_of (payloads_of version replies) ≡ replies)

@@ -1,20 +1,23 @@
 //! Frames from bytes.
 
-ghost use Rattle.std.specs.Prelude.{◌≡◌};
-ghost use Rattle.wire_frames.specs.Decoding.{has_kind, IsFramed, Decodes, ReadsEach};
-ghost use Rattle.wire_frames.specs.Frames.{is_request_kind, is_reply_kind, IsNotYet};
-ghost use Rattle.wire_spelling.specs.Spelling.{SpellsRequest, SpellsReply};
+ghost use Rattle.std.specs.Prelude.{◌≡◌, true, false, MatchOption};
+ghost use Rattle.wire_frames.specs.Decoding.{has_head, IsFramed, NamesVersion, Decodes, ReadsEach};
+ghost use Rattle.wire_frames.specs.Frames.{is_request_head, is_reply_kind, is_reply_head, IsNotYet};
+ghost use Rattle.wire_spelling.specs.Packing.{SpellsPayload};
+ghost use Rattle.wire_spelling.specs.Spelling.{SpellsRequest};
 
+use ae_base::frames::FrameVersion;
 use std::alloc::Global;
-use wire_bodies::{Body, reply_body_of, request_body_of};
-use wire_messages::replies::Reply;
+use wire_bodies::{Body, payload_body_of, request_body_of};
 use wire_messages::requests::Request;
+use wire_payloads::payloads::Payload;
+use wire_payloads::versioned::Versioned;
 
-/// Which way frames go.
+/// Which way frames go: to the server in either version, to the driver in the one that it speaks.
 #[derive(Clone, Copy, PartialEq, Eq, Debug)]
 pub enum Way {
     ToServer,
-    ToDriver,
+    ToDriver(FrameVersion),
 }
 
 /// What stands at the front of some bytes.
@@ -30,53 +33,81 @@ pub enum Decoded<M> {
     OutOfMemory,
 }
 
-/// The kind and the body of a whole frame.
+/// The version, the kind and the body of a whole frame.
 #[derive(Drop)]
 enum Framed<'a> {
-    Whole(u8, &'a [u8]),
+    Whole(FrameVersion, u8, &'a [u8]),
     NotYet,
     Bad,
 }
 
-/// Whether a kind is one of the direction.
-fn has_kind(way: Way, kind: u8) -> bool
-    ensures { result ≡ has_kind way kind }
+/// Whether a kind goes to the driver in a version.
+fn is_reply_kind(version: FrameVersion, kind: u8) -> bool
+    ensures { result ≡ is_reply_kind version kind }
+{
+    match version {
+        FrameVersion::V1 => kind >= 0x81 && kind <= 0x85,
+        FrameVersion::V2 => kind >= 0x81 && kind <= 0x86 && kind != 0x83,
+    }
+}
+
+/// Whether a frame of the direction begins with these two bytes.
+fn has_head(way: Way, byte: u8, kind: u8) -> bool
+    ensures { result ≡ has_head way byte kind }
 {
     match way {
-        Way::ToServer => kind == 0x01 || kind == 0x02,
-        Way::ToDriver => kind >= 0x81 && kind <= 0x85,
+        Way::ToServer => (byte == 0x01 || byte == 0x02) && (kind == 0x01 || kind == 0x02),
+        Way::ToDriver(FrameVersion::V1) => byte == 0x01 && is_reply_kind(FrameVersion::V1, kind),
+        Way::ToDriver(FrameVersion::V2) => byte == 0x02 && is_reply_kind(FrameVersion::V2, kind),
+    }
+}
+
+/// The version that a frame of the direction names by its first two bytes.
+fn version_of(way: Way, byte: u8, kind: u8) -> Option<FrameVersion>
+    ensures { NamesVersion (has_head way) byte kind result }
+{
+    if !has_head(way, byte, kind) {
+        return None;
+    }
+    if byte == 0x01 {
+        Some(FrameVersion::V1)
+    } else {
+        Some(FrameVersion::V2)
     }
 }
 
 /// The frame at the front.
 fn frame_of(way: Way, bytes: &[u8]) -> Framed<'_>
-    ensures { IsFramed (has_kind way) bytes.now result }
+    ensures { IsFramed (has_head way) bytes.now result }
 {
-    let [version, kind, a, b, c, d, rest @ ..] = bytes else {
+    let [byte, kind, a, b, c, d, rest @ ..] = bytes else {
         return Framed::NotYet;
     };
+    let Some(version) = version_of(way, *byte, *kind) else {
+        return Framed::Bad;
+    };
     let length = u32::from_be_bytes([*a, *b, *c, *d]) as usize;
-    if *version != 1 || !has_kind(way, *kind) || length > 16_777_216 {
+    if length > 16_777_216 {
         return Framed::Bad;
     }
     if rest.len() < length {
         return Framed::NotYet;
     }
-    Framed::Whole(*kind, &rest[..length])
+    Framed::Whole(version, *kind, &rest[..length])
 }
 
-/// Reads the request at the front. Its parts borrow from the bytes.
+/// Reads the request at the front, in either version. Its parts borrow from the bytes.
 ///
 /// What is read is spelled so, and a front that spells a request is read as that request, unless
 /// memory runs out. Where less than a frame stands there, that is the answer.
-pub fn decode_request(alloc: Global, bytes: &[u8]) -> Decoded<Request<'_>>
-    ensures cases { Decodes is_request_kind SpellsRequest result bytes.now }
-    ensures not_yet { IsNotYet is_request_kind bytes.now → result ≡ Decoded.NotYet }
+pub fn decode_request(alloc: Global, bytes: &[u8]) -> Decoded<Versioned<Request<'_>>>
+    ensures cases { Decodes is_request_head SpellsRequest result bytes.now }
+    ensures not_yet { IsNotYet is_request_head bytes.now → result ≡ Decoded.NotYet }
     ensures only { ReadsEach SpellsRequest result bytes.now }
 {
     match frame_of(Way::ToServer, bytes) {
-        Framed::Whole(kind, body) => match request_body_of(alloc, kind, body) {
-            Body::One(request) => Decoded::One(request, 6 + body.len()),
+        Framed::Whole(version, kind, body) => match request_body_of(alloc, kind, body) {
+            Body::One(message) => Decoded::One(Versioned { version, message }, 6 + body.len()),
             Body::Bad => Decoded::Bad,
             Body::OutOfMemory => Decoded::OutOfMemory,
         },
@@ -85,18 +116,19 @@ pub fn decode_request(alloc: Global, bytes: &[u8]) -> Decoded<Request<'_>>
     }
 }
 
-/// Reads the reply at the front. Its parts borrow from the bytes.
+/// Reads what a frame of a version carries to the driver, at the front. Its parts borrow from the
+/// bytes. A header of the other version is no frame.
 ///
-/// What is read is spelled so, and a front that spells a reply is read as that reply, unless memory
-/// runs out. Where less than a frame stands there, that is the answer.
-pub fn decode_reply(alloc: Global, bytes: &[u8]) -> Decoded<Reply<'_>>
-    ensures cases { Decodes is_reply_kind SpellsReply result bytes.now }
-    ensures not_yet { IsNotYet is_reply_kind bytes.now → result ≡ Decoded.NotYet }
-    ensures only { ReadsEach SpellsReply result bytes.now }
+/// What is read is spelled so, and a front that spells a payload is read as that payload, unless
+/// memory runs out. Where less than a frame stands there, that is the answer.
+pub fn decode_reply(alloc: Global, version: FrameVersion, bytes: &[u8]) -> Decoded<Payload<'_>>
+    ensures cases { Decodes (is_reply_head version) (SpellsPayload version) result bytes.now }
+    ensures not_yet { IsNotYet (is_reply_head version) bytes.now → result ≡ Decoded.NotYet }
+    ensures only { ReadsEach (SpellsPayload version) result bytes.now }
 {
-    match frame_of(Way::ToDriver, bytes) {
-        Framed::Whole(kind, body) => match reply_body_of(alloc, kind, body) {
-            Body::One(reply) => Decoded::One(reply, 6 + body.len()),
+    match frame_of(Way::ToDriver(version), bytes) {
+        Framed::Whole(version, kind, body) => match payload_body_of(alloc, version, kind, body) {
+            Body::One(payload) => Decoded::One(payload, 6 + body.len()),
             Body::Bad => Decoded::Bad,
             Body::OutOfMemory => Decoded::OutOfMemory,
         },

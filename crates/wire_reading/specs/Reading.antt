@@ -6,6 +6,9 @@ use Rattle.std.specs.Str.{chars, is_utf8, bytes_eq}
 use Rattle.ae_base.specs.Names.{is_param_char, all_differ}
 use Rattle.ae_base.specs.Options.{◌>>=◌}
 use Rattle.ae_base.specs.Versions.{Versions, ChangeCounts}
+use Rattle.ae_base.specs.Limits.{most_frame_rows}
+use Rattle.ae_base.specs.declared.frames.FrameVersion.{FrameVersion}
+use Rattle.ae_base.specs.declared.frames.FrameVersion.TheVariants.{V1, V2}
 use Rattle.ae_base.specs.declared.types.Ty.{Ty}
 use Rattle.ae_base.specs.declared.types.Ty.TheVariants as ty
 use Rattle.ae_base.specs.declared.types.Enc.{Enc}
@@ -30,6 +33,9 @@ use Rattle.wire_messages.specs.declared.replies.Reply.{Reply}
 use Rattle.wire_messages.specs.declared.replies.Reply.TheVariants.{Described, Columns, Row, Ended, Refused}
 use Rattle.wire_messages.specs.declared.requests.Request.{Request}
 use Rattle.wire_messages.specs.declared.requests.Request.TheVariants.{Describe, Execute}
+use Rattle.wire_payloads.specs.Batches.{Atoms, width}
+use Rattle.wire_payloads.specs.declared.payloads.Payload.{Payload}
+use Rattle.wire_payloads.specs.declared.payloads.Payload.TheVariants.{One, Rows}
 use Rattle.ae_base.specs.Limits.{most_statement_bytes}
 
 -- ---- readers
@@ -160,6 +166,12 @@ is_description d = are_keys (map (λ p. p.enc) d.params) d.keys
 
 abbrev pub is_few : {A : Type 0} → List A → Bool
 is_few xs = is_within 1 512 (length xs)
+
+abbrev pub is_as_wide : ℕ → Atoms → Bool
+is_as_wide columns row = length row == columns
+
+abbrev pub is_batch : List Atoms → Bool
+is_batch rows = is_within 1 most_frame_rows (length rows) && list_all (is_as_wide (width rows)) rows
 
 abbrev pub is_header : Header → Bool
 is_header h = are_keys (map (λ c. c.enc) h.columns) h.keys && is_few h.columns
@@ -408,6 +420,31 @@ request_at = pick requests
 
 unfoldable pub reply_at : ℕ → List ℕ → Option Reply
 reply_at = pick replies
+
+-- ---- what frames carry to the driver
+
+-- a row of so many atoms
+unfoldable pub shared_row_at : ℕ → Reader Atoms
+shared_row_at columns = kept is_few (parts_at atom_at columns)
+
+-- so many rows of so many atoms each
+abbrev pub shared_rows_at : ℕ × ℕ → Reader (List Atoms)
+shared_rows_at counts = parts_at (shared_row_at counts.1) counts.0
+
+-- how many rows there are, how many atoms each has, and the rows
+unfoldable pub rows_at : Reader (List Atoms)
+rows_at bytes = (number_at w16 and number_at w16) bytes >>= λ counts. shared_rows_at counts.0 counts.1
+
+unfoldable pub batch_at : List ℕ → Option Payload
+batch_at = ends Rows (kept is_batch rows_at)
+
+abbrev pub alone : Option Reply → Option Payload
+alone read = read >>= λ reply. Some (One reply)
+
+-- In version 2 rows share frames, and no row has its own.
+unfoldable pub payload_at : FrameVersion → ℕ → List ℕ → Option Payload
+payload_at V1 kind body = alone (reply_at kind body)
+payload_at V2 kind body = if kind == 0x83 then None else (if kind == 0x86 then batch_at body else alone (reply_at kind body))
 
 -- What a reader found is what reading gives.
 abbrev pub Gives : {X Y : Type 0} → (X → Y) → Option X → Option Y → Type 0

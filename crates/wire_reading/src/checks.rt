@@ -17,6 +17,7 @@ use wire_parts::atoms::AtomPart;
 use wire_parts::keys::{KeyPart, ValuePart};
 use wire_parts::parts::{BlobPart, CellPart, TxtPart};
 use wire_parts::texts::{NamePart, ParamNamePart, PathPart, StatementPart, TitlePart};
+use wire_payloads::payloads::RowBatch;
 
 pub fn session(number: u16) -> Option<SessionId>
     ensures { result ≡ read.when (read.is_within 1 64) number }
@@ -146,4 +147,10 @@ pub fn row<'a>(atoms: Seq<AtomPart<'a>>) -> Option<RowParts<'a>>
     ensures { result ≡ read.when read.is_few atoms.entry }
 {
     RowParts::new(atoms)
+}
+
+pub fn batch<'a>(rows: Seq<RowParts<'a>>) -> Option<RowBatch<'a>>
+    ensures { result ≡ read.when read.is_batch rows.entry }
+{
+    RowBatch::new(rows)
 }

@@ -38,6 +38,16 @@ pub encoded_within : (characters : List ℕ) → length (encode_utf8_all charact
 encoded_within [] = omega arith
 encoded_within (c ∷ characters) = omega (arith, length-append (encode c) (encode_utf8_all characters), length-encode c, len_utf8_bounds c, encoded_within characters)
 
+-- ---- lists
+
+parts_within : {A : Type 0} (P : A → Type 0) (part : A → List ℕ) (most count : ℕ) (xs : List A) → ((x : A) → P x → length (part x) ≤ most) → All P xs → length xs ≤ count
+    → length (flat_map part xs) ≤ count * most
+parts_within P part most count xs each all few =
+    let l = length-flat_map part xs in
+    let s = sum_by-le (λ x. length (part x)) most xs (All-weaker P (λ x. length (part x) ≤ most) each xs all) in
+    let m : length xs * most ≤ count * most = grind arith in
+    omega arith
+
 -- ---- parts
 
 pub blob_length : (bytes : List ℕ) → length (spell.blob bytes) ≡ 2 + length bytes
@@ -63,6 +73,9 @@ atom_within (Plain (Num n)) h = omega arith
 atom_within (Plain (Text characters)) h = omega (arith, blob_length (encode_utf8_all characters), h.1)
 atom_within (Plain (Bin bytes)) h = omega (arith, blob_length bytes, h.1)
 atom_within (Sealed cell) h = omega (arith, blob_length cell, h.1)
+
+pub atoms_within : (atoms : List (AtomOf (List ℕ))) → All IsAtom atoms → length atoms ≤ 512 → length (flat_map spell.atom atoms) ≤ 8390144
+atoms_within atoms all few = parts_within IsAtom spell.atom 16387 512 atoms atom_within all few
 
 declaration_within : (d : ParamDecl) → IsDeclaration d → length (spell.declaration d) ≤ 517
 declaration_within d h = omega (arith, length-append (spell.str d.name) (spell.type d.ty), name_within d.name h.name.1.0, type_within d.ty)
@@ -107,15 +120,7 @@ entry_within e h = omega (
   h.wrapped.1.1,
 )
 
--- ---- lists
-
-parts_within : {A : Type 0} (P : A → Type 0) (part : A → List ℕ) (most count : ℕ) (xs : List A) → ((x : A) → P x → length (part x) ≤ most) → All P xs → length xs ≤ count
-    → length (flat_map part xs) ≤ count * most
-parts_within P part most count xs each all few =
-    let l = length-flat_map part xs in
-    let s = sum_by-le (λ x. length (part x)) most xs (All-weaker P (λ x. length (part x) ≤ most) each xs all) in
-    let m : length xs * most ≤ count * most = grind arith in
-    omega arith
+-- ---- counted lists
 
 few_within : {A : Type 0} (P : A → Type 0) (part : A → List ℕ) (most count : ℕ) (xs : List A) → ((x : A) → P x → length (part x) ≤ most) → All P xs → length xs ≤ count
     → length (spell.few part xs) ≤ count * most + 1

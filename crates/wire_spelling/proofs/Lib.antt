@@ -2,3 +2,5 @@ pub mod Interface
 mod Lengths
 mod Listing
 mod Mending
+mod Packed
+mod Sharing

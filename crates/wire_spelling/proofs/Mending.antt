@@ -26,3 +26,7 @@ two_more o a b x y e f = f ∙ ap (λ w. w ++ b) e ∙ append_assoc o a b
 
 pub three_more : (o a b c x y z : List ℕ) → x ≡ o ++ a → y ≡ x ++ b → z ≡ y ++ c → z ≡ o ++ (a ++ b ++ c)
 three_more o a b c x y z e f g = two_more o (a ++ b) c y z (two_more o a b x y e f) g
+
+-- a header and a body of two pieces
+pub framed : (o header a b body x y z : List ℕ) → x ≡ o ++ header → y ≡ x ++ a → z ≡ y ++ b → a ++ b ≡ body → z ≡ o ++ header ++ body
+framed o header a b body x y z e f g h = two_more x a b y z f g ∙ ap (λ w. x ++ w) h ∙ ap (λ w. w ++ body) e

@@ -1,4 +1,4 @@
--- The one spelling of each message, version 1: a version byte, a kind, the length of the body in four bytes, and the
+-- The one spelling of each request and of each reply: a version byte, a kind, the length of the body in four bytes, and the
 -- body. All numbers are big-endian.
 use Rattle.std.specs.Prelude.{◌≡◌, ℕ, List, [], ◌∷◌, ◌++◌, length, flat_map, encode_utf8_all}
 use Rattle.std.specs.Int.{w16, w32, w64, to_be_bytes, cast_unsigned}
@@ -12,10 +12,12 @@ use Rattle.ae_base.specs.declared.values.Datum.TheVariants.{Num, Text, Bin}
 use Rattle.ae_base.specs.declared.atoms.AtomOf.{AtomOf}
 use Rattle.ae_base.specs.declared.atoms.AtomOf.TheVariants.{Null, Plain, Sealed}
 use Rattle.ae_base.specs.declared.batches.ParamDecl.{ParamDecl}
+use Rattle.ae_base.specs.declared.frames.FrameVersion.{FrameVersion}
+use Rattle.ae_base.specs.declared.frames.FrameVersion.TheVariants.{V1, V2}
 use Rattle.ae_base.specs.declared.keys.KeyMeta.{KeyMeta}
 use Rattle.ae_base.specs.declared.faults.SqlFault.{SqlFault}
 use Rattle.ae_base.specs.declared.faults.SqlFault.TheVariants as fault
-use Rattle.wire_messages.specs.Conditions.{IsRequest, IsReply}
+use Rattle.wire_messages.specs.Conditions.{IsRequest}
 use Rattle.wire_messages.specs.KeyLists.{entries_of}
 use Rattle.wire_messages.specs.declared.columns.SentColumn.{SentColumn}
 use Rattle.wire_messages.specs.declared.key_entries.KeyEntry.{KeyEntry}
@@ -27,6 +29,7 @@ use Rattle.wire_messages.specs.declared.replies.Reply.{Reply}
 use Rattle.wire_messages.specs.declared.replies.Reply.TheVariants.{Described, Columns, Row, Ended, Refused}
 use Rattle.wire_messages.specs.declared.requests.Request.{Request}
 use Rattle.wire_messages.specs.declared.requests.Request.TheVariants.{Describe, Execute}
+use Rattle.wire_payloads.specs.declared.versioned.Versioned.{Versioned}
 
 abbrev pub u16 : ℕ → List ℕ
 u16 n = to_be_bytes w16 n
@@ -159,19 +162,24 @@ reply_body (Row atoms) = many atom atoms
 reply_body (Ended what) = done what
 reply_body (Refused f) = code_of f ∷ fields f
 
+abbrev pub version_byte : FrameVersion → ℕ
+version_byte V1 = 0x01
+version_byte V2 = 0x02
+
 -- a frame: version, kind, length and body
-abbrev pub frame : ℕ → List ℕ → List ℕ
-frame kind body = 1 ∷ kind ∷ u32 (length body) ++ body
+abbrev pub frame : FrameVersion → ℕ → List ℕ → List ℕ
+frame version kind body = version_byte version ∷ kind ∷ u32 (length body) ++ body
 
-abbrev pub request_frame : Request → List ℕ
-request_frame request = frame (request_kind request) (request_body request)
+abbrev pub request_frame : FrameVersion → Request → List ℕ
+request_frame version request = frame version (request_kind request) (request_body request)
 
-abbrev pub reply_frame : Reply → List ℕ
-reply_frame reply = frame (reply_kind reply) (reply_body reply)
+abbrev pub reply_frame : FrameVersion → Reply → List ℕ
+reply_frame version reply = frame version (reply_kind reply) (reply_body reply)
 
--- the frame of a message that meets its conditions
-abbrev pub SpellsRequest : Request → List ℕ → Type 0
-SpellsRequest request bytes = IsRequest request × (bytes ≡ request_frame request)
+-- the frame of a request in its version
+abbrev pub asked_frame : Versioned Request → List ℕ
+asked_frame asked = request_frame asked.version asked.message
 
-abbrev pub SpellsReply : Reply → List ℕ → Type 0
-SpellsReply reply bytes = IsReply reply × (bytes ≡ reply_frame reply)
+-- it is a request that meets its conditions
+abbrev pub SpellsRequest : Versioned Request → List ℕ → Type 0
+SpellsRequest asked bytes = IsRequest asked.message × (bytes ≡ asked_frame asked)

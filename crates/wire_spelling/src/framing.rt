@@ -6,10 +6,13 @@ ghost use Rattle.wire_messages.specs.Conditions.{IsRequest, IsReply};
 ghost use Rattle.wire_messages.specs.declared.replies.Reply.TheVariants.{Described, Columns, Row};
 ghost use Rattle.wire_messages.specs.declared.requests.Request.TheVariants.{Describe, Execute};
 ghost use Rattle.wire_spelling.specs.Spelling as spell;
-ghost use Rattle.wire_spelling.specs.Spelling.{SpellsRequest, SpellsReply};
+ghost use Rattle.wire_payloads.specs.declared.payloads.Payload.TheVariants.{One};
+ghost use Rattle.wire_spelling.specs.Packing.{IsAlone, SpellsPayload};
+ghost use Rattle.wire_spelling.specs.Spelling.{SpellsRequest};
 
 use crate::fields::{push_few, push_many, push_text};
 use crate::writing::{push_done, push_fault, push_keys};
+use ae_base::frames::FrameVersion;
 use ae_base::sessions::SessionId;
 use std::alloc::{AllocError, Global};
 use wire_messages::params::{DeclarationParts, SentParams};
@@ -141,13 +144,23 @@ fn reply_kind(reply: &Reply<'_>) -> u8
     }
 }
 
+/// The byte that frames of a version begin with.
+pub fn version_byte(version: FrameVersion) -> u8
+    ensures { result ≡ spell.version_byte version }
+{
+    match version {
+        FrameVersion::V1 => 0x01,
+        FrameVersion::V2 => 0x02,
+    }
+}
+
 /// Writes the length of the body into the frame that begins at a place and is the last one.
-fn mend_length(out: &mut Vec<u8>, start: usize)
+pub fn mend_length(out: &mut Vec<u8>, start: usize)
     requires header { start + 6 ≤ length out.old.items }
     requires length { length out.old.items < start + 6 + 2 ^ 32 }
-    ensures { (before body : List ℕ) (kind : ℕ) → length before ≡ start
-        → out.old.items ≡ before ++ 1 ∷ kind ∷ 0 ∷ 0 ∷ 0 ∷ 0 ∷ [] ++ body
-        → out.new.items ≡ before ++ spell.frame kind body }
+    ensures { (before body : List ℕ) (byte kind : ℕ) → length before ≡ start
+        → out.old.items ≡ before ++ byte ∷ kind ∷ 0 ∷ 0 ∷ 0 ∷ 0 ∷ [] ++ body
+        → out.new.items ≡ before ++ (byte ∷ kind ∷ spell.u32 (length body) ++ body) }
 {
     let [a, b, c, d] = ((out.len() - start - 6) as u32).to_be_bytes();
     out[start + 2] = a;
@@ -156,68 +169,83 @@ fn mend_length(out: &mut Vec<u8>, start: usize)
     out[start + 5] = d;
 }
 
-fn try_push_request(out: &mut Vec<u8>, request: &Request<'_>) -> Result<(), AllocError>
-    ensures bytes { OnOk result (out.new.items ≡ out.old.items ++ spell.request_frame request.now) }
+fn try_push_request(
+    out: &mut Vec<u8>,
+    version: FrameVersion,
+    request: &Request<'_>,
+) -> Result<(), AllocError>
+    ensures bytes { OnOk result
+        (out.new.items ≡ out.old.items ++ spell.request_frame version request.now) }
     ensures meets { OnOk result (IsRequest request.now) }
 {
     let start = out.len();
-    out.extend_from_slice(&[1, request_kind(request), 0, 0, 0, 0])?;
+    out.extend_from_slice(&[version_byte(version), request_kind(request), 0, 0, 0, 0])?;
     push_request_body(out, request)?;
     mend_length(out, start);
     Ok(())
 }
 
-fn try_push_reply(out: &mut Vec<u8>, reply: &Reply<'_>) -> Result<(), AllocError>
-    ensures bytes { OnOk result (out.new.items ≡ out.old.items ++ spell.reply_frame reply.now) }
+/// Puts the frame that spells a reply at the end.
+pub fn try_push_reply(
+    out: &mut Vec<u8>,
+    version: FrameVersion,
+    reply: &Reply<'_>,
+) -> Result<(), AllocError>
+    ensures bytes { OnOk result
+        (out.new.items ≡ out.old.items ++ spell.reply_frame version reply.now) }
     ensures meets { OnOk result (IsReply reply.now) }
 {
     let start = out.len();
-    out.extend_from_slice(&[1, reply_kind(reply), 0, 0, 0, 0])?;
+    out.extend_from_slice(&[version_byte(version), reply_kind(reply), 0, 0, 0, 0])?;
     push_reply_body(out, reply)?;
     mend_length(out, start);
     Ok(())
 }
 
-/// Puts the frame that spells a request at the end. For want of memory the buffer is emptied.
-pub fn push_request(out: &mut Vec<u8>, request: &Request<'_>) -> Result<(), AllocError>
-    ensures frame { OnOk result (out.new.items ≡ out.old.items ++ spell.request_frame request.now) }
+/// Puts the frame that spells a request in a version at the end. For want of memory the buffer is
+/// emptied.
+pub fn push_request(
+    out: &mut Vec<u8>,
+    version: FrameVersion,
+    request: &Request<'_>,
+) -> Result<(), AllocError>
+    ensures frame { OnOk result
+        (out.new.items ≡ out.old.items ++ spell.request_frame version request.now) }
     ensures meets { OnOk result (IsRequest request.now) }
     ensures emptied { OnErr result (out.new.items ≡ []) }
 {
-    let pushed = try_push_request(out, request);
+    let pushed = try_push_request(out, version, request);
     if pushed.is_err() {
         out.clear();
     }
     pushed
 }
 
-/// Puts the frame that spells a reply at the end. For want of memory the buffer is emptied.
-pub fn push_reply(out: &mut Vec<u8>, reply: &Reply<'_>) -> Result<(), AllocError>
-    ensures frame { OnOk result (out.new.items ≡ out.old.items ++ spell.reply_frame reply.now) }
-    ensures meets { OnOk result (IsReply reply.now) }
-    ensures emptied { OnErr result (out.new.items ≡ []) }
-{
-    let pushed = try_push_reply(out, reply);
-    if pushed.is_err() {
-        out.clear();
-    }
-    pushed
-}
-
-/// The frame that spells a request.
-pub fn encode_request(alloc: Global, request: &Request<'_>) -> Result<Vec<u8>, AllocError>
-    ensures { IfOk result (λ bytes. SpellsRequest request.now bytes.items) }
+/// The frame that spells a request in a version.
+pub fn encode_request(
+    alloc: Global,
+    version: FrameVersion,
+    request: &Request<'_>,
+) -> Result<Vec<u8>, AllocError>
+    ensures { IfOk result (λ bytes.
+        SpellsRequest (record { version = version; message = request.now }) bytes.items) }
 {
     let mut out = Vec::new(alloc);
-    try_push_request(&mut out, request)?;
+    try_push_request(&mut out, version, request)?;
     Ok(out)
 }
 
-/// The frame that spells a reply.
-pub fn encode_reply(alloc: Global, reply: &Reply<'_>) -> Result<Vec<u8>, AllocError>
-    ensures { IfOk result (λ bytes. SpellsReply reply.now bytes.items) }
+/// The frame that spells a reply in a version, in which it has a frame of its own.
+#[tactic(auto, using(crate::proofs::Packed::alone_proper))]
+pub fn encode_reply(
+    alloc: Global,
+    version: FrameVersion,
+    reply: &Reply<'_>,
+) -> Result<Vec<u8>, AllocError>
+    requires { IsAlone version reply.now }
+    ensures { IfOk result (λ bytes. SpellsPayload version (One reply.now) bytes.items) }
 {
     let mut out = Vec::new(alloc);
-    try_push_reply(&mut out, reply)?;
+    try_push_reply(&mut out, version, reply)?;
     Ok(out)
 }

@@ -3,6 +3,9 @@
 
 mod fields;
 mod framing;
+mod packing;
+mod sizes;
 mod writing;
 
-pub use framing::{encode_reply, encode_request, push_reply, push_request};
+pub use framing::{encode_reply, encode_request, push_request};
+pub use packing::{pack, push_front};

@@ -1,4 +1,4 @@
--- Messages of a direction are requests, or replies.
+-- Messages of a direction are requests, or what frames carry to the driver.
 use Rattle.frame_feed.proofs.Ways.{are_requests, are_replies, requests_back, replies_back}
 use Rattle.frame_feed.proofs.laws.frames_of_each_way.Goals as goal
 
@@ -12,4 +12,4 @@ pub returns-clause-requests_back : goal.returns-clause-requests_back
 returns-clause-requests_back c = requests_back c.frames_are_read_back.ensures.requests
 
 pub returns-clause-replies_back : goal.returns-clause-replies_back
-returns-clause-replies_back c = replies_back c.frames_are_read_back.ensures.replies
+returns-clause-replies_back c = λ version. replies_back version (c.frames_are_read_back.ensures.replies version)

@@ -1,13 +1,18 @@
--- Each frame spells its message.
+-- Each frame spells its message, and the frames of an answer carry its replies.
 use Rattle.std.proofs.Common.{refl}
-use Rattle.wire_messages.specs.Conditions.{IsRequest, IsReply}
-use Rattle.wire_spelling.specs.Spelling.{request_frame, reply_frame, SpellsRequest, SpellsReply}
-use Rattle.wire_frames.specs.Frames.{is_request_kind, is_reply_kind}
+use Rattle.wire_spelling.specs.Packing.{payload_frame, payloads_of, HasFrame, SpellsPayload}
+use Rattle.wire_spelling.specs.Spelling.{asked_frame, SpellsRequest}
+use Rattle.wire_frames.specs.Frames.{is_request_head, is_reply_head}
+use Rattle.wire_frames.specs.Laws.{IsAsked}
+use Rattle.wire_spelling.proofs.Interface.{packed_replies, payloads_proper}
 use Rattle.wire_frames.proofs.StreamLaws.{frames_read}
 use Rattle.wire_frames.proofs.laws.frames_are_read_back.Goals as goal
 
 pub returns-clause-requests : goal.returns-clause-requests
-returns-clause-requests c = frames_read is_request_kind SpellsRequest IsRequest request_frame (λ m good. (good, refl))
+returns-clause-requests c = frames_read is_request_head SpellsRequest IsAsked asked_frame (λ asked good. (good, refl))
 
 pub returns-clause-replies : goal.returns-clause-replies
-returns-clause-replies c = frames_read is_reply_kind SpellsReply IsReply reply_frame (λ m good. (good, refl))
+returns-clause-replies c = λ v at replies good. (
+  frames_read (is_reply_head v) (SpellsPayload v) (HasFrame v) (payload_frame v) (λ payload good. (good, refl)) at (payloads_of v replies) (payloads_proper v replies good),
+  packed_replies v replies,
+)

@@ -1,14 +1,15 @@
 -- A front spells one message, and no end stands where one is spelled.
-use Rattle.wire_messages.specs.Conditions.{IsRequest, IsReply}
-use Rattle.wire_spelling.specs.Spelling.{request_kind, request_body, reply_kind, reply_body, SpellsRequest, SpellsReply}
-use Rattle.wire_frames.specs.Frames.{is_request_kind, is_reply_kind}
-use Rattle.wire_reading.specs.Reading.{request_at, reply_at}
-use Rattle.wire_frames.proofs.Directions.{to_server, to_driver}
+use Rattle.wire_frames.specs.Frames.{is_request_head, is_reply_head}
+use Rattle.wire_frames.specs.Laws.{IsAsked}
+use Rattle.wire_reading.specs.Reading.{payload_at}
+use Rattle.wire_spelling.specs.Packing.{payload_kind, payload_body, HasFrame, SpellsPayload}
+use Rattle.wire_spelling.specs.Spelling.{SpellsRequest}
+use Rattle.wire_frames.proofs.Directions.{asked_version, asked_kind, asked_body, asked_at, to_server, told_version, to_driver}
 use Rattle.wire_frames.proofs.StreamLaws.{read_once}
 use Rattle.wire_frames.proofs.laws.streams_are_read_once.Goals as goal
 
 pub returns-clause-requests : goal.returns-clause-requests
-returns-clause-requests c = read_once is_request_kind request_kind request_body IsRequest SpellsRequest request_at to_server
+returns-clause-requests c = read_once is_request_head asked_version asked_kind asked_body IsAsked SpellsRequest asked_at to_server
 
 pub returns-clause-replies : goal.returns-clause-replies
-returns-clause-replies c = read_once is_reply_kind reply_kind reply_body IsReply SpellsReply reply_at to_driver
+returns-clause-replies c = λ v. read_once (is_reply_head v) (told_version v) payload_kind payload_body (HasFrame v) (SpellsPayload v) payload_at (to_driver v)
