@@ -10,9 +10,8 @@ use Rattle.journal_core.specs.Records.{IsExecuteFrame, IsRecord}
 use Rattle.recording.specs.Recorded.{Kept, held_at, kept, kept_of, with_held}
 use Rattle.server_core.specs.declared.sorts.Sort.{Sort}
 use Rattle.server_core.specs.declared.sorts.Sort.TheVariants as sorts
-use Rattle.wire_messages.specs.declared.requests.Request.{Request}
-use Rattle.wire_spelling.specs.Spelling.{request_frame}
-use Rattle.journal_command.specs.Keeping.{HeldFrames, IsHeldRequest, IsKept, HasRoom, KeptFrames, RoomMade, entries_of, frames_in, frames_of, kept_frames, no_frames, with_frame}
+use Rattle.wire_spelling.specs.Spelling.{asked_frame}
+use Rattle.journal_command.specs.Keeping.{Asked, HeldFrames, IsHeldRequest, IsKept, HasRoom, KeptFrames, RoomMade, entries_of, frames_in, frames_of, kept_frames, no_frames, with_frame}
 
 -- ---- one session
 
@@ -20,32 +19,32 @@ use Rattle.journal_command.specs.Keeping.{HeldFrames, IsHeldRequest, IsKept, Has
 pub given_back : (held frame : List ℕ) (before : ℕ) → before ≡ length held → take before (held ++ frame) ≡ held
 given_back held frame before e = ap (λ (n : ℕ). take n (held ++ frame)) e ∙ take-append-le (length held) held frame (omega arith) ∙ take_all (length held) held (omega arith)
 
-more_frames : (requests : List Request) (r : Request) → frames_in requests ++ request_frame r ≡ frames_in (requests ++ r ∷ [])
-more_frames requests r = flat_map_more request_frame [] requests r
+more_frames : (requests : List Asked) (r : Asked) → frames_in requests ++ asked_frame r ≡ frames_in (requests ++ r ∷ [])
+more_frames requests r = flat_map_more asked_frame [] requests r
 
 -- what is kept of bytes is kept of requests
-pub record Agree (bytes : KeptFrames) (one : Kept) : Type 0 where
+pub record Agree (bytes : KeptFrames) (one : Kept Asked) : Type 0 where
   pub entry : option_to_list bytes.entry ≡ entries_of one.records
   pub held : bytes.held ≡ frames_of one.held
 
-one_frame : (r : Request) → request_frame r ≡ frames_in (r ∷ [])
-one_frame r = sym (append-nil (request_frame r))
+one_frame : (r : Asked) → asked_frame r ≡ frames_in (r ∷ [])
+one_frame r = sym (append-nil (asked_frame r))
 
 one_entry : (x y : List ℕ) → x ≡ y → option_to_list (Some x) ≡ y ∷ []
 one_entry x y e = ap (λ w. w ∷ []) e
 
-some_bytes : (b : Request) (held : List Request) → (length (frames_in (b ∷ held)) == 0) ≡ false
-some_bytes b held = lengths (length (frames_in (b ∷ held))) (omega (arith, length-append (request_frame b) (frames_in held)))
+some_bytes : (b : Asked) (held : List Asked) → (length (frames_in (b ∷ held)) == 0) ≡ false
+some_bytes b held = lengths (length (frames_in (b ∷ held))) (omega (arith, length-append (asked_frame b) (frames_in held)))
   where
     lengths : (n : ℕ) → 0 < n → (n == 0) ≡ false
     lengths zero lt = absurd (omega (arith, lt))
     lengths (suc n) lt = eqb-suc-zero n
 
-two_held : (b : Request) (xs : List Request) (r : Request) → nat_lt 1 (length (b ∷ xs ++ r ∷ [])) ≡ true
+two_held : (b : Asked) (xs : List Asked) (r : Asked) → nat_lt 1 (length (b ∷ xs ++ r ∷ [])) ≡ true
 two_held b xs r = lt-ltb 1 (length (b ∷ xs ++ r ∷ [])) (omega (arith, length-append xs (r ∷ [])))
 
-change_held : (none : Bool) (b : Request) (held : List Request) (r : Request) → none ≡ false
-    → Agree (if none then record { entry = Some (request_frame r); held = frames_of (b ∷ held) } else record { entry = None; held = record { frames = frames_in (b ∷ held) ++ request_frame r; changes = true } })
+change_held : (none : Bool) (b : Asked) (held : List Asked) (r : Asked) → none ≡ false
+    → Agree (if none then record { entry = Some (asked_frame r); held = frames_of (b ∷ held) } else record { entry = None; held = record { frames = frames_in (b ∷ held) ++ asked_frame r; changes = true } })
     (kept [] (b ∷ held ++ r ∷ []))
 change_held true b held r e = cc
 change_held false b held r e = record {
@@ -53,16 +52,16 @@ change_held false b held r e = record {
   held = ap (λ (x : List ℕ). record { frames = x; changes = true }) (more_frames (b ∷ held) r) ∙ ap (λ (x : Bool). record { frames = frames_in (b ∷ held ++ r ∷ []); changes = x }) (sym (two_held b held r));
 }
 
-commit_held : (more : Bool) (b c : Request) (held : List Request) (r : Request) → more ≡ true
-    → Agree (record { entry = if more then Some (frames_in (b ∷ c ∷ held) ++ request_frame r) else None; held = no_frames }) (kept ((b ∷ c ∷ held ++ r ∷ []) ∷ []) [])
-commit_held true b c held r e = record { entry = one_entry (frames_in (b ∷ c ∷ held) ++ request_frame r) (frames_in (b ∷ c ∷ held ++ r ∷ [])) (more_frames (b ∷ c ∷ held) r); held = refl }
+commit_held : (more : Bool) (b c : Asked) (held : List Asked) (r : Asked) → more ≡ true
+    → Agree (record { entry = if more then Some (frames_in (b ∷ c ∷ held) ++ asked_frame r) else None; held = no_frames }) (kept ((b ∷ c ∷ held ++ r ∷ []) ∷ []) [])
+commit_held true b c held r e = record { entry = one_entry (frames_in (b ∷ c ∷ held) ++ asked_frame r) (frames_in (b ∷ c ∷ held ++ r ∷ [])) (more_frames (b ∷ c ∷ held) r); held = refl }
 commit_held false b c held r e = cc
 
-pub kept_agrees : (kind : Sort) (held : List Request) (r : Request) → Agree (kept_frames kind (frames_of held) (request_frame r)) (kept_of kind held r)
+pub kept_agrees : (kind : Sort) (held : List Asked) (r : Asked) → Agree (kept_frames kind (frames_of held) (asked_frame r)) (kept_of kind held r)
 kept_agrees sorts.Reads held r = record { entry = refl; held = refl }
-kept_agrees sorts.Changes [] r = record { entry = one_entry (request_frame r) (frames_in (r ∷ [])) (one_frame r); held = refl }
+kept_agrees sorts.Changes [] r = record { entry = one_entry (asked_frame r) (frames_in (r ∷ [])) (one_frame r); held = refl }
 kept_agrees sorts.Changes (b ∷ held) r = change_held (length (frames_in (b ∷ held)) == 0) b held r (some_bytes b held)
-kept_agrees sorts.Defines held r = record { entry = one_entry (request_frame r) (frames_in (r ∷ [])) (one_frame r); held = refl }
+kept_agrees sorts.Defines held r = record { entry = one_entry (asked_frame r) (frames_in (r ∷ [])) (one_frame r); held = refl }
 kept_agrees sorts.Begins held r = record { entry = refl; held = ap (λ (x : List ℕ). record { frames = x; changes = false }) (one_frame r) }
 kept_agrees sorts.Commits [] r = record { entry = refl; held = refl }
 kept_agrees sorts.Commits (b ∷ []) r = record { entry = refl; held = refl }
@@ -72,12 +71,12 @@ kept_agrees sorts.NoStatement held r = record { entry = refl; held = refl }
 
 -- ---- all sessions
 
-module _ (held : List (List Request)) (session : ℕ) where
+module _ (held : List (List Asked)) (session : ℕ) where
   abbrev place : ℕ
   place = session - 1
 
   -- the session's part is replaced
-  set_held : (keeper : List HeldFrames) (x y : HeldFrames) (requests : List Request) → keeper ≡ set (map frames_of held) place x → y ≡ frames_of requests
+  set_held : (keeper : List HeldFrames) (x y : HeldFrames) (requests : List Asked) → keeper ≡ set (map frames_of held) place x → y ≡ frames_of requests
       → set keeper place y ≡ map frames_of (with_held held session requests)
   set_held keeper x y requests e f =
       ap (λ (k : List HeldFrames). set k place y) e ∙ set-set (map frames_of held) place x y ∙ ap (set (map frames_of held) place) f ∙ sym (map-set frames_of held place requests)
@@ -94,8 +93,8 @@ module _ (held : List (List Request)) (session : ℕ) where
       ap (λ (k : List HeldFrames). get_or k place d) e ∙ get_or-set_same (map frames_of held) place x d long
 
   -- room is made
-  pub has_room : (keeper new : List HeldFrames) (r : Request) (room : RoomMade) (old made : HeldFrames) → keeper ≡ map frames_of held → place < length keeper → old ≡ get_or keeper place old
-      → room.frame ≡ request_frame r → room.before ≡ length old.frames → made ≡ with_frame old room.frame → new ≡ set keeper place made → HasRoom held session r room new
+  pub has_room : (keeper new : List HeldFrames) (r : Asked) (room : RoomMade) (old made : HeldFrames) → keeper ≡ map frames_of held → place < length keeper → old ≡ get_or keeper place old
+      → room.frame ≡ asked_frame r → room.before ≡ length old.frames → made ≡ with_frame old room.frame → new ≡ set keeper place made → HasRoom held session r room new
   has_room keeper new r room old made e lt is f b m n =
       let was : old ≡ frames_of (held_at held session) = is ∙ held_there keeper old e lt in
       record {
@@ -104,7 +103,7 @@ module _ (held : List (List Request)) (session : ℕ) where
         made = n ∙ ap (λ (k : List HeldFrames). set k place made) e ∙ ap (set (map frames_of held) place) (m ∙ ap (λ (h : HeldFrames). with_frame h room.frame) was);
       }
 
-  module _ (keeper new : List HeldFrames) (r : Request) (room : RoomMade) (old after : HeldFrames) (h : HasRoom held session r room keeper) (lt : place < length keeper) (is : old ≡ get_or keeper place old) (n : new ≡ set keeper place after) where
+  module _ (keeper new : List HeldFrames) (r : Asked) (room : RoomMade) (old after : HeldFrames) (h : HasRoom held session r room keeper) (lt : place < length keeper) (is : old ≡ get_or keeper place old) (n : new ≡ set keeper place after) where
     room_there : old ≡ with_frame (frames_of (held_at held session)) room.frame
     room_there = is ∙ made_there keeper (with_frame (frames_of (held_at held session)) room.frame) old h.made lt
 
@@ -137,30 +136,30 @@ module _ (held : List (List Request)) (session : ℕ) where
 -- ---- records
 
 -- frames of requests to execute
-pub execute_frames : (requests : List Request) → All IsHeldRequest requests → All IsExecuteFrame (map request_frame requests)
+pub execute_frames : (requests : List Asked) → All IsHeldRequest requests → All IsExecuteFrame (map asked_frame requests)
 execute_frames [] all = All-nil IsExecuteFrame
 execute_frames (r ∷ requests) all =
     let one = All-head IsHeldRequest r requests all in
-    All-cons IsExecuteFrame (request_frame r) (map request_frame requests) (record { request = r; is = one.1; spelled = (one.0, refl) }) (execute_frames requests (All-tail IsHeldRequest r requests all))
+    All-cons IsExecuteFrame (asked_frame r) (map asked_frame requests) (record { asked = r; is = one.1; spelled = (one.0, refl) }) (execute_frames requests (All-tail IsHeldRequest r requests all))
 
-in_a_row : (requests : List Request) → frames_in requests ≡ concat (map request_frame requests)
+in_a_row : (requests : List Asked) → frames_in requests ≡ concat (map asked_frame requests)
 in_a_row [] = refl
-in_a_row (r ∷ requests) = ap (λ (w : List ℕ). request_frame r ++ w) (in_a_row requests)
+in_a_row (r ∷ requests) = ap (λ (w : List ℕ). asked_frame r ++ w) (in_a_row requests)
 
-pub is_record : (r : Request) (requests : List Request) → All IsHeldRequest (r ∷ requests) → IsRecord (frames_in (r ∷ requests))
+pub is_record : (r : Asked) (requests : List Asked) → All IsHeldRequest (r ∷ requests) → IsRecord (frames_in (r ∷ requests))
 is_record r requests all = record {
-  frames = map request_frame (r ∷ requests);
+  frames = map asked_frame (r ∷ requests);
   some = λ e. cc;
   each = execute_frames (r ∷ requests) all;
   whole = in_a_row (r ∷ requests);
 }
 
 -- records aren't empty, and hold such requests
-pub data IsProper : List (List Request) → Type 0 where
-  Empty : IsProper []
-  One : (r : Request) (requests : List Request) → All IsHeldRequest (r ∷ requests) → IsProper ((r ∷ requests) ∷ [])
+pub data AreProper : List (List Asked) → Type 0 where
+  Empty : AreProper []
+  One : (r : Asked) (requests : List Asked) → All IsHeldRequest (r ∷ requests) → AreProper ((r ∷ requests) ∷ [])
 
-pub proper_entry : (records : List (List Request)) (entry : Option (List ℕ)) → IsProper records → option_to_list entry ≡ entries_of records → IfSome entry IsRecord
+pub proper_entry : (records : List (List Asked)) (entry : Option (List ℕ)) → AreProper records → option_to_list entry ≡ entries_of records → IfSome entry IsRecord
 proper_entry records None p e = tt
 proper_entry _ (Some x) Empty e = absurd (none e)
   where
@@ -171,13 +170,13 @@ proper_entry _ (Some x) (One r requests all) e = subst IsRecord (head (sym e)) (
     head : frames_in (r ∷ requests) ∷ [] ≡ x ∷ [] → frames_in (r ∷ requests) ≡ x
     head h = cc
 
-one_held : (r : Request) → IsHeldRequest r → All IsHeldRequest (r ∷ [])
+one_held : (r : Asked) → IsHeldRequest r → All IsHeldRequest (r ∷ [])
 one_held r h = All-cons IsHeldRequest r [] h (All-nil IsHeldRequest)
 
-more_held : (requests : List Request) (r : Request) → All IsHeldRequest requests → IsHeldRequest r → All IsHeldRequest (requests ++ r ∷ [])
+more_held : (requests : List Asked) (r : Asked) → All IsHeldRequest requests → IsHeldRequest r → All IsHeldRequest (requests ++ r ∷ [])
 more_held requests r all h = All-append IsHeldRequest requests (r ∷ []) all (one_held r h)
 
-pub proper_kept : (kind : Sort) (held : List Request) (r : Request) → All IsHeldRequest held → IsHeldRequest r → IsProper (kept_of kind held r).records × All IsHeldRequest (kept_of kind held r).held
+pub proper_kept : (kind : Sort) (held : List Asked) (r : Asked) → All IsHeldRequest held → IsHeldRequest r → AreProper (kept_of kind held r).records × All IsHeldRequest (kept_of kind held r).held
 proper_kept sorts.Reads held r all h = (Empty, all)
 proper_kept sorts.Changes [] r all h = (One r [] (one_held r h), all)
 proper_kept sorts.Changes (b ∷ held) r all h = (Empty, more_held (b ∷ held) r all h)

@@ -5,7 +5,7 @@ use Rattle.ae_edge.specs.Devices.{WhereTold, Removes}
 use Rattle.ae_edge.specs.Sources.{Takes}
 use Rattle.ae_edge.specs.declared.sources.Taken.TheVariants as taken
 use Rattle.ae_edge.proofs.Interface.{removes_none, removes_then}
-use Rattle.wire_frames.specs.Frames.{Whole, Refused, Rest, IsNotYet, is_request_kind}
+use Rattle.wire_frames.specs.Frames.{Whole, Refused, Rest, IsNotYet, is_request_head}
 use Rattle.wire_frames.specs.declared.decoding.Way.TheVariants.{ToServer}
 use Rattle.frame_feed.specs.Feeding.{Feeding, empty_feed}
 use Rattle.recording.specs.Recorded.{nothing_held}
@@ -31,7 +31,7 @@ pub record Going (start : State) (count : ℕ) (feed : Feeding) (durable : Durab
   pub lost : Removes taken source left
   pub few : length taken + count ≡ most_stream_bytes
   pub so_far : IsSoFar start taken feed durable first now
-  pub waits : IsNotYet is_request_kind feed.held
+  pub waits : IsNotYet is_request_head feed.held
 
 pub goes_first : (feed : Feeding) (durable : DurableState) (source : Option (List ℕ)) (old : Outside) → feed ≡ empty_feed ToServer → durable.held ≡ map frames_of nothing_held
     → Going durable.state most_stream_bytes feed durable source source old old

@@ -11,47 +11,49 @@ use Rattle.journal_core.specs.Journals.{Records, Damaged, ReadsAs}
 use Rattle.journal_core.specs.Mounts.{IsSomeImage}
 use Rattle.journal_core.proofs.Interface.{one_reading}
 use Rattle.recording.specs.Laws.{AreServedAgain, FrontsAreAccepted}
-use Rattle.recording.specs.Recorded.{after_records, after_requests, nothing_held, recorded, session_of}
+use Rattle.recording.specs.Recorded.{nothing_held, requests_recorded, session_of}
+use Rattle.recording.proofs.Interface.{map_append, records_forget}
 use Rattle.server_core.specs.Serve.{State, empty_state, serve}
-use Rattle.wire_messages.specs.Conditions.{IsRequest}
+use Rattle.serve_command.specs.ServeAll.{messages_of, state_after}
+use Rattle.serve_command.specs.Serving.{IsProper}
 use Rattle.wire_messages.specs.declared.requests.Request.{Request}
 use Rattle.wire_frames.specs.Laws.{HasOneReading}
-use Rattle.wire_spelling.specs.Spelling.{SpellsRequest, request_frame}
+use Rattle.wire_spelling.specs.Spelling.{SpellsRequest, asked_frame}
 use Rattle.journal_command.specs.Journaling.{IsBad, IsDurable, IsUnserved, KeepsRecords, Runs, ServesJournal}
-use Rattle.journal_command.specs.Keeping.{IsHeldRequest, entries_of, frames_in, held_behind, keeping}
+use Rattle.journal_command.specs.Keeping.{Asked, IsHeldRequest, entries_of, frames_in, held_behind, keeping, messages_in, records_of}
 use Rattle.journal_command.specs.Records.{HasFront, IsOfRun}
-use Rattle.journal_command.specs.Restarts.{AreServedRecords, IsServedRecord}
+use Rattle.journal_command.specs.Restarts.{AreServedRecords, IsServedRecord, state_behind}
 use Rattle.journal_command.specs.Servable.{IsServable, IsntDamaged, StaysServable}
 use Rattle.journal_command.specs.declared.endings.Ended.{Ended}
 use Rattle.journal_command.specs.declared.endings.Ended.TheVariants as ended
-use Rattle.journal_command.proofs.Holding.{Empty, IsProper, One}
+use Rattle.journal_command.proofs.Holding.{Empty, AreProper, One}
 use Rattle.journal_command.proofs.Restarting.{goes}
 use Rattle.journal_command.proofs.Serving.{proper_keeping}
 
 -- ---- the records of requests have frames
 
-are_requests : (requests : List Request) → All IsHeldRequest requests → All IsRequest requests
-are_requests requests all = All-weaker IsHeldRequest IsRequest (λ r h. h.0) requests all
+are_requests : (requests : List Asked) → All IsHeldRequest requests → All IsProper requests
+are_requests requests all = All-weaker IsHeldRequest IsProper (λ r h. h.0) requests all
 
-proper_records : (records : List (List Request)) → IsProper records → All (All IsRequest) records
-proper_records _ Empty = All-nil (All IsRequest)
-proper_records _ (One r requests all) = All-cons (All IsRequest) (r ∷ requests) [] (are_requests (r ∷ requests) all) (All-nil (All IsRequest))
+proper_records : (records : List (List Asked)) → AreProper records → All (All IsProper) records
+proper_records _ Empty = All-nil (All IsProper)
+proper_records _ (One r requests all) = All-cons (All IsProper) (r ∷ requests) [] (are_requests (r ∷ requests) all) (All-nil (All IsProper))
 
-recorded_proper : (state : State) (held : List (List Request)) (requests : List Request) → All (All IsHeldRequest) held → All IsRequest requests → All (All IsRequest) (recorded state held requests)
-recorded_proper state held [] h p = All-nil (All IsRequest)
+recorded_proper : (state : State) (held : List (List Asked)) (requests : List Asked) → All (All IsHeldRequest) held → All IsProper requests → All (All IsProper) (records_of state held requests)
+recorded_proper state held [] h p = All-nil (All IsProper)
 recorded_proper state held (r ∷ requests) h p =
-    let k = proper_keeping state held r h (λ e. (All-head IsRequest r requests p, e)) in
-    All-append (All IsRequest) (keeping state held r).records (recorded (serve state r).after (held_behind state held r) requests) (proper_records (keeping state held r).records k.0)
-    (recorded_proper (serve state r).after (held_behind state held r) requests (All-set (All IsHeldRequest) held (session_of r - 1) (keeping state held r).held k.1 h) (All-tail IsRequest r requests p))
+    let k = proper_keeping state held r h (λ e. (All-head IsProper r requests p, e)) in
+    All-append (All IsProper) (keeping state held r).records (records_of (serve state r.message).after (held_behind state held r) requests) (proper_records (keeping state held r).records k.0)
+    (recorded_proper (serve state r.message).after (held_behind state held r) requests (All-set (All IsHeldRequest) held (session_of r.message - 1) (keeping state held r).held k.1 h) (All-tail IsProper r requests p))
 
 -- ---- a front of records' bytes is of a front of the records
 
-pub record IsOfFront (front : List (List ℕ)) (records : List (List Request)) : Type 0 where
-  pub ones : List (List Request)
+pub record IsOfFront (front : List (List ℕ)) (records : List (List Asked)) : Type 0 where
+  pub ones : List (List Asked)
   pub of_all : IsFront ones records
   pub is : front ≡ entries_of ones
 
-front_of_entries : (front rest : List (List ℕ)) (records : List (List Request)) → entries_of records ≡ front ++ rest → IsOfFront front records
+front_of_entries : (front rest : List (List ℕ)) (records : List (List Asked)) → entries_of records ≡ front ++ rest → IsOfFront front records
 front_of_entries [] rest records e = record { ones = []; of_all = record { rest = records; is = refl }; is = refl }
 front_of_entries (x ∷ front) rest [] e = absurd (none e)
   where
@@ -67,31 +69,44 @@ front_of_entries (x ∷ front) rest (r ∷ records) e =
     tails : frames_in r ∷ entries_of records ≡ x ∷ front ++ rest → entries_of records ≡ front ++ rest
     tails h = cc
 
-all_front : (xs ys : List (List Request)) → All (All IsRequest) (xs ++ ys) → All (All IsRequest) xs
-all_front [] ys all = All-nil (All IsRequest)
-all_front (x ∷ xs) ys all = All-cons (All IsRequest) x xs (All-head (All IsRequest) x (xs ++ ys) all) (all_front xs ys (All-tail (All IsRequest) x (xs ++ ys) all))
+all_front : (xs ys : List (List Asked)) → All (All IsProper) (xs ++ ys) → All (All IsProper) xs
+all_front [] ys all = All-nil (All IsProper)
+all_front (x ∷ xs) ys all = All-cons (All IsProper) x xs (All-head (All IsProper) x (xs ++ ys) all) (all_front xs ys (All-tail (All IsProper) x (xs ++ ys) all))
 
-entries_append : (xs ys : List (List Request)) → entries_of (xs ++ ys) ≡ entries_of xs ++ entries_of ys
+entries_append : (xs ys : List (List Asked)) → entries_of (xs ++ ys) ≡ entries_of xs ++ entries_of ys
 entries_append [] ys = refl
 entries_append (x ∷ xs) ys = ap (λ (l : List (List ℕ)). frames_in x ∷ l) (entries_append xs ys)
 
+-- without their versions, the records are those of the requests alone
+messages_append : (xs ys : List (List Asked)) → messages_in (xs ++ ys) ≡ messages_in xs ++ messages_in ys
+messages_append xs ys = map_append messages_of xs ys
+
+front_of_messages : (start : State) (requests : List Asked) (front : List (List Asked)) → IsFront front (records_of start nothing_held requests)
+    → IsFront (messages_in front) (requests_recorded start nothing_held (messages_of requests))
+front_of_messages start requests front f = record {
+  rest = messages_in f.rest;
+  is = sym (records_forget (λ (a : Asked). a.message) (λ (r : Request). r) start requests) ∙ ap messages_in f.is ∙ messages_append front f.rest;
+}
+
 module _ (law : FrontsAreAccepted) where
   -- the records that were found, and a front of those of a run
-  run_servable : (records : List (List Request)) (requests : List Request) (image : List ℕ) → AreServedRecords empty_state records (entries_of records) → All IsRequest requests
-      → HasFront (entries_of records) (entries_of (recorded (after_records empty_state records) nothing_held requests)) image → IsServable image
+  run_servable : (records : List (List Asked)) (requests : List Asked) (image : List ℕ) → AreServedRecords empty_state records (entries_of records) → All IsProper requests
+      → HasFront (entries_of records) (entries_of (records_of (state_behind empty_state records) nothing_held requests)) image → IsServable image
   run_servable records requests image s p h =
-      let all = recorded (after_records empty_state records) nothing_held requests in
+      let all = records_of (state_behind empty_state records) nothing_held requests in
       let f = front_of_entries h.front h.of_all.rest all h.of_all.is in
-      let proper = recorded_proper (after_records empty_state records) nothing_held requests (All-replicate (All IsHeldRequest) 64 [] (All-nil IsHeldRequest)) p in
+      let proper = recorded_proper (state_behind empty_state records) nothing_held requests (All-replicate (All IsHeldRequest) 64 [] (All-nil IsHeldRequest)) p in
       record {
         records = records ++ f.ones;
         reads =
             subst (λ (es : List (List ℕ)). ReadsAs (Records es) image)
             (ap (λ (l : List (List ℕ)). entries_of records ++ l) f.is ∙ sym (entries_append records f.ones)) h.reads;
         served = record {
-          proper = All-append (All IsRequest) records f.ones s.proper (all_front f.ones f.of_all.rest (subst (All (All IsRequest)) f.of_all.is proper));
+          proper = All-append (All IsProper) records f.ones s.proper (all_front f.ones f.of_all.rest (subst (All (All IsProper)) f.of_all.is proper));
           whole = refl;
-          served = law empty_state records f.ones requests (record { counts = refl; none = refl }) s.served f.of_all;
+          served = subst (AreServedAgain empty_state) (sym (messages_append records f.ones))
+              (law empty_state (messages_in records) (messages_in f.ones) (messages_of requests) (record { counts = refl; none = refl }) s.served
+              (front_of_messages (state_behind empty_state records) requests f.ones f.of_all));
         };
       }
 
@@ -100,8 +115,8 @@ module _ (law : FrontsAreAccepted) where
       let good = all s.of s.was in
       record { records = good.records; reads = s.alike (Records (entries_of good.records)) good.reads; served = good.served }
 
-  of_run : (records : List (List Request)) (requests : List Request) (stand : Stand) → AreServedRecords empty_state records (entries_of records) → All IsRequest requests → LeavesNow IsServable stand
-      → (image : List ℕ) → IsOfRun (entries_of records) (entries_of (recorded (after_records empty_state records) nothing_held requests)) stand image → IsServable image
+  of_run : (records : List (List Asked)) (requests : List Asked) (stand : Stand) → AreServedRecords empty_state records (entries_of records) → All IsProper requests → LeavesNow IsServable stand
+      → (image : List ℕ) → IsOfRun (entries_of records) (entries_of (records_of (state_behind empty_state records) nothing_held requests)) stand image → IsServable image
   of_run records requests stand s p all image h = elim h [ inl before ↦ some_servable stand all image before | inr front ↦ run_servable records requests image s p front ]
 
   unserved_stays : (source left out out_after : Option (List ℕ)) (a c : Option Moments) → IsUnserved source left a c out out_after → WhereTold StaysServable a c
@@ -109,15 +124,15 @@ module _ (law : FrontsAreAccepted) where
       told_map (λ old new. Leaves (IsSomeImage old.now) old new) StaysServable
       (λ old new m. λ all. leaves_weaker (IsSomeImage old.now) IsServable old new (some_servable old.now all) m) a c u.crashed
 
-  durable_stays : (records : List (List Request)) (taken : List ℕ) (out out_after : Option (List ℕ)) (a c : Option Moments) → AreServedRecords empty_state records (entries_of records)
+  durable_stays : (records : List (List Asked)) (taken : List ℕ) (out out_after : Option (List ℕ)) (a c : Option Moments) → AreServedRecords empty_state records (entries_of records)
       → IsDurable records taken a c out out_after → WhereTold StaysServable a c
   durable_stays records taken out out_after a c s d =
       let requests = d.answered ++ d.tried in
-      let more = entries_of (recorded (after_records empty_state records) nothing_held requests) in
+      let more = entries_of (records_of (state_behind empty_state records) nothing_held requests) in
       told_map (λ old new. Leaves (IsOfRun (entries_of records) more old.now) old new) StaysServable
       (λ old new m. λ all. leaves_weaker (IsOfRun (entries_of records) more old.now) IsServable old new (of_run records requests old.now s d.begins.proper all) m) a c d.crashed
 
-  is_durable : (how : Ended) (records : List (List Request)) (taken : List ℕ) (a c : Option Moments) (out out_after : Option (List ℕ)) → KeepsRecords how records taken a c out out_after → IsDurable records taken a c out out_after
+  is_durable : (how : Ended) (records : List (List Asked)) (taken : List ℕ) (a c : Option Moments) (out out_after : Option (List ℕ)) → KeepsRecords how records taken a c out out_after → IsDurable records taken a c out out_after
   is_durable ended.Done records taken a c out out_after k = k
   is_durable ended.ReadFault records taken a c out out_after k = k
   is_durable ended.WriteFault records taken a c out out_after k = k
@@ -153,28 +168,28 @@ no_damage : (file : List ℕ) (xs : List (List ℕ)) (place : ℕ) → ReadsAs (
 no_damage file xs place p q = let e = one_reading (Records xs) (Damaged place) file p q in cc
 
 module _ (reading : HasOneReading SpellsRequest) where
-  same_requests : (xs ys : List Request) → All IsRequest xs → All IsRequest ys → frames_in xs ≡ frames_in ys → xs ≡ ys
+  same_requests : (xs ys : List Asked) → All IsProper xs → All IsProper ys → frames_in xs ≡ frames_in ys → xs ≡ ys
   same_requests xs ys p q e =
       let g = goes reading xs ys [] p q (append-nil (frames_in xs) ∙ e) in
-      sym (append-nil xs) ∙ ap (λ (l : List Request). xs ++ l) (sym (none g.more g.left)) ∙ sym g.is
+      sym (append-nil xs) ∙ ap (λ (l : List Asked). xs ++ l) (sym (none g.more g.left)) ∙ sym g.is
     where
-      none : (more : List Request) → [] ≡ frames_in more → more ≡ []
+      none : (more : List Asked) → [] ≡ frames_in more → more ≡ []
       none [] h = refl
-      none (r ∷ more) h = absurd (omega (arith, ap length h, length-append (request_frame r) (frames_in more)))
+      none (r ∷ more) h = absurd (omega (arith, ap length h, length-append (asked_frame r) (frames_in more)))
 
-  refused_not : (state : State) (before records : List (List Request)) (entry : List ℕ) (others : List (List ℕ)) → All (All IsRequest) before → All (All IsRequest) records
-      → entries_of records ≡ entries_of before ++ entry ∷ others → AreServedAgain state records → ((requests : List Request) → IsServedRecord (after_records state before) requests entry → ⊥) → ⊥
+  refused_not : (state : State) (before records : List (List Asked)) (entry : List ℕ) (others : List (List ℕ)) → All (All IsProper) before → All (All IsProper) records
+      → entries_of records ≡ entries_of before ++ entry ∷ others → AreServedAgain state (messages_in records) → ((requests : List Asked) → IsServedRecord (state_behind state before) requests entry → ⊥) → ⊥
   refused_not state [] [] entry others p q e s refused = absurd (omega (arith, ap length e))
   refused_not state [] (r ∷ records) entry others p q e s refused =
-      refused r (record { proper = All-head (All IsRequest) r records q; whole = sym (heads e); done = s.0; idle = s.1 })
+      refused r (record { proper = All-head (All IsProper) r records q; whole = sym (heads e); done = s.0; idle = s.1 })
     where
       heads : frames_in r ∷ entries_of records ≡ entry ∷ others → frames_in r ≡ entry
       heads h = cc
   refused_not state (b ∷ before) [] entry others p q e s refused = absurd (omega (arith, ap length e))
   refused_not state (b ∷ before) (r ∷ records) entry others p q e s refused =
-      let same : r ≡ b = same_requests r b (All-head (All IsRequest) r records q) (All-head (All IsRequest) b before p) (heads e) in
-      refused_not (after_requests state b) before records entry others (All-tail (All IsRequest) b before p) (All-tail (All IsRequest) r records q) (tails e)
-      (subst (λ (x : List Request). AreServedAgain (after_requests state x) records) same s.2) refused
+      let same : r ≡ b = same_requests r b (All-head (All IsProper) r records q) (All-head (All IsProper) b before p) (heads e) in
+      refused_not (state_after state b) before records entry others (All-tail (All IsProper) b before p) (All-tail (All IsProper) r records q) (tails e)
+      (subst (λ (x : List Asked). AreServedAgain (state_after state x) (messages_in records)) same s.2) refused
     where
       heads : frames_in r ∷ entries_of records ≡ frames_in b ∷ entries_of before ++ entry ∷ others → frames_in r ≡ frames_in b
       heads h = cc

@@ -7,7 +7,7 @@ use Rattle.disk.specs.Moments.{Moments}
 use Rattle.journal_core.specs.Appends.{IsMounted}
 use Rattle.journal_core.specs.States.{JournalState}
 use Rattle.journal_core.specs.Records.{IsExecute, IsRecord}
-use Rattle.recording.specs.Recorded.{Kept, has_transaction, held_at, is_done, kept_of, kept_where, nothing_held, session_of, with_held}
+use Rattle.recording.specs.Recorded.{Kept, has_transaction, held_at, is_done, kept, kept_by, kept_of, kept_where, nothing_held, session_of, with_held}
 use Rattle.server_core.specs.Serve.{State, serve}
 use Rattle.server_core.specs.Sorts.{sort_of}
 use Rattle.server_core.specs.declared.sorts.Sort.{Sort}
@@ -17,8 +17,8 @@ use Rattle.wire_messages.specs.declared.replies.Reply.{Reply}
 use Rattle.wire_messages.specs.declared.requests.Request.{Request}
 use Rattle.wire_messages.specs.declared.requests.Request.TheVariants.{Describe, Execute}
 use Rattle.journal_command.specs.Durable.{DurableState, IsReadOf, IsSound, IsStatementOf, IsServed}
-use Rattle.journal_command.specs.Keeping.{HeldFrames, IsHeldRequest, IsHolding, IsKept, entries_of, frames_of, held_behind, keeping}
-use Rattle.journal_command.proofs.Holding.{IsProper, Empty, held_again, proper_entry, proper_kept}
+use Rattle.journal_command.specs.Keeping.{Asked, HeldFrames, IsHeldRequest, IsHolding, IsKept, entries_of, frames_of, held_behind, keeping}
+use Rattle.journal_command.proofs.Holding.{AreProper, Empty, held_again, proper_entry, proper_kept}
 
 -- ---- what is kept
 
@@ -31,151 +31,163 @@ when_false true x y e = cc
 when_false false x y e = refl
 
 -- a statement that is done, and one that isn't
-pub keeps_done : (state : State) (session : ℕ) (kind : Sort) (request : Request) → IsStatementOf session kind request → is_done (serve state request).replies ≡ true → (held : List (List Request))
-    → (keeping state held request ≡ kept_of kind (held_at held session) request) × (session_of request ≡ session)
-keeps_done state session kind (Describe other text declarations) a d held = absurd a
-keeps_done state session kind (Execute other version text params) a d held =
+pub keeps_done : (state : State) (session : ℕ) (kind : Sort) (request : Request) (asked : Asked) → IsStatementOf session kind request → is_done (serve state request).replies ≡ true → (held : List (List Asked))
+    → (kept_by request asked (serve state request) (held_at held (session_of request)) ≡ kept_of kind (held_at held session) asked) × (session_of request ≡ session)
+keeps_done state session kind (Describe other text declarations) asked a d held = absurd a
+keeps_done state session kind (Execute other version text params) asked a d held =
     let r = Execute other version text params in (
-      when_true (is_done (serve state r).replies) (kept_of (sort_of text) (held_at held other) r) (kept_where (has_transaction (serve state r).after other) (held_at held other)) d
-          ∙ ap (λ (k : Sort). kept_of k (held_at held other) r) (sym a.1)
-          ∙ ap (λ (s : ℕ). kept_of kind (held_at held s) r) (sym a.0),
+      when_true (is_done (serve state r).replies) (kept_of (sort_of text) (held_at held other) asked) (kept_where (has_transaction (serve state r).after other) (held_at held other)) d
+          ∙ ap (λ (k : Sort). kept_of k (held_at held other) asked) (sym a.1)
+          ∙ ap (λ (s : ℕ). kept_of kind (held_at held s) asked) (sym a.0),
       sym a.0,
     )
 
-pub keeps_open : (state : State) (session : ℕ) (kind : Sort) (request : Request) → IsStatementOf session kind request → is_done (serve state request).replies ≡ false → (held : List (List Request))
-    → (keeping state held request ≡ kept_where (has_transaction (serve state request).after session) (held_at held session)) × (session_of request ≡ session)
-keeps_open state session kind (Describe other text declarations) a d held = absurd a
-keeps_open state session kind (Execute other version text params) a d held =
+pub keeps_open : (state : State) (session : ℕ) (kind : Sort) (request : Request) (asked : Asked) → IsStatementOf session kind request → is_done (serve state request).replies ≡ false → (held : List (List Asked))
+    → (kept_by request asked (serve state request) (held_at held (session_of request)) ≡ kept_where (has_transaction (serve state request).after session) (held_at held session)) × (session_of request ≡ session)
+keeps_open state session kind (Describe other text declarations) asked a d held = absurd a
+keeps_open state session kind (Execute other version text params) asked a d held =
     let r = Execute other version text params in (
-      when_false (is_done (serve state r).replies) (kept_of (sort_of text) (held_at held other) r) (kept_where (has_transaction (serve state r).after other) (held_at held other)) d
+      when_false (is_done (serve state r).replies) (kept_of (sort_of text) (held_at held other) asked) (kept_where (has_transaction (serve state r).after other) (held_at held other)) d
           ∙ ap (λ (s : ℕ). kept_where (has_transaction (serve state r).after s) (held_at held s)) (sym a.0),
       sym a.0,
     )
 
-open_by : (done goes_on : Bool) (kind : Sort) (held : List Request) (r : Request) → (kind ≡ sorts.Reads) ⊎ (kind ≡ sorts.NoStatement)
+open_by : (done goes_on : Bool) (kind : Sort) (held : List Asked) (r : Asked) → (kind ≡ sorts.Reads) ⊎ (kind ≡ sorts.NoStatement)
     → (if done then kept_of kind held r else kept_where goes_on held) ≡ kept_where (done || goes_on) held
 open_by true goes_on kind held r (inl e) = ap (λ (k : Sort). kept_of k held r) e
 open_by true goes_on kind held r (inr e) = ap (λ (k : Sort). kept_of k held r) e
 open_by false goes_on kind held r e = refl
 
-pub keeps_read : (state : State) (session : ℕ) (request : Request) → IsReadOf session request → (held : List (List Request))
-    → (keeping state held request ≡ kept_where (is_done (serve state request).replies || has_transaction (serve state request).after session) (held_at held session)) × (session_of request ≡ session)
-keeps_read state session (Describe other text declarations) a held = absurd a
-keeps_read state session (Execute other version text params) a held =
+pub keeps_read : (state : State) (session : ℕ) (request : Request) (asked : Asked) → IsReadOf session request → (held : List (List Asked))
+    → (kept_by request asked (serve state request) (held_at held (session_of request)) ≡ kept_where (is_done (serve state request).replies || has_transaction (serve state request).after session) (held_at held session)) × (session_of request ≡ session)
+keeps_read state session (Describe other text declarations) asked a held = absurd a
+keeps_read state session (Execute other version text params) asked a held =
     let r = Execute other version text params in
     let done = is_done (serve state r).replies in (
-      open_by done (has_transaction (serve state r).after other) (sort_of text) (held_at held other) r a.1
+      open_by done (has_transaction (serve state r).after other) (sort_of text) (held_at held other) asked a.1
           ∙ ap (λ (s : ℕ). kept_where (done || has_transaction (serve state r).after s) (held_at held s)) (sym a.0),
       sym a.0,
     )
 
 -- ---- a request is served
 
-nothing_recorded : (goes_on : Bool) (held : List Request) → (kept_where goes_on held).records ≡ []
+nothing_recorded : (goes_on : Bool) (held : List Asked) → (kept_where goes_on held).records ≡ []
 nothing_recorded true held = refl
 nothing_recorded false held = refl
 
-module _ (replies : List Reply) (request : Request) (session : ℕ) (old new : DurableState) (s : serve old.state request ≡ record { replies = replies; after = new.state }) where
-  replied : replies ≡ (serve old.state request).replies
+module _ (replies : List Reply) (asked : Asked) (session : ℕ) (old new : DurableState) (s : serve old.state asked.message ≡ record { replies = replies; after = new.state }) where
+  replied : replies ≡ (serve old.state asked.message).replies
   replied = sym (ap (λ (x : Served State). x.replies) s)
 
-  led : new.state ≡ (serve old.state request).after
+  led : new.state ≡ (serve old.state asked.message).after
   led = sym (ap (λ (x : Served State). x.after) s)
 
   -- it was done
-  pub served_done : (kind : Sort) (entry : Option (List ℕ)) → IsStatementOf session kind request → is_done replies ≡ true
-      → ((held : List (List Request)) → old.held ≡ map frames_of held → IsKept (kept_of kind (held_at held session) request) held session entry new.held) → IsServed replies entry request old new
+  pub served_done : (kind : Sort) (entry : Option (List ℕ)) → IsStatementOf session kind asked.message → is_done replies ≡ true
+      → ((held : List (List Asked)) → old.held ≡ map frames_of held → IsKept (kept_of kind (held_at held session) asked) held session entry new.held) → IsServed replies entry asked old new
   served_done kind entry a d k = record {
     replies = replied;
     after = led;
     kept = λ held e.
-        let kn = keeps_done old.state session kind request a (ap is_done (sym replied) ∙ d) held in
+        let kn = keeps_done old.state session kind asked.message asked a (ap is_done (sym replied) ∙ d) held in
         let h = k held e in (
-          h.entry ∙ ap (λ (x : Kept). entries_of x.records) (sym kn.0),
-          h.held ∙ ap (λ (x : Kept). map frames_of (with_held held session x.held)) (sym kn.0) ∙ ap (λ (n : ℕ). map frames_of (with_held held n (keeping old.state held request).held)) (sym kn.1),
+          h.entry ∙ ap (λ (x : Kept Asked). entries_of x.records) (sym kn.0),
+          h.held ∙ ap (λ (x : Kept Asked). map frames_of (with_held held session x.held)) (sym kn.0) ∙ ap (λ (n : ℕ). map frames_of (with_held held n (keeping old.state held asked).held)) (sym kn.1),
         );
   }
 
   -- it wasn't, or is a question
-  served_open : (goes_on : Bool) → ((held : List (List Request)) → (keeping old.state held request ≡ kept_where goes_on (held_at held session)) × (session_of request ≡ session))
-      → ((held : List (List Request)) → old.held ≡ map frames_of held → new.held ≡ map frames_of (with_held held session (kept_where goes_on (held_at held session)).held)) → IsServed replies None request old new
+  served_open : (goes_on : Bool) → ((held : List (List Asked)) → (keeping old.state held asked ≡ kept_where goes_on (held_at held session)) × (session_of asked.message ≡ session))
+      → ((held : List (List Asked)) → old.held ≡ map frames_of held → new.held ≡ map frames_of (with_held held session (kept_where goes_on (held_at held session)).held)) → IsServed replies None asked old new
   served_open goes_on kn k = record {
     replies = replied;
     after = led;
     kept = λ held e.
         let one = kn held in (
-          ap entries_of (sym (nothing_recorded goes_on (held_at held session))) ∙ ap (λ (x : Kept). entries_of x.records) (sym one.0),
-          k held e ∙ ap (λ (x : Kept). map frames_of (with_held held session x.held)) (sym one.0) ∙ ap (λ (n : ℕ). map frames_of (with_held held n (keeping old.state held request).held)) (sym one.1),
+          ap entries_of (sym (nothing_recorded goes_on (held_at held session))) ∙ ap (λ (x : Kept Asked). entries_of x.records) (sym one.0),
+          k held e ∙ ap (λ (x : Kept Asked). map frames_of (with_held held session x.held)) (sym one.0) ∙ ap (λ (n : ℕ). map frames_of (with_held held n (keeping old.state held asked).held)) (sym one.1),
         );
   }
 
-  pub served_undone : (kind : Sort) (goes_on : Bool) → IsStatementOf session kind request → is_done replies ≡ false → goes_on ≡ has_transaction new.state session
-      → ((held : List (List Request)) → old.held ≡ map frames_of held → new.held ≡ map frames_of (with_held held session (kept_where goes_on (held_at held session)).held)) → IsServed replies None request old new
+  pub served_undone : (kind : Sort) (goes_on : Bool) → IsStatementOf session kind asked.message → is_done replies ≡ false → goes_on ≡ has_transaction new.state session
+      → ((held : List (List Asked)) → old.held ≡ map frames_of held → new.held ≡ map frames_of (with_held held session (kept_where goes_on (held_at held session)).held)) → IsServed replies None asked old new
   served_undone kind goes_on a d o k =
       served_open goes_on
       (λ held.
-      let kn = keeps_open old.state session kind request a (ap is_done (sym replied) ∙ d) held in
+      let kn = keeps_open old.state session kind asked.message asked a (ap is_done (sym replied) ∙ d) held in
       (kn.0 ∙ ap (λ (b : Bool). kept_where b (held_at held session)) (ap (λ (x : State). has_transaction x session) (sym led) ∙ sym o), kn.1)) k
 
-  pub served_read : (goes_on : Bool) → IsReadOf session request → goes_on ≡ (is_done replies || has_transaction new.state session)
-      → ((held : List (List Request)) → old.held ≡ map frames_of held → new.held ≡ map frames_of (with_held held session (kept_where goes_on (held_at held session)).held)) → IsServed replies None request old new
+  pub served_read : (goes_on : Bool) → IsReadOf session asked.message → goes_on ≡ (is_done replies || has_transaction new.state session)
+      → ((held : List (List Asked)) → old.held ≡ map frames_of held → new.held ≡ map frames_of (with_held held session (kept_where goes_on (held_at held session)).held)) → IsServed replies None asked old new
   served_read goes_on a o k =
       served_open goes_on
       (λ held.
-      let kn = keeps_read old.state session request a held in (
-        kn.0 ∙ ap (λ (x : State). kept_where (is_done (serve old.state request).replies || has_transaction x session) (held_at held session)) (sym led)
+      let kn = keeps_read old.state session asked.message asked a held in (
+        kn.0 ∙ ap (λ (x : State). kept_where (is_done (serve old.state asked.message).replies || has_transaction x session) (held_at held session)) (sym led)
             ∙ ap (λ (l : List Reply). kept_where (is_done l || has_transaction new.state session) (held_at held session)) (sym replied)
             ∙ ap (λ (b : Bool). kept_where b (held_at held session)) (sym o),
         kn.1,
       )) k
 
 -- a description changes nothing
-pub served_description : (replies : List Reply) (session : ℕ) (request : Request) (old new : DurableState) → (serve old.state request ≡ record { replies = replies; after = new.state }) → new.held ≡ old.held → (IsExecute request → ⊥)
-    → IsServed replies None request old new
-served_description replies session (Describe other text declarations) old new s e n = record {
-  replies = replied replies (Describe other text declarations) session old new s;
-  after = led replies (Describe other text declarations) session old new s;
-  kept = λ held h. (refl, e ∙ h ∙ ap (map frames_of) (sym (held_again held other)));
+description_kept : (state : State) (request : Request) (asked : Asked) (held : List (List Asked)) → (IsExecute request → ⊥) → kept_by request asked (serve state request) (held_at held (session_of request)) ≡ kept [] (held_at held (session_of request))
+description_kept state (Describe session text declarations) asked held n = refl
+description_kept state (Execute session version text params) asked held n = absurd (n tt)
+
+pub served_description : (replies : List Reply) (session : ℕ) (asked : Asked) (old new : DurableState) → (serve old.state asked.message ≡ record { replies = replies; after = new.state }) → new.held ≡ old.held → (IsExecute asked.message → ⊥)
+    → IsServed replies None asked old new
+served_description replies session asked old new s e n = record {
+  replies = replied replies asked session old new s;
+  after = led replies asked session old new s;
+  kept = λ held h.
+      let k = description_kept old.state asked.message asked held n in
+      let at = session_of asked.message in (
+        ap (λ (x : Kept Asked). entries_of x.records) (sym k),
+        e ∙ h ∙ ap (map frames_of) (sym (held_again held at) ∙ ap (λ (x : Kept Asked). with_held held at x.held) (sym k)),
+      );
 }
-served_description replies session (Execute other version text params) old new s e n = absurd (n tt)
 
 -- ---- what is held stays frames of requests to execute
 
-all_at : (held : List (List Request)) (i : ℕ) → All (All IsHeldRequest) held → All IsHeldRequest (get_or held i [])
+all_at : (held : List (List Asked)) (i : ℕ) → All (All IsHeldRequest) held → All IsHeldRequest (get_or held i [])
 all_at [] i all = All-nil IsHeldRequest
 all_at (x ∷ held) zero all = All-head (All IsHeldRequest) x held all
 all_at (x ∷ held) (suc i) all = all_at held i (All-tail (All IsHeldRequest) x held all)
 
-proper_open : (goes_on : Bool) (held : List Request) → All IsHeldRequest held → IsProper (kept_where goes_on held).records × All IsHeldRequest (kept_where goes_on held).held
+proper_open : (goes_on : Bool) (held : List Asked) → All IsHeldRequest held → AreProper (kept_where goes_on held).records × All IsHeldRequest (kept_where goes_on held).held
 proper_open true held all = (Empty, all)
 proper_open false held all = (Empty, All-nil IsHeldRequest)
 
-proper_by : (done : Bool) (one other : Kept) → IsProper one.records × All IsHeldRequest one.held → IsProper other.records × All IsHeldRequest other.held
-    → IsProper (if done then one else other).records × All IsHeldRequest (if done then one else other).held
+proper_by : (done : Bool) (one other : Kept Asked) → AreProper one.records × All IsHeldRequest one.held → AreProper other.records × All IsHeldRequest other.held
+    → AreProper (if done then one else other).records × All IsHeldRequest (if done then one else other).held
 proper_by true one other p q = p
 proper_by false one other p q = q
 
-pub proper_keeping : (state : State) (held : List (List Request)) (request : Request) → All (All IsHeldRequest) held → (IsExecute request → IsHeldRequest request)
-    → IsProper (keeping state held request).records × All IsHeldRequest (keeping state held request).held
-proper_keeping state held (Describe session text declarations) all h = (Empty, all_at held (session - 1) all)
-proper_keeping state held (Execute session version text params) all h =
+proper_of : (state : State) (held : List (List Asked)) (request : Request) (asked : Asked) → All (All IsHeldRequest) held → (IsExecute request → IsHeldRequest asked)
+    → let k = kept_by request asked (serve state request) (held_at held (session_of request)) in AreProper k.records × All IsHeldRequest k.held
+proper_of state held (Describe session text declarations) asked all h = (Empty, all_at held (session - 1) all)
+proper_of state held (Execute session version text params) asked all h =
     let r = Execute session version text params in
     let at = all_at held (session - 1) all in
-    proper_by (is_done (serve state r).replies) (kept_of (sort_of text) (held_at held session) r) (kept_where (has_transaction (serve state r).after session) (held_at held session))
-    (proper_kept (sort_of text) (held_at held session) r at (h tt)) (proper_open (has_transaction (serve state r).after session) (held_at held session) at)
+    proper_by (is_done (serve state r).replies) (kept_of (sort_of text) (held_at held session) asked) (kept_where (has_transaction (serve state r).after session) (held_at held session))
+    (proper_kept (sort_of text) (held_at held session) asked at (h tt)) (proper_open (has_transaction (serve state r).after session) (held_at held session) at)
 
-pub served_holds : (replies : List Reply) (entry : Option (List ℕ)) (request : Request) (old new : DurableState) → IsServed replies entry request old new → IsHolding old.held → (IsExecute request → IsHeldRequest request)
+pub proper_keeping : (state : State) (held : List (List Asked)) (asked : Asked) → All (All IsHeldRequest) held → (IsExecute asked.message → IsHeldRequest asked)
+    → AreProper (keeping state held asked).records × All IsHeldRequest (keeping state held asked).held
+proper_keeping state held asked all h = proper_of state held asked.message asked all h
+
+pub served_holds : (replies : List Reply) (entry : Option (List ℕ)) (asked : Asked) (old new : DurableState) → IsServed replies entry asked old new → IsHolding old.held → (IsExecute asked.message → IsHeldRequest asked)
     → IfSome entry IsRecord × IsHolding new.held
-served_holds replies entry request old new s holds h =
+served_holds replies entry asked old new s holds h =
     let k = s.kept holds.held holds.is in
-    let p = proper_keeping old.state holds.held request holds.proper h in (
-      proper_entry (keeping old.state holds.held request).records entry p.0 k.0,
-      record { held = held_behind old.state holds.held request; is = k.1; proper = All-set (All IsHeldRequest) holds.held (session_of request - 1) (keeping old.state holds.held request).held p.1 holds.proper },
+    let p = proper_keeping old.state holds.held asked holds.proper h in (
+      proper_entry (keeping old.state holds.held asked).records entry p.0 k.0,
+      record { held = held_behind old.state holds.held asked; is = k.1; proper = All-set (All IsHeldRequest) holds.held (session_of asked.message - 1) (keeping old.state holds.held asked).held p.1 holds.proper },
     )
 
 -- of a session whose transaction goes on, or has ended
 pub stay_holds : (session : ℕ) (goes_on : Bool) (old new : List HeldFrames) → IsHolding old
-    → ((held : List (List Request)) → old ≡ map frames_of held → new ≡ map frames_of (with_held held session (kept_where goes_on (held_at held session)).held)) → IsHolding new
+    → ((held : List (List Asked)) → old ≡ map frames_of held → new ≡ map frames_of (with_held held session (kept_where goes_on (held_at held session)).held)) → IsHolding new
 stay_holds session goes_on old new h k = record {
   held = with_held h.held session (kept_where goes_on (held_at h.held session)).held;
   is = k h.held h.is;

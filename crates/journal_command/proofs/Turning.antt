@@ -1,6 +1,5 @@
 -- One request more is answered and recorded, and what stands where it isn't.
 use Rattle.std.proofs.Common.{◌≡◌, inl, inr, ◌<◌, ◌^◌, ℕ, List, [], ◌∷◌, ◌++◌, length, map, take, drop, Option, refl, sym, ap, subst, ◌∙◌, append-nil, arith}
-use Rattle.std.specs.Prelude.{flat_map}
 use Rattle.ae_edge.specs.Devices.{AddsFront}
 use Rattle.ae_edge.proofs.Interface.{adds_then_front, front_of, front_same}
 use Rattle.frame_feed.specs.Feeding.{Feeding, behind, empty_feed, with_piece}
@@ -8,19 +7,17 @@ use Rattle.frame_feed.specs.Steps.{Steps}
 use Rattle.frame_feed.specs.declared.feeds.Next.TheVariants as next
 use Rattle.frame_feed.specs.declared.messages.Message.{Message}
 use Rattle.frame_feed.specs.declared.messages.Message.TheVariants.{Asks, Tells}
-use Rattle.recording.specs.Recorded.{nothing_held, recorded}
-use Rattle.server_core.specs.Serve.{State, serve}
-use Rattle.serve_command.specs.ServeAll.{reply_frames, state_after}
+use Rattle.recording.specs.Recorded.{nothing_held}
+use Rattle.server_core.specs.Serve.{State}
+use Rattle.serve_command.specs.ServeAll.{answer_frames, reply_frames, state_after}
 use Rattle.serve_command.specs.Serving.{Begins, AnswersAll, AnswersFirst, BreaksOff}
 use Rattle.serve_command.specs.Turns as serving
 use Rattle.serve_command.specs.Turns.{IsNext, Stands}
 use Rattle.serve_command.proofs.Interface.{answers_all, answers_first, begins_more, breaks_off, frames_more, refused_so, spells_asked, stands_fed, stands_first, stands_more, waits_so}
-use Rattle.wire_frames.specs.Frames.{Refused, IsNotYet, is_request_kind}
+use Rattle.wire_frames.specs.Frames.{Refused, IsNotYet, is_request_head}
 use Rattle.wire_frames.specs.declared.decoding.Way.TheVariants.{ToServer}
-use Rattle.wire_messages.specs.declared.requests.Request.{Request}
-use Rattle.wire_spelling.specs.Spelling.{reply_frame}
 use Rattle.journal_command.specs.Durable.{DurableState}
-use Rattle.journal_command.specs.Keeping.{entries_of, frames_of, held_after, held_behind, keeping}
+use Rattle.journal_command.specs.Keeping.{Asked, entries_of, frames_of, held_after, held_behind, keeping, records_of}
 use Rattle.journal_command.specs.Records.{HasNoRoom, TriesEntries}
 use Rattle.journal_command.specs.Running.{HasKept, HasNoRoomFor, KeepsBy, PutsOf}
 use Rattle.journal_command.specs.Stopping.{Outside, AreThere, MayBeThere}
@@ -34,24 +31,24 @@ use Rattle.journal_command.proofs.Recording.{entries_append, held_more, one_reco
 
 -- ---- what stands next
 
-pub turns_one : (t : Turn) (place used : ℕ) (message : Message) (feed new : Feeding) (held : List (List Request)) (durable after : DurableState) (old now : Outside) → feed.way ≡ ToServer
+pub turns_one : (t : Turn) (place used : ℕ) (message : Message) (feed new : Feeding) (held : List (List Asked)) (durable after : DurableState) (old now : Outside) → feed.way ≡ ToServer
     → Steps (next.One place used message) feed new → Answers t used message held durable after old now → Turns t feed held durable after old now
-turns_one (turn.Answered count) place used (Asks request) feed new held durable after old now e s a =
+turns_one (turn.Answered count) place used (Asks asked) feed new held durable after old now e s a =
     subst (λ (n : ℕ). AnswersNext feed n held durable after old now) (sym a.0)
-    (record { request = request; next = record { header = s.2; held = s.3; spells = spells_asked feed.way request (take used feed.held) e s.4 }; waits = s.0; answers = a.1 })
-turns_one (turn.Stopped stop) place used (Asks request) feed new held durable after old now e s a =
-    inr (record { request = request; used = used; next = record { header = s.2; held = s.3; spells = spells_asked feed.way request (take used feed.held) e s.4 }; stops = a })
-turns_one turn.Waits place used (Asks request) feed new held durable after old now e s a = absurd a
-turns_one (turn.Refused at) place used (Asks request) feed new held durable after old now e s a = absurd a
-turns_one (turn.Answered count) place used (Tells reply) feed new held durable after old now e s a = absurd a
-turns_one (turn.Stopped stop) place used (Tells reply) feed new held durable after old now e s a = absurd a
-turns_one turn.Waits place used (Tells reply) feed new held durable after old now e s a = absurd a
-turns_one (turn.Refused at) place used (Tells reply) feed new held durable after old now e s a = absurd a
+    (record { request = asked; next = record { header = s.2; held = s.3; spells = spells_asked feed.way asked (take used feed.held) e s.4 }; waits = s.0; answers = a.1 })
+turns_one (turn.Stopped stop) place used (Asks asked) feed new held durable after old now e s a =
+    inr (record { request = asked; used = used; next = record { header = s.2; held = s.3; spells = spells_asked feed.way asked (take used feed.held) e s.4 }; stops = a })
+turns_one turn.Waits place used (Asks asked) feed new held durable after old now e s a = absurd a
+turns_one (turn.Refused at) place used (Asks asked) feed new held durable after old now e s a = absurd a
+turns_one (turn.Answered count) place used (Tells payload) feed new held durable after old now e s a = absurd a
+turns_one (turn.Stopped stop) place used (Tells payload) feed new held durable after old now e s a = absurd a
+turns_one turn.Waits place used (Tells payload) feed new held durable after old now e s a = absurd a
+turns_one (turn.Refused at) place used (Tells payload) feed new held durable after old now e s a = absurd a
 
-pub turns_waits : (feed new : Feeding) (held : List (List Request)) (durable : DurableState) (old : Outside) → feed.way ≡ ToServer → Steps next.NotYet feed new → Turns turn.Waits feed held durable durable old old
+pub turns_waits : (feed new : Feeding) (held : List (List Asked)) (durable : DurableState) (old : Outside) → feed.way ≡ ToServer → Steps next.NotYet feed new → Turns turn.Waits feed held durable durable old old
 turns_waits feed new held durable old e s = (waits_so feed.way feed.held e s.2, s.0, refl, refl)
 
-pub turns_refused : (place : ℕ) (feed new : Feeding) (held : List (List Request)) (durable : DurableState) (old : Outside) → feed.way ≡ ToServer → Steps (next.Bad place) feed new
+pub turns_refused : (place : ℕ) (feed new : Feeding) (held : List (List Asked)) (durable : DurableState) (old : Outside) → feed.way ≡ ToServer → Steps (next.Bad place) feed new
     → Turns (turn.Refused place) feed held durable durable old old
 turns_refused place feed new held durable old e s = (s.0, refused_so feed.way feed.held e s.1, refl)
 
@@ -76,31 +73,31 @@ unfolding stands_fed
 so_far_fed start taken piece feed durable first now s = record { stands = stands_fed start taken piece feed durable.state first.out now.out s.stands; held = s.held; there = s.there }
 
 module _ (start : State) (taken : List ℕ) (feed : Feeding) (durable : DurableState) (first now : Outside) (s : IsSoFar start taken feed durable first now) where
-  abbrev answered : List Request
+  abbrev answered : List Asked
   answered = s.stands.answered
 
-  abbrev held : List (List Request)
+  abbrev held : List (List Asked)
   held = held_after start nothing_held answered
 
   -- what a request's records are, in the state that was reached
-  records_of : (r : Request) → recorded start nothing_held (answered ++ r ∷ []) ≡ recorded start nothing_held answered ++ (keeping durable.state held r).records
-  records_of r =
+  records_next : (r : Asked) → records_of start nothing_held (answered ++ r ∷ []) ≡ records_of start nothing_held answered ++ (keeping durable.state held r).records
+  records_next r =
       recorded_more start nothing_held answered r
-      ∙ ap (λ (x : State). recorded start nothing_held answered ++ (keeping x held r).records) (sym s.stands.left)
+      ∙ ap (λ (x : State). records_of start nothing_held answered ++ (keeping x held r).records) (sym s.stands.left)
 
-  entries_more : (r : Request) → entries_of (recorded start nothing_held (answered ++ r ∷ [])) ≡ entries_of (recorded start nothing_held answered) ++ entries_of (keeping durable.state held r).records
-  entries_more r = ap entries_of (records_of r) ∙ entries_append (recorded start nothing_held answered) (keeping durable.state held r).records
+  entries_more : (r : Asked) → entries_of (records_of start nothing_held (answered ++ r ∷ [])) ≡ entries_of (records_of start nothing_held answered) ++ entries_of (keeping durable.state held r).records
+  entries_more r = ap entries_of (records_next r) ∙ entries_append (records_of start nothing_held answered) (keeping durable.state held r).records
 
-  there_next : (r : Request) (new : Outside) → AreThere (entries_of (keeping durable.state held r).records) now new → AreThere (entries_of (recorded start nothing_held (answered ++ r ∷ []))) first new
+  there_next : (r : Asked) (new : Outside) → AreThere (entries_of (keeping durable.state held r).records) now new → AreThere (entries_of (records_of start nothing_held (answered ++ r ∷ []))) first new
   there_next r new t =
       subst (λ (l : List (List ℕ)). AreThere l first new) (sym (entries_more r))
-      (there_more (entries_of (recorded start nothing_held answered)) (entries_of (keeping durable.state held r).records) first now new s.there t)
+      (there_more (entries_of (records_of start nothing_held answered)) (entries_of (keeping durable.state held r).records) first now new s.there t)
 
-  tried_next : (r : Request) (new : Outside) → MayBeThere (entries_of (keeping durable.state held r).records) now new
-      → TriesEntries first.gate (entries_of (recorded start nothing_held answered)) (entries_of (recorded start nothing_held (answered ++ r ∷ []))) first.disk new.disk
+  tried_next : (r : Asked) (new : Outside) → MayBeThere (entries_of (keeping durable.state held r).records) now new
+      → TriesEntries first.gate (entries_of (records_of start nothing_held answered)) (entries_of (records_of start nothing_held (answered ++ r ∷ []))) first.disk new.disk
   tried_next r new t =
-      subst (λ (l : List (List ℕ)). TriesEntries first.gate (entries_of (recorded start nothing_held answered)) l first.disk new.disk) (sym (entries_more r))
-      (tries_more first.gate now.gate (entries_of (recorded start nothing_held answered)) (entries_of (keeping durable.state held r).records) first.disk now.disk new.disk s.there.added t.tried)
+      subst (λ (l : List (List ℕ)). TriesEntries first.gate (entries_of (records_of start nothing_held answered)) l first.disk new.disk) (sym (entries_more r))
+      (tries_more first.gate now.gate (entries_of (records_of start nothing_held answered)) (entries_of (keeping durable.state held r).records) first.disk now.disk new.disk s.there.added t.tried)
 
   pub so_far_more : (used : ℕ) (after : DurableState) (new : Outside) → length taken < 2 ^ 64 → AnswersNext feed used held durable after now new → IsSoFar start taken (behind feed used) after first new
   unfolding stands_more there_next
@@ -123,34 +120,34 @@ module _ (start : State) (taken : List ℕ) (feed : Feeding) (durable : DurableS
     answered = answered;
     tried = [];
     others = feed.held;
-    begins = subst (λ (l : List Request). Begins taken l feed.held) (sym (append-nil answered)) s.stands.begins;
+    begins = subst (λ (l : List Asked). Begins taken l feed.held) (sym (append-nil answered)) s.stands.begins;
     put = front_of (reply_frames start answered) (reply_frames start answered) first.out now.out s.stands.put (front_same (reply_frames start answered));
     kept =
-        subst (λ (l : List Request). TriesEntries first.gate (entries_of (recorded start nothing_held answered)) (entries_of (recorded start nothing_held l)) first.disk now.disk) (sym (append-nil answered))
-        (added_tried first.gate now.gate (entries_of (recorded start nothing_held answered)) first.disk now.disk s.there.added);
+        subst (λ (l : List Asked). TriesEntries first.gate (entries_of (records_of start nothing_held answered)) (entries_of (records_of start nothing_held l)) first.disk now.disk) (sym (append-nil answered))
+        (added_tried first.gate now.gate (entries_of (records_of start nothing_held answered)) first.disk now.disk s.there.added);
   }
 
   -- its records are on the disk, and some of its replies were put
-  kept_in_part : (r : Request) (used : ℕ) (new : Outside) → IsNext feed r used → AreThere (entries_of (keeping durable.state held r).records) now new
-      → AddsFront (flat_map reply_frame (serve durable.state r).replies) now.out new.out → HasKept start taken first new
+  kept_in_part : (r : Asked) (used : ℕ) (new : Outside) → IsNext feed r used → AreThere (entries_of (keeping durable.state held r).records) now new
+      → AddsFront (answer_frames durable.state r) now.out new.out → HasKept start taken first new
   kept_in_part r used new next t put =
-      let of_start = subst (λ (x : State). AddsFront (flat_map reply_frame (serve x r).replies) now.out new.out) s.stands.left put in
+      let of_start = subst (λ (x : State). AddsFront (answer_frames x r) now.out new.out) s.stands.left put in
       record {
         answered = answered ++ r ∷ [];
         tried = [];
         others = drop used feed.held;
-        begins = subst (λ (l : List Request). Begins taken l (drop used feed.held)) (sym (append-nil (answered ++ r ∷ []))) (begins_more taken answered feed.held used r s.stands.begins next.spells);
+        begins = subst (λ (l : List Asked). Begins taken l (drop used feed.held)) (sym (append-nil (answered ++ r ∷ []))) (begins_more taken answered feed.held used r s.stands.begins next.spells);
         put =
             subst (λ (l : List ℕ). AddsFront l first.out new.out) (sym (frames_more start answered r))
-            (adds_then_front (reply_frames start answered) (flat_map reply_frame (serve (state_after start answered) r).replies) first.out now.out new.out s.stands.put of_start);
+            (adds_then_front (reply_frames start answered) (answer_frames (state_after start answered) r) first.out now.out new.out s.stands.put of_start);
         kept =
-            subst (λ (l : List Request). TriesEntries first.gate (entries_of (recorded start nothing_held (answered ++ r ∷ []))) (entries_of (recorded start nothing_held l)) first.disk new.disk)
+            subst (λ (l : List Asked). TriesEntries first.gate (entries_of (records_of start nothing_held (answered ++ r ∷ []))) (entries_of (records_of start nothing_held l)) first.disk new.disk)
             (sym (append-nil (answered ++ r ∷ [])))
-            (added_tried first.gate new.gate (entries_of (recorded start nothing_held (answered ++ r ∷ []))) first.disk new.disk (there_next r new t).added);
+            (added_tried first.gate new.gate (entries_of (records_of start nothing_held (answered ++ r ∷ []))) first.disk new.disk (there_next r new t).added);
       }
 
   -- its records may be on the disk, and nothing was put
-  kept_before : (r : Request) (used : ℕ) (new : Outside) → IsNext feed r used → MayBeThere (entries_of (keeping durable.state held r).records) now new → HasKept start taken first new
+  kept_before : (r : Asked) (used : ℕ) (new : Outside) → IsNext feed r used → MayBeThere (entries_of (keeping durable.state held r).records) now new → HasKept start taken first new
   kept_before r used new next t = record {
     answered = answered;
     tried = r ∷ [];
@@ -162,7 +159,7 @@ module _ (start : State) (taken : List ℕ) (feed : Feeding) (durable : DurableS
     kept = tried_next r new t;
   }
 
-  kept_full : (r : Request) (used : ℕ) (new : Outside) → IsNext feed r used → MayBeThere (entries_of (keeping durable.state held r).records) now new → HasNoRoom now.gate (entries_of (keeping durable.state held r).records)
+  kept_full : (r : Asked) (used : ℕ) (new : Outside) → IsNext feed r used → MayBeThere (entries_of (keeping durable.state held r).records) now new → HasNoRoom now.gate (entries_of (keeping durable.state held r).records)
       → HasNoRoomFor start taken first new
   unfolding kept_before
   kept_full r used new next t full =
@@ -170,14 +167,14 @@ module _ (start : State) (taken : List ℕ) (feed : Feeding) (durable : DurableS
       record {
         kept = kept_before r used new next t;
         last = one.last;
-        is = records_of r ∙ ap (λ (l : List (List Request)). recorded start nothing_held answered ++ l) one.is;
+        is = records_next r ∙ ap (λ (l : List (List Asked)). records_of start nothing_held answered ++ l) one.is;
         full = omega (arith, full.full, s.there.gate, ap length one.bytes);
       }
 
   first_before : (new : Outside) → new.out ≡ now.out → AnswersFirst start taken first.out new.out
   first_before new e = subst (λ (x : Option (List ℕ)). AnswersFirst start taken first.out x) (sym e) (answers_first start taken feed durable.state first.out now.out s.stands)
 
-  breaks_in : (r : Request) (used : ℕ) (new : Outside) → IsNext feed r used → AddsFront (flat_map reply_frame (serve durable.state r).replies) now.out new.out → BreaksOff start taken first.out new.out
+  breaks_in : (r : Asked) (used : ℕ) (new : Outside) → IsNext feed r used → AddsFront (answer_frames durable.state r) now.out new.out → BreaksOff start taken first.out new.out
   breaks_in r used new next put = breaks_off start taken feed durable.state first.out now.out s.stands new.out (record { request = r; used = used; next = next; put = put })
 
   stops_next : (stop : Stop) (new : Outside) → StopsNext stop feed held durable now new → PutsOf stop start taken first.out new.out × KeepsBy stop start taken first new
@@ -199,7 +196,7 @@ module _ (start : State) (taken : List ℕ) (feed : Feeding) (durable : DurableS
   pub stops_so : (stop : Stop) (after : DurableState) (new : Outside) → Turns (turn.Stopped stop) feed held durable after now new → PutsOf stop start taken first.out new.out × KeepsBy stop start taken first new
   stops_so stop after new t = elim t [ inl here ↦ stops_here stop new here.0 here.1 | inr next ↦ stops_next stop new next ]
 
-  pub waits_so_far : (after : DurableState) (new : Outside) → Turns turn.Waits feed held durable after now new → IsSoFar start taken feed after first new × IsNotYet is_request_kind feed.held
+  pub waits_so_far : (after : DurableState) (new : Outside) → Turns turn.Waits feed held durable after now new → IsSoFar start taken feed after first new × IsNotYet is_request_head feed.held
   waits_so_far after new t =
       (subst (λ (d : DurableState). IsSoFar start taken feed d first new) (sym t.2) (subst (λ (x : Outside). IsSoFar start taken feed durable first x) (sym t.3) s), t.0)
 

@@ -10,13 +10,12 @@ use Rattle.journal_core.specs.Journals.{Records, ReadsAs, place_behind}
 use Rattle.journal_core.specs.Mounts.{IsSomeImage, Mounts}
 use Rattle.journal_core.specs.States.{JournalState}
 use Rattle.journal_core.specs.declared.mounting.Mounted.TheVariants as mounted
-use Rattle.recording.specs.Recorded.{after_records, nothing_held, recorded}
+use Rattle.recording.specs.Recorded.{nothing_held}
 use Rattle.server_core.specs.Serve.{State, empty_state}
-use Rattle.wire_messages.specs.declared.requests.Request.{Request}
 use Rattle.journal_command.specs.Journaling.{IsBad, IsDurable, IsFull, IsUnserved, KeepsRecords, Runs, ServesFound, ServesFrom, ServesJournal}
-use Rattle.journal_command.specs.Keeping.{entries_of}
+use Rattle.journal_command.specs.Keeping.{Asked, entries_of, records_of}
 use Rattle.journal_command.specs.Records.{AreTried, HasFront, HasLeast, IsOfRun}
-use Rattle.journal_command.specs.Restarts.{AreServedRecords, RefusesAt}
+use Rattle.journal_command.specs.Restarts.{AreServedRecords, RefusesAt, state_behind}
 use Rattle.journal_command.specs.Running.{HasKept, HasNoRoomFor, KeepsSo, ServesPieces}
 use Rattle.journal_command.specs.Stopping.{outside}
 use Rattle.journal_command.specs.declared.endings.Ended.{Ended}
@@ -60,34 +59,34 @@ module _ (journal : JournalState) (entries : List (List ℕ)) (a b : Option Mome
   )
 
   -- and served again
-  module _ (records : List (List Request)) (served : AreServedRecords empty_state records entries) (source left out out_after : Option (List ℕ)) (c : Option Moments) (gate : ℕ) where
+  module _ (records : List (List Asked)) (served : AreServedRecords empty_state records entries) (source left out out_after : Option (List ℕ)) (c : Option Moments) (gate : ℕ) where
     abbrev start : State
-    start = after_records empty_state records
+    start = state_behind empty_state records
 
-    abbrev Tried : List Request → List Request → Moments → Moments → Type 0
-    Tried answered all old new = (es : List (List ℕ)) → EndsAt journal.gate es old → AreTried es (entries_of (recorded start nothing_held answered)) (entries_of (recorded start nothing_held all)) old new
+    abbrev Tried : List Asked → List Asked → Moments → Moments → Type 0
+    Tried answered all old new = (es : List (List ℕ)) → EndsAt journal.gate es old → AreTried es (entries_of (records_of start nothing_held answered)) (entries_of (records_of start nothing_held all)) old new
 
-    moments : (answered all : List Request) (x y z : Moments) → Mounts (mounted.Ready journal entries) x y → Tried answered all y z → Leaves (IsOfRun (entries_of records) (entries_of (recorded start nothing_held all)) x.now) x z
+    moments : (answered all : List Asked) (x y z : Moments) → Mounts (mounted.Ready journal entries) x y → Tried answered all y z → Leaves (IsOfRun (entries_of records) (entries_of (records_of start nothing_held all)) x.now) x z
     moments answered all x y z m q =
-        let more = entries_of (recorded start nothing_held all) in
+        let more = entries_of (records_of start nothing_held all) in
         let t = q entries m.1.ends in
         subst (λ (es : List (List ℕ)). Leaves (IsOfRun es more x.now) x z) served.whole
         (leaves_then (IsOfRun entries more x.now) x y z (leaves_weaker (IsSomeImage x.now) (IsOfRun entries more x.now) x y (λ image i. inl i) m.0)
         (leaves_weaker (HasFront entries more) (IsOfRun entries more x.now) y z (λ image h. inr h) t.moments))
 
-    crashed : (answered all : List Request) → WhereTold (Tried answered all) b c → WhereTold (λ old new. Leaves (IsOfRun (entries_of records) (entries_of (recorded start nothing_held all)) old.now) old new) a c
+    crashed : (answered all : List Asked) → WhereTold (Tried answered all) b c → WhereTold (λ old new. Leaves (IsOfRun (entries_of records) (entries_of (records_of start nothing_held all)) old.now) old new) a c
     crashed answered all q =
-        told_then (Mounts (mounted.Ready journal entries)) (Tried answered all) (λ old new. Leaves (IsOfRun (entries_of records) (entries_of (recorded start nothing_held all)) old.now) old new) (moments answered all) a b c w q
+        told_then (Mounts (mounted.Ready journal entries)) (Tried answered all) (λ old new. Leaves (IsOfRun (entries_of records) (entries_of (records_of start nothing_held all)) old.now) old new) (moments answered all) a b c w q
 
-    kept : (answered all : List Request) → WhereTold (Tried answered all) b c
-        → WhereTold (λ old new. LeavesNow (HasLeast (entries_of records) (entries_of (recorded start nothing_held answered)) (entries_of (recorded start nothing_held all))) new.now) a c
+    kept : (answered all : List Asked) → WhereTold (Tried answered all) b c
+        → WhereTold (λ old new. LeavesNow (HasLeast (entries_of records) (entries_of (records_of start nothing_held answered)) (entries_of (records_of start nothing_held all))) new.now) a c
     kept answered all q =
-        let least = entries_of (recorded start nothing_held answered) in
-        let more = entries_of (recorded start nothing_held all) in
+        let least = entries_of (records_of start nothing_held answered) in
+        let more = entries_of (records_of start nothing_held all) in
         told_then (Mounts (mounted.Ready journal entries)) (Tried answered all) (λ old new. LeavesNow (HasLeast (entries_of records) least more) new.now)
         (λ x y z m t. subst (λ (es : List (List ℕ)). LeavesNow (HasLeast es least more) z.now) served.whole (t entries m.1.ends).now) a b c w q
 
-    found : (answered all : List Request) → WhereTold (Tried answered all) b c → WhereTold (λ old new. IsImage old.now old.now.seen × ReadsAs (Records (entries_of records)) old.now.seen) a c
+    found : (answered all : List Asked) → WhereTold (Tried answered all) b c → WhereTold (λ old new. IsImage old.now old.now.seen × ReadsAs (Records (entries_of records)) old.now.seen) a c
     found answered all q =
         told_then (Mounts (mounted.Ready journal entries)) (Tried answered all) (λ old new. IsImage old.now old.now.seen × ReadsAs (Records (entries_of records)) old.now.seen)
         (λ x y z m t. (m.1.was_image, subst (λ (es : List (List ℕ)). ReadsAs (Records es) x.now.seen) served.whole m.1.read)) a b c w q
@@ -114,8 +113,8 @@ module _ (journal : JournalState) (entries : List (List ℕ)) (a b : Option Mome
         k.full,
         sound,
         ap place_behind served.whole,
-        ap place_behind (entries_append records (recorded start nothing_held k.kept.answered)),
-        place_append (entries_of records) (entries_of (recorded start nothing_held k.kept.answered)),
+        ap place_behind (entries_append records (records_of start nothing_held k.kept.answered)),
+        place_append (entries_of records) (entries_of (records_of start nothing_held k.kept.answered)),
       );
     }
 
@@ -160,7 +159,7 @@ module _ (journal : JournalState) (entries : List (List ℕ)) (a b : Option Mome
     Stood : how ≡ ended.OutOfMemory → IsUnserved source left a c out out_after → Came how source left out out_after c
 
   came : (how : Ended) (source left out out_after : Option (List ℕ)) (c : Option Moments)
-      → ((records : List (List Request)) × AreServedRecords empty_state records entries × ServesFrom how (after_records empty_state records) journal.gate source left b c out out_after)
+      → ((records : List (List Asked)) × AreServedRecords empty_state records entries × ServesFrom how (state_behind empty_state records) journal.gate source left b c out out_after)
       ⊎ ((how ≡ ended.OutOfMemory) × (left ≡ source) × (c ≡ b) × (out_after ≡ out)) → Came how source left out out_after c
   came how source left out out_after c s =
       elim s [

@@ -1,5 +1,5 @@
 -- A server whose changes are kept in a journal: what it does with a request.
-use Rattle.std.specs.Prelude.{◌≡◌, ◌⊎◌, ℕ, ◌+◌, List, [], map, flat_map, false, Option, IfSome, option_to_list}
+use Rattle.std.specs.Prelude.{◌≡◌, ◌⊎◌, ℕ, ◌+◌, List, [], map, false, Option, IfSome, option_to_list}
 use Rattle.ae_edge.specs.Devices.{Adds}
 use Rattle.disk.specs.Moments.{Moments}
 use Rattle.journal_core.specs.Appends.{IsMounted}
@@ -7,6 +7,7 @@ use Rattle.journal_core.specs.Journals.{place_behind}
 use Rattle.journal_core.specs.States.{JournalState}
 use Rattle.journal_core.specs.declared.journal.Appended.{Appended}
 use Rattle.journal_core.specs.declared.journal.Appended.TheVariants as appended
+use Rattle.serve_command.specs.ServeAll.{answer_frames}
 use Rattle.server_core.specs.Serve.{State, serve}
 use Rattle.wire_messages.specs.declared.replies.Reply.{Reply}
 use Rattle.server_core.specs.Sorts.{sort_of}
@@ -14,8 +15,7 @@ use Rattle.server_core.specs.declared.sorts.Sort.{Sort}
 use Rattle.server_core.specs.declared.sorts.Sort.TheVariants as sorts
 use Rattle.wire_messages.specs.declared.requests.Request.{Request}
 use Rattle.wire_messages.specs.declared.requests.Request.TheVariants.{Describe, Execute}
-use Rattle.wire_spelling.specs.Spelling.{reply_frame}
-use Rattle.journal_command.specs.Keeping.{HeldFrames, IsHolding, entries_of, frames_of, held_behind, keeping}
+use Rattle.journal_command.specs.Keeping.{Asked, HeldFrames, IsHolding, entries_of, frames_of, held_behind, keeping}
 use Rattle.journal_command.specs.Records.{AddsEntries, TriesEntries, HasNoRoom}
 use Rattle.journal_command.specs.Stopping.{Outside, AreThere, StopsBy, Faults, CountsStop}
 use Rattle.journal_command.specs.declared.durable.Answered.{Answered}
@@ -46,11 +46,11 @@ IsStatementOf session kind (Describe other text declarations) = ⊥
 IsStatementOf session kind (Execute other version text params) = (session ≡ other) × (kind ≡ sort_of text)
 
 -- whatever requests are held: the replies, the record, and what is held after it
-pub record IsServed (given : List Reply) (entry : Option (List ℕ)) (request : Request) (old new : DurableState) : Type 0 where
-  pub replies : given ≡ (serve old.state request).replies
-  pub after : new.state ≡ (serve old.state request).after
-  pub kept : (held : List (List Request)) → old.held ≡ map frames_of held
-      → (option_to_list entry ≡ entries_of (keeping old.state held request).records) × (new.held ≡ map frames_of (held_behind old.state held request))
+pub record IsServed (given : List Reply) (entry : Option (List ℕ)) (asked : Asked) (old new : DurableState) : Type 0 where
+  pub replies : given ≡ (serve old.state asked.message).replies
+  pub after : new.state ≡ (serve old.state asked.message).after
+  pub kept : (held : List (List Asked)) → old.held ≡ map frames_of held
+      → (option_to_list entry ≡ entries_of (keeping old.state held asked).records) × (new.held ≡ map frames_of (held_behind old.state held asked))
 
 -- ---- its record is added
 
@@ -68,16 +68,16 @@ PutsBy answered.Whole frames more old new = AreThere more old new × Adds frames
 PutsBy (answered.Stopped stop) frames more old new = StopsBy stop frames more old new
 
 -- its records are on the disk, and all frames of its replies were put
-pub record AnswersWhole (all : List (List Request)) (request : Request) (old new : DurableState) (before after : Outside) : Type 0 where
-  pub state : new.state ≡ (serve old.state request).after
-  pub held : new.held ≡ map frames_of (held_behind old.state all request)
-  pub there : AreThere (entries_of (keeping old.state all request).records) before after
-  pub put : Adds (flat_map reply_frame (serve old.state request).replies) before.out after.out
+pub record AnswersWhole (all : List (List Asked)) (asked : Asked) (old new : DurableState) (before after : Outside) : Type 0 where
+  pub state : new.state ≡ (serve old.state asked.message).after
+  pub held : new.held ≡ map frames_of (held_behind old.state all asked)
+  pub there : AreThere (entries_of (keeping old.state all asked).records) before after
+  pub put : Adds (answer_frames old.state asked) before.out after.out
 
-abbrev pub AnswersBy : Answered → List (List Request) → Request → DurableState → DurableState → Outside → Outside → Type 0
-AnswersBy answered.Whole held request old new before after = AnswersWhole held request old new before after
-AnswersBy (answered.Stopped stop) held request old new before after =
-    StopsBy stop (flat_map reply_frame (serve old.state request).replies) (entries_of (keeping old.state held request).records) before after
+abbrev pub AnswersBy : Answered → List (List Asked) → Asked → DurableState → DurableState → Outside → Outside → Type 0
+AnswersBy answered.Whole held asked old new before after = AnswersWhole held asked old new before after
+AnswersBy (answered.Stopped stop) held asked old new before after =
+    StopsBy stop (answer_frames old.state asked) (entries_of (keeping old.state held asked).records) before after
 
 abbrev pub CountsAnswer : Answered → Faults → Faults → Type 0
 CountsAnswer answered.Whole old new = new ≡ old

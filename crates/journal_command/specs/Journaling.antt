@@ -6,14 +6,13 @@ use Rattle.disk.specs.Moments.{Moments, LeavesNow, Leaves}
 use Rattle.journal_core.specs.Appends.{most_bytes}
 use Rattle.journal_core.specs.Journals.{Records, Damaged, ReadsAs, place_behind}
 use Rattle.journal_core.specs.Mounts.{IsSomeImage}
-use Rattle.wire_messages.specs.declared.requests.Request.{Request}
 use Rattle.server_core.specs.Serve.{State, empty_state}
-use Rattle.recording.specs.Recorded.{after_records, nothing_held, recorded}
+use Rattle.recording.specs.Recorded.{nothing_held}
 use Rattle.serve_command.specs.ServeAll.{reply_frames}
 use Rattle.serve_command.specs.Serving.{Begins}
-use Rattle.journal_command.specs.Keeping.{entries_of, frames_in}
+use Rattle.journal_command.specs.Keeping.{Asked, entries_of, frames_in, records_of}
 use Rattle.journal_command.specs.Records.{HasLeast, IsOfRun}
-use Rattle.journal_command.specs.Restarts.{AreServedRecords, RefusesAt}
+use Rattle.journal_command.specs.Restarts.{AreServedRecords, RefusesAt, state_behind}
 use Rattle.journal_command.specs.Running.{PutsSo, ServesPieces}
 use Rattle.journal_command.specs.Stopping.{outside}
 use Rattle.journal_command.specs.declared.endings.Ended.{Ended}
@@ -24,24 +23,24 @@ use Rattle.journal_command.specs.declared.endings.Ended.TheVariants as ended
 -- Replies were put to the requests that were answered, to the last of them perhaps not all; and the next one was tried, if any.
 -- At every moment of the run a crash leaves the records of an image that the disk had at its start, and then a front of these
 -- requests' records; and now those of the answered ones at least.
-pub record IsDurable (records : List (List Request)) (taken : List ℕ) (disk disk_after : Option Moments) (out out_after : Option (List ℕ)) : Type 0 where
-  pub answered : List Request
-  pub tried : List Request
+pub record IsDurable (records : List (List Asked)) (taken : List ℕ) (disk disk_after : Option Moments) (out out_after : Option (List ℕ)) : Type 0 where
+  pub answered : List Asked
+  pub tried : List Asked
   pub others : List ℕ
   pub begins : Begins taken (answered ++ tried) others
-  pub put : AddsFront (reply_frames (after_records empty_state records) answered) out out_after
-  pub crashed : WhereTold (λ old new. Leaves (IsOfRun (entries_of records) (entries_of (recorded (after_records empty_state records) nothing_held (answered ++ tried))) old.now) old new) disk disk_after
-  pub kept : WhereTold (λ old new. LeavesNow (HasLeast (entries_of records) (entries_of (recorded (after_records empty_state records) nothing_held answered))
-      (entries_of (recorded (after_records empty_state records) nothing_held (answered ++ tried)))) new.now) disk disk_after
+  pub put : AddsFront (reply_frames (state_behind empty_state records) answered) out out_after
+  pub crashed : WhereTold (λ old new. Leaves (IsOfRun (entries_of records) (entries_of (records_of (state_behind empty_state records) nothing_held (answered ++ tried))) old.now) old new) disk disk_after
+  pub kept : WhereTold (λ old new. LeavesNow (HasLeast (entries_of records) (entries_of (records_of (state_behind empty_state records) nothing_held answered))
+      (entries_of (records_of (state_behind empty_state records) nothing_held (answered ++ tried)))) new.now) disk disk_after
 
 -- the file has no room for the record of the request that was tried
-pub record IsFull (records : List (List Request)) (taken : List ℕ) (disk disk_after : Option Moments) (out out_after : Option (List ℕ)) : Type 0 where
+pub record IsFull (records : List (List Asked)) (taken : List ℕ) (disk disk_after : Option Moments) (out out_after : Option (List ℕ)) : Type 0 where
   pub durable : IsDurable records taken disk disk_after out out_after
-  pub last : List Request
-  pub is : recorded (after_records empty_state records) nothing_held (durable.answered ++ durable.tried) ≡ recorded (after_records empty_state records) nothing_held durable.answered ++ last ∷ []
-  pub full : most_bytes < place_behind (entries_of (records ++ recorded (after_records empty_state records) nothing_held durable.answered)) + 10 + length (frames_in last)
+  pub last : List Asked
+  pub is : records_of (state_behind empty_state records) nothing_held (durable.answered ++ durable.tried) ≡ records_of (state_behind empty_state records) nothing_held durable.answered ++ last ∷ []
+  pub full : most_bytes < place_behind (entries_of (records ++ records_of (state_behind empty_state records) nothing_held durable.answered)) + 10 + length (frames_in last)
 
-abbrev pub KeepsRecords : Ended → List (List Request) → List ℕ → Option Moments → Option Moments → Option (List ℕ) → Option (List ℕ) → Type 0
+abbrev pub KeepsRecords : Ended → List (List Asked) → List ℕ → Option Moments → Option Moments → Option (List ℕ) → Option (List ℕ) → Type 0
 KeepsRecords ended.JournalFull records taken disk disk_after out out_after = IsFull records taken disk disk_after out out_after
 KeepsRecords other records taken disk disk_after out out_after = IsDurable records taken disk disk_after out out_after
 
@@ -50,12 +49,12 @@ KeepsRecords other records taken disk disk_after out out_after = IsDurable recor
 -- The file stood for these records, each of which was served again, and the requests of the input were served from the state that
 -- they give.
 pub record Runs (how : Ended) (source left : Option (List ℕ)) (disk disk_after : Option Moments) (out out_after : Option (List ℕ)) : Type 0 where
-  pub records : List (List Request)
+  pub records : List (List Asked)
   pub found : WhereTold (λ old new. IsImage old.now old.now.seen × ReadsAs (Records (entries_of records)) old.now.seen) disk disk_after
   pub served : AreServedRecords empty_state records (entries_of records)
   pub taken : List ℕ
   pub lost : Removes taken source left
-  pub puts : PutsSo how (after_records empty_state records) taken left out out_after
+  pub puts : PutsSo how (state_behind empty_state records) taken left out out_after
   pub keeps : KeepsRecords how records taken disk disk_after out out_after
 
 -- ---- or they weren't
@@ -92,5 +91,5 @@ abbrev pub ServesFound : Ended → List (List ℕ) → ℕ → Option (List ℕ)
 ServesFound (ended.Damaged place) entries gate source left disk disk_after out out_after =
     RefusesAt empty_state entries place × (left ≡ source) × (disk_after ≡ disk) × (out_after ≡ out)
 ServesFound how entries gate source left disk disk_after out out_after =
-    ((records : List (List Request)) × AreServedRecords empty_state records entries × ServesFrom how (after_records empty_state records) gate source left disk disk_after out out_after)
+    ((records : List (List Asked)) × AreServedRecords empty_state records entries × ServesFrom how (state_behind empty_state records) gate source left disk disk_after out out_after)
     ⊎ ((how ≡ ended.OutOfMemory) × (left ≡ source) × (disk_after ≡ disk) × (out_after ≡ out))

@@ -2,13 +2,15 @@
 use Rattle.std.specs.Prelude.{◌≡◌, ℕ, ◌-◌, List, [], ◌∷◌, ◌++◌, length, map, flat_map, Bool, true, false, nat_lt, ◌==◌, if◌then◌else◌, Option, Some, None, option_to_list, slice_set}
 use Rattle.std.specs.List.{All}
 use Rattle.journal_core.specs.Records.{IsExecute}
-use Rattle.wire_messages.specs.Conditions.{IsRequest}
-use Rattle.recording.specs.Recorded.{Kept, held_at, kept_by, session_of, with_held}
+use Rattle.serve_command.specs.Serving.{IsProper}
+use Rattle.recording.specs.Recorded.{Kept, held_at, kept_by, recorded, session_of, with_held}
+use Rattle.serve_command.specs.ServeAll.{messages_of}
 use Rattle.server_core.specs.Serve.{State, serve}
 use Rattle.server_core.specs.declared.sorts.Sort.{Sort}
 use Rattle.server_core.specs.declared.sorts.Sort.TheVariants as sort
 use Rattle.wire_messages.specs.declared.requests.Request.{Request}
-use Rattle.wire_spelling.specs.Spelling.{request_frame}
+use Rattle.wire_payloads.specs.declared.versioned.Versioned.{Versioned}
+use Rattle.wire_spelling.specs.Spelling.{asked_frame}
 
 -- frames in a row, and whether more than the BEGIN's is among them
 pub record HeldFrames : Type 0 where
@@ -18,11 +20,15 @@ pub record HeldFrames : Type 0 where
 abbrev pub no_frames : HeldFrames
 no_frames = record { frames = []; changes = false }
 
--- the bytes of a record: the frames of its requests
-abbrev pub frames_in : List Request → List ℕ
-frames_in requests = flat_map request_frame requests
+-- a request, and the version of its frame
+abbrev pub Asked : Type 0
+Asked = Versioned Request
 
-abbrev pub frames_of : List Request → HeldFrames
+-- the bytes of a record: the frames of its requests, each in its own version
+abbrev pub frames_in : List Asked → List ℕ
+frames_in requests = flat_map asked_frame requests
+
+abbrev pub frames_of : List Asked → HeldFrames
 frames_of requests = record { frames = frames_in requests; changes = nat_lt 1 (length requests) }
 
 -- a frame of which so many bytes were held before
@@ -53,40 +59,48 @@ kept_frames sort.NoStatement held frame = record { entry = None; held = held }
 -- ---- requests
 
 -- the records' bytes
-abbrev pub entries_of : List (List Request) → List (List ℕ)
+abbrev pub entries_of : List (List Asked) → List (List ℕ)
 entries_of records = map frames_in records
 
+-- without their versions
+abbrev pub messages_in : List (List Asked) → List (List Request)
+messages_in records = map messages_of records
+
 -- what a request adds to the records, and what is held of its session after it
-abbrev pub keeping : State → List (List Request) → Request → Kept
-keeping state held request = kept_by request (serve state request) (held_at held (session_of request))
+abbrev pub keeping : State → List (List Asked) → Asked → Kept Asked
+keeping state held asked = kept_by asked.message asked (serve state asked.message) (held_at held (session_of asked.message))
 
 -- what is held of all sessions after it
-abbrev pub held_behind : State → List (List Request) → Request → List (List Request)
-held_behind state held request = with_held held (session_of request) (keeping state held request).held
+abbrev pub held_behind : State → List (List Asked) → Asked → List (List Asked)
+held_behind state held asked = with_held held (session_of asked.message) (keeping state held asked).held
 
-abbrev pub held_after : State → List (List Request) → List Request → List (List Request)
+abbrev pub held_after : State → List (List Asked) → List Asked → List (List Asked)
 held_after state held [] = held
-held_after state held (request ∷ requests) = held_after (serve state request).after (held_behind state held request) requests
+held_after state held (asked ∷ requests) = held_after (serve state asked.message).after (held_behind state held asked) requests
+
+-- the records of requests that are served from a state, of whose transactions so much is held
+abbrev pub records_of : State → List (List Asked) → List Asked → List (List Asked)
+records_of state held requests = recorded (λ asked. asked.message) state held requests
 
 -- ---- calls
 
 -- room was made for a request of a session: its frame stands behind what is held
-pub record HasRoom (held : List (List Request)) (session : ℕ) (request : Request) (room : RoomMade) (keeper : List HeldFrames) : Type 0 where
-  pub frame : room.frame ≡ request_frame request
+pub record HasRoom (held : List (List Asked)) (session : ℕ) (asked : Asked) (room : RoomMade) (keeper : List HeldFrames) : Type 0 where
+  pub frame : room.frame ≡ asked_frame asked
   pub before : room.before ≡ length (frames_in (held_at held session))
   pub made : keeper ≡ slice_set (map frames_of held) (session - 1) (with_frame (frames_of (held_at held session)) room.frame)
 
 -- what was handed out is the record, if there is one, and the session's requests are held
-pub record IsKept (one : Kept) (all : List (List Request)) (session : ℕ) (out : Option (List ℕ)) (keeper : List HeldFrames) : Type 0 where
+pub record IsKept (one : Kept Asked) (all : List (List Asked)) (session : ℕ) (out : Option (List ℕ)) (keeper : List HeldFrames) : Type 0 where
   pub entry : option_to_list out ≡ entries_of one.records
   pub held : keeper ≡ map frames_of (with_held all session one.held)
 
 -- a request has a frame, and is one to execute
-abbrev pub IsHeldRequest : Request → Type 0
-IsHeldRequest request = IsRequest request × IsExecute request
+abbrev pub IsHeldRequest : Asked → Type 0
+IsHeldRequest asked = IsProper asked × IsExecute asked.message
 
 -- frames of such requests are held
 pub record IsHolding (keeper : List HeldFrames) : Type 0 where
-  pub held : List (List Request)
+  pub held : List (List Asked)
   pub is : keeper ≡ map frames_of held
   pub proper : All (All IsHeldRequest) held

@@ -3,13 +3,12 @@ use Rattle.std.specs.Prelude.{◌≡◌, ◌⊎◌, ℕ, ◌+◌, ◌≤◌, ◌
 use Rattle.ae_edge.specs.Devices.{AddsFront, Removes}
 use Rattle.journal_core.specs.Appends.{most_bytes}
 use Rattle.journal_core.specs.Journals.{place_behind}
-use Rattle.wire_messages.specs.declared.requests.Request.{Request}
 use Rattle.server_core.specs.Serve.{State}
-use Rattle.recording.specs.Recorded.{nothing_held, recorded}
+use Rattle.recording.specs.Recorded.{nothing_held}
 use Rattle.serve_command.specs.ServeAll.{reply_frames}
 use Rattle.serve_command.specs.Serving.{Begins, AnswersFirst, BreaksOff, Ends, most_stream_bytes}
 use Rattle.serve_command.specs.declared.commands.Served.TheVariants as served
-use Rattle.journal_command.specs.Keeping.{entries_of, frames_in}
+use Rattle.journal_command.specs.Keeping.{Asked, entries_of, frames_in, records_of}
 use Rattle.journal_command.specs.Records.{TriesEntries}
 use Rattle.journal_command.specs.Stopping.{Outside}
 use Rattle.journal_command.specs.declared.endings.Ended.{Ended}
@@ -20,19 +19,19 @@ use Rattle.journal_command.specs.declared.endings.Stop.TheVariants as stops
 -- Replies were put to the requests that were answered, to the last of them perhaps not all; and the next one was tried, if any.
 -- A crash leaves a front of the records of all of these, and now those of the answered ones at least.
 pub record HasKept (start : State) (taken : List ℕ) (old new : Outside) : Type 0 where
-  pub answered : List Request
-  pub tried : List Request
+  pub answered : List Asked
+  pub tried : List Asked
   pub others : List ℕ
   pub begins : Begins taken (answered ++ tried) others
   pub put : AddsFront (reply_frames start answered) old.out new.out
-  pub kept : TriesEntries old.gate (entries_of (recorded start nothing_held answered)) (entries_of (recorded start nothing_held (answered ++ tried))) old.disk new.disk
+  pub kept : TriesEntries old.gate (entries_of (records_of start nothing_held answered)) (entries_of (records_of start nothing_held (answered ++ tried))) old.disk new.disk
 
 -- the file has no room for the record of the one that was tried
 pub record HasNoRoomFor (start : State) (taken : List ℕ) (old new : Outside) : Type 0 where
   pub kept : HasKept start taken old new
-  pub last : List Request
-  pub is : recorded start nothing_held (kept.answered ++ kept.tried) ≡ recorded start nothing_held kept.answered ++ last ∷ []
-  pub full : most_bytes < old.gate + place_behind (entries_of (recorded start nothing_held kept.answered)) + 10 + length (frames_in last)
+  pub last : List Asked
+  pub is : records_of start nothing_held (kept.answered ++ kept.tried) ≡ records_of start nothing_held kept.answered ++ last ∷ []
+  pub full : most_bytes < old.gate + place_behind (entries_of (records_of start nothing_held kept.answered)) + 10 + length (frames_in last)
 
 -- ---- where a request wasn't answered whole
 

@@ -4,15 +4,14 @@ use Rattle.ae_edge.specs.Devices.{WhereTold}
 use Rattle.disk.specs.Moments.{Moments, LeavesNow, Leaves}
 use Rattle.journal_core.specs.Journals.{Records, ReadsAs}
 use Rattle.server_core.specs.Serve.{empty_state}
-use Rattle.wire_messages.specs.declared.requests.Request.{Request}
-use Rattle.journal_command.specs.Keeping.{entries_of}
+use Rattle.journal_command.specs.Keeping.{Asked, entries_of}
 use Rattle.journal_command.specs.Restarts.{AreServedRecords}
 use Rattle.journal_command.specs.declared.endings.Ended.{Ended}
 use Rattle.journal_command.specs.declared.endings.Ended.TheVariants as ended
 
 -- the file has records that are all served again; one without a record is such a file
 pub record IsServable (image : List ℕ) : Type 0 where
-  pub records : List (List Request)
+  pub records : List (List Asked)
   pub reads : ReadsAs (Records (entries_of records)) image
   pub served : AreServedRecords empty_state records (entries_of records)
 

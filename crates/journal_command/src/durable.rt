@@ -1,20 +1,20 @@
 //! A server whose changes are kept in a journal.
 
 ghost use Rattle.recording.specs.Recorded as records;
-ghost use Rattle.std.specs.Prelude.{◌≡◌, ◌||◌, List, ℕ, None, false, flat_map, map, option_to_list, IfOk, IfSome, OnOk};
+ghost use Rattle.std.specs.Prelude.{◌≡◌, ◌||◌, List, ℕ, None, false, map, option_to_list, IfOk, IfSome, OnOk};
 ghost use Rattle.journal_core.specs.Appends.{CountsAppended, IsMounted};
 ghost use Rattle.journal_core.specs.Records.{IsRecord};
 ghost use Rattle.recording.specs.Recorded.{nothing_held};
-ghost use Rattle.wire_messages.specs.declared.requests.Request as asked;
 ghost use Rattle.journal_command.specs.Durable.{AnswersBy, AppendsEntry, CountsAnswer, GoesOn, IsReadOf, IsServed, IsSound, IsStatementOf, PutsBy};
-ghost use Rattle.journal_command.specs.Keeping.{IsHolding, frames_of};
-ghost use Rattle.wire_spelling.specs.Spelling.{reply_frame};
+ghost use Rattle.journal_command.specs.Keeping.{Asked, IsHolding, frames_of};
+ghost use Rattle.wire_spelling.specs.Packing.{packed};
 ghost use Rattle.journal_command.specs.Stopping.{faults, outside};
 
 use crate::endings::Stop;
 use crate::keepers::Keeper;
 use crate::replies::is_done;
 use ae_base::blobs::Blob;
+use ae_base::frames::FrameVersion;
 use ae_base::lists::Seq;
 use ae_base::sessions::SessionId;
 use ae_edge::sinks::Sink;
@@ -28,6 +28,7 @@ use std::alloc::{AllocError, Global};
 use std::marker::Model;
 use wire_messages::replies::Reply;
 use wire_messages::requests::Request;
+use wire_payloads::versioned::Versioned;
 
 /// A server, what is held of its sessions' transactions, and the journal.
 #[derive(Drop)]
@@ -90,17 +91,17 @@ impl Durable {
         &mut self,
         alloc: Global,
         session: SessionId,
-        request: &Request<'_>,
+        asked: &Versioned<Request<'_>>,
     ) -> Result<Answer, AllocError>
-        requires asked { IsReadOf session request.now }
+        requires asked { IsReadOf session asked.now.message }
         requires holds { IsHolding self.old.held }
-        ensures served { IfOk result (λ answer. IsServed answer.replies answer.entry request.now
+        ensures served { IfOk result (λ answer. IsServed answer.replies answer.entry asked.now
             self.old self.new) }
         ensures none { IfOk result (λ answer. answer.entry ≡ None) }
         ensures holds { OnOk result (IsHolding self.new.held) }
         ensures journal { self.new.journal ≡ self.old.journal }
     {
-        let replies = self.server.serve(alloc, request)?;
+        let replies = self.server.serve(alloc, &asked.message)?;
         let stays = self.goes_on(session, replies.as_slice());
         self.keeper.stay(alloc, session, stays);
         Ok(Answer {
@@ -114,19 +115,19 @@ impl Durable {
         &mut self,
         alloc: Global,
         session: SessionId,
-        request: &Request<'_>,
+        asked: &Versioned<Request<'_>>,
         sort: Sort,
     ) -> Result<Answer, AllocError>
-        requires asked { IsStatementOf session sort request.now }
+        requires asked { IsStatementOf session sort asked.now.message }
         requires holds { IsHolding self.old.held }
-        ensures served { IfOk result (λ answer. IsServed answer.replies answer.entry request.now
+        ensures served { IfOk result (λ answer. IsServed answer.replies answer.entry asked.now
             self.old self.new) }
         ensures proper { IfOk result (λ answer. IfSome answer.entry IsRecord) }
         ensures holds { OnOk result (IsHolding self.new.held) }
         ensures journal { self.new.journal ≡ self.old.journal }
     {
-        let room = self.keeper.reserve(alloc, session, request)?;
-        let replies = self.server.serve(alloc, request)?;
+        let room = self.keeper.reserve(alloc, session, asked)?;
+        let replies = self.server.serve(alloc, &asked.message)?;
         if is_done(replies.as_slice()) {
             let entry = self.keeper.keep(alloc, session, room, sort);
             Ok(Answer { replies, entry })
@@ -141,22 +142,22 @@ impl Durable {
     }
 
     /// Serves a request, and holds or hands out what is to be recorded of it.
-    fn serve(&mut self, alloc: Global, request: &Request<'_>) -> Result<Answer, AllocError>
+    fn serve(&mut self, alloc: Global, asked: &Versioned<Request<'_>>) -> Result<Answer, AllocError>
         requires { IsHolding self.old.held }
-        ensures served { IfOk result (λ answer. IsServed answer.replies answer.entry request.now
+        ensures served { IfOk result (λ answer. IsServed answer.replies answer.entry asked.now
             self.old self.new) }
         ensures proper { IfOk result (λ answer. IfSome answer.entry IsRecord) }
         ensures holds { OnOk result (IsHolding self.new.held) }
         ensures journal { self.new.journal ≡ self.old.journal }
     {
-        match request {
+        match &asked.message {
             Request::Describe { .. } => Ok(Answer {
-                replies: self.server.serve(alloc, request)?,
+                replies: self.server.serve(alloc, &asked.message)?,
                 entry: None,
             }),
             Request::Execute { session, text, .. } => match self.server.sort_of(alloc, text)? {
-                Sort::Reads | Sort::NoStatement => self.serve_read(alloc, *session, request),
-                sort => self.serve_change(alloc, *session, request, sort),
+                Sort::Reads | Sort::NoStatement => self.serve_read(alloc, *session, asked),
+                sort => self.serve_change(alloc, *session, asked, sort),
             },
         }
     }
@@ -181,10 +182,11 @@ impl Durable {
         }
     }
 
-    /// Puts the replies of an answer, once its record is on the disk.
+    /// Puts the replies of an answer in a version, once its record is on the disk.
     fn append_and_put<W: Sink, D: Disk>(
         &mut self,
         alloc: Global,
+        version: FrameVersion,
         answer: &Answer,
         out: &mut W,
         disk: &mut D,
@@ -192,7 +194,7 @@ impl Durable {
         requires ready { self.old.journal.failed ≡ false }
         requires mounted { IfSome (D.told disk.old) (IsMounted self.old.journal.gate) }
         requires proper { IfSome answer.now.entry IsRecord }
-        ensures put { PutsBy result (flat_map reply_frame answer.now.replies)
+        ensures put { PutsBy result (packed version answer.now.replies)
             (option_to_list answer.now.entry)
             (outside self.old.journal.gate (D.told disk.old) (W.held out.old))
             (outside self.new.journal.gate (D.told disk.new) (W.held out.new)) }
@@ -205,7 +207,7 @@ impl Durable {
             (faults (D.faults disk.new) (W.faults out.new)) }
     {
         match self.append(alloc, &answer.entry, disk) {
-            Appended::Done => match put_replies(alloc, answer.replies.as_slice(), out) {
+            Appended::Done => match put_replies(alloc, version, answer.replies.as_slice(), out) {
                 PutAll::Whole => Answered::Whole,
                 PutAll::WriteFault => Answered::Stopped(Stop::WriteFault),
                 PutAll::OutOfMemory => Answered::Stopped(Stop::OutOfMemory),
@@ -220,13 +222,13 @@ impl Durable {
     pub(crate) fn answer<W: Sink, D: Disk>(
         &mut self,
         alloc: Global,
-        request: &Request<'_>,
+        asked: &Versioned<Request<'_>>,
         out: &mut W,
         disk: &mut D,
     ) -> Answered
         requires sound { IsSound self.old (D.told disk.old) }
-        ensures answers { (held : List (List asked.Request)) → self.old.held ≡ map frames_of held
-            → AnswersBy result held request.now self.old self.new
+        ensures answers { (held : List (List Asked)) → self.old.held ≡ map frames_of held
+            → AnswersBy result held asked.now self.old self.new
             (outside self.old.journal.gate (D.told disk.old) (W.held out.old))
             (outside self.new.journal.gate (D.told disk.new) (W.held out.new)) }
         ensures sound { GoesOn result self.new (D.told disk.new) }
@@ -234,8 +236,8 @@ impl Durable {
         ensures counts { CountsAnswer result (faults (D.faults disk.old) (W.faults out.old))
             (faults (D.faults disk.new) (W.faults out.new)) }
     {
-        match self.serve(alloc, request) {
-            Ok(answer) => self.append_and_put(alloc, &answer, out, disk),
+        match self.serve(alloc, asked) {
+            Ok(answer) => self.append_and_put(alloc, asked.version, &answer, out, disk),
             Err(_) => Answered::Stopped(Stop::OutOfMemory),
         }
     }

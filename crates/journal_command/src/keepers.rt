@@ -1,11 +1,10 @@
 //! What is held of each session's transaction until its COMMIT: the frames of its BEGIN and of its
-//! changes.
+//! changes, each in its own version.
 
 ghost use Rattle.std.specs.Prelude.{◌≡◌, ◌<◌, ◌-◌, ℕ, List, [], length, map, IfOk, OnErr, OnOk};
-ghost use Rattle.wire_messages.specs.Conditions.{IsRequest};
-ghost use Rattle.wire_messages.specs.declared.requests.Request as asked;
+ghost use Rattle.serve_command.specs.Serving.{IsProper};
 ghost use Rattle.recording.specs.Recorded.{held_at, kept_of, kept_where, nothing_held, with_held};
-ghost use Rattle.journal_command.specs.Keeping.{HasRoom, HeldFrames, IsKept, frames_of, kept_frames, no_frames, with_frame};
+ghost use Rattle.journal_command.specs.Keeping.{Asked, HasRoom, HeldFrames, IsKept, frames_of, kept_frames, no_frames, with_frame};
 
 use ae_base::blobs::Blob;
 use ae_base::sessions::SessionId;
@@ -14,6 +13,7 @@ use std::alloc::{AllocError, Global};
 use std::marker::Model;
 use std::mem;
 use wire_messages::requests::Request;
+use wire_payloads::versioned::Versioned;
 use wire_spelling::encode_request;
 
 /// The frames that are held of a session, in a row.
@@ -187,15 +187,15 @@ impl Keeper {
         &mut self,
         alloc: Global,
         session: SessionId,
-        request: &Request<'_>,
+        asked: &Versioned<Request<'_>>,
     ) -> Result<Room, AllocError>
-        ensures made { IfOk result (λ room. (held : List (List asked.Request))
+        ensures made { IfOk result (λ room. (held : List (List Asked))
             → self.old ≡ map frames_of held
-            → HasRoom held session request.now room self.new) }
+            → HasRoom held session asked.now room self.new) }
         ensures same { OnErr result (self.new ≡ self.old) }
-        ensures meets { OnOk result (IsRequest request.now) }
+        ensures meets { OnOk result (IsProper asked.now) }
     {
-        let frame = encode_request(alloc, request)?;
+        let frame = encode_request(alloc, asked.version, &asked.message)?;
         self.sessions[place_of(session)].reserve(frame)
     }
 
@@ -208,7 +208,7 @@ impl Keeper {
         room: Room,
         sort: Sort,
     ) -> Option<Blob>
-        ensures { (held : List (List asked.Request)) (request : asked.Request)
+        ensures { (held : List (List Asked)) (request : Asked)
             → HasRoom held session request room self.old
             → IsKept (kept_of sort (held_at held session) request) held session result self.new }
     {
@@ -218,7 +218,7 @@ impl Keeper {
     /// Keeps nothing of a request that wasn't done, for which room was made. Of a session that has no
     /// transaction afterwards nothing is held.
     pub(crate) fn leave(&mut self, alloc: Global, session: SessionId, room: &Room, stays: bool)
-        ensures { (held : List (List asked.Request)) (request : asked.Request)
+        ensures { (held : List (List Asked)) (request : Asked)
             → HasRoom held session request room.now self.old
             → self.new ≡ map frames_of
             (with_held held session (kept_where stays (held_at held session)).held) }
@@ -232,7 +232,7 @@ impl Keeper {
 
     /// Of a session that has no transaction nothing is held.
     pub(crate) fn stay(&mut self, alloc: Global, session: SessionId, stays: bool)
-        ensures { (held : List (List asked.Request)) → self.old ≡ map frames_of held
+        ensures { (held : List (List Asked)) → self.old ≡ map frames_of held
             → self.new ≡ map frames_of
             (with_held held session (kept_where stays (held_at held session)).held) }
     {

@@ -25,7 +25,7 @@ fn serve_front(alloc: Global, bytes: &[u8], server: &mut Server) -> Front
     ensures { AnswersFront result bytes.now server.old server.new }
 {
     match decode_request(alloc, bytes) {
-        Decoded::One(request, used) => match server.serve(alloc, &request) {
+        Decoded::One(asked, used) => match server.serve(alloc, &asked.message) {
             Ok(replies) => {
                 if is_done(replies.as_slice()) {
                     Front::Done(used)

@@ -4,9 +4,8 @@ ghost use Rattle.std.specs.Prelude.{◌≡◌, ◌<◌, ◌^◌, List, ℕ, Opti
 ghost use Rattle.server_core.specs.Serve.{State};
 ghost use Rattle.serve_command.specs.Turns.{IsAsked};
 ghost use Rattle.wire_frames.specs.declared.decoding.Way.TheVariants.{ToServer};
-ghost use Rattle.wire_messages.specs.declared.requests.Request as asked;
 ghost use Rattle.journal_command.specs.Durable.{IsSound};
-ghost use Rattle.journal_command.specs.Keeping.{frames_of};
+ghost use Rattle.journal_command.specs.Keeping.{Asked, frames_of};
 ghost use Rattle.journal_command.specs.Stopping.{Outside, faults, outside};
 ghost use Rattle.journal_command.specs.Turns.{Answers, Comes, CountsCame, CountsTurn, IsSoFar, StaysSound, Turns};
 
@@ -41,7 +40,7 @@ fn answer_message<W: Sink, D: Disk>(
 ) -> Turn
     requires asked { IsAsked message.now }
     requires sound { IsSound durable.old (D.told disk.old) }
-    ensures answers { (held : List (List asked.Request)) → durable.old.held ≡ map frames_of held
+    ensures answers { (held : List (List Asked)) → durable.old.held ≡ map frames_of held
         → Answers result used message.now held durable.old durable.new
         (outside durable.old.journal.gate (D.told disk.old) (W.held out.old))
         (outside durable.new.journal.gate (D.told disk.new) (W.held out.new)) }
@@ -51,7 +50,7 @@ fn answer_message<W: Sink, D: Disk>(
         (faults (D.faults disk.new) (W.faults out.new)) }
 {
     match message {
-        Message::Asks(request) => match durable.answer(alloc, request, out, disk) {
+        Message::Asks(asked) => match durable.answer(alloc, asked, out, disk) {
             Answered::Whole => Turn::Answered(used),
             Answered::Stopped(stop) => Turn::Stopped(stop),
         },
@@ -69,7 +68,7 @@ fn answer_next<W: Sink, D: Disk>(
 ) -> Turn
     requires way { feed.now.way ≡ ToServer }
     requires sound { IsSound durable.old (D.told disk.old) }
-    ensures turns { (held : List (List asked.Request)) → durable.old.held ≡ map frames_of held
+    ensures turns { (held : List (List Asked)) → durable.old.held ≡ map frames_of held
         → Turns result feed.now held durable.old durable.new
         (outside durable.old.journal.gate (D.told disk.old) (W.held out.old))
         (outside durable.new.journal.gate (D.told disk.new) (W.held out.new)) }

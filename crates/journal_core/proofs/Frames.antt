@@ -8,6 +8,7 @@ use Rattle.wire_frames.specs.Decoding.{ReadsEach}
 use Rattle.wire_frames.specs.Laws.{HasOneReading}
 use Rattle.wire_frames.specs.declared.decoding.Decoded.TheVariants as decoded
 use Rattle.wire_messages.specs.declared.requests.Request.{Request}
+use Rattle.wire_payloads.specs.declared.versioned.Versioned.{Versioned}
 use Rattle.wire_spelling.specs.Spelling.{SpellsRequest}
 use Rattle.journal_core.specs.Records.{IsExecute, IsExecuteFrame, IsRecord, Fronts}
 use Rattle.journal_core.specs.declared.records.Front.TheVariants as front
@@ -15,8 +16,8 @@ use Rattle.journal_core.specs.declared.records.Front.TheVariants as front
 -- ---- one frame
 
 -- a request that was read is the one that the front spells
-pub other_read : (request : Request) (used : ℕ) (bytes : List ℕ) → (IsExecute request → ⊥) → ReadsEach SpellsRequest (decoded.One request used) bytes → Fronts front.Other bytes
-other_read request used bytes other only = λ frame rest f e. other (subst IsExecute (sym (only f.request frame rest f.spelled e).0) f.is)
+pub other_read : (asked : Versioned Request) (used : ℕ) (bytes : List ℕ) → (IsExecute asked.message → ⊥) → ReadsEach SpellsRequest (decoded.One asked used) bytes → Fronts front.Other bytes
+other_read asked used bytes other only = λ frame rest f e. other (subst (λ (a : Versioned Request). IsExecute a.message) (sym (only f.asked frame rest f.spelled e).0) f.is)
 
 frame_long : (frame : List ℕ) → IsExecuteFrame frame → 0 < length frame
 frame_long frame f = omega (arith, ap length f.spelled.1)
@@ -78,7 +79,7 @@ same_front law (x ∷ ones) (y ∷ frames) rest p q e =
     let fx = All-head IsExecuteFrame x ones p in
     let fy = All-head IsExecuteFrame y frames q in
     let whole : x ++ (concat ones ++ rest) ≡ y ++ concat frames = sym (append_assoc x (concat ones) rest) ∙ e in
-    let same : x ≡ y = (law fx.request fy.request x y (concat ones ++ rest) (concat frames) fx.spelled fy.spelled whole).1 in
+    let same : x ≡ y = (law fx.asked fy.asked x y (concat ones ++ rest) (concat frames) fx.spelled fy.spelled whole).1 in
     let tails : concat ones ++ rest ≡ concat frames = append_cancel_left x (concat ones ++ rest) (concat frames) (whole ∙ ap (λ (w : List ℕ). w ++ concat frames) (sym same)) in
     same_front law ones frames rest (All-tail IsExecuteFrame x ones p) (All-tail IsExecuteFrame y frames q) tails
 

@@ -3,6 +3,7 @@ use Rattle.std.specs.Prelude.{◌≡◌, ◌≢◌, ℕ, ◌≤◌, List, [], �
 use Rattle.std.specs.List.{All, concat}
 use Rattle.wire_messages.specs.declared.requests.Request.{Request}
 use Rattle.wire_messages.specs.declared.requests.Request.TheVariants.{Describe, Execute}
+use Rattle.wire_payloads.specs.declared.versioned.Versioned.{Versioned}
 use Rattle.wire_spelling.specs.Spelling.{SpellsRequest}
 use Rattle.journal_core.specs.declared.records.Front.{Front}
 use Rattle.journal_core.specs.declared.records.Front.TheVariants as front
@@ -11,11 +12,11 @@ abbrev pub IsExecute : Request → Type 0
 IsExecute (Describe session text declarations) = ⊥
 IsExecute (Execute session version text params) = Unit {0}
 
--- the frame of a request to execute a statement
+-- the frame of a request to execute a statement, in its version
 pub record IsExecuteFrame (bytes : List ℕ) : Type 0 where
-  pub request : Request
-  pub is : IsExecute request
-  pub spelled : SpellsRequest request bytes
+  pub asked : Versioned Request
+  pub is : IsExecute asked.message
+  pub spelled : SpellsRequest asked bytes
 
 -- one or more such frames, one after another, and nothing else
 pub record IsRecord (bytes : List ℕ) : Type 0 where

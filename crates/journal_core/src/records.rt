@@ -1,4 +1,4 @@
-//! Records: one or more whole frames of requests to execute a statement.
+//! Records: one or more whole frames of requests to execute a statement, each in its own version.
 
 ghost use Rattle.std.specs.Prelude.{◌≡◌, ◌↔◌, IfOk, IsTrue};
 ghost use Rattle.journal_core.specs.Records.{Fronts, IsExecute, IsRecord};
@@ -31,8 +31,8 @@ fn front_of(alloc: Global, bytes: &[u8]) -> Front
     ensures { Fronts result bytes.now }
 {
     match decode_request(alloc, bytes) {
-        Decoded::One(request, used) => {
-            if is_execute(&request) {
+        Decoded::One(asked, used) => {
+            if is_execute(&asked.message) {
                 Front::Execute(used)
             } else {
                 Front::Other

@@ -19,14 +19,14 @@ pub(crate) const ONE_RECORD: &[u8] =
     b"\x01\x00\x00\x00\x00\x00\x00\x00\x2b\x01\x02\x00\x00\x00\x25\x00\x01\x00\x00\x00\x00\x00\x00\x00\x00\x00\x00\x00\x16CREATE TABLE t (a INT)\x00\x00";
 
 // Some bytes, and others behind them.
-fn joined(alloc: Global, first: &[u8], second: &[u8]) -> Result<Vec<u8>, Fail> {
+pub(crate) fn joined(alloc: Global, first: &[u8], second: &[u8]) -> Result<Vec<u8>, Fail> {
     let mut all = Vec::from_slice(alloc, first)?;
     all.extend_from_slice(second)?;
     Ok(all)
 }
 
 // An open gate, a length, and what stands behind it.
-fn block(alloc: Global, gate: u8, len: u64, entry: &[u8]) -> Result<Vec<u8>, Fail> {
+pub(crate) fn block(alloc: Global, gate: u8, len: u64, entry: &[u8]) -> Result<Vec<u8>, Fail> {
     let mut all = Vec::new(alloc);
     all.push(gate)?;
     all.extend_from_slice(&len.to_be_bytes())?;

@@ -1,6 +1,6 @@
 //! A server with a journal, which is stopped at each call of its disk and started again.
 
-use crate::journals::{EXECUTE, ONE_RECORD};
+use crate::journals::{EXECUTE, ONE_RECORD, block, joined};
 use ae_edge::memory::sink::MemSink;
 use ae_edge::memory::source::MemSource;
 use disk::mem_disk::MemDisk;
@@ -34,11 +34,12 @@ const ROWS: [(Option<u8>, Option<u8>); 6] = [
 // The bytes of a frame of done.
 const DONE_BYTES: usize = 15;
 
-// Puts the frame of a request of session 1 at the end: what stands before the text, and behind it.
-fn push(frames: &mut Vec<u8>, kind: u8, before: &[u8], text: &str) -> Result<(), Fail> {
+// Puts a frame of session 1 at the end: the two bytes that it begins with, and what stands before the
+// text, and behind it.
+fn push(frames: &mut Vec<u8>, head: [u8; 2], before: &[u8], text: &str) -> Result<(), Fail> {
     let text = text.as_bytes();
     let length = before.len().saturating_add(text.len()).saturating_add(7);
-    frames.extend_from_slice(&[1, kind])?;
+    frames.extend_from_slice(&head)?;
     frames.extend_from_slice(&(length as u64).to_be_bytes()[4..])?;
     frames.extend_from_slice(&[0, 1])?;
     frames.extend_from_slice(before)?;
@@ -48,8 +49,8 @@ fn push(frames: &mut Vec<u8>, kind: u8, before: &[u8], text: &str) -> Result<(),
     Ok(())
 }
 
-fn push_execute(frames: &mut Vec<u8>, version: u8, text: &str) -> Result<(), Fail> {
-    push(frames, 2, &[0, 0, 0, 0, 0, 0, 0, version], text)
+fn push_execute(frames: &mut Vec<u8>, head: u8, version: u8, text: &str) -> Result<(), Fail> {
+    push(frames, [head, 2], &[0, 0, 0, 0, 0, 0, 0, version], text)
 }
 
 // What is put for an input, and how it ends.
@@ -82,7 +83,7 @@ fn rows_of(replies: &[u8]) -> Option<u8> {
 fn found(alloc: Global, file: &[u8]) -> Result<Option<u8>, Fail> {
     let mut disk = MemDisk::new(alloc, file, Vec::new(alloc))?;
     let mut input = Vec::new(alloc);
-    push_execute(&mut input, 1, SELECT)?;
+    push_execute(&mut input, 1, 1, SELECT)?;
     let (ended, replies) = served(alloc, &mut disk, input)?;
     if ended != Ended::Done {
         return Err(Fail::new("not done"));
@@ -98,7 +99,7 @@ fn what_was_answered_is_there(rt: HostRuntime) -> Result<(), Fail> {
         let mut disk = MemDisk::new(alloc, b"", Vec::from_slice(alloc, &[call])?)?;
         let mut input = Vec::new(alloc);
         for (version, text) in &STATEMENTS {
-            push_execute(&mut input, *version, text)?;
+            push_execute(&mut input, 1, *version, text)?;
         }
         let (ended, replies) = served(alloc, &mut disk, input)?;
         let Some((least, most)) = ROWS.get(replies.len() / DONE_BYTES) else {
@@ -128,12 +129,51 @@ fn a_definition_is_served_again(rt: HostRuntime) -> Result<(), Fail> {
     assert_eq!(rt; disk.bytes(), ONE_RECORD);
 
     let mut describe = Vec::new(alloc);
-    push(&mut describe, 1, &[], SELECT)?;
+    push(&mut describe, [1, 1], &[], SELECT)?;
     let (ended, replies) = served(alloc, &mut disk, describe)?;
     assert!(rt; ended == Ended::Done);
     assert_eq!(rt;
         replies.as_slice(),
         b"\x01\x81\x00\x00\x00\x0a\x00\x00\x00\x00\x00\x00\x00\x01\x00\x00".as_slice()
+    );
+    Ok(())
+}
+
+// The first byte of each frame of a transaction, and the text.
+const TRANSACTION: [(u8, &str); 3] = [
+    (1, "BEGIN TRANSACTION"),
+    (2, "INSERT INTO t (a) VALUES (5)"),
+    (1, "COMMIT"),
+];
+
+#[test]
+fn each_frame_is_recorded_as_it_came(rt: HostRuntime) -> Result<(), Fail> {
+    let alloc = rt.alloc();
+    let mut table = Vec::new(alloc);
+    push_execute(&mut table, 2, 0, "CREATE TABLE t (a INT)")?;
+    let mut transaction = Vec::new(alloc);
+    for (head, text) in &TRANSACTION {
+        push_execute(&mut transaction, *head, 1, text)?;
+    }
+    let mut file = block(alloc, 1, 43, table.as_slice())?;
+    let second = block(alloc, 1, transaction.len() as u64, transaction.as_slice())?;
+    file.extend_from_slice(second.as_slice())?;
+    file.push(0)?;
+
+    let mut disk = MemDisk::new(alloc, b"", Vec::new(alloc))?;
+    let input = joined(alloc, table.as_slice(), transaction.as_slice())?;
+    let (ended, _) = served(alloc, &mut disk, input)?;
+    assert!(rt; ended == Ended::Done);
+    assert_eq!(rt; disk.bytes(), file.as_slice());
+
+    // Served again, and asked for in version 2: its one row stands in a frame of rows.
+    let mut select = Vec::new(alloc);
+    push_execute(&mut select, 2, 1, SELECT)?;
+    let (ended, replies) = served(alloc, &mut disk, select)?;
+    assert!(rt; ended == Ended::Done);
+    assert_eq!(rt;
+        replies.as_slice(),
+        b"\x02\x82\x00\x00\x00\x08\x00\x00\x01\x00\x01a\x01\x00\x02\x86\x00\x00\x00\x0d\x00\x01\x00\x01\x01\x00\x00\x00\x00\x00\x00\x00\x05\x02\x84\x00\x00\x00\x09\x02\x00\x00\x00\x00\x00\x00\x00\x01".as_slice()
     );
     Ok(())
 }

@@ -1,4 +1,5 @@
 mod Asked
+mod Forgetting
 mod Held
 pub mod Interface
 mod Made

@@ -17,7 +17,7 @@ use Rattle.server_core.specs.Describing.{Meant, describe}
 use Rattle.server_core.specs.Serve.{State, answered, prepared, ask_of, catalog_of, executed, serve, asked}
 use Rattle.server_core.specs.Sorts.{sort_of}
 use Rattle.server_core.proofs.Interface.{answered_after, described_after, prepared_sort, sort_bound}
-use Rattle.recording.specs.Recorded.{Kept, kept, is_done, kept_of, kept_where, kept_by, has_transaction, nothing_held, held_at, with_held, session_of, recorded, after_requests, after_records}
+use Rattle.recording.specs.Recorded.{Kept, kept, is_done, kept_of, kept_where, kept_by, has_transaction, nothing_held, held_at, with_held, session_of, requests_recorded, after_requests, after_records}
 use Rattle.recording.specs.Laws.{AreServedAgain, IsReplayed}
 use Rattle.recording.proofs.Asked.{asked_step}
 use Rattle.recording.proofs.Held.{Holds}
@@ -34,7 +34,7 @@ pub record IsHeldOf (s : State) (logs : List (List Deed)) (held : List (List Req
   pub slots : AllAt Holds None [] [] s.sessions logs held
 
 -- a request with what is kept of it leads on
-pub record Went (s : State) (session : ℕ) (held : List (List Request)) (after : State) (k : Kept) : Type 0 where
+pub record Went (s : State) (session : ℕ) (held : List (List Request)) (after : State) (k : Kept Request) : Type 0 where
   pub logs : List (List Deed)
   pub so : IsHeldOf after logs (with_held held session k.held)
   pub goes : Goes s.shared after.shared k.records
@@ -51,7 +51,7 @@ module _ (s : State) (logs : List (List Deed)) (held : List (List Request)) (h :
       by None e = ap (kept []) e
       by (Some t) e = refl
 
-  stepped_so : (session : ℕ) (ask : Ask) (k : Kept) → IsStep s session (transact s session ask) (record_of s (call_of session ask) logs).log k → Went s session held (transact s session ask).after k
+  stepped_so : (session : ℕ) (ask : Ask) (k : Kept Request) → IsStep s session (transact s session ask) (record_of s (call_of session ask) logs).log k → Went s session held (transact s session ask).after k
   stepped_so session ask k step =
       let on = logged_on s logs session ask h.long h.logged in
       let log = (record_of s (call_of session ask) logs).log in
@@ -75,14 +75,14 @@ module _ (s : State) (logs : List (List Deed)) (held : List (List Request)) (h :
     -- what is kept, where it is ready to be executed
     ready_kept : (ready : Meant × List Atom) → prepared (catalog_of s session) version text params ≡ Ok ready
         → let t = transact s session (ask_of ready) in
-        kept_so (sort_bound ready.0.bound.statement) (held_at held session) request (catalog_of s session) session t ≡ kept_by request (executed s session (Ok ready)) (held_at held session)
+        kept_so (sort_bound ready.0.bound.statement) (held_at held session) request (catalog_of s session) session t ≡ kept_by request request (executed s session (Ok ready)) (held_at held session)
     ready_kept ready e =
         let t = transact s session (ask_of ready) in
         let served = answered (catalog_of s session) t.answer t.after in
         ap (λ q. if is_done served.replies then kept_of q (held_at held session) request else kept_where (has_transaction t.after session) (held_at held session)) (sym (prepared_sort (catalog_of s session) version text params ready e))
         ∙ ap (λ (x : State). if is_done served.replies then kept_of (sort_of text) (held_at held session) request else kept_where (has_transaction x session) (held_at held session)) (sym (answered_after (catalog_of s session) t.answer t.after))
 
-    ready_went : (ready : Meant × List Atom) → prepared (catalog_of s session) version text params ≡ Ok ready → Went s session held (executed s session (Ok ready)).after (kept_by request (executed s session (Ok ready)) (held_at held session))
+    ready_went : (ready : Meant × List Atom) → prepared (catalog_of s session) version text params ≡ Ok ready → Went s session held (executed s session (Ok ready)).after (kept_by request request (executed s session (Ok ready)) (held_at held session))
     ready_went ready e =
         let x = execution ready.0.bound ready.0.encs ready.1 in
         let t = transact s session (ask_of ready) in
@@ -95,14 +95,14 @@ module _ (s : State) (logs : List (List Deed)) (held : List (List Request)) (h :
           kept = on.kept;
           catalog = λ t is free. committed_catalog s logs session t h.logged is free;
         }) in
-        subst (λ (after : State). Went s session held after (kept_by request (executed s session (Ok ready)) (held_at held session))) (sym (answered_after (catalog_of s session) t.answer t.after))
+        subst (λ (after : State). Went s session held after (kept_by request request (executed s session (Ok ready)) (held_at held session))) (sym (answered_after (catalog_of s session) t.answer t.after))
         (subst (Went s session held t.after) (ready_kept ready e) (stepped_so session (ask_of ready) (kept_so (sort_bound ready.0.bound.statement) (held_at held session) request (catalog_of s session) session t) step))
 
-    execute_went : (p : Result (Meant × List Atom) SqlFault) → prepared (catalog_of s session) version text params ≡ p → Went s session held (executed s session p).after (kept_by request (executed s session p) (held_at held session))
+    execute_went : (p : Result (Meant × List Atom) SqlFault) → prepared (catalog_of s session) version text params ≡ p → Went s session held (executed s session p).after (kept_by request request (executed s session p) (held_at held session))
     execute_went (Ok ready) e = ready_went ready e
     execute_went (Err f) e = refused_so session
 
-  pub went : (request : Request) → Went s (session_of request) held (serve s request).after (kept_by request (serve s request) (held_at held (session_of request)))
+  pub went : (request : Request) → Went s (session_of request) held (serve s request).after (kept_by request request (serve s request) (held_at held (session_of request)))
   went (Describe session text declarations) =
       subst (λ (after : State). Went s session held after (kept [] (held_at held session))) (sym (described_after s (describe (catalog_of s session) text declarations))) (unchanged session)
   went (Execute session version text params) = execute_went session version text params (prepared (catalog_of s session) version text params) refl
@@ -133,12 +133,12 @@ pub record AllWent (s : State) (held : List (List Request)) (requests : List Req
   pub logs : List (List Deed)
   pub left : List (List Request)
   pub so : IsHeldOf (after_requests s requests) logs left
-  pub goes : Goes s.shared (after_requests s requests).shared (recorded s held requests)
+  pub goes : Goes s.shared (after_requests s requests).shared (requests_recorded s held requests)
 
 all_went : (requests : List Request) (s : State) (logs : List (List Deed)) (held : List (List Request)) → IsHeldOf s logs held → AllWent s held requests
 all_went [] s logs held h = record { logs = logs; left = held; so = h; goes = record { served = tt; after = refl } }
 all_went (request ∷ requests) s logs held h =
-    let one = kept_by request (serve s request) (held_at held (session_of request)) in
+    let one = kept_by request request (serve s request) (held_at held (session_of request)) in
     let w = went s logs held h request in
     let after = (serve s request).after in
     let more = all_went requests after w.logs (with_held held (session_of request) one.held) w.so in
@@ -146,7 +146,7 @@ all_went (request ∷ requests) s logs held h =
       logs = more.logs;
       left = more.left;
       so = more.so;
-      goes = goes_append s.shared after.shared (after_requests after requests).shared one.records (recorded after (with_held held (session_of request) one.held) requests) w.goes more.goes;
+      goes = goes_append s.shared after.shared (after_requests after requests).shared one.records (requests_recorded after (with_held held (session_of request) one.held) requests) w.goes more.goes;
     }
 
 -- nothing is held at first
@@ -164,8 +164,8 @@ replayed s requests none =
     let is : idle s.shared ≡ s = ap (λ ss. let x : Store = record { shared = s.shared; sessions = ss } in x) (sym none.none) in
     let w = all_went requests s no_logs nothing_held (nothing_so s none) in
     record {
-      served = subst (λ x. AreServedAgain x (recorded s nothing_held requests)) is w.goes.served;
-      shared = ap (λ x. (after_records x (recorded s nothing_held requests)).shared) (sym is) ∙ ap (λ (x : Store). x.shared) w.goes.after;
+      served = subst (λ x. AreServedAgain x (requests_recorded s nothing_held requests)) is w.goes.served;
+      shared = ap (λ x. (after_records x (requests_recorded s nothing_held requests)).shared) (sym is) ∙ ap (λ (x : Store). x.shared) w.goes.after;
     }
 
 -- behind records that are served again there is no transaction
@@ -175,7 +175,7 @@ none_behind (requests ∷ records) s none h =
     let w = all_went requests s no_logs nothing_held (nothing_so s none) in
     none_behind records (after_requests s requests) (record { counts = w.so.logged.counted.long; none = h.1 }) h.2
 
-pub fronts_accepted : (s : State) (records front : List (List Request)) (requests : List Request) → HasNoTransactions s → AreServedAgain s records → IsFront front (recorded (after_records s records) nothing_held requests)
+pub fronts_accepted : (s : State) (records front : List (List Request)) (requests : List Request) → HasNoTransactions s → AreServedAgain s records → IsFront front (requests_recorded (after_records s records) nothing_held requests)
     → AreServedAgain s (records ++ front)
 fronts_accepted s records front requests none h f =
     let given = after_records s records in

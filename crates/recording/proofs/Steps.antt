@@ -24,11 +24,11 @@ use Rattle.recording.proofs.Made.{Goes, nothing_goes, one_makes, record_goes, wh
 use Rattle.recording.proofs.Slots.{set_none, set_there}
 
 -- what is kept of a request of that sort that is answered so
-abbrev pub kept_so : Sort → List Request → Request → Catalog → ℕ → Transacted → Kept
+abbrev pub kept_so : Sort → List Request → Request → Catalog → ℕ → Transacted → Kept Request
 kept_so sort held request catalog session x = if is_done (answered catalog x.answer x.after).replies then kept_of sort held request else kept_where (has_transaction x.after session) held
 
 -- the session's slot after it holds what the log has, and the records lead on
-pub record IsStep (s : State) (session : ℕ) (x : Transacted) (log : List Deed) (k : Kept) : Type 0 where
+pub record IsStep (s : State) (session : ℕ) (x : Transacted) (log : List Deed) (k : Kept Request) : Type 0 where
   pub slot : Option Transaction
   pub sessions : x.after.sessions ≡ slice_set s.sessions (session - 1) slot
   pub holds : Holds (session - 1) slot log k.held

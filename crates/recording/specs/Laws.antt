@@ -4,7 +4,7 @@ use Rattle.ae_edge.specs.Devices.{IsFront}
 use Rattle.transactions.specs.WellKept.{HasNoTransactions}
 use Rattle.wire_messages.specs.declared.requests.Request.{Request}
 use Rattle.server_core.specs.Serve.{State, serve}
-use Rattle.recording.specs.Recorded.{is_done, nothing_held, recorded, after_requests, after_records}
+use Rattle.recording.specs.Recorded.{is_done, nothing_held, requests_recorded, after_requests, after_records}
 
 -- no session has a transaction
 abbrev pub IsIdle : State → Type 0
@@ -22,8 +22,8 @@ AreServedAgain state (requests ∷ records) = AreDone state requests × IsIdle (
 
 -- the records of some requests are served again from where the requests began, and lead to the shared world that the requests lead to
 pub record IsReplayed (state : State) (requests : List Request) : Type 0 where
-  pub served : AreServedAgain state (recorded state nothing_held requests)
-  pub shared : (after_records state (recorded state nothing_held requests)).shared ≡ (after_requests state requests).shared
+  pub served : AreServedAgain state (requests_recorded state nothing_held requests)
+  pub shared : (after_records state (requests_recorded state nothing_held requests)).shared ≡ (after_requests state requests).shared
 
 -- so it is from every state without transactions
 abbrev pub ReplayLaw : Type 0
@@ -32,4 +32,4 @@ ReplayLaw = (state : State) (requests : List Request) → HasNoTransactions stat
 -- behind records that are served again, each front of what is recorded from the state that they lead to is served again too
 abbrev pub FrontsAreAccepted : Type 0
 FrontsAreAccepted = (state : State) (records front : List (List Request)) (requests : List Request) → HasNoTransactions state → AreServedAgain state records
-    → IsFront front (recorded (after_records state records) nothing_held requests) → AreServedAgain state (records ++ front)
+    → IsFront front (requests_recorded (after_records state records) nothing_held requests) → AreServedAgain state (records ++ front)

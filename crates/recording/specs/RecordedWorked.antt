@@ -10,7 +10,7 @@ use Rattle.enc_types.specs.Rules.{rules}
 use Rattle.enc_types.specs.Least.{least, has_typing, clash_behind, inferred_encs}
 use Rattle.server_core.specs.Describing.{understood}
 use Rattle.server_core.specs.Serve.{empty_state}
-use Rattle.recording.specs.Recorded.{nothing_held, recorded}
+use Rattle.recording.specs.Recorded.{nothing_held, requests_recorded}
 
 abbrev pub asks : ℕ → ℕ → List ℕ → Request
 asks session version text = Execute session version text []
@@ -35,14 +35,14 @@ select session = asks session 1 (codes "SELECT a FROM t")
 
 -- a definition, a change, and a transaction with a change
 pub three_records :
-    recorded empty_state nothing_held (create ∷ insert 1 ∷ begin 1 ∷ insert 1 ∷ commit 1 ∷ select 1 ∷ [])
+    requests_recorded empty_state nothing_held (create ∷ insert 1 ∷ begin 1 ∷ insert 1 ∷ commit 1 ∷ select 1 ∷ [])
     ≡ (create ∷ []) ∷ (insert 1 ∷ []) ∷ (begin 1 ∷ insert 1 ∷ commit 1 ∷ []) ∷ []
 unfolding understood statement_in tree_of operand_in inner_in bind check_of rules least has_typing clash_behind inferred_encs lib.Utf8.encode
 three_records = refl
 
 -- a COMMIT that is refused, since another session has changed the table; then a transaction that is rolled back, and one without a change
 pub ended_without_a_record :
-    recorded empty_state nothing_held
+    requests_recorded empty_state nothing_held
     (create ∷ begin 1 ∷ insert 1 ∷ insert 2 ∷ commit 1 ∷ begin 1 ∷ insert 1 ∷ rollback 1 ∷ begin 1 ∷ select 1 ∷ commit 1 ∷ [])
     ≡ (create ∷ []) ∷ (insert 2 ∷ []) ∷ []
 unfolding understood statement_in tree_of operand_in inner_in bind check_of rules least has_typing clash_behind inferred_encs lib.Utf8.encode

@@ -7,14 +7,14 @@ use Rattle.std.proofs.lemmas.List.{take-append-le}
 use Rattle.std.proofs.lemmas.List.Elements.{All-cons}
 use Rattle.ae_edge.specs.Devices.{Adds, AddsFront, IsFront, Removes}
 use Rattle.ae_edge.proofs.Interface.{front_of, front_behind, front_then}
-use Rattle.wire_messages.specs.Conditions.{IsRequest}
 use Rattle.wire_messages.specs.declared.requests.Request.{Request}
-use Rattle.wire_spelling.specs.Spelling.{SpellsRequest, request_frame, reply_frame}
-use Rattle.wire_frames.specs.Frames.{Placed, End, Whole, Refused, Rest, ReadsAs, RequestFrames, is_request_kind}
+use Rattle.wire_payloads.specs.declared.versioned.Versioned.{Versioned}
+use Rattle.wire_spelling.specs.Spelling.{SpellsRequest, asked_frame}
+use Rattle.wire_frames.specs.Frames.{Placed, End, Whole, Refused, Rest, ReadsAs, RequestFrames, is_request_head}
 use Rattle.wire_frames.specs.Laws.{HasOneReading, IsReadBack, IsReadOnce}
-use Rattle.server_core.specs.Serve.{State, empty_state, serve}
-use Rattle.serve_command.specs.ServeAll.{ServeAll, requests_of, reply_frames, state_after}
-use Rattle.serve_command.specs.Serving.{AnswersAll, AnswersFirst, AnswersOpen, Begins, BreaksOff, Ends, IsOpen, IsServed, ServesStream, most_stream_bytes}
+use Rattle.server_core.specs.Serve.{State, empty_state}
+use Rattle.serve_command.specs.ServeAll.{ServeAll, answer_frames, requests_of, reply_frames, state_after}
+use Rattle.serve_command.specs.Serving.{AnswersAll, AnswersFirst, AnswersOpen, Begins, BreaksOff, Ends, IsOpen, IsProper, IsServed, ServesStream, most_stream_bytes}
 use Rattle.serve_command.specs.declared.commands.Served.{Served}
 use Rattle.serve_command.specs.declared.commands.Served.TheVariants as served
 use Rattle.serve_command.proofs.Replying.{frames_front, frames_more}
@@ -42,16 +42,16 @@ left_of taken bytes None h = absurd h
 
 -- ---- readings
 
-reads_begin : (at : ℕ) (bytes : List ℕ) (placed : List (Placed Request)) (end : End) → ReadsAs is_request_kind SpellsRequest at bytes placed end → (others : List ℕ) × Begins bytes (requests_of placed) others
+reads_begin : (at : ℕ) (bytes : List ℕ) (placed : List (Placed (Versioned Request))) (end : End) → ReadsAs is_request_head SpellsRequest at bytes placed end → (others : List ℕ) × Begins bytes (requests_of placed) others
 reads_begin at bytes [] end h = (bytes, begins_none bytes)
 reads_begin at bytes (p ∷ placed) end h =
     let more = reads_begin (at + length h.0) h.1 placed end h.5 in (
       more.0,
       record {
         whole =
-            h.2 ∙ ap (λ (l : List ℕ). l ++ h.1) h.4.1 ∙ ap (λ (l : List ℕ). request_frame p.message ++ l) more.1.whole
-            ∙ sym (append_assoc (request_frame p.message) (flat_map request_frame (requests_of placed)) more.0);
-        proper = All-cons IsRequest p.message (requests_of placed) h.4.0 more.1.proper;
+            h.2 ∙ ap (λ (l : List ℕ). l ++ h.1) h.4.1 ∙ ap (λ (l : List ℕ). asked_frame p.message ++ l) more.1.whole
+            ∙ sym (append_assoc (asked_frame p.message) (flat_map asked_frame (requests_of placed)) more.0);
+        proper = All-cons IsProper p.message (requests_of placed) h.4.0 more.1.proper;
       },
     )
 
@@ -60,17 +60,17 @@ first_of_all start taken end out now a =
     let b = reads_begin 0 taken a.serves.requests end a.serves.read in
     record { answered = requests_of a.serves.requests; others = b.0; begins = b.1; put = subst (λ (l : List ℕ). Adds l out now) a.serves.replied a.put }
 
-module _ (reading : HasOneReading SpellsRequest) (once : IsReadOnce is_request_kind SpellsRequest) (back : IsReadBack is_request_kind SpellsRequest IsRequest request_frame)
+module _ (reading : HasOneReading SpellsRequest) (once : IsReadOnce is_request_head SpellsRequest) (back : IsReadBack is_request_head SpellsRequest IsProper asked_frame)
     (start : State) (bytes frames : List ℕ) (end : End) (after : State) (serves : ServeAll start (take most_stream_bytes bytes) end frames after) (out now : Option (List ℕ)) where
   -- other frames of the bytes within the limit are these
   same_serve : (other : End) → AnswersAll start (take most_stream_bytes bytes) other out now → (end ≡ other) × Adds frames out now
   same_serve other a =
       let same = once 0 (take most_stream_bytes bytes) serves.requests a.serves.requests end other serves.read a.serves.read in
-      let f : a.frames ≡ frames = a.serves.replied ∙ ap (λ (l : List (Placed Request)). reply_frames start (requests_of l)) (sym same.0) ∙ sym serves.replied in
+      let f : a.frames ≡ frames = a.serves.replied ∙ ap (λ (l : List (Placed (Versioned Request))). reply_frames start (requests_of l)) (sym same.0) ∙ sym serves.replied in
       (same.1, subst (λ (l : List ℕ). Adds l out now) f a.put)
 
   module _ (taken rest : List ℕ) (split : bytes ≡ taken ++ rest) (within : length taken ≤ most_stream_bytes) where
-    first_frames : (requests : List Request) (others : List ℕ) → Begins taken requests others → IsFront (reply_frames start requests) frames
+    first_frames : (requests : List (Versioned Request)) (others : List ℕ) → Begins taken requests others → IsFront (reply_frames start requests) frames
     first_frames requests others b =
         let more = take (most_stream_bytes - length taken) rest in
         let longer = subst (λ (l : List ℕ). Begins l requests (others ++ more)) (sym (within_limit taken rest bytes split within)) (begins_fed taken requests others more b) in
@@ -83,7 +83,7 @@ module _ (reading : HasOneReading SpellsRequest) (once : IsReadOnce is_request_k
 
     part_put : BreaksOff start taken out now → AddsFront frames out now
     part_put b =
-        let all = flat_map reply_frame (serve (state_after start b.answered) b.next).replies in
+        let all = answer_frames (state_after start b.answered) b.next in
         let next : IsFront (reply_frames start b.answered ++ b.front) (reply_frames start (b.answered ++ b.next ∷ [])) =
         subst (λ (l : List ℕ). IsFront (reply_frames start b.answered ++ b.front) l) (sym (frames_more start b.answered b.next)) (front_behind (reply_frames start b.answered) b.front all b.of_next) in
         front_of (reply_frames start b.answered ++ b.front) frames out now b.put
@@ -135,14 +135,14 @@ module _ (reading : HasOneReading SpellsRequest) (once : IsReadOnce is_request_k
       elim h.1 [ inl first ↦ first_put taken rest split h.0 first | inr part ↦ part_put taken rest split h.0 part ]
 
 -- what was put of an input that is told, from a first state on
-pub exactly_from : HasOneReading SpellsRequest → IsReadOnce is_request_kind SpellsRequest → IsReadBack is_request_kind SpellsRequest IsRequest request_frame
+pub exactly_from : HasOneReading SpellsRequest → IsReadOnce is_request_head SpellsRequest → IsReadBack is_request_head SpellsRequest IsProper asked_frame
     → (start : State) (r : Served) (taken : List ℕ) (source left out now : Option (List ℕ)) → Removes taken source left → Ends start r taken left out now
     → (bytes frames : List ℕ) (end : End) (after : State) → source ≡ Some bytes → ServeAll start (take most_stream_bytes bytes) end frames after → IsServed r bytes end frames out now
 exactly_from reading once back start r taken source left out now lost ends bytes frames end after e serves =
     let l = left_of taken bytes left (subst (λ (x : Option (List ℕ)). Removes taken x left) e lost) in
     served_so reading once back start bytes frames end after serves out now r taken l.0 left l.1 l.2 ends
 
-pub exactly : HasOneReading SpellsRequest → IsReadOnce is_request_kind SpellsRequest → IsReadBack is_request_kind SpellsRequest IsRequest request_frame
+pub exactly : HasOneReading SpellsRequest → IsReadOnce is_request_head SpellsRequest → IsReadBack is_request_head SpellsRequest IsProper asked_frame
     → (r : Served) (source left out now : Option (List ℕ)) → ServesStream r source left out now
     → (bytes frames : List ℕ) (end : End) (after : State) → source ≡ Some bytes → ServeAll empty_state (take most_stream_bytes bytes) end frames after → IsServed r bytes end frames out now
 exactly reading once back r source left out now s = exactly_from reading once back empty_state r s.taken source left out now s.lost s.ends

@@ -6,12 +6,14 @@ use Rattle.ae_edge.specs.Devices.{WhereTold, Removes}
 use Rattle.ae_edge.specs.Sources.{Takes}
 use Rattle.ae_edge.specs.declared.sources.Taken.TheVariants as taken
 use Rattle.ae_edge.proofs.Interface.{told_map, removes_none, removes_then}
-use Rattle.wire_frames.specs.Frames.{Whole, Refused, Rest, IsNotYet, is_request_kind}
+use Rattle.wire_frames.specs.Frames.{Whole, Refused, Rest, IsNotYet, is_request_head}
 use Rattle.wire_frames.specs.declared.decoding.Way.TheVariants.{ToServer}
 use Rattle.frame_feed.specs.Feeding.{Feeding, empty_feed}
 use Rattle.server_core.specs.Laws.{AreServedSerially, RequestsAreSerial}
 use Rattle.server_core.specs.Serve.{State, empty_state}
 use Rattle.wire_messages.specs.declared.requests.Request.{Request}
+use Rattle.wire_payloads.specs.declared.versioned.Versioned.{Versioned}
+use Rattle.serve_command.specs.ServeAll.{messages_of}
 use Rattle.serve_command.specs.Serving.{AnswersAll, AnswersFirst, AnswersOpen, Begins, BreaksOff, ServesStream, most_stream_bytes}
 use Rattle.serve_command.specs.Turns.{Comes, EndsAt, Stands}
 use Rattle.serve_command.specs.declared.commands.Served.{Served}
@@ -25,7 +27,7 @@ pub record Going (count : ℕ) (feed : Feeding) (state : State) (source left out
   pub lost : Removes taken source left
   pub few : length taken + count ≡ most_stream_bytes
   pub stands : Stands empty_state taken feed state out now
-  pub waits : IsNotYet is_request_kind feed.held
+  pub waits : IsNotYet is_request_head feed.held
 
 pub goes_first : (feed : Feeding) (state : State) (source out : Option (List ℕ)) → feed ≡ empty_feed ToServer → state ≡ empty_state → Going most_stream_bytes feed state source source out out
 goes_first feed state source out e f =
@@ -58,10 +60,10 @@ at_end None (Some y) h = absurd h
 module _ (law : RequestsAreSerial) (count : ℕ) (feed : Feeding) (state : State) (source left out now : Option (List ℕ)) (g : Going count feed state source left out now) where
   -- whichever requests those are
   abbrev Serially : List ℕ → Type 0
-  Serially bytes = (requests : List Request) (others : List ℕ) → Begins bytes requests others → AreServedSerially requests
+  Serially bytes = (requests : List (Versioned Request)) (others : List ℕ) → Begins bytes requests others → AreServedSerially (messages_of requests)
 
   serially : (bytes : List ℕ) → Serially bytes
-  serially bytes = λ requests others b. law requests
+  serially bytes = λ requests others b. law (messages_of requests)
 
   lost_more : (piece : List ℕ) (after : Option (List ℕ)) → WhereTold (Takes (taken.Bytes piece)) left after → Removes (g.taken ++ piece) source after
   lost_more piece after h = removes_then g.taken piece source left after g.lost (removes_piece piece left after h)

@@ -5,10 +5,10 @@ use Rattle.std.proofs.lemmas.List.{flat_map_more, length-take-le}
 use Rattle.ae_edge.specs.Devices.{Adds, AddsFront, IsFront}
 use Rattle.ae_edge.proofs.Interface.{adds_none, adds_then, front_none}
 use Rattle.wire_messages.specs.declared.requests.Request.{Request}
-use Rattle.wire_spelling.specs.Spelling.{SpellsRequest, request_frame, reply_frame}
-use Rattle.wire_frames.specs.Decoding.{has_kind}
-use Rattle.wire_frames.specs.Frames.{End, Whole, Refused, Rest, EndsSo, IsNotYet, IsRefused, is_request_kind}
-use Rattle.wire_frames.specs.Laws.{placed_from}
+use Rattle.wire_payloads.specs.declared.versioned.Versioned.{Versioned}
+use Rattle.wire_spelling.specs.Spelling.{SpellsRequest, asked_frame}
+use Rattle.wire_frames.specs.Decoding.{has_head}
+use Rattle.wire_frames.specs.Frames.{End, Whole, Refused, Rest, EndsSo, IsNotYet, IsRefused, is_request_head, placed_from}
 use Rattle.wire_frames.specs.declared.decoding.Way.{Way}
 use Rattle.wire_frames.specs.declared.decoding.Way.TheVariants.{ToServer}
 use Rattle.frame_feed.specs.Feeding.{Feeding, SpellsMessage, StandsWhole, behind, with_piece, empty_feed}
@@ -17,7 +17,7 @@ use Rattle.frame_feed.specs.declared.feeds.Next.TheVariants as next
 use Rattle.frame_feed.specs.declared.messages.Message.{Message}
 use Rattle.frame_feed.specs.declared.messages.Message.TheVariants.{Asks, Tells}
 use Rattle.server_core.specs.Serve.{State, serve}
-use Rattle.serve_command.specs.ServeAll.{reply_frames, state_after}
+use Rattle.serve_command.specs.ServeAll.{answer_frames, reply_frames, state_after}
 use Rattle.serve_command.specs.Serving.{Begins, AnswersAll, AnswersFirst, AnswersOpen, BreaksOff, IsOpen}
 use Rattle.serve_command.specs.Turns.{IsAsked, IsNext, Answers, Turns, AnswersNext, BreaksNext, Stands}
 use Rattle.serve_command.specs.declared.turns.Turn.{Turn}
@@ -27,7 +27,7 @@ use Rattle.serve_command.proofs.Beginning.{begins_none, begins_more, begins_fed,
 
 -- ---- what stands next
 
-pub stands_whole : (feed : Feeding) (request : Request) (used : ℕ) → feed.way ≡ ToServer → IsNext feed request used → StandsWhole used feed
+pub stands_whole : (feed : Feeding) (request : Versioned Request) (used : ℕ) → feed.way ≡ ToServer → IsNext feed request used → StandsWhole used feed
 stands_whole feed request used way next = record {
   message = Asks request;
   held = next.held;
@@ -37,9 +37,9 @@ stands_whole feed request used way next = record {
 -- a message to the server is a request
 pub is_asked : (way : Way) (message : Message) (bytes : List ℕ) → way ≡ ToServer → SpellsMessage way message bytes → IsAsked message
 is_asked way (Asks request) bytes e s = tt
-is_asked way (Tells reply) bytes e s = subst (λ (w : Way). SpellsMessage w (Tells reply) bytes) e s
+is_asked way (Tells payload) bytes e s = subst (λ (w : Way). SpellsMessage w (Tells payload) bytes) e s
 
-pub spells_asked : (way : Way) (request : Request) (bytes : List ℕ) → way ≡ ToServer → SpellsMessage way (Asks request) bytes → SpellsRequest request bytes
+pub spells_asked : (way : Way) (request : Versioned Request) (bytes : List ℕ) → way ≡ ToServer → SpellsMessage way (Asks request) bytes → SpellsRequest request bytes
 spells_asked way request bytes e s = subst (λ (w : Way). SpellsMessage w (Asks request) bytes) e s
 
 pub turns_one : (t : Turn) (place used : ℕ) (message : Message) (feed new : Feeding) (state after : State) (old now : Option (List ℕ)) → feed.way ≡ ToServer
@@ -68,22 +68,22 @@ turns_one turn.OutOfMemory place used (Asks request) feed new state after old no
     })
 turns_one turn.Waits place used (Asks request) feed new state after old now e s a = absurd a
 turns_one (turn.Refused at) place used (Asks request) feed new state after old now e s a = absurd a
-turns_one (turn.Answered count) place used (Tells reply) feed new state after old now e s a = absurd a
-turns_one turn.WriteFault place used (Tells reply) feed new state after old now e s a = absurd a
-turns_one turn.OutOfMemory place used (Tells reply) feed new state after old now e s a = absurd a
-turns_one turn.Waits place used (Tells reply) feed new state after old now e s a = absurd a
-turns_one (turn.Refused at) place used (Tells reply) feed new state after old now e s a = absurd a
+turns_one (turn.Answered count) place used (Tells payload) feed new state after old now e s a = absurd a
+turns_one turn.WriteFault place used (Tells payload) feed new state after old now e s a = absurd a
+turns_one turn.OutOfMemory place used (Tells payload) feed new state after old now e s a = absurd a
+turns_one turn.Waits place used (Tells payload) feed new state after old now e s a = absurd a
+turns_one (turn.Refused at) place used (Tells payload) feed new state after old now e s a = absurd a
 
-pub waits_so : (way : Way) (held : List ℕ) → way ≡ ToServer → IsNotYet (has_kind way) held → IsNotYet is_request_kind held
-waits_so way held e h = subst (λ (w : Way). IsNotYet (has_kind w) held) e h
+pub waits_so : (way : Way) (held : List ℕ) → way ≡ ToServer → IsNotYet (has_head way) held → IsNotYet is_request_head held
+waits_so way held e h = subst (λ (w : Way). IsNotYet (has_head w) held) e h
 
 pub turns_waits : (feed new : Feeding) (state : State) (old : Option (List ℕ)) → feed.way ≡ ToServer → Steps next.NotYet feed new → Turns turn.Waits feed state state old old
 turns_waits feed new state old e s = (waits_so feed.way feed.held e s.2, s.0, refl, refl)
 
-pub refused_so : (way : Way) (held : List ℕ) → way ≡ ToServer → IsRefused (has_kind way) (SpellsMessage way) held → IsRefused is_request_kind SpellsRequest held
+pub refused_so : (way : Way) (held : List ℕ) → way ≡ ToServer → IsRefused (has_head way) (SpellsMessage way) held → IsRefused is_request_head SpellsRequest held
 refused_so way held e h =
-    let asks : IsRefused is_request_kind (SpellsMessage ToServer) held = subst (λ (w : Way). IsRefused (has_kind w) (SpellsMessage w) held) e h in
-    (asks.0, elim asks.1 [ inl header ↦ inl header | inr frame ↦ inr (frame.0, λ (r : Request) s. frame.1 (Asks r) s) ])
+    let asks : IsRefused is_request_head (SpellsMessage ToServer) held = subst (λ (w : Way). IsRefused (has_head w) (SpellsMessage w) held) e h in
+    (asks.0, elim asks.1 [ inl header ↦ inl header | inr frame ↦ inr (frame.0, λ (r : Versioned Request) s. frame.1 (Asks r) s) ])
 
 pub turns_refused : (place : ℕ) (feed new : Feeding) (state : State) (old : Option (List ℕ)) → feed.way ≡ ToServer → Steps (next.Bad place) feed new → Turns (turn.Refused place) feed state state old old
 turns_refused place feed new state old e s = (s.0, refused_so feed.way feed.held e s.1, refl)
@@ -98,7 +98,7 @@ a_front xs (Some old) None h = absurd h
 a_front xs None (Some new) h = absurd h
 
 -- where less than a frame is held, it ends after a frame, or inside one
-open_end : (at : ℕ) (held : List ℕ) → IsNotYet is_request_kind held → (end : End) × IsOpen end × EndsSo is_request_kind SpellsRequest at held end
+open_end : (at : ℕ) (held : List ℕ) → IsNotYet is_request_head held → (end : End) × IsOpen end × EndsSo is_request_head SpellsRequest at held end
 open_end at [] w = (Whole, tt, refl)
 open_end at (byte ∷ held) w = (Rest at, tt, (refl, omega arith, w))
 
@@ -127,31 +127,31 @@ module _ (start : State) (taken : List ℕ) (feed : Feeding) (state : State) (fi
   unfoldable pub stands_more : (used : ℕ) (after : State) (new : Option (List ℕ)) → length taken < 2 ^ 64 → AnswersNext feed used state after now new → Stands start taken (behind feed used) after first new
   stands_more used after new short a =
       let more = begins_more taken s.answered feed.held used a.request s.begins a.next.spells in
-      let frame : length (request_frame a.request) ≡ used = ap length (sym a.next.spells.1) ∙ length-take-le used feed.held a.next.held in
-      let all : length (flat_map request_frame (s.answered ++ a.request ∷ [])) ≡ length (flat_map request_frame s.answered) + length (request_frame a.request) =
-      ap length (sym (flat_map_more request_frame [] s.answered a.request)) ∙ length-append (flat_map request_frame s.answered) (request_frame a.request) in
-      let fits = ap length more.whole ∙ length-append (flat_map request_frame (s.answered ++ a.request ∷ [])) (drop used feed.held) in
+      let frame : length (asked_frame a.request) ≡ used = ap length (sym a.next.spells.1) ∙ length-take-le used feed.held a.next.held in
+      let all : length (flat_map asked_frame (s.answered ++ a.request ∷ [])) ≡ length (flat_map asked_frame s.answered) + length (asked_frame a.request) =
+      ap length (sym (flat_map_more asked_frame [] s.answered a.request)) ∙ length-append (flat_map asked_frame s.answered) (asked_frame a.request) in
+      let fits = ap length more.whole ∙ length-append (flat_map asked_frame (s.answered ++ a.request ∷ [])) (drop used feed.held) in
       record {
         answered = s.answered ++ a.request ∷ [];
         begins = more;
         place = omega (arith, s.place, frame, all, fits, short);
         way = s.way;
         waits = s.waits;
-        left = a.left ∙ ap (λ (x : State). (serve x a.request).after) s.left ∙ sym (state_more start s.answered a.request);
+        left = a.left ∙ ap (λ (x : State). (serve x a.request.message).after) s.left ∙ sym (state_more start s.answered a.request);
         put =
             subst (λ (l : List ℕ). Adds l first new) (sym (frames_more start s.answered a.request))
-            (adds_then (reply_frames start s.answered) (flat_map reply_frame (serve (state_after start s.answered) a.request).replies) first now new s.put
-            (subst (λ (x : State). Adds (flat_map reply_frame (serve x a.request).replies) now new) s.left a.put));
+            (adds_then (reply_frames start s.answered) (answer_frames (state_after start s.answered) a.request) first now new s.put
+            (subst (λ (x : State). Adds (answer_frames x a.request) now new) s.left a.put));
       }
 
   -- what was taken ends so
-  pub answers_all : (end : End) → EndsSo is_request_kind SpellsRequest feed.at feed.held end → AnswersAll start taken end first now
+  pub answers_all : (end : End) → EndsSo is_request_head SpellsRequest feed.at feed.held end → AnswersAll start taken end first now
   answers_all end e = record {
     frames = reply_frames start s.answered;
     after = state_after start s.answered;
     serves = record {
-      requests = placed_from request_frame 0 s.answered;
-      read = reads_so taken s.answered feed.held end s.begins (subst (λ (n : ℕ). EndsSo is_request_kind SpellsRequest n feed.held end) s.place e);
+      requests = placed_from asked_frame 0 s.answered;
+      read = reads_so taken s.answered feed.held end s.begins (subst (λ (n : ℕ). EndsSo is_request_head SpellsRequest n feed.held end) s.place e);
       replied = ap (reply_frames start) (sym (requests_placed s.answered));
       left = ap (state_after start) (sym (requests_placed s.answered));
     };
@@ -163,8 +163,8 @@ module _ (start : State) (taken : List ℕ) (feed : Feeding) (state : State) (fi
 
   pub breaks_off : (new : Option (List ℕ)) → BreaksNext feed state now new → BreaksOff start taken first new
   breaks_off new b =
-      let frames = flat_map reply_frame (serve (state_after start s.answered) b.request).replies in
-      let put = a_front frames now new (subst (λ (x : State). AddsFront (flat_map reply_frame (serve x b.request).replies) now new) s.left b.put) in
+      let frames = answer_frames (state_after start s.answered) b.request in
+      let put = a_front frames now new (subst (λ (x : State). AddsFront (answer_frames x b.request) now new) s.left b.put) in
       record {
         answered = s.answered;
         next = b.request;
@@ -176,7 +176,7 @@ module _ (start : State) (taken : List ℕ) (feed : Feeding) (state : State) (fi
       }
 
   -- less than a frame is held
-  pub answers_open : IsNotYet is_request_kind feed.held → AnswersOpen start taken first now
+  pub answers_open : IsNotYet is_request_head feed.held → AnswersOpen start taken first now
   answers_open w = let e = open_end feed.at feed.held w in (e.0, e.1, answers_all e.0 e.2)
 
   pub stops_refused : (place : ℕ) (after : State) (new : Option (List ℕ)) → Turns (turn.Refused place) feed state after now new → AnswersAll start taken (Refused place) first new

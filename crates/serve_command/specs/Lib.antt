@@ -1,3 +1,5 @@
+pub mod Answers
+pub mod Correspond
 pub mod ServeAll
 pub mod Serving
 pub mod Turns

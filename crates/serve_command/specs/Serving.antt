@@ -5,21 +5,26 @@ use Rattle.std.specs.List.{All}
 use Rattle.ae_edge.specs.Devices.{Adds, AddsFront, IsFront, Removes}
 use Rattle.wire_messages.specs.Conditions.{IsRequest}
 use Rattle.wire_messages.specs.declared.requests.Request.{Request}
-use Rattle.wire_spelling.specs.Spelling.{request_frame, reply_frame}
+use Rattle.wire_payloads.specs.declared.versioned.Versioned.{Versioned}
+use Rattle.wire_spelling.specs.Spelling.{asked_frame}
 use Rattle.wire_frames.specs.Frames.{End, Whole, Refused, Rest}
 use Rattle.server_core.specs.Laws.{AreServedSerially}
-use Rattle.server_core.specs.Serve.{State, empty_state, serve}
-use Rattle.serve_command.specs.ServeAll.{ServeAll, reply_frames, state_after}
+use Rattle.server_core.specs.Serve.{State, empty_state}
+use Rattle.serve_command.specs.ServeAll.{ServeAll, answer_frames, messages_of, reply_frames, state_after}
 use Rattle.serve_command.specs.declared.commands.Served.{Served}
 use Rattle.serve_command.specs.declared.commands.Served.TheVariants as served
 pub use Rattle.ae_base.specs.Limits.{most_stream_bytes}
 
 -- ---- how far it came
 
+-- the message meets its conditions
+abbrev pub IsProper : Versioned Request → Type 0
+IsProper asked = IsRequest asked.message
+
 -- the bytes begin with the frames of these requests, and then come the others
-pub record Begins (bytes : List ℕ) (requests : List Request) (others : List ℕ) : Type 0 where
-  pub whole : bytes ≡ flat_map request_frame requests ++ others
-  pub proper : All IsRequest requests
+pub record Begins (bytes : List ℕ) (requests : List (Versioned Request)) (others : List ℕ) : Type 0 where
+  pub whole : bytes ≡ flat_map asked_frame requests ++ others
+  pub proper : All IsProper requests
 
 -- the bytes taken end so, and the frames of all replies to their requests were put
 pub record AnswersAll (first : State) (taken : List ℕ) (end : End) (old new : Option (List ℕ)) : Type 0 where
@@ -30,19 +35,19 @@ pub record AnswersAll (first : State) (taken : List ℕ) (end : End) (old new : 
 
 -- the frames of all replies to the first requests of the bytes taken were put
 pub record AnswersFirst (first : State) (taken : List ℕ) (old new : Option (List ℕ)) : Type 0 where
-  pub answered : List Request
+  pub answered : List (Versioned Request)
   pub others : List ℕ
   pub begins : Begins taken answered others
   pub put : Adds (reply_frames first answered) old new
 
 -- and then, of the replies to the next request, a front of their frames
 pub record BreaksOff (first : State) (taken : List ℕ) (old new : Option (List ℕ)) : Type 0 where
-  pub answered : List Request
-  pub next : Request
+  pub answered : List (Versioned Request)
+  pub next : Versioned Request
   pub others : List ℕ
   pub begins : Begins taken (answered ++ next ∷ []) others
   pub front : List ℕ
-  pub of_next : IsFront front (flat_map reply_frame (serve (state_after first answered) next).replies)
+  pub of_next : IsFront front (answer_frames (state_after first answered) next)
   pub put : Adds (reply_frames first answered ++ front) old new
 
 -- they end after a frame, or inside one
@@ -73,7 +78,7 @@ pub record ServesStream (ended : Served) (left left_after out out_after : Option
   pub taken : List ℕ
   pub lost : Removes taken left left_after
   pub ends : Ends empty_state ended taken left_after out out_after
-  pub serial : (requests : List Request) (others : List ℕ) → Begins taken requests others → AreServedSerially requests
+  pub serial : (requests : List (Versioned Request)) (others : List ℕ) → Begins taken requests others → AreServedSerially (messages_of requests)
 
 -- ---- over a whole input
 

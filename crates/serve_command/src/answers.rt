@@ -1,55 +1,83 @@
 //! One request, and the frames of its replies.
 
-ghost use Rattle.std.specs.Prelude.{◌≡◌, IfOk, flat_map};
+ghost use Rattle.std.specs.Prelude.{◌≡◌, ◌<◌, length};
 ghost use Rattle.ae_edge.specs.Streams.{CountsPutAll, PutsAll};
 ghost use Rattle.server_core.specs.Serve.{serve};
-ghost use Rattle.wire_spelling.specs.Spelling.{reply_frame};
+ghost use Rattle.wire_spelling.specs.Packing.{packed};
+ghost use Rattle.serve_command.specs.Answers.{PutsOrKeeps};
+ghost use Rattle.serve_command.specs.ServeAll.{answer_frames};
 
+use ae_base::frames::FrameVersion;
 use ae_edge::sinks::Sink;
 use ae_edge::streams::{PutAll, put_all};
 use server_core::server::Server;
-use std::alloc::{AllocError, Global};
+use std::alloc::Global;
 use wire_messages::replies::Reply;
 use wire_messages::requests::Request;
-use wire_spelling::push_reply;
+use wire_payloads::versioned::Versioned;
+use wire_spelling::push_front;
 
-/// The frames of replies, one after another.
-fn frames_of(alloc: Global, replies: &[Reply<'_>]) -> Result<Vec<u8>, AllocError>
-    ensures { IfOk result (λ frames. frames.items ≡ flat_map reply_frame replies.now) }
+/// A buffer of frames that has so many bytes is put, and emptied.
+const FULL_BUFFER_BYTES: usize = 65_536;
+
+/// Puts the frames of a full buffer, and empties it; the frames of another stay in it.
+fn put_full<W: Sink>(frames: &mut Vec<u8>, out: &mut W) -> PutAll
+    ensures content { PutsOrKeeps frames.old.items frames.new.items result (W.held out.old)
+        (W.held out.new) }
+    ensures small { length frames.new.items < 65536 }
+    ensures counts { CountsPutAll result (W.faults out.old) (W.faults out.new) }
 {
-    let mut frames = Vec::new(alloc);
-    for reply in replies {
-        push_reply(&mut frames, reply)?;
+    if frames.len() < FULL_BUFFER_BYTES {
+        return PutAll::Whole;
     }
-    Ok(frames)
+    let put = put_all(out, frames.as_slice());
+    frames.clear();
+    put
 }
 
-/// Puts the frames of replies.
-pub fn put_replies<W: Sink>(alloc: Global, replies: &[Reply<'_>], out: &mut W) -> PutAll
-    ensures content { PutsAll (flat_map reply_frame replies.now) result (W.held out.old)
+/// Puts the frames of an answer, in a version. Of these at most a full buffer and one frame are
+/// held.
+pub fn put_replies<W: Sink>(
+    alloc: Global,
+    version: FrameVersion,
+    replies: &[Reply<'_>],
+    out: &mut W,
+) -> PutAll
+    ensures content { PutsAll (packed version replies.now) result (W.held out.old)
         (W.held out.new) }
     ensures counts { CountsPutAll result (W.faults out.old) (W.faults out.new) }
 {
-    match frames_of(alloc, replies) {
-        Ok(frames) => put_all(out, frames.as_slice()),
-        Err(_) => PutAll::OutOfMemory,
+    let mut frames = Vec::new(alloc);
+    let mut done = 0;
+    'frames: while done < replies.len() {
+        let Ok(count) = push_front(&mut frames, version, &replies[done..]) else {
+            return PutAll::OutOfMemory;
+        };
+        done += count;
+        match put_full(&mut frames, out) {
+            PutAll::Whole => {}
+            PutAll::WriteFault => return PutAll::WriteFault,
+            PutAll::OutOfMemory => return PutAll::OutOfMemory,
+        }
     }
+    put_all(out, frames.as_slice())
 }
 
-/// Serves a request, and puts the frames of its replies.
+/// Serves a request, and puts the frames of its replies, in its version.
 pub(crate) fn answer<W: Sink>(
     alloc: Global,
-    request: &Request<'_>,
+    asked: &Versioned<Request<'_>>,
     server: &mut Server,
     out: &mut W,
 ) -> PutAll
-    ensures left { result ≡ PutAll.Whole → server.new ≡ (serve server.old request.now).after }
-    ensures content { PutsAll (flat_map reply_frame (serve server.old request.now).replies) result
-        (W.held out.old) (W.held out.new) }
+    ensures left { result ≡ PutAll.Whole
+        → server.new ≡ (serve server.old asked.now.message).after }
+    ensures content { PutsAll (answer_frames server.old asked.now) result (W.held out.old)
+        (W.held out.new) }
     ensures counts { CountsPutAll result (W.faults out.old) (W.faults out.new) }
 {
-    match server.serve(alloc, request) {
-        Ok(replies) => put_replies(alloc, replies.as_slice(), out),
+    match server.serve(alloc, &asked.message) {
+        Ok(replies) => put_replies(alloc, asked.version, replies.as_slice(), out),
         Err(_) => PutAll::OutOfMemory,
     }
 }

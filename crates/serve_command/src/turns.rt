@@ -40,7 +40,7 @@ fn answer_message<W: Sink>(
     ensures counts { CountsTurn result (W.faults out.old) (W.faults out.new) }
 {
     match message {
-        Message::Asks(request) => match answer(alloc, request, server, out) {
+        Message::Asks(asked) => match answer(alloc, asked, server, out) {
             PutAll::Whole => Turn::Answered(used),
             PutAll::WriteFault => Turn::WriteFault,
             PutAll::OutOfMemory => Turn::OutOfMemory,

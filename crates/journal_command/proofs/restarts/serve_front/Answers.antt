@@ -7,4 +7,4 @@ use Rattle.journal_command.proofs.restarts.serve_front.Goals as goal
 pub returns-in-Ok : goal.returns-in-Ok
 returns-in-Ok c =
     let undone : is_done c.in-Ok.replies ≡ false = search rules in
-    front_undone c.in-One.request c.in-Ok.replies c.in-One.used c.args.bytes.now c.args.server.now _ c.in-One.ensures.only c.in-Ok.ensures.served undone
+    front_undone c.in-One.asked c.in-Ok.replies c.in-One.used c.args.bytes.now c.args.server.now _ c.in-One.ensures.only c.in-Ok.ensures.served undone

@@ -6,11 +6,11 @@ use Rattle.journal_core.proofs.records.front_of.Goals as goal
 
 pub returns-in-One : goal.returns-in-One
 returns-in-One c =
-    let other : IsExecute c.in-One.request → ⊥ = search rules in
-    other_read c.in-One.request c.in-One.used c.args.bytes.now other c.in-One.ensures.only
+    let other : IsExecute c.in-One.asked.message → ⊥ = search rules in
+    other_read c.in-One.asked c.in-One.used c.args.bytes.now other c.in-One.ensures.only
 
 pub returns-in-NotYet : goal.returns-in-NotYet
-returns-in-NotYet c = λ frame rest f e. c.in-NotYet.ensures.only f.request frame rest f.spelled e
+returns-in-NotYet c = λ frame rest f e. c.in-NotYet.ensures.only f.asked frame rest f.spelled e
 
 pub returns-in-Bad : goal.returns-in-Bad
-returns-in-Bad c = λ frame rest f e. c.in-Bad.ensures.only f.request frame rest f.spelled e
+returns-in-Bad c = λ frame rest f e. c.in-Bad.ensures.only f.asked frame rest f.spelled e

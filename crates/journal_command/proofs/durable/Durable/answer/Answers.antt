@@ -1,19 +1,32 @@
--- Nothing was done yet.
+-- Its record was added, and the replies were put; or nothing was done yet.
 use Rattle.std.proofs.Common.{sym, subst}
-use Rattle.std.specs.Prelude.{flat_map}
+use Rattle.std.specs.Prelude.{option_to_list}
 use Rattle.journal_core.specs.States.{JournalState}
-use Rattle.server_core.specs.Serve.{serve}
-use Rattle.wire_spelling.specs.Spelling.{reply_frame}
+use Rattle.serve_command.specs.ServeAll.{answer_frames}
+use Rattle.wire_spelling.specs.Packing.{packed}
+use Rattle.journal_command.specs.Durable.{PutsBy}
 use Rattle.journal_command.specs.Keeping.{entries_of, keeping}
 use Rattle.journal_command.specs.Stopping.{StopsBy, outside}
 use Rattle.journal_command.specs.declared.endings.Stop.TheVariants as stops
-use Rattle.journal_command.proofs.Appending.{unanswered}
+use Rattle.journal_command.proofs.Appending.{answers_so, unanswered}
 use Rattle.journal_command.proofs.durable.Durable.answer.Goals as goal
+
+pub returns-in-Ok-clause-answers : goal.returns-in-Ok-clause-answers
+returns-in-Ok-clause-answers g c = λ held e.
+    let result = c.append_and_put.result in
+    let new = c.append_and_put.new.self in
+    let replies = c.in-Ok.answer.replies in
+    let entry = c.in-Ok.answer.entry in
+    let disk = g.D.Disk.told c.args.disk.now in
+    let out = g.W.Sink.held c.args.out.now in
+    let after = outside new.journal.gate (g.D.Disk.told c.append_and_put.new.disk) (g.W.Sink.held c.append_and_put.new.out) in
+    let put = subst (λ (j : JournalState). PutsBy result (packed c.args.asked.now.version replies) (option_to_list entry) (outside j.gate disk out) after) c.in-Ok.ensures.journal c.append_and_put.ensures.put in
+    answers_so result held c.args.asked.now c.args.self.now c.serve.new.self new replies entry (outside c.args.self.now.journal.gate disk out) after c.in-Ok.ensures.served e c.append_and_put.ensures.kept put
 
 pub returns-in-Err-clause-answers : goal.returns-in-Err-clause-answers
 returns-in-Err-clause-answers g c = λ held e.
-    let frames = flat_map reply_frame (serve c.args.self.now.state c.args.request.now).replies in
-    let more = entries_of (keeping c.args.self.now.state held c.args.request.now).records in
+    let frames = answer_frames c.args.self.now.state c.args.asked.now in
+    let more = entries_of (keeping c.args.self.now.state held c.args.asked.now).records in
     let disk = g.D.Disk.told c.args.disk.now in
     let out = g.W.Sink.held c.args.out.now in
     subst (λ (j : JournalState). StopsBy stops.OutOfMemory frames more (outside c.args.self.now.journal.gate disk out) (outside j.gate disk out)) (sym c.serve.ensures.journal)
