@@ -1,19 +1,17 @@
 -- What driving a script leaves, over replies that tell their bytes.
-use Rattle.std.proofs.Common.{◌≡◌, ℕ, ◌+◌, ◌≤◌, List, [], ◌∷◌, ◌++◌, Option, Some, Result, Ok, Err, length, refl, sym, ◌∙◌, ap, subst, append-nil, append_assoc, length-append, arith}
-use Rattle.std.specs.Prelude.{flat_map}
+use Rattle.std.proofs.Common.{◌≡◌, ℕ, ◌+◌, ◌≤◌, List, [], ◌∷◌, ◌++◌, Option, Some, None, Result, Ok, Err, length, refl, sym, ◌∙◌, ap, subst, append-nil, append_assoc, length-append, arith}
+use Rattle.ae_base.specs.declared.frames.FrameVersion.{FrameVersion}
 use Rattle.ae_edge.specs.Devices.{Removes}
 use Rattle.ae_edge.specs.Vaults.{KeyMap}
-use Rattle.wire_messages.specs.Conditions.{IsReply}
-use Rattle.wire_spelling.specs.Spelling.{SpellsReply, reply_frame}
-use Rattle.wire_frames.specs.Frames.{is_reply_kind}
-use Rattle.wire_frames.specs.Laws.{HasOneReading, IsReadOnce, IsReadBack}
+use Rattle.wire_spelling.specs.Packing.{SpellsPayload}
+use Rattle.wire_frames.specs.Frames.{is_reply_head}
+use Rattle.wire_frames.specs.Laws.{HasOneReading, IsReadOnce}
 use Rattle.conversation.specs.Laws.{PathIsDriven}
-use Rattle.conversation.specs.Paths.{taken_in}
 use Rattle.conversation.specs.Talk.{Talk, Ends}
 use Rattle.script_lang.specs.declared.steps.Step.{Step}
 use Rattle.outcome_text.specs.Counting.{nothing, has_errors}
-use Rattle.run_effects.specs.Shares.{Outside, coming_behind}
-use Rattle.run_effects.specs.Ways.{Proceeds, Lacks, IsPast, CantBeRead, StaysWithin, most_stream_bytes, off, printed_off}
+use Rattle.run_effects.specs.Shares.{Comes, IsNext, Outside, Standing, coming_behind, queue_of}
+use Rattle.run_effects.specs.Ways.{Proceeds, Lacks, LacksReply, IsPast, CantBeRead, StaysWithin, most_stream_bytes, off, printed_off}
 use Rattle.run_effects.specs.declared.stops.Stop.{Stop}
 use Rattle.run_effects.specs.declared.stops.Stop.TheVariants as stop
 use Rattle.outcome_text.specs.declared.tallies.Tally.{Tally}
@@ -22,41 +20,60 @@ use Rattle.script_run.specs.declared.runs.Ran.TheVariants as ran
 use Rattle.script_source.specs.Scripts.{IsScript}
 use Rattle.script_run.proofs.Interface.{one_script}
 use Rattle.drive_command.specs.DriveOf.{IsDriveOf, told_of}
-use Rattle.drive_command.specs.Drives.{DrivesWhole, DrivesTaken, DrivesPast, DrivesBytes, TakesWithin, IsBadAt, IsDone}
+use Rattle.drive_command.specs.Drives.{DrivesWhole, DrivesTaken, DrivesPast, DrivesBytes, TakesWithin, IsDone}
 use Rattle.drive_command.specs.Ends.{DriveDevices, outside, CameTo, DrivesTo, DrivesSteps, DrivesScript}
-use Rattle.drive_command.proofs.Cutting.{off_still, off_taken, gone_so}
-use Rattle.drive_command.proofs.Driving.{Came, came_to, frames_first}
-use Rattle.drive_command.proofs.DrivesAre.{Starts, start, none_to_come, came, place_so, goes_front, done_drives, stuck_drives, cut_drives, breaks_drive}
+use Rattle.drive_command.proofs.Cutting.{Cut, Gone, gone_so, off_still}
+use Rattle.drive_command.proofs.Driving.{Came, came_to, told_at}
+use Rattle.drive_command.proofs.DrivesAre.{Starts, start, none_to_come, came, cut, gone, version_so, goes_front, done_drives, stuck_drives, cut_drives, breaks_drive}
 
+-- all bytes are to come
 coming_first : (bytes : List ℕ) (left : Option (List ℕ)) → left ≡ Some bytes → coming_behind [] left ≡ Some bytes
 coming_first bytes left e = subst (λ l. coming_behind [] l ≡ Some bytes) (sym e) refl
 
-module _ (path : PathIsDriven) (one : HasOneReading SpellsReply) (once : IsReadOnce is_reply_kind SpellsReply) (back : IsReadBack is_reply_kind SpellsReply IsReply reply_frame) where
+none_first : (version other : FrameVersion) (skipped : ℕ) (bytes : List ℕ) → other ≡ version → LacksReply other skipped bytes → IsNext version None 0 bytes
+none_first version other skipped bytes v h = subst (λ w. IsNext w None 0 bytes) v (subst (λ n. IsNext other None n bytes) h.0 h.1)
+
+module _ (path : PathIsDriven) (one : (version : FrameVersion) → HasOneReading (SpellsPayload version)) (once : (version : FrameVersion) → IsReadOnce (is_reply_head version) (SpellsPayload version)) where
   module _ (keys : KeyMap) (steps : List Step) (bytes : List ℕ) (old new : DriveDevices) (opens : old.keys ≡ Some keys) (left : old.replies ≡ Some bytes) where
+    abbrev version : FrameVersion
+    version = old.version
+
     -- ---- to its end
 
     module _ (ended : Result (Unit {0}) Stop) (tally : Tally) (c : CameTo ended tally steps old new) where
       abbrev Before : Outside
-      Before = outside c.out c.entropy c.vault c.wire nothing [] 0 old
+      Before = outside c.out c.entropy c.vault c.wire nothing old.version 0 0 [] 0 old
 
       abbrev After : Outside
-      After = outside c.out_after c.entropy_after c.vault_after c.wire_after tally c.held c.taken new
+      After = outside c.out_after c.entropy_after c.vault_after c.wire_after tally c.version c.at c.skipped c.held c.taken new
 
-      starts : Starts keys bytes Before
-      starts = record { opens = opens; stream = coming_first bytes old.replies left; taken = refl; uncounted = refl }
+      -- where the replies stand at last
+      abbrev At : Standing
+      At = record { at = c.at; skipped = c.skipped; bytes = coming_behind c.held new.replies }
+
+      starts : Starts version keys bytes Before
+      starts = record { spelled = refl; opens = opens; stream = ap (λ (w : Option (List ℕ)). record { at = 0; skipped = 0; bytes = w }) (coming_first bytes old.replies left); uncounted = refl }
 
     module _ (ended : Result (Unit {0}) Stop) (tally : Tally) (c : CameTo ended tally steps old new) (u : Talk) (g : Proceeds (start steps) u (Before ended tally c) (After ended tally c)) where
+      abbrev came_so : Came version g.events (told_at 0 0 bytes) (After ended tally c).wire.stream
+      came_so = came path version (one version) (once version) keys steps bytes u (Before ended tally c) (After ended tally c) (starts ended tally c) g
+
+      stands : At ended tally c ≡ came_so.now
+      stands = came_so.stands
+
+      gone_all : Gone (told_at 0 0 bytes) came_so.now bytes
+      gone_all = gone path version (one version) (once version) keys steps bytes u (Before ended tally c) (After ended tally c) (starts ended tally c) g
+
+      to_come : coming_behind c.held new.replies ≡ Some gone_all.left
+      to_come = ap (λ (x : Standing). x.bytes) stands ∙ gone_all.to_come
+
       taken_within : TakesWithin bytes new.replies
       taken_within =
-          let x = Before ended tally c in
-          let y = After ended tally c in
-          let st = starts ended tally c in
-          let k = came path one once back keys steps bytes u x y st g in
-          let frames = flat_map reply_frame (flat_map taken_in g.events) in
-          let l = length-append frames c.held in
-          let p = place_so path one once back keys steps bytes u x y st g in
-          let w : c.taken + length c.held ≤ most_stream_bytes = g.limit (omega arith) in
-          (frames ++ c.held, gone_so frames c.held bytes k.left new.replies k.to_come (frames_first g.events bytes k.left k.streams), omega (arith, l, p, w))
+          let l = length-append gone_all.gone c.held in
+          let a = gone_all.at in
+          let p = ap (λ (x : Standing). x.at) stands in
+          let w : c.at + length c.held ≤ most_stream_bytes = g.limit (omega arith) in
+          (gone_all.gone ++ c.held, gone_so gone_all.gone c.held bytes gone_all.left new.replies to_come gone_all.is, omega (arith, l, a, p, w))
 
     all_within : TakesWithin bytes new.replies → new.replies ≡ Some [] → length bytes ≤ most_stream_bytes
     all_within t e =
@@ -65,107 +82,136 @@ module _ (path : PathIsDriven) (one : HasOneReading SpellsReply) (once : IsReadO
         let w = t.2 in
         omega (arith, l, w)
 
-    ends : (tally : Tally) (c : CameTo (Ok tt) tally steps old new) → (new.replies ≡ Some []) × DrivesWhole (IsDone (has_errors tally)) keys steps bytes (told_of old) (told_of new) × (length bytes ≤ most_stream_bytes)
+    ends : (tally : Tally) (c : CameTo (Ok tt) tally steps old new)
+        → (new.replies ≡ Some []) × DrivesWhole version (IsDone (has_errors tally)) keys steps bytes (told_of old) (told_of new) × (length bytes ≤ most_stream_bytes)
     ends tally c =
         let x = Before (Ok tt) tally c in
         let y = After (Ok tt) tally c in
         let st = starts (Ok tt) tally c in
-        let k = came path one once back keys steps bytes (Ends c.sessions) x y st c.leads in
-        let n = none_to_come c.held k.left new.replies k.to_come c.read.0 c.read.1 in
-        (n.1, done_drives path one once back keys steps bytes c.sessions x y st c.leads n.0, all_within (taken_within (Ok tt) tally c (Ends c.sessions) c.leads) n.1)
+        let u = Ends c.sessions in
+        let k = gone_all (Ok tt) tally c u c.leads in
+        let n = none_to_come c.held k.left new.replies (to_come (Ok tt) tally c u c.leads) c.read.0 c.read.1 in (
+          n.1,
+          done_drives path version (one version) (once version) keys steps bytes c.sessions x y st c.leads (k.to_come ∙ ap (λ (w : List ℕ). Some w) n.0),
+          all_within (taken_within (Ok tt) tally c u c.leads) n.1,
+        )
 
     -- ---- where the replies can't be read further
 
     module _ (why : Stop) (tally : Tally) (c : CameTo (Err why) tally steps old new) (l : Lacks (start steps) (Before (Err why) tally c) (After (Err why) tally c)) where
-      abbrev frames : List ℕ
-      frames = flat_map reply_frame (flat_map taken_in l.goes.events)
+      abbrev before : Came version l.goes.events (told_at 0 0 bytes) l.mid.wire.stream
+      before = came path version (one version) (once version) keys steps bytes l.between (Before (Err why) tally c) l.mid (starts (Err why) tally c) l.goes
 
-      before : Came l.goes.events bytes l.mid.wire.stream
-      before = came path one once back keys steps bytes l.between (Before (Err why) tally c) l.mid (starts (Err why) tally c) l.goes
+      version_mid : l.mid.wire.version ≡ version
+      version_mid = version_so path version (one version) (once version) keys steps bytes l.between (Before (Err why) tally c) l.mid (starts (Err why) tally c) l.goes
 
-      after : Came (printed_off (off l.between)) before.left (After (Err why) tally c).wire.stream
-      after = came_to (printed_off (off l.between)) l.mid.wire.stream (After (Err why) tally c).wire.stream l.mid.wire.waiting [] before.left before.to_come l.read.wire.comes
+      version_last : c.version ≡ version
+      version_last = l.put.wire.version ∙ version_mid
 
-      gone : Removes (frames ++ c.held) (Some bytes) new.replies
-      gone =
-          gone_so frames c.held bytes after.left new.replies after.to_come
-          (frames_first l.goes.events bytes before.left before.streams ∙ ap (λ w. frames ++ w) (sym (off_still (off l.between) before.left after.left after.streams)))
+      after : Came version (printed_off (off l.between)) before.now (After (Err why) tally c).wire.stream
+      after =
+          came_to version (printed_off (off l.between)) l.mid.wire.stream (After (Err why) tally c).wire.stream (queue_of l.mid.wire) (queue_of (After (Err why) tally c).wire) before.now before.stands
+          (subst (λ v. Comes v (printed_off (off l.between)) l.mid.wire.stream (After (Err why) tally c).wire.stream (queue_of l.mid.wire) (queue_of (After (Err why) tally c).wire)) version_mid l.read.wire.comes)
 
-      lacks_taken : CantBeRead (Before (Err why) tally c).wire.stream (After (Err why) tally c).wire.stream → StaysWithin (Before (Err why) tally c).wire (After (Err why) tally c).wire → DrivesTaken keys steps bytes new.replies (told_of old) (told_of new)
+      same : At (Err why) tally c ≡ before.now
+      same = after.stands ∙ off_still version (off l.between) before.now after.now after.streams
+
+      module _ (z : c.skipped ≡ 0) where
+        abbrev fresh : before.now.skipped ≡ 0
+        fresh = sym (ap (λ (x : Standing). x.skipped) same) ∙ z
+
+        abbrev cut_at : (part : List ℕ) → Cut version (one version) l.goes.events (told_at 0 0 bytes) before.now bytes
+        cut_at part = cut path version (one version) (once version) keys steps bytes l.between (Before (Err why) tally c) l.mid (After (Err why) tally c) (starts (Err why) tally c) l.goes l.awaits fresh part
+
+        gone_to : (part : List ℕ) → Removes ((cut_at part).parts.gone ++ c.held) (Some bytes) new.replies
+        gone_to part =
+            let k = (cut_at part).parts in
+            gone_so k.gone c.held bytes k.left new.replies (ap (λ (x : Standing). x.bytes) same ∙ k.to_come) k.is
+
+        long : (part : List ℕ) → length (cut_at part).parts.gone ≡ c.at
+        long part = let a = (cut_at part).parts.at in let b = ap (λ (x : Standing). x.at) same in omega (arith, a, b)
+
+      lacks_taken : CantBeRead (After (Err why) tally c).wire.version (Before (Err why) tally c).wire.stream (After (Err why) tally c).wire.stream
+          → StaysWithin (Before (Err why) tally c).wire (After (Err why) tally c).wire → DrivesTaken version keys steps bytes new.replies (told_of old) (told_of new)
       lacks_taken h w = record {
-        taken = frames ++ c.held;
-        gone = gone;
+        taken = (cut_at h.1.0 c.held).parts.gone ++ c.held;
+        gone = gone_to h.1.0 c.held;
         limit =
-            let t = l.read.wire.taken in
-            let z = off_taken (off l.between) in
-            let m = place_so path one once back keys steps bytes l.between (Before (Err why) tally c) l.mid (starts (Err why) tally c) l.goes in
-            let n = length-append frames c.held in
-            let q : c.taken + length c.held ≤ most_stream_bytes = w (omega arith) in
-            omega (arith, t, z, m, n, q);
-        drives = cut_drives path one once back keys steps bytes l.between (Before (Err why) tally c) l.mid (After (Err why) tally c) (starts (Err why) tally c) l.goes l.awaits c.held l.put h.1;
+            let a = long h.1.0 c.held in
+            let n = length-append (cut_at h.1.0 c.held).parts.gone c.held in
+            let q : c.at + length c.held ≤ most_stream_bytes = w (omega arith) in
+            omega (arith, a, n, q);
+        drives =
+            cut_drives path version (one version) (once version) keys steps bytes l.between (Before (Err why) tally c) l.mid (After (Err why) tally c) (starts (Err why) tally c) l.goes l.awaits (fresh h.1.0) c.held l.put
+            (none_first version c.version c.skipped c.held version_last h.1);
       }
 
-      lacks_past : IsPast c.taken c.held → DrivesPast keys steps bytes new.replies (told_of old) (told_of new)
-      lacks_past p = record {
-        taken = frames ++ p.within;
-        byte = p.byte;
-        gone = subst (λ w. Removes w (Some bytes) new.replies) (ap (λ w. frames ++ w) p.is ∙ sym (append_assoc frames p.within (p.byte ∷ []))) gone;
-        limit =
-            let t = l.read.wire.taken in
-            let z = off_taken (off l.between) in
-            let m = place_so path one once back keys steps bytes l.between (Before (Err why) tally c) l.mid (starts (Err why) tally c) l.goes in
-            let n = length-append frames p.within in
-            let q = p.limit in
-            omega (arith, t, z, m, n, q);
-        drives = cut_drives path one once back keys steps bytes l.between (Before (Err why) tally c) l.mid (After (Err why) tally c) (starts (Err why) tally c) l.goes l.awaits p.within l.put p.none;
-      }
+      lacks_past : IsPast (After (Err why) tally c).wire.version c.at c.skipped c.held → DrivesPast version keys steps bytes new.replies (told_of old) (told_of new)
+      lacks_past p =
+          let frames = (cut_at p.none.0 p.within).parts.gone in record {
+            taken = frames ++ p.within;
+            byte = p.byte;
+            gone = subst (λ w. Removes w (Some bytes) new.replies) (ap (λ w. frames ++ w) p.is ∙ sym (append_assoc frames p.within (p.byte ∷ []))) (gone_to p.none.0 p.within);
+            limit =
+                let a = long p.none.0 p.within in
+                let n = length-append frames p.within in
+                let q = p.limit in
+                omega (arith, a, n, q);
+            drives =
+                cut_drives path version (one version) (once version) keys steps bytes l.between (Before (Err why) tally c) l.mid (After (Err why) tally c) (starts (Err why) tally c) l.goes l.awaits (fresh p.none.0) p.within l.put
+                (none_first version c.version c.skipped p.within version_last p.none);
+          }
 
     -- ---- by how it stopped
 
     module _ (tally : Tally) where
-      stops : (why : Stop) → CameTo (Err why) tally steps old new → DrivesBytes (ran.Stopped why) keys steps bytes new.replies (told_of old) (told_of new)
+      stops : (why : Stop) → CameTo (Err why) tally steps old new → DrivesBytes version (ran.Stopped why) keys steps bytes new.replies (told_of old) (told_of new)
       stops (stop.BadReply place) c =
-          let x = Before (Err (stop.BadReply place)) tally c in
-          let y = After (Err (stop.BadReply place)) tally c in
-          let st = starts (Err (stop.BadReply place)) tally c in
+          let e : Result (Unit {0}) Stop = Err (stop.BadReply place) in
           let h = c.leads in
-          let k = came path one once back keys steps bytes h.rest x y st h.goes in (
-            subst (λ (p : ℕ). DrivesWhole (IsBadAt p) keys steps bytes (told_of old) (told_of new)) h.place.1
-                (stuck_drives path one once back keys steps bytes h.rest x y st h.goes c.held new.replies k.to_come h.place.0),
-            taken_within (Err (stop.BadReply place)) tally c h.rest h.goes,
+          let s = stands e tally c h.rest h.goes in (
+            stuck_drives path version (one version) (once version) keys steps bytes h.rest (Before e tally c) (After e tally c) (starts e tally c) h.goes c.held new.replies place
+                (ap (λ (x : Standing). x.bytes) s) (sym h.place.1 ∙ ap (λ (x : Standing). x.at) s) h.place.0,
+            taken_within e tally c h.rest h.goes,
           )
       stops stop.ReadFault c = lacks_taken stop.ReadFault tally c c.leads.0 c.leads.1 c.leads.2
       stops stop.TooLong c = lacks_past stop.TooLong tally c c.leads.0 c.leads.1
       stops stop.EntropyFault c =
+          let e : Result (Unit {0}) Stop = Err stop.EntropyFault in
           let h = c.leads.0 in (
-            goes_front path one once back keys steps bytes h.rest (Before (Err stop.EntropyFault) tally c) (After (Err stop.EntropyFault) tally c) (starts (Err stop.EntropyFault) tally c) h.goes,
-            taken_within (Err stop.EntropyFault) tally c h.rest h.goes,
+            goes_front path version (one version) (once version) keys steps bytes h.rest (Before e tally c) (After e tally c) (starts e tally c) h.goes,
+            taken_within e tally c h.rest h.goes,
           )
       stops stop.VaultFault c =
+          let e : Result (Unit {0}) Stop = Err stop.VaultFault in
           let h = c.leads.0 in (
-            goes_front path one once back keys steps bytes h.rest (Before (Err stop.VaultFault) tally c) (After (Err stop.VaultFault) tally c) (starts (Err stop.VaultFault) tally c) h.goes,
-            taken_within (Err stop.VaultFault) tally c h.rest h.goes,
+            goes_front path version (one version) (once version) keys steps bytes h.rest (Before e tally c) (After e tally c) (starts e tally c) h.goes,
+            taken_within e tally c h.rest h.goes,
           )
       stops stop.WriteFault c =
-          breaks_drive path one once back keys steps bytes (Before (Err stop.WriteFault) tally c) (After (Err stop.WriteFault) tally c) (starts (Err stop.WriteFault) tally c) c.leads.0
+          let e : Result (Unit {0}) Stop = Err stop.WriteFault in
+          breaks_drive path version (one version) (once version) keys steps bytes (Before e tally c) (After e tally c) (starts e tally c) c.leads.0
       stops stop.OutOfMemory c =
-          breaks_drive path one once back keys steps bytes (Before (Err stop.OutOfMemory) tally c) (After (Err stop.OutOfMemory) tally c) (starts (Err stop.OutOfMemory) tally c) c.leads
+          let e : Result (Unit {0}) Stop = Err stop.OutOfMemory in
+          breaks_drive path version (one version) (once version) keys steps bytes (Before e tally c) (After e tally c) (starts e tally c) c.leads
 
-    steps_drive : (r : Ran) → DrivesTo r steps old new → DrivesBytes r keys steps bytes new.replies (told_of old) (told_of new)
-    steps_drive ran.Done c = subst (λ b. (new.replies ≡ Some []) × DrivesWhole (IsDone b) keys steps bytes (told_of old) (told_of new) × (length bytes ≤ most_stream_bytes)) c.2 (ends c.0 c.1)
-    steps_drive ran.Refusals c = subst (λ b. (new.replies ≡ Some []) × DrivesWhole (IsDone b) keys steps bytes (told_of old) (told_of new) × (length bytes ≤ most_stream_bytes)) c.2 (ends c.0 c.1)
+    steps_drive : (r : Ran) → DrivesTo r steps old new → DrivesBytes version r keys steps bytes new.replies (told_of old) (told_of new)
+    steps_drive ran.Done c =
+        subst (λ b. (new.replies ≡ Some []) × DrivesWhole version (IsDone b) keys steps bytes (told_of old) (told_of new) × (length bytes ≤ most_stream_bytes)) c.2 (ends c.0 c.1)
+    steps_drive ran.Refusals c =
+        subst (λ b. (new.replies ≡ Some []) × DrivesWhole version (IsDone b) keys steps bytes (told_of old) (told_of new) × (length bytes ≤ most_stream_bytes)) c.2 (ends c.0 c.1)
     steps_drive (ran.Stopped why) c = stops c.0 why c.1
     steps_drive (ran.Unread why) c = absurd c
 
   -- ---- a script
 
   module _ (script : List ℕ) (old new : DriveDevices) (steps : List Step) (s : IsScript script steps) (keys : KeyMap) (opens : old.keys ≡ Some keys) (bytes : List ℕ) (left : old.replies ≡ Some bytes) where
-    drives_so : (r : Ran) → DrivesSteps r script old new → DrivesBytes r keys steps bytes new.replies (told_of old) (told_of new)
+    drives_so : (r : Ran) → DrivesSteps r script old new → DrivesBytes old.version r keys steps bytes new.replies (told_of old) (told_of new)
     drives_so r h =
-        subst (λ (ss : List Step). DrivesBytes r keys ss bytes new.replies (told_of old) (told_of new)) (one_script script steps h.steps s h.script.script)
+        subst (λ (ss : List Step). DrivesBytes old.version r keys ss bytes new.replies (told_of old) (told_of new)) (one_script script steps h.steps s h.script.script)
         (steps_drive keys h.steps bytes old new opens left r h.drives)
 
-    script_drives : (r : Ran) → DrivesScript r script old new → DrivesBytes r keys steps bytes new.replies (told_of old) (told_of new)
+    script_drives : (r : Ran) → DrivesScript r script old new → DrivesBytes old.version r keys steps bytes new.replies (told_of old) (told_of new)
     script_drives ran.Done h = drives_so ran.Done h
     script_drives ran.Refusals h = drives_so ran.Refusals h
     script_drives (ran.Stopped why) h = drives_so (ran.Stopped why) h

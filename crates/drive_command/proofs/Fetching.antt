@@ -1,24 +1,24 @@
 -- Pieces of a stream of replies, one after another.
 use Rattle.std.proofs.Common.{◌≡◌, ℕ, ◌+◌, ◌≤◌, List, [], ◌∷◌, ◌++◌, Option, Some, None, length, refl, sym, ◌∙◌, ap, subst, arith, append-nil, append_assoc, length-append}
 use Rattle.std.specs.Prelude.{◌<◌, ◌-◌, IfSome, Err}
+use Rattle.ae_base.specs.declared.frames.FrameVersion.{FrameVersion}
 use Rattle.ae_edge.specs.Devices.{WhereTold, Removes}
 use Rattle.ae_edge.specs.Sources.{Takes}
 use Rattle.ae_edge.specs.declared.sources.Taken.TheVariants as taken
 use Rattle.ae_edge.proofs.Interface.{told_same}
-use Rattle.wire_spelling.specs.Spelling.{SpellsReply, reply_frame}
-use Rattle.wire_messages.specs.Conditions.{IsReply}
-use Rattle.wire_frames.specs.Frames.{IsNotYet, is_reply_kind}
-use Rattle.wire_frames.specs.Laws.{IsReadOnce, IsReadBack}
+use Rattle.wire_spelling.specs.Packing.{SpellsPayload, payload_frame}
+use Rattle.wire_frames.specs.Frames.{IsNotYet, IsRefused, is_reply_head}
+use Rattle.wire_frames.specs.Laws.{IsReadOnce}
 use Rattle.run_effects.specs.Shares.{IsNext, coming_behind}
-use Rattle.run_effects.specs.Ways.{IsLeft, IsPast, most_stream_bytes}
-use Rattle.drive_command.specs.Holding.{Holding, came, held_more}
+use Rattle.run_effects.specs.Ways.{IsLeft, IsPast, LacksReply, most_stream_bytes}
+use Rattle.drive_command.specs.Holding.{Holding, IsAmong, came, held_more}
 use Rattle.script_run.specs.declared.connection.ReplyFault.{ReplyFault}
 use Rattle.script_run.specs.declared.connection.ReplyFault.TheVariants as fault
 use Rattle.drive_command.specs.Reading.{Moves, Moved, HoldsWithin, Ends, ReadsMore, FetchesReply}
-use Rattle.drive_command.proofs.Beginning.{none_yet}
+use Rattle.drive_command.proofs.Beginning.{among_none, none_coming, none_yet}
 
 pub moved_still : (h : Holding) (left : Option (List ℕ)) → Moved h h left left
-moved_still h left = (refl, told_same (λ a b. b ≡ a) (λ x. refl) (coming_behind h.held left))
+moved_still h left = record { version = refl; at = refl; skipped = refl; comes = told_same (λ a b. b ≡ a) (λ x. refl) (coming_behind h.held left) }
 
 comes_same : (held piece : List ℕ) (left after : Option (List ℕ)) → Removes piece left after → WhereTold (λ a b. b ≡ a) (coming_behind held left) (coming_behind (held ++ piece) after)
 comes_same held piece (Some x) (Some y) e = append_assoc held piece y ∙ ap (λ w. held ++ w) (sym e)
@@ -38,7 +38,12 @@ both None None (Some z) p q = absurd q
 pub moved_more : (a b c : Holding) (piece : List ℕ) (l m n : Option (List ℕ)) → Moved a b l m → Moves piece b c m n → Moved a c l n
 moved_more a b c piece l m n p q =
     let e = q.held in
-    let r : Moved a (held_more b piece) l n = (p.0, both (coming_behind a.held l) (coming_behind b.held m) (coming_behind (b.held ++ piece) n) p.1 (comes_same b.held piece m n q.gone)) in
+    let r : Moved a (held_more b piece) l n = record {
+      version = p.version;
+      at = p.at;
+      skipped = p.skipped;
+      comes = both (coming_behind a.held l) (coming_behind b.held m) (coming_behind (b.held ++ piece) n) p.comes (comes_same b.held piece m n q.gone);
+    } in
     subst (λ h. Moved a h l n) (sym e) r
 
 ends_same : (held : List ℕ) (m n : Option (List ℕ)) → Ends m n → WhereTold (λ a b. b ≡ a) (coming_behind held m) (coming_behind held n)
@@ -48,17 +53,22 @@ ends_same held (Some x) None e = absurd e
 ends_same held None (Some y) e = absurd e
 
 -- with no byte more
+none_more : (b c : Holding) (l m : Option (List ℕ)) → Moves [] b c l m → c ≡ b
+none_more b c l m q = q.held ∙ ap (λ (w : List ℕ). record { version = b.version; at = b.at; skipped = b.skipped; held = w }) (append-nil b.held)
+
 pub within_still : (a b c : Holding) (l m : Option (List ℕ)) → HoldsWithin a b → Moves [] b c l m → HoldsWithin a c
-within_still a b c l m w q = subst (HoldsWithin a) (sym q.held) (subst (λ (h : List ℕ). HoldsWithin a (record { at = b.at; held = h })) (sym (append-nil b.held)) w)
+within_still a b c l m w q = subst (HoldsWithin a) (sym (none_more b c l m q)) w
 
 -- the end
 pub moved_end : (a b c : Holding) (l m n : Option (List ℕ)) → Moved a b l m → c ≡ b → Ends m n → Moved a c l n
-moved_end a b c l m n p e q = subst (λ h. Moved a h l n) (sym e) (p.0, both (coming_behind a.held l) (coming_behind b.held m) (coming_behind b.held n) p.1 (ends_same b.held m n q))
+moved_end a b c l m n p e q =
+    subst (λ h. Moved a h l n) (sym e)
+    (record { version = p.version; at = p.at; skipped = p.skipped; comes = both (coming_behind a.held l) (coming_behind b.held m) (coming_behind b.held n) p.comes (ends_same b.held m n q) })
 
-pub none_at_end : (held : List ℕ) (m n : Option (List ℕ)) → Ends m n → IsNext None held → IfSome (coming_behind held n) (IsNext None)
-none_at_end held m None e h = tt
-none_at_end held (Some x) (Some y) e h = subst (IsNext None) (sym (ap (λ w. held ++ w) e.1 ∙ append-nil held)) h
-none_at_end held None (Some y) e h = absurd e
+pub none_at_end : (version : FrameVersion) (skipped : ℕ) (held : List ℕ) (m n : Option (List ℕ)) → Ends m n → IsNext version None skipped held → IfSome (coming_behind held n) (IsNext version None skipped)
+none_at_end version skipped held m None e h = tt
+none_at_end version skipped held (Some x) (Some y) e h = subst (IsNext version None skipped) (sym (ap (λ w. held ++ w) e.1 ∙ append-nil held)) h
+none_at_end version skipped held None (Some y) e h = absurd e
 
 pub left_at_end : (m n : Option (List ℕ)) → Ends m n → IfSome n (λ bytes. bytes ≡ [])
 left_at_end m None e = tt
@@ -66,14 +76,17 @@ left_at_end (Some x) (Some y) e = e.1
 left_at_end None (Some y) e = absurd e
 
 -- no frame is in no bytes
-pub none_in_none : IsNext None []
-none_in_none = λ r b. let e = ap length b.is in let l = length-append (reply_frame r) b.rest in omega (arith, e, l)
+pub none_in_none : (version : FrameVersion) (skipped : ℕ) → IsNext version None skipped []
+none_in_none version skipped = λ r b. let e = ap length b.is in let l = length-append (payload_frame version b.payload) b.rest in omega (arith, e, l)
+
+pub lacks_none : (version : FrameVersion) (skipped : ℕ) (held : List ℕ) → held ≡ [] → skipped ≡ 0 → LacksReply version skipped held
+lacks_none version skipped held e z = (z, subst (IsNext version None skipped) (sym e) (none_in_none version skipped))
 
 -- one byte past the limit
-pub is_past : (b c : Holding) (byte : ℕ) (l m : Option (List ℕ)) → Moves (byte ∷ []) b c l m → came b ≡ most_stream_bytes → IsNext None b.held → IsPast c.at c.held
+pub is_past : (b c : Holding) (byte : ℕ) (l m : Option (List ℕ)) → Moves (byte ∷ []) b c l m → came b ≡ most_stream_bytes → LacksReply b.version b.skipped b.held → IsPast c.version c.at c.skipped c.held
 is_past b c byte l m q e n =
     let i = q.held in
-    subst (λ h. IsPast h.at h.held) (sym i) (record { within = b.held; byte = byte; is = refl; limit = e; none = n })
+    subst (λ h. IsPast h.version h.at h.skipped h.held) (sym i) (record { within = b.held; byte = byte; is = refl; limit = e; none = n })
 
 left_behind : (xs ys : List ℕ) → 0 < length ys → IsLeft (xs ++ ys)
 left_behind [] [] n = absurd (omega (arith, n))
@@ -95,16 +108,31 @@ one_past old new (x ∷ []) left after before now room b r z some one h w t =
     (b, omega (arith, r, z, v, l), (x, record { held = h; gone = t }))
 one_past old new (x ∷ y ∷ ys) left after before now room b r z some one h w t = absurd (omega (arith, one))
 
-module _ (once : IsReadOnce is_reply_kind SpellsReply) (back : IsReadBack is_reply_kind SpellsReply IsReply reply_frame) where
-  -- less than a frame is held, and no more can be had
-  pub fetch_lacks : (why : ReplyFault) (a b c : Holding) (l m n : Option (List ℕ)) (x y z : ℕ) → Moved a b l m → x ≤ y → HoldsWithin a b → IsNotYet is_reply_kind b.held → ReadsMore (Err why) b c m n y z → FetchesReply (Err why) a c l n x z
-  fetch_lacks fault.BadReply a b c l m n x y z p i w s h = absurd h
-  fetch_lacks fault.ReadFault a b c l m n x y z p i w s h =
-      let j = h.0 in
-      let r = h.1 in
-      let e : c.held ≡ b.held = ap (λ (k : Holding). k.held) h.2.held ∙ append-nil b.held in
-      (moved_more a b c [] l m n p h.2, omega (arith, i, j), within_still a b c m n w h.2, omega (arith, i, r), subst (IsNext None) (sym e) (none_yet once back b.held s))
-  fetch_lacks fault.TooLong a b c l m n x y z p i w s h =
-      let j = h.0 in
-      (moved_more a b c (h.2.0 ∷ []) l m n p h.2.1, omega (arith, i, j), is_past b c h.2.0 m n h.2.1 h.1 (none_yet once back b.held s))
-  fetch_lacks fault.OutOfMemory a b c l m n x y z p i w s h = tt
+-- less than a frame is held, and no more can be had
+lacks : (why : ReplyFault) (a b c : Holding) (l m n : Option (List ℕ)) (x y z : ℕ) → IsReadOnce (is_reply_head b.version) (SpellsPayload b.version) → Moved a b l m → x ≤ y → HoldsWithin a b
+    → IsAmong b → IsNotYet (is_reply_head b.version) b.held → ReadsMore (Err why) b c m n y z → FetchesReply (Err why) a c l n x z
+lacks fault.BadReply a b c l m n x y z once p i w g s h = absurd h
+lacks fault.ReadFault a b c l m n x y z once p i w g s h =
+    let j = h.0 in
+    let r = h.1 in
+    let k = none_yet b.version once b.skipped b.held s in (
+      moved_more a b c [] l m n p h.2,
+      omega (arith, i, j),
+      within_still a b c m n w h.2,
+      omega (arith, i, r),
+      subst (λ (v : Holding). LacksReply v.version v.skipped v.held) (sym (none_more b c m n h.2)) (among_none b g k, k),
+    )
+lacks fault.TooLong a b c l m n x y z once p i w g s h =
+    let j = h.0 in
+    let k = none_yet b.version once b.skipped b.held s in
+    (moved_more a b c (h.2.0 ∷ []) l m n p h.2.1, omega (arith, i, j), is_past b c h.2.0 m n h.2.1 h.1 (among_none b g k, k))
+lacks fault.OutOfMemory a b c l m n x y z once p i w g s h = h ∙ p.version
+
+pub fetch_lacks : (why : ReplyFault) (a b k c : Holding) (l m n : Option (List ℕ)) (x y z : ℕ) → k ≡ b → IsReadOnce (is_reply_head b.version) (SpellsPayload b.version) → Moved a b l m → x ≤ y → HoldsWithin a b
+    → IsAmong b → IsNotYet (is_reply_head b.version) b.held → ReadsMore (Err why) k c m n y z → FetchesReply (Err why) a c l n x z
+fetch_lacks why a b k c l m n x y z e once p i w g s h = lacks why a b c l m n x y z once p i w g s (subst (λ (v : Holding). ReadsMore (Err why) v c m n y z) e h)
+
+-- what is held is refused
+pub fetch_bad : (a b k : Holding) (l m : Option (List ℕ)) (x y : ℕ) → k ≡ b → IsReadOnce (is_reply_head b.version) (SpellsPayload b.version) → Moved a b l m → x ≤ y → HoldsWithin a b
+    → IsRefused (is_reply_head b.version) (SpellsPayload b.version) b.held → FetchesReply (Err fault.BadReply) a k l m x y
+fetch_bad a b k l m x y e once p i w h = subst (λ (v : Holding). FetchesReply (Err fault.BadReply) a v l m x y) (sym e) (p, i, w, none_coming b.version once b.skipped b.held m h)

@@ -23,6 +23,9 @@ unstarted steps lent = (
   nothing,
   record {
     sessions = nobody;
+    version = lent.version;
+    at = 0;
+    skipped = 0;
     held = [];
     taken = 0;
     out = [];
@@ -33,7 +36,7 @@ unstarted steps lent = (
     entropy_after = [];
     vault_after = [];
     wire_after = [];
-    leads = breaks_between _ _ _ _ (stay (talk steps nobody) (outside [] [] [] [] nothing [] 0 lent));
+    leads = breaks_between _ _ _ _ (stay (talk steps nobody) (outside [] [] [] [] nothing lent.version 0 0 [] 0 lent));
     read = tt;
   },
 )

@@ -1,6 +1,7 @@
 -- How driving a script ends, in words of what it was lent.
 use Rattle.std.specs.Prelude.{◌≡◌, ℕ, List, [], Option, Some, None, Result, Ok, Err, true, false, IfOk, IfSome}
 use Rattle.std.specs.Borrow.{GName}
+use Rattle.ae_base.specs.declared.frames.FrameVersion.{FrameVersion}
 use Rattle.ae_edge.specs.Vaults.{KeyMap}
 use Rattle.conversation.specs.declared.sessions.Session.{Session}
 use Rattle.conversation.specs.Sessions.{nobody}
@@ -16,9 +17,10 @@ use Rattle.plain_meaning.specs.Steps.{talk}
 use Rattle.script_run.specs.declared.runs.Ran.{Ran}
 use Rattle.script_run.specs.declared.runs.Ran.TheVariants as ran
 
--- what is told of all that driving is lent: text and tap, the random bytes to come, the keys, the replies that are left, and the counts of
--- faults
+-- the version of the frames, and what is told of all that driving is lent: text and tap, the random bytes to come, the keys, the replies
+-- that are left, and the counts of faults
 pub record DriveDevices : Type 0 where
+  pub version : FrameVersion
   pub out : Option (List ℕ)
   pub tap : Option (List ℕ)
   pub entropy : Option (List ℕ)
@@ -30,10 +32,10 @@ pub record DriveDevices : Type 0 where
   pub vault_faults : ℕ
   pub reply_faults : ℕ
 
--- with the names of what is lent, and what is kept: what was counted, the bytes of replies that are held, and how many bytes those have
--- that were taken
-abbrev pub outside : List GName → List GName → List GName → List (List GName) → Tally → List ℕ → ℕ → DriveDevices → Outside
-outside out_names entropy_names vault_names wire_names tally held taken l = record {
+-- with the names of what is lent, and what is kept: what was counted, and of the replies the version of their frames, the place of the one
+-- that stands first, how many of its replies were taken, the bytes that are held from there on, and how many replies were taken in all
+abbrev pub outside : List GName → List GName → List GName → List (List GName) → Tally → FrameVersion → (at skipped : ℕ) → List ℕ → (taken : ℕ) → DriveDevices → Outside
+outside out_names entropy_names vault_names wire_names tally version at skipped held taken l = record {
   client = record {
     out_names = out_names;
     entropy_names = entropy_names;
@@ -51,8 +53,10 @@ outside out_names entropy_names vault_names wire_names tally held taken l = reco
     tap = l.tap;
     log = None;
     state = None;
+    version = version;
     waiting = [];
-    stream = Some (record { held = held; left = l.replies; faults = l.reply_faults });
+    behind = 0;
+    stream = Some (record { at = at; skipped = skipped; held = held; left = l.replies; faults = l.reply_faults });
     taken = taken;
     faults = l.tap_faults;
   };
@@ -61,6 +65,9 @@ outside out_names entropy_names vault_names wire_names tally held taken l = reco
 -- from 64 idle sessions the script's conversation was followed to its end, with all replies read, or stopped
 pub record CameTo (ended : Result (Unit {0}) Stop) (tally : Tally) (steps : List Step) (old new : DriveDevices) : Type 0 where
   pub sessions : List Session
+  pub version : FrameVersion
+  pub at : ℕ
+  pub skipped : ℕ
   pub held : List ℕ
   pub taken : ℕ
   pub out : List GName
@@ -71,7 +78,7 @@ pub record CameTo (ended : Result (Unit {0}) Stop) (tally : Tally) (steps : List
   pub entropy_after : List GName
   pub vault_after : List GName
   pub wire_after : List (List GName)
-  pub leads : Advances ended (talk steps nobody) (λ o. talks.Ends sessions) (outside out entropy vault wire nothing [] 0 old) (outside out_after entropy_after vault_after wire_after tally held taken new)
+  pub leads : Advances ended (talk steps nobody) (λ o. talks.Ends sessions) (outside out entropy vault wire nothing old.version 0 0 [] 0 old) (outside out_after entropy_after vault_after wire_after tally version at skipped held taken new)
   pub read : IfOk ended (λ o. (held ≡ []) × IfSome new.replies (λ left. left ≡ []))
 
 -- what driving these steps leaves, by how it ended

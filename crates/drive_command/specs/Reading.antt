@@ -3,11 +3,11 @@ use Rattle.std.specs.Prelude.{◌≡◌, ℕ, ◌≤◌, ◌<◌, List, [], ◌�
 use Rattle.ae_edge.specs.Devices.{Rose, Removes, WhereTold}
 use Rattle.std.specs.Borrow.{GName}
 use Rattle.wire_messages.specs.declared.replies.Reply.{Reply}
-use Rattle.run_effects.specs.Shares.{Begins, IsNext, Wire, coming_behind}
-use Rattle.run_effects.specs.Ways.{IsLeft, IsPast, most_stream_bytes}
+use Rattle.run_effects.specs.Shares.{IsNext, Wire, coming_behind}
+use Rattle.run_effects.specs.Ways.{IsLeft, IsPast, LacksReply, most_stream_bytes}
 use Rattle.script_run.specs.declared.connection.ReplyFault.{ReplyFault}
 use Rattle.script_run.specs.declared.connection.ReplyFault.TheVariants as fault
-use Rattle.drive_command.specs.Holding.{Holding, came, held_more}
+use Rattle.drive_command.specs.Holding.{Holding, IsFirstIn, came, held_more}
 
 -- a piece is held that was left, or nothing changes
 pub record Moves (piece : List ℕ) (old new : Holding) (left after : Option (List ℕ)) : Type 0 where
@@ -25,13 +25,16 @@ ReadsMore (Ok false) old new left after before now = (before ≤ now) × (new �
 ReadsMore (Err fault.BadReply) old new left after before now = ⊥
 ReadsMore (Err fault.ReadFault) old new left after before now = (before ≤ now) × Rose before now × Moves [] old new left after
 ReadsMore (Err fault.TooLong) old new left after before now = (before ≤ now) × (came old ≡ most_stream_bytes) × ((byte : ℕ) × Moves (byte ∷ []) old new left after)
-ReadsMore (Err fault.OutOfMemory) old new left after before now = Unit {0}
+ReadsMore (Err fault.OutOfMemory) old new left after before now = new.version ≡ old.version
 
 -- ---- a reply, or that none is left
 
--- bytes may have come, of which none was lost
-abbrev pub Moved : Holding → Holding → Option (List ℕ) → Option (List ℕ) → Type 0
-Moved old new left after = (new.at ≡ old.at) × WhereTold (λ a b. b ≡ a) (coming_behind old.held left) (coming_behind new.held after)
+-- bytes may have come, of which none was lost, and no reply was taken
+pub record Moved (old new : Holding) (left after : Option (List ℕ)) : Type 0 where
+  pub version : new.version ≡ old.version
+  pub at : new.at ≡ old.at
+  pub skipped : new.skipped ≡ old.skipped
+  pub comes : WhereTold (λ a b. b ≡ a) (coming_behind old.held left) (coming_behind new.held after)
 
 -- they stay within their limit
 abbrev pub HoldsWithin : Holding → Holding → Type 0
@@ -39,31 +42,33 @@ HoldsWithin old new = came old ≤ most_stream_bytes → came new ≤ most_strea
 
 -- a reply stands first, or none does, by its cause
 abbrev pub FetchesReply : Result (Unit {0}) ReplyFault → Holding → Holding → (left after : Option (List ℕ)) → (before now : ℕ) → Type 0
-FetchesReply (Ok o) old new left after before now = Moved old new left after × (before ≤ now) × HoldsWithin old new × ((reply : Reply) × Begins reply new.held)
-FetchesReply (Err fault.BadReply) old new left after before now = Moved old new left after × (before ≤ now) × HoldsWithin old new × IfSome (coming_behind new.held after) (IsNext None)
-FetchesReply (Err fault.ReadFault) old new left after before now = Moved old new left after × (before ≤ now) × HoldsWithin old new × Rose before now × IsNext None new.held
-FetchesReply (Err fault.TooLong) old new left after before now = Moved old new left after × (before ≤ now) × IsPast new.at new.held
-FetchesReply (Err fault.OutOfMemory) old new left after before now = Unit {0}
+FetchesReply (Ok o) old new left after before now = Moved old new left after × (before ≤ now) × HoldsWithin old new × ((reply : Reply) × IsFirstIn reply new)
+FetchesReply (Err fault.BadReply) old new left after before now = Moved old new left after × (before ≤ now) × HoldsWithin old new × IfSome (coming_behind new.held after) (IsNext new.version None new.skipped)
+FetchesReply (Err fault.ReadFault) old new left after before now = Moved old new left after × (before ≤ now) × HoldsWithin old new × Rose before now × LacksReply new.version new.skipped new.held
+FetchesReply (Err fault.TooLong) old new left after before now = Moved old new left after × (before ≤ now) × IsPast new.version new.at new.skipped new.held
+FetchesReply (Err fault.OutOfMemory) old new left after before now = new.version ≡ old.version
 
 -- nothing is left, or something is, or that can't be known
 abbrev pub FinishesReplies : Result (Unit {0}) ReplyFault → Holding → Holding → (left after : Option (List ℕ)) → (before now : ℕ) → Type 0
 FinishesReplies (Ok o) old new left after before now = Moved old new left after × (before ≤ now) × HoldsWithin old new × (new.held ≡ []) × IfSome after (λ bytes. bytes ≡ [])
 FinishesReplies (Err fault.BadReply) old new left after before now = Moved old new left after × (before ≤ now) × HoldsWithin old new × IsLeft new.held
-FinishesReplies (Err fault.ReadFault) old new left after before now = Moved old new left after × (before ≤ now) × HoldsWithin old new × Rose before now × IsNext None new.held
-FinishesReplies (Err fault.TooLong) old new left after before now = Moved old new left after × (before ≤ now) × IsPast new.at new.held
-FinishesReplies (Err fault.OutOfMemory) old new left after before now = Unit {0}
+FinishesReplies (Err fault.ReadFault) old new left after before now = Moved old new left after × (before ≤ now) × HoldsWithin old new × Rose before now × LacksReply new.version new.skipped new.held
+FinishesReplies (Err fault.TooLong) old new left after before now = Moved old new left after × (before ≤ now) × IsPast new.version new.at new.skipped new.held
+FinishesReplies (Err fault.OutOfMemory) old new left after before now = new.version ≡ old.version
 
 -- ---- the wire
 
--- a stream of replies behind a tap
-abbrev pub wire_of : List GName → List GName → Option (List ℕ) → ℕ → Option (List ℕ) → ℕ → Holding → Wire
-wire_of tap_names source_names tap tap_faults left read_faults holding = record {
+-- a stream of replies behind a tap, and how many of them were taken
+abbrev pub wire_of : List GName → List GName → Option (List ℕ) → ℕ → Option (List ℕ) → ℕ → ℕ → Holding → Wire
+wire_of tap_names source_names tap tap_faults left read_faults taken h = record {
   names = tap_names ∷ source_names ∷ [];
   tap = tap;
   log = None;
   state = None;
+  version = h.version;
   waiting = [];
-  stream = Some (record { held = holding.held; left = left; faults = read_faults });
-  taken = holding.at;
+  behind = 0;
+  stream = Some (record { at = h.at; skipped = h.skipped; held = h.held; left = left; faults = read_faults });
+  taken = taken;
   faults = tap_faults;
 }

@@ -11,6 +11,7 @@ ghost use Rattle.drive_command.specs.DriveOf.{IsDriveOf};
 ghost use Rattle.drive_command.specs.Ends.{DrivesScript};
 
 use crate::drives::drive_over;
+use ae_base::frames::FrameVersion;
 use ae_edge::entropies::Entropy;
 use ae_edge::sinks::Sink;
 use ae_edge::sources::Source;
@@ -19,7 +20,7 @@ use conversation::laws::path_is_driven;
 use script_run::runs::Ran;
 use script_source::read_steps;
 use std::alloc::Global;
-use wire_frames::{frames_are_read_back, one_reading, streams_are_read_once};
+use wire_frames::{one_reading, streams_are_read_once};
 
 /// Reads a script and drives it.
 fn drive_source<S: Source, V: Vault, E: Entropy, L: Source, W: Sink, T: Sink>(
@@ -30,10 +31,12 @@ fn drive_source<S: Source, V: Vault, E: Entropy, L: Source, W: Sink, T: Sink>(
     replies: &mut L,
     out: &mut W,
     tap: &mut T,
+    version: FrameVersion,
 ) -> Ran
     ensures content { (bytes : List ℕ) × IfSome (S.left script.old) (λ left. bytes ≡ left)
         × DrivesScript result bytes
         (record {
+          version = version;
           out = W.held out.old;
           tap = T.held tap.old;
           entropy = E.to_come entropy.old;
@@ -46,6 +49,7 @@ fn drive_source<S: Source, V: Vault, E: Entropy, L: Source, W: Sink, T: Sink>(
           reply_faults = L.faults replies.old;
         })
         (record {
+          version = version;
           out = W.held out.new;
           tap = T.held tap.new;
           entropy = E.to_come entropy.new;
@@ -71,19 +75,30 @@ fn drive_source<S: Source, V: Vault, E: Entropy, L: Source, W: Sink, T: Sink>(
         → Rose (V.faults vault.old) (V.faults vault.new) }
 {
     match read_steps(alloc, script) {
-        Ok(steps) => drive_over(alloc, steps.as_slice(), vault, entropy, replies, out, tap),
+        Ok(steps) => drive_over(
+            alloc,
+            steps.as_slice(),
+            vault,
+            entropy,
+            replies,
+            out,
+            tap,
+            version,
+        ),
         Err(why) => Ran::Unread(why),
     }
 }
 
 /// Reads a script to its end and runs its steps against recorded replies, which come as the bytes of
-/// their frames: the frame of each request goes to `tap`, and the text to `out`, a step's frames
-/// before its text. After the last step the replies are read to their end. A script that can't be
+/// their frames in a version: the frame of each request goes to `tap` in that version, and the text to
+/// `out`, a step's frames before its text. The rows that share a frame come one by one, each with the
+/// place of the frame. After the last step the replies are read to their end. A script that can't be
 /// read, has a bad line or is too long leaves everything as it was.
 ///
-/// It stops with `BadReply` and the place of the byte where a reply isn't awaited, where none comes,
-/// and where bytes are left after the last step; with `TooLong` where more than 1,073,741,824 bytes
-/// of replies were taken; with `ReadFault` where they couldn't be read.
+/// It stops with `BadReply` and the place of the frame whose reply isn't awaited, of the byte where no
+/// frame of the version comes, and of the first byte that is left after the last step; with `TooLong`
+/// where more than 1,073,741,824 bytes of replies were taken; with `ReadFault` where they couldn't be
+/// read.
 pub fn drive<S: Source, V: Vault, E: Entropy, L: Source, W: Sink, T: Sink>(
     alloc: Global,
     script: &mut S,
@@ -92,6 +107,7 @@ pub fn drive<S: Source, V: Vault, E: Entropy, L: Source, W: Sink, T: Sink>(
     replies: &mut L,
     out: &mut W,
     tap: &mut T,
+    version: FrameVersion,
 ) -> Ran
     // There are bytes, the script's where it tells them, of which this is what driving comes to. Over
     // any replies: how far its conversation was followed, what stands at the text, at the tap and at
@@ -99,12 +115,13 @@ pub fn drive<S: Source, V: Vault, E: Entropy, L: Source, W: Sink, T: Sink>(
     // replies that tell their bytes, with keys that are told: the text and the tap are those of what
     // is driven over the replies that these bytes spell, with the random bytes that were drawn. It
     // goes to the end, with every reply taken and no byte left; or to a bad reply, whose place is that
-    // of its first byte, or where none comes or bytes are left. Where the replies can't be read or
+    // of its frame, or where none comes or bytes are left. Where the replies can't be read or
     // are past their limit, it is so over those that were taken; where a device fails or memory ends,
     // fronts stand (`exact`).
     ensures drive { (bytes : List ℕ) × IfSome (S.left script.old) (λ left. bytes ≡ left)
         × IsDriveOf result bytes
         (record {
+          version = version;
           out = W.held out.old;
           tap = T.held tap.old;
           entropy = E.to_come entropy.old;
@@ -117,6 +134,7 @@ pub fn drive<S: Source, V: Vault, E: Entropy, L: Source, W: Sink, T: Sink>(
           reply_faults = L.faults replies.old;
         })
         (record {
+          version = version;
           out = W.held out.new;
           tap = T.held tap.new;
           entropy = E.to_come entropy.new;
@@ -145,7 +163,6 @@ pub fn drive<S: Source, V: Vault, E: Entropy, L: Source, W: Sink, T: Sink>(
 {
     one_reading();
     streams_are_read_once();
-    frames_are_read_back();
     path_is_driven();
-    drive_source(alloc, script, vault, entropy, replies, out, tap)
+    drive_source(alloc, script, vault, entropy, replies, out, tap, version)
 }

@@ -1,19 +1,24 @@
-//! The bytes of replies that came and weren't taken.
+//! The bytes of replies that came and weren't let go.
 
-ghost use Rattle.std.specs.Prelude.{◌≡◌, ◌≤◌, ◌<◌, ◌+◌, ◌-◌, ◌^◌, [], false, true, OnOk, IfOk, length};
+ghost use Rattle.std.specs.Prelude.{◌≡◌, ◌≤◌, ◌+◌, ◌-◌, [], false, true, OnErr, OnOk, IfOk, length, map};
+ghost use Rattle.ae_base.specs.declared.frames.FrameVersion.{FrameVersion};
 ghost use Rattle.wire_messages.specs.declared.replies.Reply.{Reply};
-ghost use Rattle.wire_spelling.specs.Spelling.{reply_frame};
-ghost use Rattle.run_effects.specs.Shares.{Begins};
+ghost use Rattle.wire_messages.specs.declared.replies.Reply.TheVariants.{Row};
+ghost use Rattle.wire_frames.specs.declared.decoding.Way.TheVariants.{ToDriver};
+ghost use Rattle.wire_spelling.specs.Packing.{payload_frame};
 ghost use Rattle.run_effects.specs.Ways.{most_stream_bytes};
-ghost use Rattle.script_run.specs.Connections.{reply_of};
-ghost use Rattle.drive_command.specs.Holding.{IsReadFront, StandsSo, IsBehind, came, held_more, held_none, kind_of};
+ghost use Rattle.script_run.specs.Connections.{bytes_gone, reply_of};
+ghost use Rattle.drive_command.specs.Holding.{GoesWith, IsAmong, IsFirstIn, IsReadFront, Opens, StandsSo, came, held_behind, held_more, held_none, shared};
 
+use ae_base::frames::FrameVersion;
 use ae_base::limits::MOST_STREAM_BYTES;
 use frame_feed::{FrameFeed, Message, Next};
 use script_run::connection::{Front, LentReply};
 use std::alloc::{AllocError, Global};
 use std::marker::Model;
 use wire_frames::Way;
+use wire_messages::replies::{Reply, RowParts};
+use wire_payloads::payloads::Payload;
 
 /// The most bytes that the replies have.
 pub const MOST_REPLY_BYTES: u64 = MOST_STREAM_BYTES as u64;
@@ -25,46 +30,99 @@ pub enum Stands {
     Reply,
     /// Less than a frame, or nothing.
     NotYet,
-    /// What no reply begins with.
+    /// What no frame begins with.
     Bad,
-    /// A frame for whose reply no memory is left.
+    /// A frame for whose replies no memory is left.
     OutOfMemory,
 }
 
-fn kind_of(next: &Next<'_>) -> Stands
-    ensures { result ≡ kind_of next.now }
+/// What a feed has next.
+#[derive(Drop)]
+pub enum Opened {
+    /// A frame, copies of the rows that share it, and how many bytes it has.
+    Frame {
+        rows: Vec<Reply<'static>>,
+        used: usize,
+    },
+    NotYet,
+    Bad,
+    OutOfMemory,
+}
+
+/// Rows as replies that borrow nothing.
+fn row_replies(alloc: Global, rows: &[RowParts<'_>]) -> Result<Vec<Reply<'static>>, AllocError>
+    ensures { IfOk result (λ replies. replies.items ≡ map Row rows.now) }
 {
-    match next {
-        Next::One { .. } => Stands::Reply,
-        Next::NotYet => Stands::NotYet,
-        Next::Bad { .. } => Stands::Bad,
-        Next::OutOfMemory => Stands::OutOfMemory,
+    let mut replies = Vec::new(alloc);
+    for row in rows {
+        replies.push(Reply::Row(row.to_own(alloc)?))?;
+    }
+    Ok(replies)
+}
+
+/// Copies of the rows that share a frame; a reply that has one of its own is left there.
+fn shared(alloc: Global, message: &Message<'_>) -> Result<Vec<Reply<'static>>, AllocError>
+    ensures { IfOk result (λ replies. replies.items ≡ shared message.now) }
+{
+    match message {
+        Message::Tells(Payload::Rows(batch)) => row_replies(alloc, batch.rows()),
+        Message::Tells(Payload::One(_)) => Ok(Vec::new(alloc)),
+        Message::Asks(_) => Ok(Vec::new(alloc)),
     }
 }
 
-/// A reply that was read, and the place behind its frame.
-fn read_front(message: Message<'_>, behind: u64) -> Result<Front<'_>, AllocError>
-    ensures { IsReadFront result message.entry behind }
+/// Opens the frame that stands next.
+fn open(alloc: Global, feed: &FrameFeed) -> Opened
+    ensures { (version : FrameVersion) → feed.now.way ≡ ToDriver version
+        → Opens version result feed.now.held }
+{
+    match feed.front(alloc) {
+        Next::One { used, message, .. } => {
+            let shared = shared(alloc, &message);
+            drop(message);
+            match shared {
+                Ok(rows) => Opened::Frame { rows, used },
+                Err(_) => Opened::OutOfMemory,
+            }
+        }
+        Next::NotYet => Opened::NotYet,
+        Next::Bad { .. } => Opened::Bad,
+        Next::OutOfMemory => Opened::OutOfMemory,
+    }
+}
+
+/// A reply that was read by itself, and the bytes of its frame.
+fn read_front(message: Message<'_>, used: usize) -> Result<Front<'_>, AllocError>
+    ensures { IsReadFront result message.entry used }
 {
     match message {
-        Message::Tells(reply) => Ok(Front {
+        Message::Tells(Payload::One(reply)) => Ok(Front {
             reply: LentReply::Read(reply),
-            behind,
+            used,
         }),
-        Message::Asks(request) => {
-            drop(request);
+        Message::Tells(Payload::Rows(rows)) => {
+            drop(rows);
+            Err(AllocError)
+        }
+        Message::Asks(asked) => {
+            drop(asked);
             Err(AllocError)
         }
     }
 }
 
-/// The bytes of replies that came and weren't taken. Contracts see the place of the first of them,
-/// and the bytes.
+/// The bytes of replies that came and weren't let go. Where a frame of rows stands first and was
+/// opened, copies of its rows are kept until the last is taken. Contracts see the version of the
+/// frames, the place of the one that stands first, how many of its replies were taken, and the bytes.
 #[derive(Drop)]
 pub struct Holding {
+    version: FrameVersion,
     feed: FrameFeed,
     at: u64,
     came: u64,
+    rows: Vec<Reply<'static>>,
+    used: usize,
+    skipped: usize,
 }
 
 impl Model for Holding {
@@ -75,22 +133,42 @@ impl Model for Holding {
 
     ghost Value = { holding.Holding };
 
-    ghost view = { λ h. record { at = h.at; held = h.feed.held } };
+    ghost view = { λ h. record {
+      version = h.version;
+      at = h.at;
+      skipped = h.skipped;
+      held = h.feed.held;
+    } };
 
-    ghost invariant = { λ h. (h.feed.way ≡ ToDriver) × (h.feed.failed ≡ false) × (h.feed.at ≡ h.at)
-        × (h.came ≡ h.at + length h.feed.held) × (h.came ≤ most_stream_bytes + 1) };
+    ghost invariant = { λ h. (h.feed.way ≡ ToDriver h.version) × (h.feed.failed ≡ false)
+        × (h.feed.at ≡ h.at) × (h.came ≡ h.at + length h.feed.held)
+        × (h.came ≤ most_stream_bytes + 1)
+        × holding.IsOpened h.version h.rows.items h.used h.feed.held
+        × holding.IsAmong
+        (record { version = h.version; at = h.at; skipped = h.skipped; held = h.feed.held }) };
 }
 
 impl Holding {
     /// No bytes. It takes no memory.
-    pub fn new(alloc: Global) -> Holding
-        ensures { result ≡ held_none }
+    pub fn new(alloc: Global, version: FrameVersion) -> Holding
+        ensures { result ≡ held_none version }
     {
         Holding {
-            feed: FrameFeed::new(alloc, Way::ToDriver),
+            version,
+            feed: FrameFeed::new(alloc, Way::ToDriver(version)),
             at: 0,
             came: 0,
+            rows: Vec::new(alloc),
+            used: 0,
+            skipped: 0,
         }
+    }
+
+    /// The version of the frames.
+    pub fn version(&self) -> FrameVersion
+        ensures { result ≡ self.now.version }
+    {
+        self.version
     }
 
     /// How many bytes may come yet, within the limit.
@@ -104,6 +182,7 @@ impl Holding {
     /// memory nothing changes.
     pub fn push(&mut self, piece: &[u8]) -> Result<(), AllocError>
         ensures pushed { OnOk result (self.new ≡ held_more self.old piece.now) }
+        ensures kept { OnErr result (self.new ≡ self.old) }
         ensures within { OnOk result (came self.new ≤ most_stream_bytes + 1) }
     {
         if piece.len() as u64 > MOST_REPLY_BYTES + 1 - self.came {
@@ -120,54 +199,87 @@ impl Holding {
 
     /// Whether nothing is held.
     pub fn is_empty(&self) -> bool
-        ensures held { result ≡ true → self.now.held ≡ [] }
+        ensures held { result ≡ true → (self.now.held ≡ []) × (self.now.skipped ≡ 0) }
         ensures left { result ≡ false → 1 ≤ length self.now.held }
     {
         self.feed.finish().is_none()
     }
 
-    /// What stands first.
-    pub fn stands(&self, alloc: Global) -> Stands
-        ensures { StandsSo result self.now.held }
+    /// What stands first. Where that is a frame of rows, it is opened, and its rows are lent from then
+    /// on.
+    pub fn stands(&mut self, alloc: Global) -> Stands
+        ensures same { self.new ≡ self.old }
+        ensures stands { StandsSo result self.old }
+        ensures among { IsAmong self.old }
     {
-        let next = self.feed.front(alloc);
-        let stands = kind_of(&next);
-        drop(next);
-        stands
+        if !self.rows.is_empty() {
+            return Stands::Reply;
+        }
+        match open(alloc, &self.feed) {
+            Opened::Frame { rows, used } => {
+                self.rows = rows;
+                self.used = used;
+                Stands::Reply
+            }
+            Opened::NotYet => Stands::NotYet,
+            Opened::Bad => Stands::Bad,
+            Opened::OutOfMemory => Stands::OutOfMemory,
+        }
     }
 
-    /// The reply that stands first. It borrows from the bytes.
-    pub fn front(&self, alloc: Global) -> Result<Front<'_>, AllocError>
-        requires { (reply : Reply) × Begins reply self.now.held }
-        ensures { IfOk result (λ front. Begins (reply_of front.reply) self.now.held
-            × (front.behind ≡ self.now.at + length (reply_frame (reply_of front.reply)))
-            × (front.behind < 2 ^ 64)) }
+    /// The reply that has the frame that stands first. It borrows from the bytes.
+    fn read(&self, alloc: Global) -> Result<Front<'_>, AllocError>
+        ensures { IfOk result (λ front. GoesWith front.used (reply_of front.reply) self.now) }
     {
+        if self.skipped > 0 {
+            return Err(AllocError);
+        }
         match self.feed.front(alloc) {
-            Next::One {
-                place,
-                used,
-                message,
-            } => read_front(message, place + used as u64),
+            Next::One { used, message, .. } => read_front(message, used),
             Next::NotYet | Next::Bad { .. } | Next::OutOfMemory => Err(AllocError),
         }
     }
 
-    /// The place of the first byte.
+    /// The reply that stands first, where the frame of it was opened.
+    pub fn front(&self, alloc: Global) -> Result<Front<'_>, AllocError>
+        ensures { IfOk result (λ front. GoesWith front.used (reply_of front.reply) self.now) }
+    {
+        let Some(reply) = self.rows.get(self.skipped) else {
+            return self.read(alloc);
+        };
+        let used = if self.skipped + 1 == self.rows.len() {
+            self.used
+        } else {
+            0
+        };
+        Ok(Front {
+            reply: LentReply::Kept(reply),
+            used,
+        })
+    }
+
+    /// The place of the frame that stands first.
     pub fn place(&self) -> u64
         ensures { result ≡ self.now.at }
     {
         self.at
     }
 
-    /// Takes the reply that stands first; `behind` is the place behind its frame.
-    pub fn take(&mut self, behind: u64)
-        requires { IsBehind behind self.old }
-        ensures { (reply : Reply) → (b : Begins reply self.old.held)
-            → behind ≡ self.old.at + length (reply_frame reply)
-            → self.new ≡ record { at = behind; held = b.rest } }
+    /// Takes the reply that stands first; so many bytes go with it.
+    pub fn take(&mut self, used: usize)
+        requires { (reply : Reply) × GoesWith used reply self.old }
+        ensures { (reply : Reply) → (b : IsFirstIn reply self.old)
+            → used ≡ bytes_gone (payload_frame self.old.version b.payload) b.more
+            → self.new
+            ≡ held_behind self.old (payload_frame self.old.version b.payload) b.more b.rest }
     {
-        self.feed.advance((behind - self.at) as usize);
-        self.at = behind;
+        if used == 0 {
+            self.skipped += 1;
+            return;
+        }
+        self.rows.clear();
+        self.skipped = 0;
+        self.feed.advance(used);
+        self.at += used as u64;
     }
 }

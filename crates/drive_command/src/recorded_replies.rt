@@ -10,7 +10,7 @@ use ae_edge::streams::PutAll;
 use script_run::connection::{Connection, Front, ReplyFault, Sent};
 use script_run::peer_connection::put_request;
 use std::alloc::{AllocError, Global};
-use wire_frames::{frames_are_read_back, streams_are_read_once};
+use wire_frames::streams_are_read_once;
 use wire_messages::requests::Request;
 
 /// The most bytes that are taken at once.
@@ -22,6 +22,8 @@ pub struct RecordedReplies<'a, T: Sink, L: Source> {
     pub tap: T,
     pub source: L,
     pub holding: &'a mut Holding,
+    /// How many replies were taken.
+    pub taken: u64,
 }
 
 /// Takes the next piece of the stream: whether there is one. Only where the limit is reached is a
@@ -60,7 +62,6 @@ fn fetch_reply<L: Source>(
     ensures same { L.names source.new ≡ L.names source.old }
 {
     streams_are_read_once();
-    frames_are_read_back();
     'pieces: loop {
         match holding.stands(alloc) {
             Stands::Reply => return Ok(()),
@@ -100,11 +101,11 @@ impl<T: Sink, L: Source> Connection for RecordedReplies<'_, T, L> {
     ghost use Rattle.drive_command.specs.Reading.{wire_of};
 
     ghost wire = { λ l. wire_of (T.names l.tap) (L.names l.source) (T.held l.tap) (T.faults l.tap)
-        (L.left l.source) (L.faults l.source) l.holding.now };
+        (L.left l.source) (L.faults l.source) l.taken l.holding.now };
 
     fn ask(&mut self, alloc: Global, request: &Request<'_>) -> Sent {
         let mut frame = Vec::new(alloc);
-        match put_request(&mut frame, &mut self.tap, request) {
+        match put_request(&mut frame, &mut self.tap, self.holding.version(), request) {
             PutAll::Whole => Sent::Whole,
             PutAll::WriteFault => Sent::WriteFault,
             PutAll::OutOfMemory => Sent::OutOfMemory,
@@ -116,6 +117,9 @@ impl<T: Sink, L: Source> Connection for RecordedReplies<'_, T, L> {
     }
 
     fn front(&self, alloc: Global) -> Result<Front<'_>, AllocError> {
+        if self.taken == u64::MAX {
+            return Err(AllocError);
+        }
         self.holding.front(alloc)
     }
 
@@ -123,8 +127,9 @@ impl<T: Sink, L: Source> Connection for RecordedReplies<'_, T, L> {
         self.holding.place()
     }
 
-    fn take(&mut self, behind: u64) {
-        self.holding.take(behind);
+    fn take(&mut self, used: usize) {
+        self.holding.take(used);
+        self.taken += 1;
     }
 
     fn finish(&mut self, alloc: Global) -> Result<(), ReplyFault> {

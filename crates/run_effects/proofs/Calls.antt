@@ -2,24 +2,24 @@
 use Rattle.std.proofs.Common.{◌≡◌, ℕ, ◌≤◌, List, [], ◌∷◌, ◌++◌, Option, Some, None, length, refl, sym, ◌∙◌, ap, subst, append-nil, inl, inr, arith}
 use Rattle.std.specs.Prelude.{flat_map, IfSome}
 use Rattle.std.specs.Borrow.{GName}
+use Rattle.ae_base.specs.declared.frames.FrameVersion.{FrameVersion}
 use Rattle.ae_base.specs.declared.keys.KeyMeta.{KeyMeta}
-use Rattle.ae_edge.specs.Devices.{WhereTold, Adds, AddsFront}
+use Rattle.ae_edge.specs.Devices.{Adds, AddsFront}
 use Rattle.ae_edge.specs.Vaults.{KeyMap}
 use Rattle.ae_edge.proofs.Interface.{told_same, adds_none, removes_none}
 use Rattle.wire_messages.specs.declared.requests.Request.{Request}
 use Rattle.wire_messages.specs.declared.replies.Reply.{Reply}
-use Rattle.wire_spelling.specs.Spelling.{reply_frame}
 use Rattle.server_core.specs.Serve.{State}
 use Rattle.conversation.specs.declared.outcomes.Listing.{Listing}
 use Rattle.conversation.specs.declared.outcomes.Outcome.{Outcome}
 use Rattle.conversation.specs.declared.sessions.Session.{Session}
 use Rattle.conversation.specs.Devices.{Devices, AreOwn, HasShare}
 use Rattle.conversation.specs.Devices as own
-use Rattle.conversation.specs.Paths.{Event, Asked, Took, Strayed, Drew, Opened, Printed, Follows, stays, asks, takes_more, takes_last, strays, replies_to, taken_in, Waits, OpensAll, IsStray}
+use Rattle.conversation.specs.Paths.{Event, Asked, Took, Strayed, Drew, Opened, Printed, Follows, stays, asks, takes_more, takes_last, strays, replies_to, taken_in, OpensAll, IsStray}
 use Rattle.conversation.specs.Talk.{Talk, Stops, Asks, Hears, Heard, More, Got, hear, broken}
 use Rattle.outcome_text.specs.Counting.{asked, counted, printed}
 use Rattle.outcome_text.specs.Printing.{printed_outcome}
-use Rattle.run_effects.specs.Shares.{ClientSide, Wire, Outside, AreServed, Stream, Streams, Comes, IsNext, coming, ClientPut, WirePut, WireRead, text_of, frames_of, exchanges_of, devices_of, with_devices}
+use Rattle.run_effects.specs.Shares.{ClientSide, Wire, Outside, AreServed, Queue, Queues, queue_of, Stream, Standing, Streams, Comes, ClientPut, WirePut, WireRead, text_of, frames_of, exchanges_of, devices_of, with_devices}
 use Rattle.run_effects.specs.Ways.{Proceeds, HaltsAt, Breaks, AsksInPart, TakesOne, IsNextOf, IsNextOn, StaysWithin}
 use Rattle.outcome_text.specs.declared.tallies.Tally.{Tally}
 use Rattle.run_effects.proofs.Going.{client_still, comes_still, stay, client_front, wire_front, breaks_between, silent_by}
@@ -40,8 +40,8 @@ of_own P none draws opens (Printed comes ∷ xs) h = absurd h
 no_text : (xs : List Event) → AreOwn xs → flat_map text_of xs ≡ []
 no_text = of_own (λ xs. flat_map text_of xs ≡ []) refl (λ bytes xs h. h) (λ meta key xs h. h)
 
-no_frames : (xs : List Event) → AreOwn xs → flat_map frames_of xs ≡ []
-no_frames = of_own (λ xs. flat_map frames_of xs ≡ []) refl (λ bytes xs h. h) (λ meta key xs h. h)
+no_frames : (version : FrameVersion) (xs : List Event) → AreOwn xs → flat_map (frames_of version) xs ≡ []
+no_frames version = of_own (λ xs. flat_map (frames_of version) xs ≡ []) refl (λ bytes xs h. h) (λ meta key xs h. h)
 
 no_exchanges : (xs : List Event) → AreOwn xs → flat_map exchanges_of xs ≡ []
 no_exchanges = of_own (λ xs. flat_map exchanges_of xs ≡ []) refl (λ bytes xs h. h) (λ meta key xs h. h)
@@ -55,14 +55,14 @@ none_taken = of_own (λ xs. flat_map taken_in xs ≡ []) refl (λ bytes xs h. h)
 own_serves : (xs : List Event) → AreOwn xs → (x : State) → AreServed xs x x
 own_serves = of_own (λ xs. (x : State) → AreServed xs x x) (λ x. refl) (λ bytes xs h. h) (λ meta key xs h. h)
 
-own_waits : (xs : List Event) → AreOwn xs → (x : List Reply) → Waits xs x x
-own_waits = of_own (λ xs. (x : List Reply) → Waits xs x x) (λ x. refl) (λ bytes xs h. h) (λ meta key xs h. h)
+own_queues : (version : FrameVersion) (xs : List Event) → AreOwn xs → (x : Queue) → Queues version xs x x
+own_queues version = of_own (λ xs. (x : Queue) → Queues version xs x x) (λ x. refl) (λ bytes xs h. h) (λ meta key xs h. h)
 
 none_come : (xs : List Event) → AreOwn xs → flat_map replies_to xs ≡ []
 none_come = of_own (λ xs. flat_map replies_to xs ≡ []) refl (λ bytes xs h. h) (λ meta key xs h. h)
 
-own_streams : (xs : List Event) → AreOwn xs → (x : List ℕ) → Streams xs x x
-own_streams = of_own (λ xs. (x : List ℕ) → Streams xs x x) (λ x. refl) (λ bytes xs h. h) (λ meta key xs h. h)
+own_streams : (version : FrameVersion) (xs : List Event) → AreOwn xs → (x : Standing) → Streams version xs x x
+own_streams version = of_own (λ xs. (x : Standing) → Streams version xs x x) (λ x. refl) (λ bytes xs h. h) (λ meta key xs h. h)
 
 added_none : {A : Type 0} (xs : List A) (a : Option (List A)) → xs ≡ [] → Adds xs a a
 added_none xs a e = subst (λ w. Adds w a a) (sym e) (adds_none a)
@@ -87,7 +87,8 @@ own_goes t u old x g = record {
     };
     wire = record {
       names = refl;
-      tap = added_none (flat_map frames_of g.events) old.wire.tap (no_frames g.events g.own);
+      version = refl;
+      tap = added_none (flat_map (frames_of old.wire.version) g.events) old.wire.tap (no_frames old.wire.version g.events g.own);
       log = added_none (flat_map exchanges_of g.events) old.wire.log (no_exchanges g.events g.own);
       state = told_same (AreServed g.events) (own_serves g.events g.own) old.wire.state;
       count = omega arith;
@@ -96,8 +97,9 @@ own_goes t u old x g = record {
   read = record {
     tally = sym (own_uncounted g.events g.own old.client.tally);
     wire = record {
-      comes = comes_still g.events (none_come g.events g.own) (own_waits g.events g.own) (own_streams g.events g.own) old.wire.stream old.wire.waiting;
-      taken = let e : length (flat_map reply_frame (flat_map taken_in g.events)) ≡ 0 = ap (λ w. length (flat_map reply_frame w)) (none_taken g.events g.own) in omega arith;
+      comes =
+          comes_still old.wire.version g.events (none_come g.events g.own) (own_queues old.wire.version g.events g.own) (own_streams old.wire.version g.events g.own) old.wire.stream (queue_of old.wire);
+      taken = let e : length (flat_map taken_in g.events) ≡ 0 = ap length (none_taken g.events g.own) in omega arith;
     };
   };
   limit = λ h. h;
@@ -120,7 +122,7 @@ twice_nil : (xs : List ℕ) → (xs ++ []) ++ [] ≡ xs
 twice_nil xs = append-nil (xs ++ []) ∙ append-nil xs
 
 pub wire_printed : (comes : Outcome) (w : Wire) → WirePut Adds (Printed comes ∷ []) w w
-wire_printed comes w = record { names = refl; tap = adds_none w.tap; log = adds_none w.log; state = told_same (AreServed (Printed comes ∷ [])) (λ x. refl) w.state; count = omega arith }
+wire_printed comes w = record { names = refl; version = refl; tap = adds_none w.tap; log = adds_none w.log; state = told_same (AreServed (Printed comes ∷ [])) (λ x. refl) w.state; count = omega arith }
 
 module _ (comes : Outcome) (d : ClientSide) (out : Option (List ℕ)) (faults : ℕ) (names : List GName) (same : names ≡ d.out_names) (count : d.out_faults ≤ faults) where
   pub client_printed : Adds (printed_outcome comes) d.out out → (tally : Tally) → ClientPut Adds (Printed comes ∷ []) d (record d { out_names = names; out = out; tally = tally; out_faults = faults })
@@ -152,7 +154,7 @@ module _ (comes : Outcome) (d : ClientSide) (out : Option (List ℕ)) (faults : 
   }
 
 pub printed_read : (comes : Outcome) (w : Wire) → WireRead (Printed comes ∷ []) w w
-printed_read comes w = record { comes = comes_still (Printed comes ∷ []) refl (λ x. refl) (λ x. refl) w.stream w.waiting; taken = omega arith }
+printed_read comes w = record { comes = comes_still w.version (Printed comes ∷ []) refl (λ x. refl) (λ x. refl) w.stream (queue_of w); taken = omega arith }
 
 module _ (comes : Outcome) (t u : Talk) (follows : Follows t (Printed comes ∷ []) u) (old : Outside) (out : Option (List ℕ)) (faults : ℕ) (names : List GName)
     (same : names ≡ old.client.out_names) (count : old.client.out_faults ≤ faults) where
@@ -284,13 +286,9 @@ keys_strayed : (next : Option Reply) (keys : Option KeyMap) → IfSome keys (Ope
 keys_strayed next None = tt
 keys_strayed next (Some keys) = tt
 
-streams_strayed : (next : Option Reply) (bytes : Option (List ℕ)) → IfSome bytes (IsNext next) → WhereTold (Streams (Strayed next ∷ [])) bytes bytes
-streams_strayed next None h = tt
-streams_strayed next (Some bytes) h = (h, refl)
-
-comes_strayed : (next : Option Reply) (s : Option Stream) (waiting : List Reply) → IsNextOf next s waiting → Comes (Strayed next ∷ []) s s waiting waiting
-comes_strayed next None waiting h = (h, refl)
-comes_strayed next (Some s) waiting h = (refl, streams_strayed next (coming s) h, omega arith)
+comes_strayed : (version : FrameVersion) (next : Option Reply) (s : Option Stream) (q : Queue) → IsNextOf version next s q.waiting → Comes version (Strayed next ∷ []) s s q q
+comes_strayed version next None q h = (h, refl)
+comes_strayed version next (Some s) q h = (refl, (h, refl), omega arith)
 
 -- the next reply isn't awaited, or none is there
 pub strayed_goes : (session : Session) (shown : Listing) (f : Heard → Talk) (next : Option Reply) (old : Outside)
@@ -311,8 +309,8 @@ strayed_goes session shown f next old s e = record {
       entropy_count = omega arith;
       vault_count = omega arith;
     };
-    wire = record { names = refl; tap = adds_none old.wire.tap; log = adds_none old.wire.log; state = told_same (AreServed (Strayed next ∷ [])) (λ x. refl) old.wire.state; count = omega arith };
+    wire = record { names = refl; version = refl; tap = adds_none old.wire.tap; log = adds_none old.wire.log; state = told_same (AreServed (Strayed next ∷ [])) (λ x. refl) old.wire.state; count = omega arith };
   };
-  read = record { tally = refl; wire = record { comes = comes_strayed next old.wire.stream old.wire.waiting e; taken = omega arith } };
+  read = record { tally = refl; wire = record { comes = comes_strayed old.wire.version next old.wire.stream (queue_of old.wire) e; taken = omega arith } };
   limit = λ h. h;
 }

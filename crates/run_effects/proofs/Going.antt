@@ -2,53 +2,52 @@
 use Rattle.std.proofs.Common.{◌≡◌, ℕ, ◌+◌, ◌≤◌, List, [], ◌∷◌, ◌++◌, Option, Some, None, Result, Ok, Err, length, refl, sym, ◌∙◌, ap, subst, length-append, ◌⊎◌, inl, inr, arith}
 use Rattle.std.specs.Prelude.{flat_map, IfSome}
 use Rattle.std.proofs.lemmas.Grind.{flat_map-append}
+use Rattle.ae_base.specs.declared.frames.FrameVersion.{FrameVersion}
 use Rattle.ae_edge.specs.Devices.{Rose, WhereTold, Adds, AddsFront}
 use Rattle.ae_edge.specs.Vaults.{KeyMap}
 use Rattle.ae_edge.proofs.Interface.{told_then, told_same, adds_none, adds_then, removes_none, removes_then, front_of, front_same, rose_before}
-use Rattle.wire_messages.specs.declared.replies.Reply.{Reply}
-use Rattle.wire_spelling.specs.Spelling.{reply_frame}
 use Rattle.server_core.specs.Serve.{State}
-use Rattle.conversation.specs.Paths.{Event, Asked, Took, Strayed, Drew, Opened, Printed, stays, replies_to, taken_in, drawn_in, Waits, OpensAll}
+use Rattle.conversation.specs.Paths.{Event, Asked, Took, Strayed, Drew, Opened, Printed, stays, replies_to, taken_in, drawn_in, OpensAll}
 use Rattle.conversation.specs.Talk.{Talk}
 use Rattle.conversation.proofs.Interface.{follows_then, opens_then}
 use Rattle.outcome_text.specs.Counting.{count, counted}
-use Rattle.run_effects.specs.Shares.{ClientSide, Wire, Outside, AreServed, Stream, Streams, Comes, coming, ClientPut, WirePut, HasPut, WireRead, HasRead, text_of, frames_of, exchanges_of}
+use Rattle.run_effects.specs.Shares.{ClientSide, Wire, Outside, AreServed, Queue, Queues, queue_of, with_answer, Stream, Standing, Streams, standing_of, Comes, ClientPut, WirePut, HasPut, WireRead, HasRead, text_of, frames_of, exchanges_of}
 use Rattle.run_effects.specs.Ways.{Proceeds, HaltsAt, Lacks, Breaks, StopsBy, Advances, CantBeRead, IsSilent}
 use Rattle.run_effects.specs.declared.stops.Stop.{Stop}
 use Rattle.run_effects.specs.declared.stops.Stop.TheVariants as stop
 use Rattle.outcome_text.specs.declared.tallies.Tally.{Tally}
 
-waits_then : (xs ys : List Event) (a b c : List Reply) → Waits xs a b → Waits ys b c → Waits (xs ++ ys) a c
-waits_then [] ys a b c p q = subst (λ w. Waits ys w c) p q
-waits_then (Asked request replies ∷ xs) ys a b c p q = waits_then xs ys (a ++ replies) b c p q
-waits_then (Took reply ∷ xs) ys a b c p q = (p.0, p.1, waits_then xs ys p.0 b c p.2 q)
-waits_then (Strayed next ∷ xs) ys a b c p q = (p.0, waits_then xs ys a b c p.1 q)
-waits_then (Drew bytes ∷ xs) ys a b c p q = waits_then xs ys a b c p q
-waits_then (Opened meta key ∷ xs) ys a b c p q = waits_then xs ys a b c p q
-waits_then (Printed comes ∷ xs) ys a b c p q = waits_then xs ys a b c p q
+queues_then : (version : FrameVersion) (xs ys : List Event) (a b c : Queue) → Queues version xs a b → Queues version ys b c → Queues version (xs ++ ys) a c
+queues_then version [] ys a b c p q = subst (λ w. Queues version ys w c) p q
+queues_then version (Asked request replies ∷ xs) ys a b c p q = queues_then version xs ys (with_answer version a replies) b c p q
+queues_then version (Took reply ∷ xs) ys a b c p q = (p.0, p.1, p.2, queues_then version xs ys (record { waiting = p.1; behind = a.behind }) b c p.3 q)
+queues_then version (Strayed next ∷ xs) ys a b c p q = (p.0, queues_then version xs ys a b c p.1 q)
+queues_then version (Drew bytes ∷ xs) ys a b c p q = queues_then version xs ys a b c p q
+queues_then version (Opened meta key ∷ xs) ys a b c p q = queues_then version xs ys a b c p q
+queues_then version (Printed comes ∷ xs) ys a b c p q = queues_then version xs ys a b c p q
 
-streams_then : (xs ys : List Event) (a b c : List ℕ) → Streams xs a b → Streams ys b c → Streams (xs ++ ys) a c
-streams_then [] ys a b c p q = subst (λ w. Streams ys w c) p q
-streams_then (Asked request replies ∷ xs) ys a b c p q = streams_then xs ys a b c p q
-streams_then (Took reply ∷ xs) ys a b c p q = (p.0, streams_then xs ys p.0.rest b c p.1 q)
-streams_then (Strayed next ∷ xs) ys a b c p q = (p.0, streams_then xs ys a b c p.1 q)
-streams_then (Drew bytes ∷ xs) ys a b c p q = streams_then xs ys a b c p q
-streams_then (Opened meta key ∷ xs) ys a b c p q = streams_then xs ys a b c p q
-streams_then (Printed comes ∷ xs) ys a b c p q = streams_then xs ys a b c p q
+streams_then : (version : FrameVersion) (xs ys : List Event) (a b c : Standing) → Streams version xs a b → Streams version ys b c → Streams version (xs ++ ys) a c
+streams_then version [] ys a b c p q = subst (λ w. Streams version ys w c) p q
+streams_then version (Asked request replies ∷ xs) ys a b c p q = streams_then version xs ys a b c p q
+streams_then version (Took reply ∷ xs) ys a b c p q = (p.0, p.1, streams_then version xs ys p.0 b c p.2 q)
+streams_then version (Strayed next ∷ xs) ys a b c p q = (p.0, streams_then version xs ys a b c p.1 q)
+streams_then version (Drew bytes ∷ xs) ys a b c p q = streams_then version xs ys a b c p q
+streams_then version (Opened meta key ∷ xs) ys a b c p q = streams_then version xs ys a b c p q
+streams_then version (Printed comes ∷ xs) ys a b c p q = streams_then version xs ys a b c p q
 
-comes_then : (xs ys : List Event) (r s t : Option Stream) (a b c : List Reply) → Comes xs r s a b → Comes ys s t b c → Comes (xs ++ ys) r t a c
-comes_then xs ys None None None a b c p q = waits_then xs ys a b c p q
-comes_then xs ys (Some r) (Some s) (Some t) a b c p q =
+comes_then : (version : FrameVersion) (xs ys : List Event) (r s t : Option Stream) (a b c : Queue) → Comes version xs r s a b → Comes version ys s t b c → Comes version (xs ++ ys) r t a c
+comes_then version xs ys None None None a b c p q = queues_then version xs ys a b c p q
+comes_then version xs ys (Some r) (Some s) (Some t) a b c p q =
     let x = p.2 in
     let y = q.2 in (
       flat_map-append replies_to xs ys ∙ ap (λ w. w ++ flat_map replies_to ys) p.0 ∙ q.0,
-      told_then (Streams xs) (Streams ys) (Streams (xs ++ ys)) (streams_then xs ys) (coming r) (coming s) (coming t) p.1 q.1,
+      streams_then version xs ys (standing_of r) (standing_of s) (standing_of t) p.1 q.1,
       omega arith,
     )
-comes_then xs ys None None (Some t) a b c p q = absurd q
-comes_then xs ys None (Some s) t a b c p q = absurd p
-comes_then xs ys (Some r) None t a b c p q = absurd p
-comes_then xs ys (Some r) (Some s) None a b c p q = absurd q
+comes_then version xs ys None None (Some t) a b c p q = absurd q
+comes_then version xs ys None (Some s) t a b c p q = absurd p
+comes_then version xs ys (Some r) None t a b c p q = absurd p
+comes_then version xs ys (Some r) (Some s) None a b c p q = absurd q
 
 pub serves_then : (xs ys : List Event) (a b c : State) → AreServed xs a b → AreServed ys b c → AreServed (xs ++ ys) a c
 serves_then [] ys a b c p q = subst (λ w. AreServed ys w c) p q
@@ -89,7 +88,8 @@ client_then xs ys a b c p q = record {
 pub wire_then : (xs ys : List Event) (a b c : Wire) → WirePut Adds xs a b → WirePut Adds ys b c → WirePut Adds (xs ++ ys) a c
 wire_then xs ys a b c p q = record {
   names = q.names ∙ p.names;
-  tap = puts_then frames_of xs ys a.tap b.tap c.tap p.tap q.tap;
+  version = q.version ∙ p.version;
+  tap = puts_then (frames_of a.version) xs ys a.tap b.tap c.tap p.tap (subst (λ v. Adds (flat_map (frames_of v) ys) b.tap c.tap) p.version q.tap);
   log = puts_then exchanges_of xs ys a.log b.log c.log p.log q.log;
   state = told_then (AreServed xs) (AreServed ys) (AreServed (xs ++ ys)) (serves_then xs ys) a.state b.state c.state p.state q.state;
   count = let x = p.count in let y = q.count in omega arith;
@@ -98,22 +98,17 @@ wire_then xs ys a b c p q = record {
 put_then : (xs ys : List Event) (a b c : Outside) → HasPut Adds xs a b → HasPut Adds ys b c → HasPut Adds (xs ++ ys) a c
 put_then xs ys a b c p q = record { client = client_then xs ys a.client b.client c.client p.client q.client; wire = wire_then xs ys a.wire b.wire c.wire p.wire q.wire }
 
--- how many bytes the frames of the replies that were taken have
-abbrev taken_bytes : List Event → ℕ
-taken_bytes events = length (flat_map reply_frame (flat_map taken_in events))
+taken_then : (xs ys : List Event) → length (flat_map taken_in (xs ++ ys)) ≡ length (flat_map taken_in xs) + length (flat_map taken_in ys)
+taken_then xs ys = ap length (flat_map-append taken_in xs ys) ∙ length-append (flat_map taken_in xs) (flat_map taken_in ys)
 
-taken_then : (xs ys : List Event) → taken_bytes (xs ++ ys) ≡ taken_bytes xs + taken_bytes ys
-taken_then xs ys =
-    ap (λ w. length (flat_map reply_frame w)) (flat_map-append taken_in xs ys)
-    ∙ ap length (flat_map-append reply_frame (flat_map taken_in xs) (flat_map taken_in ys))
-    ∙ length-append (flat_map reply_frame (flat_map taken_in xs)) (flat_map reply_frame (flat_map taken_in ys))
-
-pub wire_read_then : (xs ys : List Event) (a b c : Wire) → WireRead xs a b → WireRead ys b c → WireRead (xs ++ ys) a c
-wire_read_then xs ys a b c p q = record {
-  comes = comes_then xs ys a.stream b.stream c.stream a.waiting b.waiting c.waiting p.comes q.comes;
+pub wire_read_then : (xs ys : List Event) (a b c : Wire) → b.version ≡ a.version → WireRead xs a b → WireRead ys b c → WireRead (xs ++ ys) a c
+wire_read_then xs ys a b c e p q = record {
+  comes =
+      comes_then a.version xs ys a.stream b.stream c.stream (queue_of a) (queue_of b) (queue_of c) p.comes
+      (subst (λ v. Comes v ys b.stream c.stream (queue_of b) (queue_of c)) e q.comes);
   taken =
-      let e : c.taken ≡ (a.taken + taken_bytes xs) + taken_bytes ys = q.taken ∙ ap (λ n. n + taken_bytes ys) p.taken in
-      let f = taken_then xs ys in
+      let f : c.taken ≡ (a.taken + length (flat_map taken_in xs)) + length (flat_map taken_in ys) = q.taken ∙ ap (λ n. n + length (flat_map taken_in ys)) p.taken in
+      let g = taken_then xs ys in
       omega arith;
 }
 
@@ -121,10 +116,10 @@ pub counted_then : (xs ys : List Event) (t : Tally) → counted (xs ++ ys) t ≡
 counted_then [] ys t = refl
 counted_then (x ∷ xs) ys t = counted_then xs ys (count x t)
 
-read_then : (xs ys : List Event) (a b c : Outside) → HasRead xs a b → HasRead ys b c → HasRead (xs ++ ys) a c
-read_then xs ys a b c p q = record {
+read_then : (xs ys : List Event) (a b c : Outside) → b.wire.version ≡ a.wire.version → HasRead xs a b → HasRead ys b c → HasRead (xs ++ ys) a c
+read_then xs ys a b c e p q = record {
   tally = q.tally ∙ ap (counted ys) p.tally ∙ sym (counted_then xs ys a.client.tally);
-  wire = wire_read_then xs ys a.wire b.wire c.wire p.wire q.wire;
+  wire = wire_read_then xs ys a.wire b.wire c.wire e p.wire q.wire;
 }
 
 -- ---- nothing happens
@@ -151,19 +146,19 @@ client_still a = record {
 }
 
 pub wire_still : (a : Wire) → WirePut Adds [] a a
-wire_still a = record { names = refl; tap = adds_none a.tap; log = adds_none a.log; state = same_state a.state; count = omega arith }
+wire_still a = record { names = refl; version = refl; tap = adds_none a.tap; log = adds_none a.log; state = same_state a.state; count = omega arith }
 
 pub nothing_put : (a : Outside) → HasPut Adds [] a a
 nothing_put a = record { client = client_still a.client; wire = wire_still a.wire }
 
 -- events that touch no reply
-pub comes_still : (events : List Event) → flat_map replies_to events ≡ [] → ((x : List Reply) → Waits events x x) → ((x : List ℕ) → Streams events x x) → (s : Option Stream) (waiting : List Reply)
-    → Comes events s s waiting waiting
-comes_still events n w b None waiting = w waiting
-comes_still events n w b (Some s) waiting = (n, told_same (Streams events) b (coming s), omega arith)
+pub comes_still : (version : FrameVersion) (events : List Event) → flat_map replies_to events ≡ [] → ((x : Queue) → Queues version events x x) → ((x : Standing) → Streams version events x x)
+    → (s : Option Stream) (q : Queue) → Comes version events s s q q
+comes_still version events n w b None q = w q
+comes_still version events n w b (Some s) q = (n, b (standing_of s), omega arith)
 
 pub wire_unread : (a : Wire) → WireRead [] a a
-wire_unread a = record { comes = comes_still [] refl (λ x. refl) (λ x. refl) a.stream a.waiting; taken = omega arith }
+wire_unread a = record { comes = comes_still a.version [] refl (λ x. refl) (λ x. refl) a.stream (queue_of a); taken = omega arith }
 
 pub nothing_read : (a : Outside) → HasRead [] a a
 nothing_read a = record { tally = refl; wire = wire_unread a.wire }
@@ -190,7 +185,8 @@ client_front xs a b p = record {
 pub wire_front : (xs : List Event) (a b : Wire) → WirePut Adds xs a b → WirePut AddsFront xs a b
 wire_front xs a b p = record {
   names = p.names;
-  tap = front_of (flat_map frames_of xs) (flat_map frames_of xs) a.tap b.tap p.tap (front_same (flat_map frames_of xs));
+  version = p.version;
+  tap = let frames = flat_map (frames_of a.version) xs in front_of frames frames a.tap b.tap p.tap (front_same frames);
   log = p.log;
   state = p.state;
   count = p.count;
@@ -203,7 +199,7 @@ goes_then t u v a b c p q = record {
   events = p.events ++ q.events;
   follows = follows_then t u v p.events q.events p.follows q.follows;
   put = put_then p.events q.events a b c p.put q.put;
-  read = read_then p.events q.events a b c p.read q.read;
+  read = read_then p.events q.events a b c p.put.wire.version p.read q.read;
   limit = λ h. q.limit (p.limit h);
 }
 
@@ -247,19 +243,19 @@ either_rose a b c x y z p q (inr r) = inr (rose_before x y z q r)
 lacks_then : (t u : Talk) (a b c : Outside) → Proceeds t u a b → Lacks u b c → Lacks t a c
 lacks_then t u a b c p l = record { between = l.between; mid = l.mid; goes = goes_then t u l.between a b l.mid p l.goes; awaits = l.awaits; put = l.put; read = l.read }
 
-unread_then : (xs : List Event) (r s t : Option Stream) (a b : List Reply) → Comes xs r s a b → CantBeRead s t → CantBeRead r t
-unread_then xs (Some r) (Some s) (Some t) a b p q = (rose_before r.faults s.faults t.faults p.2 q.0, q.1)
-unread_then xs (Some r) (Some s) None a b p q = absurd q
-unread_then xs (Some r) None t a b p q = absurd p
-unread_then xs None (Some s) t a b p q = absurd p
-unread_then xs None None (Some t) a b p q = absurd q
-unread_then xs None None None a b p q = absurd q
+unread_then : (version last : FrameVersion) (xs : List Event) (r s t : Option Stream) (a b : Queue) → Comes version xs r s a b → CantBeRead last s t → CantBeRead last r t
+unread_then version last xs (Some r) (Some s) (Some t) a b p q = (rose_before r.faults s.faults t.faults p.2 q.0, q.1)
+unread_then version last xs (Some r) (Some s) None a b p q = absurd q
+unread_then version last xs (Some r) None t a b p q = absurd p
+unread_then version last xs None (Some s) t a b p q = absurd p
+unread_then version last xs None None (Some t) a b p q = absurd q
+unread_then version last xs None None None a b p q = absurd q
 
 pub fails_then : (s : Stop) (t u : Talk) (a b c : Outside) → Proceeds t u a b → StopsBy s u b c → StopsBy s t a c
 fails_then (stop.BadReply place) t u a b c p f = halts_then _ t u a b c p f
 fails_then stop.ReadFault t u a b c p f = (
   lacks_then t u a b c p f.0,
-  unread_then p.events a.wire.stream b.wire.stream c.wire.stream a.wire.waiting b.wire.waiting p.read.wire.comes f.1,
+  unread_then a.wire.version c.wire.version p.events a.wire.stream b.wire.stream c.wire.stream (queue_of a.wire) (queue_of b.wire) p.read.wire.comes f.1,
   λ h. f.2 (p.limit h),
 )
 fails_then stop.TooLong t u a b c p f = (lacks_then t u a b c p f.0, f.1)

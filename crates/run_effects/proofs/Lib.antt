@@ -1,4 +1,5 @@
 mod Calls
 mod Counted
 mod Going
+mod Queueing
 pub mod Interface

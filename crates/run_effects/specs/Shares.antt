@@ -1,15 +1,19 @@
 -- What is told of all that a run touches, and what each device has of the events of a conversation.
-use Rattle.std.specs.Prelude.{◌≡◌, ℕ, ◌+◌, ◌≤◌, List, [], ◌∷◌, ◌++◌, length, flat_map, Option, Some, None, IfSome}
+use Rattle.std.specs.Prelude.{◌≡◌, ℕ, ◌+◌, ◌≤◌, List, [], ◌∷◌, ◌++◌, length, map, flat_map, drop, Option, Some, None, IfSome}
 use Rattle.std.specs.Borrow.{GName}
-use Rattle.ae_edge.specs.Devices.{WhereTold, Adds}
+use Rattle.ae_base.specs.declared.frames.FrameVersion.{FrameVersion}
+use Rattle.ae_edge.specs.Devices.{WhereTold, Adds, IsFront}
 use Rattle.ae_edge.specs.Vaults.{KeyMap}
-use Rattle.wire_messages.specs.Conditions.{IsReply}
 use Rattle.wire_messages.specs.Exchanges.{Exchange}
 use Rattle.wire_messages.specs.declared.replies.Reply.{Reply}
-use Rattle.wire_spelling.specs.Spelling.{request_frame, reply_frame}
+use Rattle.wire_payloads.specs.Payloads.{replies_of}
+use Rattle.wire_payloads.specs.declared.payloads.Payload.{Payload}
+use Rattle.wire_spelling.specs.Packing.{HasFrame, packed, payload_frame}
+use Rattle.wire_spelling.specs.Spelling.{request_frame}
+use Rattle.wire_frames.specs.Frames.{Placed, placed_answer}
 use Rattle.server_core.specs.Serve.{State, serve}
 use Rattle.conversation.specs.Devices.{Devices}
-use Rattle.conversation.specs.Paths.{Event, Asked, Took, Strayed, Drew, Opened, Printed, replies_to, taken_in, drawn_in, outcome_in, Waits, OpensAll}
+use Rattle.conversation.specs.Paths.{Event, Asked, Took, Strayed, Drew, Opened, Printed, next_of, replies_to, taken_in, drawn_in, outcome_in, OpensAll}
 use Rattle.outcome_text.specs.Counting.{counted}
 use Rattle.outcome_text.specs.Printing.{printed_outcome}
 use Rattle.outcome_text.specs.declared.tallies.Tally.{Tally}
@@ -50,21 +54,26 @@ with_devices d x = record d {
   vault_names = x.vault_names;
 }
 
--- replies that come as bytes: those that are held, those that are left, where they are told, and how often they couldn't be read
+-- Replies that come as bytes: the place of the frame that stands first, how many of its replies were taken, the bytes that are held from
+-- there on, those that are left, where they are told, and how often they couldn't be read.
 pub record Stream : Type 0 where
+  pub at : ℕ
+  pub skipped : ℕ
   pub held : List ℕ
   pub left : Option (List ℕ)
   pub faults : ℕ
 
--- the other side: what it is lent, its frames, what was asked and answered and the state that it serves by, where they are
--- told; the replies that wait, or the stream as which they come; how many bytes the frames of those that were taken have, and the count
--- of faults
+-- The other side: what it is lent, its frames, what was asked and answered and the state that it serves by, where they are told; the version
+-- in which all is spelled; the replies that wait, each with the place of its frame, and the place behind the frames of all that came; or the
+-- stream as which they come; how many replies were taken, and the count of faults.
 pub record Wire : Type 0 where
   pub names : List (List GName)
   pub tap : Option (List ℕ)
   pub log : Option (List Exchange)
   pub state : Option State
-  pub waiting : List Reply
+  pub version : FrameVersion
+  pub waiting : List (Placed Reply)
+  pub behind : ℕ
   pub stream : Option Stream
   pub taken : ℕ
   pub faults : ℕ
@@ -79,9 +88,9 @@ abbrev pub text_of : Event → List ℕ
 text_of event = flat_map printed_outcome (outcome_in event)
 
 -- a request's frame, and the frames of the replies that it brings
-abbrev pub frames_of : Event → List ℕ
-frames_of (Asked request replies) = request_frame request ++ flat_map reply_frame replies
-frames_of other = []
+abbrev pub frames_of : FrameVersion → Event → List ℕ
+frames_of version (Asked request replies) = request_frame version request ++ packed version replies
+frames_of version other = []
 
 abbrev pub exchanges_of : Event → List Exchange
 exchanges_of (Asked request replies) = record { request = request; replies = replies } ∷ []
@@ -116,7 +125,8 @@ pub record ClientPut (P : Puts) (events : List Event) (old new : ClientSide) : T
 
 pub record WirePut (P : Puts) (events : List Event) (old new : Wire) : Type 0 where
   pub names : new.names ≡ old.names
-  pub tap : P (flat_map frames_of events) old.tap new.tap
+  pub version : new.version ≡ old.version
+  pub tap : P (flat_map (frames_of old.version) events) old.tap new.tap
   pub log : Adds (flat_map exchanges_of events) old.log new.log
   pub state : WhereTold (AreServed events) old.state new.state
   pub count : old.faults ≤ new.faults
@@ -124,6 +134,35 @@ pub record WirePut (P : Puts) (events : List Event) (old new : Wire) : Type 0 wh
 pub record HasPut (P : Puts) (events : List Event) (old new : Outside) : Type 0 where
   pub client : ClientPut P events old.client new.client
   pub wire : WirePut P events old.wire new.wire
+
+-- ---- replies that wait
+
+-- the replies, without their places
+abbrev pub messages_of : List (Placed Reply) → List Reply
+messages_of placed = map (λ p. p.message) placed
+
+-- those that wait, and the place behind the frames of all that came
+pub record Queue : Type 0 where
+  pub waiting : List (Placed Reply)
+  pub behind : ℕ
+
+abbrev pub queue_of : Wire → Queue
+queue_of w = record { waiting = w.waiting; behind = w.behind }
+
+-- an answer came
+abbrev pub with_answer : FrameVersion → Queue → List Reply → Queue
+with_answer version q replies = record { waiting = q.waiting ++ placed_answer version q.behind replies; behind = q.behind + length (packed version replies) }
+
+-- each request brings some, and they are taken in order
+abbrev pub Queues : FrameVersion → List Event → Queue → Queue → Type 0
+Queues version [] old new = new ≡ old
+Queues version (Asked request replies ∷ events) old new = Queues version events (with_answer version old replies) new
+Queues version (Took reply ∷ events) old new =
+    (at : ℕ) × (rest : List (Placed Reply)) × (old.waiting ≡ record { at = at; message = reply } ∷ rest) × Queues version events (record { waiting = rest; behind = old.behind }) new
+Queues version (Strayed next ∷ events) old new = (next_of (messages_of old.waiting) ≡ next) × Queues version events old new
+Queues version (Drew bytes ∷ events) old new = Queues version events old new
+Queues version (Opened meta key ∷ events) old new = Queues version events old new
+Queues version (Printed comes ∷ events) old new = Queues version events old new
 
 -- ---- replies that come as bytes
 
@@ -135,40 +174,79 @@ coming_behind held None = None
 abbrev pub coming : Stream → Option (List ℕ)
 coming s = coming_behind s.held s.left
 
--- the frame of the reply stands first
-pub record Begins (reply : Reply) (bytes : List ℕ) : Type 0 where
+-- the place of the frame that stands first, how many of its replies were taken, and all bytes from there on
+pub record Standing : Type 0 where
+  pub at : ℕ
+  pub skipped : ℕ
+  pub bytes : Option (List ℕ)
+
+abbrev pub standing_of : Stream → Standing
+standing_of s = record { at = s.at; skipped = s.skipped; bytes = coming s }
+
+-- the reply is the next of the frame that stands first
+pub record Begins (version : FrameVersion) (reply : Reply) (skipped : ℕ) (bytes : List ℕ) : Type 0 where
+  pub payload : Payload
+  pub more : List Reply
   pub rest : List ℕ
-  pub meets : IsReply reply
-  pub is : bytes ≡ reply_frame reply ++ rest
+  pub meets : HasFrame version payload
+  pub is : bytes ≡ payload_frame version payload ++ rest
+  pub next : drop skipped (replies_of payload) ≡ reply ∷ more
 
--- the next reply's frame stands first, or that of none does
-abbrev pub IsNext : Option Reply → List ℕ → Type 0
-IsNext (Some reply) bytes = Begins reply bytes
-IsNext None bytes = (reply : Reply) → ¬ Begins reply bytes
+-- the next reply is of the frame that stands first, or no frame has one there
+abbrev pub IsNext : FrameVersion → Option Reply → ℕ → List ℕ → Type 0
+IsNext version (Some reply) skipped bytes = Begins version reply skipped bytes
+IsNext version None skipped bytes = (reply : Reply) → ¬ Begins version reply skipped bytes
 
--- the frames of the replies are taken in order
-abbrev pub Streams : List Event → List ℕ → List ℕ → Type 0
-Streams [] old new = new ≡ old
-Streams (Took reply ∷ events) old new = (b : Begins reply old) × Streams events b.rest new
-Streams (Strayed next ∷ events) old new = IsNext next old × Streams events old new
-Streams (Asked request replies ∷ events) old new = Streams events old new
-Streams (Drew bytes ∷ events) old new = Streams events old new
-Streams (Opened meta key ∷ events) old new = Streams events old new
-Streams (Printed comes ∷ events) old new = Streams events old new
+-- behind the last reply of a frame the next frame stands first
+abbrev pub Passes : List ℕ → List Reply → Standing → Standing → Type 0
+Passes frame [] old new = (new.at ≡ old.at + length frame) × (new.skipped ≡ 0) × WhereTold (λ before after. before ≡ frame ++ after) old.bytes new.bytes
+Passes frame (reply ∷ more) old new = (new.at ≡ old.at) × (new.skipped ≡ old.skipped + 1) × WhereTold (λ before after. (after ≡ before) × IsFront frame before) old.bytes new.bytes
 
--- the replies that wait are taken in order; or the frames of those that come as bytes, of which none comes with a request
-abbrev pub Comes : List Event → Option Stream → Option Stream → List Reply → List Reply → Type 0
-Comes events None None old new = Waits events old new
-Comes events (Some s) (Some t) old new = (flat_map replies_to events ≡ []) × WhereTold (Streams events) (coming s) (coming t) × (s.faults ≤ t.faults)
-Comes events None (Some t) old new = ⊥
-Comes events (Some s) None old new = ⊥
+-- the next reply of the frame that stands first was taken
+pub record Takes (version : FrameVersion) (reply : Reply) (old new : Standing) : Type 0 where
+  pub payload : Payload
+  pub more : List Reply
+  pub meets : HasFrame version payload
+  pub next : drop old.skipped (replies_of payload) ≡ reply ∷ more
+  pub passes : Passes (payload_frame version payload) more old new
 
--- ---- what was read: the replies in order, and the bytes of their frames; and what was counted
+-- the replies are taken in order
+abbrev pub Streams : FrameVersion → List Event → Standing → Standing → Type 0
+Streams version [] old new = new ≡ old
+Streams version (Took reply ∷ events) old new = (mid : Standing) × Takes version reply old mid × Streams version events mid new
+Streams version (Strayed next ∷ events) old new = IfSome old.bytes (IsNext version next old.skipped) × Streams version events old new
+Streams version (Asked request replies ∷ events) old new = Streams version events old new
+Streams version (Drew bytes ∷ events) old new = Streams version events old new
+Streams version (Opened meta key ∷ events) old new = Streams version events old new
+Streams version (Printed comes ∷ events) old new = Streams version events old new
+
+-- the replies that wait are taken in order; or those that come as bytes, of which none comes with a request
+abbrev pub Comes : FrameVersion → List Event → Option Stream → Option Stream → Queue → Queue → Type 0
+Comes version events None None old new = Queues version events old new
+Comes version events (Some s) (Some t) old new = (flat_map replies_to events ≡ []) × Streams version events (standing_of s) (standing_of t) × (s.faults ≤ t.faults)
+Comes version events None (Some t) old new = ⊥
+Comes version events (Some s) None old new = ⊥
+
+-- ---- what was read: the replies in order; and what was counted
 
 pub record WireRead (events : List Event) (old new : Wire) : Type 0 where
-  pub comes : Comes events old.stream new.stream old.waiting new.waiting
-  pub taken : new.taken ≡ old.taken + length (flat_map reply_frame (flat_map taken_in events))
+  pub comes : Comes old.version events old.stream new.stream (queue_of old) (queue_of new)
+  pub taken : new.taken ≡ old.taken + length (flat_map taken_in events)
 
 pub record HasRead (events : List Event) (old new : Outside) : Type 0 where
   pub tally : new.client.tally ≡ counted events old.client.tally
   pub wire : WireRead events old.wire new.wire
+
+-- ---- the place of the next reply
+
+abbrev pub first_place : List (Placed Reply) → ℕ → ℕ
+first_place [] behind = behind
+first_place (p ∷ ps) behind = p.at
+
+abbrev pub place_on : Option Stream → List (Placed Reply) → ℕ → ℕ
+place_on None waiting behind = first_place waiting behind
+place_on (Some s) waiting behind = s.at
+
+-- the place of its frame, or where the next frame would begin
+abbrev pub place_of : Wire → ℕ
+place_of w = place_on w.stream w.waiting w.behind

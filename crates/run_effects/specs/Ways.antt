@@ -1,26 +1,28 @@
 -- How far a conversation was followed, what all that a run touches has of it, and why it was followed no further.
 use Rattle.std.specs.Prelude.{◌≡◌, ◌⊎◌, ℕ, ◌+◌, ◌≤◌, List, [], ◌∷◌, ◌++◌, length, map, flat_map, Option, Some, None, IfSome, Result, Ok, Err}
+use Rattle.ae_base.specs.declared.frames.FrameVersion.{FrameVersion}
 use Rattle.ae_edge.specs.Devices.{Rose, Adds, AddsFront}
 use Rattle.wire_messages.specs.declared.replies.Reply.{Reply}
 use Rattle.wire_messages.specs.declared.requests.Request.{Request}
+use Rattle.wire_frames.specs.Frames.{Placed}
 use Rattle.conversation.specs.Devices.{IsAtDraw, IsAtKey}
 use Rattle.conversation.specs.Drive.{outcomes_in}
 use Rattle.conversation.specs.Paths.{Event, Asked, Took, Printed, Follows, next_of, replies_to}
 use Rattle.conversation.specs.Talk.{Talk, Ends, Stops, Asks, Hears, Draws, Opens, Prints, broken}
 use Rattle.conversation.specs.declared.outcomes.Outcome.{Outcome}
-use Rattle.run_effects.specs.Shares.{Outside, Stream, Wire, HasPut, HasRead, WirePut, WireRead, Begins, IsNext, coming}
+use Rattle.run_effects.specs.Shares.{Outside, Stream, Wire, HasPut, HasRead, WirePut, WireRead, Begins, IsNext, coming, messages_of, place_of}
 use Rattle.run_effects.specs.declared.stops.Stop.{Stop}
 use Rattle.run_effects.specs.declared.stops.Stop.TheVariants as stop
 pub use Rattle.ae_base.specs.Limits.{most_stream_bytes}
 
 -- those that came are within this limit
-abbrev pub IsWithin : ℕ → Option Stream → Type 0
-IsWithin taken (Some s) = taken + length s.held ≤ most_stream_bytes
-IsWithin taken None = Unit {0}
+abbrev pub IsWithin : Option Stream → Type 0
+IsWithin (Some s) = s.at + length s.held ≤ most_stream_bytes
+IsWithin None = Unit {0}
 
 -- they stay within it
 abbrev pub StaysWithin : Wire → Wire → Type 0
-StaysWithin old new = IsWithin old.taken old.stream → IsWithin new.taken new.stream
+StaysWithin old new = IsWithin old.stream → IsWithin new.stream
 
 -- from t it was followed to u, and all has passed whole
 pub record Proceeds (t u : Talk) (old new : Outside) : Type 0 where
@@ -53,10 +55,10 @@ IsAtReply other = ⊥
 abbrev pub printed_off : Option Outcome → List Event
 printed_off comes = map Printed (outcomes_in comes)
 
--- the replies come as bytes
-abbrev pub IsStreamed : Option Stream → Type 0
-IsStreamed (Some s) = Unit {0}
-IsStreamed None = ⊥
+-- the replies come as bytes, and none is left of a frame of which some were taken
+abbrev pub IsAtFrame : Option Stream → Type 0
+IsAtFrame (Some s) = s.skipped ≡ 0
+IsAtFrame None = ⊥
 
 -- it came whole to a place where a reply is awaited; what an answer came to before it broke off is printed
 pub record Lacks (t : Talk) (old new : Outside) : Type 0 where
@@ -76,7 +78,7 @@ IsSilent None events = Unit {0}
 
 -- the conversation goes on so; or a reply was awaited of a stream, and what an answer came to before it broke off is printed
 abbrev pub GoesOn : Talk → List Event → Talk → Wire → Type 0
-GoesOn t events u wire = (Follows t events u × IsSilent wire.stream events) ⊎ (IsStreamed wire.stream × IsAtReply t × (events ≡ printed_off (off t)))
+GoesOn t events u wire = (Follows t events u × IsSilent wire.stream events) ⊎ (IsAtFrame wire.stream × IsAtReply t × (events ≡ printed_off (off t)))
 
 -- it broke off: events passed whole up to `mid`, and of at most one more a front was put
 pub record Breaks (t : Talk) (old new : Outside) : Type 0 where
@@ -102,34 +104,38 @@ IsStuck (Opens meta f) waiting = ⊥
 IsStuck (Prints comes t) waiting = ⊥
 
 -- with the replies that wait, or the bytes that are held
-abbrev pub IsStuckOn : Talk → Option Stream → List Reply → Type 0
+abbrev pub IsStuckOn : Talk → Option Stream → List (Placed Reply) → Type 0
 IsStuckOn t None waiting = IsStuck t waiting
 IsStuckOn t (Some s) waiting = IsStuck t s.held
 
--- the stream couldn't be read, and no reply's frame stands first in what is held
-abbrev pub CantBeRead : Option Stream → Option Stream → Type 0
-CantBeRead (Some s) (Some t) = Rose s.faults t.faults × IsNext None t.held
-CantBeRead (Some s) None = ⊥
-CantBeRead None (Some t) = ⊥
-CantBeRead None None = ⊥
+-- no frame with a reply stands first, nor is a reply left of one of which some were taken
+abbrev pub LacksReply : FrameVersion → ℕ → List ℕ → Type 0
+LacksReply version skipped bytes = (skipped ≡ 0) × IsNext version None skipped bytes
 
--- one byte past the limit came, and no reply's frame stands first in what is held before it
-pub record IsPast (taken : ℕ) (held : List ℕ) : Type 0 where
+-- the stream couldn't be read, and what is held has no reply
+abbrev pub CantBeRead : FrameVersion → Option Stream → Option Stream → Type 0
+CantBeRead version (Some s) (Some t) = Rose s.faults t.faults × LacksReply version t.skipped t.held
+CantBeRead version (Some s) None = ⊥
+CantBeRead version None (Some t) = ⊥
+CantBeRead version None None = ⊥
+
+-- one byte past the limit came, and what is held before it has no reply
+pub record IsPast (version : FrameVersion) (at skipped : ℕ) (held : List ℕ) : Type 0 where
   pub within : List ℕ
   pub byte : ℕ
   pub is : held ≡ within ++ byte ∷ []
-  pub limit : taken + length within ≡ most_stream_bytes
-  pub none : IsNext None within
+  pub limit : at + length within ≡ most_stream_bytes
+  pub none : LacksReply version skipped within
 
-abbrev pub IsTooLong : ℕ → Option Stream → Type 0
-IsTooLong taken (Some s) = IsPast taken s.held
-IsTooLong taken None = ⊥
+abbrev pub IsTooLong : FrameVersion → Option Stream → Type 0
+IsTooLong version (Some s) = IsPast version s.at s.skipped s.held
+IsTooLong version None = ⊥
 
 -- each way to stop, with its cause
 abbrev pub StopsBy : Stop → Talk → Outside → Outside → Type 0
-StopsBy (stop.BadReply place) t old new = HaltsAt (λ rest now. IsStuckOn rest now.wire.stream now.wire.waiting × (now.wire.taken ≡ place)) t old new
-StopsBy stop.ReadFault t old new = Lacks t old new × CantBeRead old.wire.stream new.wire.stream × StaysWithin old.wire new.wire
-StopsBy stop.TooLong t old new = Lacks t old new × IsTooLong new.wire.taken new.wire.stream
+StopsBy (stop.BadReply place) t old new = HaltsAt (λ rest now. IsStuckOn rest now.wire.stream now.wire.waiting × (place_of now.wire ≡ place)) t old new
+StopsBy stop.ReadFault t old new = Lacks t old new × CantBeRead new.wire.version old.wire.stream new.wire.stream × StaysWithin old.wire new.wire
+StopsBy stop.TooLong t old new = Lacks t old new × IsTooLong new.wire.version new.wire.stream
 StopsBy stop.EntropyFault t old new = HaltsAt (λ rest now. IsAtDraw rest) t old new × Rose old.client.entropy_faults new.client.entropy_faults
 StopsBy stop.VaultFault t old new = HaltsAt (λ rest now. IsAtKey rest) t old new × Rose old.client.vault_faults new.client.vault_faults
 StopsBy stop.WriteFault t old new = Breaks t old new × (Rose old.client.out_faults new.client.out_faults ⊎ Rose old.wire.faults new.wire.faults)
@@ -146,33 +152,33 @@ Advances (Err s) t onward old new = StopsBy s t old new
 abbrev pub AsksInPart : Request → Wire → Wire → Type 0
 AsksInPart request old new = WirePut AddsFront [] old new ⊎ ((replies : List Reply) × IsSilent old.stream (Asked request replies ∷ []) × WirePut AddsFront (Asked request replies ∷ []) old new)
 
--- the reply that waits first, or whose frame stands first in the bytes that are held
-abbrev pub IsFirstOf : Reply → Option Stream → List Reply → Type 0
-IsFirstOf reply None waiting = (rest : List Reply) × (waiting ≡ reply ∷ rest)
-IsFirstOf reply (Some s) waiting = Begins reply s.held
+-- the reply that waits first, or is the next of the frame that stands first in the bytes that are held
+abbrev pub IsFirstOf : FrameVersion → Reply → Option Stream → List (Placed Reply) → Type 0
+IsFirstOf version reply None waiting = (at : ℕ) × (rest : List (Placed Reply)) × (waiting ≡ record { at = at; message = reply } ∷ rest)
+IsFirstOf version reply (Some s) waiting = Begins version reply s.skipped s.held
 
 abbrev pub IsFirst : Reply → Wire → Type 0
-IsFirst reply wire = IsFirstOf reply wire.stream wire.waiting
+IsFirst reply wire = IsFirstOf wire.version reply wire.stream wire.waiting
 
 -- the next reply, where there is one
-abbrev pub IsNextOf : Option Reply → Option Stream → List Reply → Type 0
-IsNextOf next None waiting = next_of waiting ≡ next
-IsNextOf next (Some s) waiting = IfSome (coming s) (IsNext next)
+abbrev pub IsNextOf : FrameVersion → Option Reply → Option Stream → List (Placed Reply) → Type 0
+IsNextOf version next None waiting = next_of (messages_of waiting) ≡ next
+IsNextOf version next (Some s) waiting = IfSome (coming s) (IsNext version next s.skipped)
 
 abbrev pub IsNextOn : Option Reply → Wire → Type 0
-IsNextOn next wire = IsNextOf next wire.stream wire.waiting
+IsNextOn next wire = IsNextOf wire.version next wire.stream wire.waiting
 
 -- something is left
 abbrev pub IsLeft : {A : Type 0} → List A → Type 0
 IsLeft [] = ⊥
 IsLeft (x ∷ xs) = Unit {0}
 
-abbrev pub IsLeftOn : Option Stream → List Reply → Type 0
+abbrev pub IsLeftOn : Option Stream → List (Placed Reply) → Type 0
 IsLeftOn None waiting = IsLeft waiting
 IsLeftOn (Some s) waiting = IsLeft s.held
 
 -- nothing is left
-abbrev pub IsReadOut : Option Stream → List Reply → Type 0
+abbrev pub IsReadOut : Option Stream → List (Placed Reply) → Type 0
 IsReadOut None waiting = waiting ≡ []
 IsReadOut (Some s) waiting = (s.held ≡ []) × IfSome s.left (λ left. left ≡ [])
 

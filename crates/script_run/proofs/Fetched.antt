@@ -2,7 +2,6 @@
 use Rattle.std.proofs.Common.{◌≡◌, ℕ, ◌+◌, [], ◌∷◌, Some, Result, Ok, Err, Bool, length, sym, ap, subst, append-nil, arith}
 use Rattle.std.specs.Prelude.{◌<◌, IfOk, MatchResult, flat_map}
 use Rattle.wire_messages.specs.declared.replies.Reply.{Reply}
-use Rattle.wire_spelling.specs.Spelling.{reply_frame}
 use Rattle.conversation.specs.declared.answers.ReplyAnswer.{ReplyAnswer}
 use Rattle.conversation.specs.declared.faults.Halt.{Halt}
 use Rattle.conversation.specs.declared.outcomes.Listing.{Listing}
@@ -13,7 +12,7 @@ use Rattle.conversation.specs.Sessions.{Tells, Stray, replied}
 use Rattle.conversation.specs.Talk.{Talk, Hears, Heard, heard_answer, nothing_shown}
 use Rattle.conversation.specs.Turns.{answered_on}
 use Rattle.driver.specs.Calls.{SaysAs, Replies}
-use Rattle.run_effects.specs.Shares.{ClientSide, Wire, Outside, devices_of, with_devices}
+use Rattle.run_effects.specs.Shares.{ClientSide, Wire, Outside, devices_of, place_of, with_devices}
 use Rattle.run_effects.specs.Ways.{Proceeds, Breaks, StopsBy, Advances, IsFirst, TakesOne}
 use Rattle.run_effects.specs.declared.stops.Stop.{Stop}
 use Rattle.run_effects.specs.declared.stops.Stop.TheVariants as stop
@@ -44,7 +43,7 @@ module _ (k : Session → Talk) (r : Reply) (x : Outside) (w : Wire) (now : Devi
       fails_then (stop_of why) _ _ x (record x { wire = w }) (record x { client = with_devices x.client now; wire = wire }) (rests_goes (Hears Sent nothing_shown (answered_on k)) x w h)
       (answer_halts k why r (record x { wire = w }) wire now old new t p)
 
-  pub stray_after : (place : ℕ) → replied Sent r ≡ Stray → now ≡ devices_of x.client → IsFirst r w → place ≡ w.taken
+  pub stray_after : (place : ℕ) → replied Sent r ≡ Stray → now ≡ devices_of x.client → IsFirst r w → place ≡ place_of w
       → StopsBy (stop.BadReply place) (Hears Sent nothing_shown (answered_on k)) x (record x { client = with_devices x.client now; wire = w })
   stray_after place s d i p =
       fails_then (stop.BadReply place) _ _ x (record x { wire = w }) (record x { client = with_devices x.client now; wire = w }) (rests_goes (Hears Sent nothing_shown (answered_on k)) x w h)
@@ -68,26 +67,24 @@ module _ (session : Session) (rows : IsRows session) (shown : Listing) (f : Hear
 
   module _ (client : ClientSide) (result : Stop) (reads : Bool) (is : reads ≡ is_reading session) (wire : Wire) (same : wire ≡ w) where
     pub row_strays_after : (r : Reply) (now : Devices) → now ≡ devices_of x.client → replied session r ≡ Stray → Rests x.wire w → IsFirst r w
-        → BreaksOff result (stop_at fault.BadReply w.taken) (shown_if (is_shown fault.BadReply reads) shown) (with_devices x.client now) client → StopsBy result (Hears session shown f) x (record { client = client; wire = wire })
+        → BreaksOff result (stop_at fault.BadReply (place_of w)) (shown_if (is_shown fault.BadReply reads) shown) (with_devices x.client now) client → StopsBy result (Hears session shown f) x (record { client = client; wire = wire })
     row_strays_after r now d s h i b =
         subst (λ v. StopsBy result (Hears session shown f) x (record { client = client; wire = v })) (sym same)
         (strays_off session shown f x w client result (Some r) (row_stray session rows shown r s) h (first_next r w i)
-        (subst (λ c. BreaksOff result (stop.BadReply w.taken) c x.client client) (off_is fault.BadReply session shown reads rows is)
-        (subst (λ v. BreaksOff result (stop.BadReply w.taken) (shown_if (is_shown fault.BadReply reads) shown) (with_devices x.client v) client) d b)))
+        (subst (λ c. BreaksOff result (stop.BadReply (place_of w)) c x.client client) (off_is fault.BadReply session shown reads rows is)
+        (subst (λ v. BreaksOff result (stop.BadReply (place_of w)) (shown_if (is_shown fault.BadReply reads) shown) (with_devices x.client v) client) d b)))
 
-    pub row_lacks_after : (why : ReplyFault) → Fetches (Err why) x.wire w → BreaksOff result (stop_at why w.taken) (shown_if (is_shown why reads) shown) x.client client
+    pub row_lacks_after : (why : ReplyFault) → Fetches (Err why) x.wire w → BreaksOff result (stop_at why (place_of w)) (shown_if (is_shown why reads) shown) x.client client
         → StopsBy result (Hears session shown f) x (record { client = client; wire = wire })
     row_lacks_after why h b =
         subst (λ v. StopsBy result (Hears session shown f) x (record { client = client; wire = v })) (sym same)
-        (fetch_fails session shown f x w client result why h (subst (λ c. BreaksOff result (stop_at why w.taken) c x.client client) (off_is why session shown reads rows is) b))
+        (fetch_fails session shown f x w client result why h (subst (λ c. BreaksOff result (stop_at why (place_of w)) c x.client client) (off_is why session shown reads rows is) b))
 
--- more bytes were taken, and as many as a place can tell
-pub more_after : {A : Type 0} (result : Result A Stop) (r : Reply) (x w wire : Wire) (behind : ℕ) → Rests x w → TakesOne r w wire → behind ≡ w.taken + length (reply_frame r) → behind < 18446744073709551616
+-- one more was taken, and all can be counted
+pub more_after : {A : Type 0} (result : Result A Stop) (r : Reply) (x w wire : Wire) → Rests x w → TakesOne r w wire → w.taken + 1 < 18446744073709551616
     → IfOk result (λ o. (x.taken < wire.taken) × (wire.taken < 18446744073709551616))
-more_after (Ok o) r x w wire behind h t b l =
+more_after (Ok o) r x w wire h t l =
     let e = h.1.taken in
     let m = more_taken r w wire t in
-    let n = t.read.taken in
-    let q : length (flat_map reply_frame (r ∷ [])) ≡ length (reply_frame r) = ap length (append-nil (reply_frame r)) in
-    (omega (arith, e, m), omega (arith, n, q, b, l))
-more_after (Err s) r x w wire behind h t b l = tt
+    (omega (arith, e, m), omega (arith, m, l))
+more_after (Err s) r x w wire h t l = tt

@@ -1,10 +1,12 @@
 -- A reply is heard, or it isn't awaited.
-use Rattle.std.proofs.Common.{◌≡◌, ℕ, List, [], ◌∷◌, ◌++◌, Option, Some, None, Result, Ok, Err, length, refl, sym, ◌∙◌, ap, subst, append-nil, append_assoc, arith, inl}
+use Rattle.std.proofs.Common.{◌≡◌, ℕ, ◌+◌, List, [], ◌∷◌, ◌++◌, Option, Some, None, Result, Ok, Err, length, refl, sym, ◌∙◌, ap, subst, append-nil, append_assoc, arith, inl}
 use Rattle.std.specs.Prelude.{◌<◌, flat_map, IfOk, IfSome, MatchResult}
+use Rattle.ae_base.specs.declared.frames.FrameVersion.{FrameVersion}
 use Rattle.ae_edge.proofs.Interface.{told_map, front_of, front_same}
 use Rattle.hmac_kdf.specs.Keys.{Keys}
 use Rattle.wire_messages.specs.Messages.{Header}
-use Rattle.wire_spelling.specs.Spelling.{reply_frame}
+use Rattle.wire_spelling.specs.Packing.{payload_frame}
+use Rattle.wire_frames.specs.Frames.{Placed}
 use Rattle.wire_messages.specs.declared.replies.Done.{Done}
 use Rattle.wire_messages.specs.declared.replies.Done.TheVariants as done
 use Rattle.wire_messages.specs.declared.requests.Request.{Request}
@@ -28,7 +30,7 @@ use Rattle.conversation.specs.Sessions.{Tells, Stray, replied, sent_ended, title
 use Rattle.conversation.specs.Talk.{Talk, Stops, Hears, Prints, Heard, Said, Shown, Got, hear, heard_answer, broken, nothing_shown, described_outcome}
 use Rattle.conversation.specs.Turns.{reading, answered_on, rows_on, rested}
 use Rattle.driver.specs.Calls.{SaysAs, ShowsAs, HaltsAs, IsSent, Replies}
-use Rattle.run_effects.specs.Shares.{Stream, Wire, Outside, AreServed, Begins, IsNext, coming_behind, devices_of, with_devices}
+use Rattle.run_effects.specs.Shares.{Stream, Wire, Outside, AreServed, Begins, IsNext, coming_behind, devices_of, messages_of, place_of, with_devices}
 use Rattle.run_effects.specs.Ways.{Proceeds, Breaks, StopsBy, Advances, IsStuckOn, IsFirstOf, IsFirst, IsNextOf, IsNextOn, TakesOne}
 use Rattle.run_effects.specs.declared.stops.Stop.{Stop}
 use Rattle.run_effects.specs.declared.stops.Stop.TheVariants as stop
@@ -45,16 +47,23 @@ use Rattle.script_run.proofs.Awaited.{TellsRows, tells_rows, says_told, halts_to
 
 -- ---- the reply that stands first
 
-begins_next : (r : Reply) (held : List ℕ) (left : Option (List ℕ)) → Begins r held → IfSome (coming_behind held left) (IsNext (Some r))
-begins_next r held (Some left) b = record { rest = b.rest ++ left; meets = b.meets; is = ap (λ w. w ++ left) b.is ∙ append_assoc (reply_frame r) b.rest left }
-begins_next r held None b = tt
+begins_next : (version : FrameVersion) (r : Reply) (skipped : ℕ) (held : List ℕ) (left : Option (List ℕ)) → Begins version r skipped held → IfSome (coming_behind held left) (IsNext version (Some r) skipped)
+begins_next version r skipped held (Some left) b = record {
+  payload = b.payload;
+  more = b.more;
+  rest = b.rest ++ left;
+  meets = b.meets;
+  is = ap (λ w. w ++ left) b.is ∙ append_assoc (payload_frame version b.payload) b.rest left;
+  next = b.next;
+}
+begins_next version r skipped held None b = tt
 
-first_of_next : (r : Reply) (s : Option Stream) (waiting : List Reply) → IsFirstOf r s waiting → IsNextOf (Some r) s waiting
-first_of_next r None waiting h = ap next_of h.1
-first_of_next r (Some s) waiting h = begins_next r s.held s.left h
+first_of_next : (version : FrameVersion) (r : Reply) (s : Option Stream) (waiting : List (Placed Reply)) → IsFirstOf version r s waiting → IsNextOf version (Some r) s waiting
+first_of_next version r None waiting h = ap (λ w. next_of (messages_of w)) h.2
+first_of_next version r (Some s) waiting h = begins_next version r s.skipped s.held s.left h
 
 pub first_next : (r : Reply) (wire : Wire) → IsFirst r wire → IsNextOn (Some r) wire
-first_next r wire h = first_of_next r wire.stream wire.waiting h
+first_next r wire h = first_of_next wire.version r wire.stream wire.waiting h
 
 -- the wire rests
 pub rests_goes : (t : Talk) (x : Outside) (wire : Wire) → Rests x.wire wire → Proceeds t t x (record x { wire = wire })
@@ -65,12 +74,12 @@ rests_same wire = (wire_still wire, wire_unread wire, λ h. h)
 
 -- ---- it isn't awaited, and nothing was shown
 
-pub stuck_stop : (s : Option Stream) (waiting : List Reply) → IsStuckOn (Stops None) s waiting
+pub stuck_stop : (s : Option Stream) (waiting : List (Placed Reply)) → IsStuckOn (Stops None) s waiting
 stuck_stop None waiting = tt
 stuck_stop (Some s) waiting = tt
 
 pub missed : (session : Session) (shown : Listing) (f : Heard → Talk) (next : Option Reply) (x : Outside) (place : ℕ)
-    → broken session shown ≡ None → IsStray session shown next → IsNextOn next x.wire → place ≡ x.wire.taken → StopsBy (stop.BadReply place) (Hears session shown f) x x
+    → broken session shown ≡ None → IsStray session shown next → IsNextOn next x.wire → place ≡ place_of x.wire → StopsBy (stop.BadReply place) (Hears session shown f) x x
 missed session shown f next x place b s e p = record {
   rest = Stops (broken session shown);
   goes = strayed_goes session shown f next x s e;
@@ -176,6 +185,7 @@ took_breaks r t x wire h = record {
     client = client_front [] x.client x.client (client_still x.client);
     wire = record {
       names = h.put.names;
+      version = h.put.version;
       tap = front_of [] [] x.wire.tap wire.tap h.put.tap (front_same []);
       log = h.put.log;
       state = told_map (AreServed (Took r ∷ [])) (AreServed []) (λ a b p. p) x.wire.state wire.state h.put.state;
@@ -259,7 +269,7 @@ first_rows (reply.Described d) a y after before now s e = absurd s
 pub after_same : (s : Stop) (t : Talk) (x y : Outside) (now : Devices) → now ≡ devices_of x.client → StopsBy s t (record x { client = with_devices x.client now }) y → StopsBy s t x y
 after_same s t x y now e f = subst (λ w. StopsBy s t (record x { client = with_devices x.client w }) y) e f
 
-pub sent_stray : (k : Session → Talk) (r : Reply) (x : Outside) (now : Devices) (place : ℕ) → replied Sent r ≡ Stray → now ≡ devices_of x.client → IsNextOn (Some r) x.wire → place ≡ x.wire.taken
+pub sent_stray : (k : Session → Talk) (r : Reply) (x : Outside) (now : Devices) (place : ℕ) → replied Sent r ≡ Stray → now ≡ devices_of x.client → IsNextOn (Some r) x.wire → place ≡ place_of x.wire
     → StopsBy (stop.BadReply place) (Hears Sent nothing_shown (answered_on k)) x (record x { client = with_devices x.client now })
 sent_stray k r x now place s d e p =
     subst (λ w. StopsBy (stop.BadReply place) (Hears Sent nothing_shown (answered_on k)) x (record x { client = with_devices x.client w })) (sym d)
@@ -300,13 +310,6 @@ rows_left session w shown more r a after before now says (Ok heard) e =
     rows_stay heard a after shown more (subst TellsRows d.0 (tells_rows session w r)) e
 rows_left session w shown more r a after before now says (Err s) e = tt
 
--- more bytes were taken
-frame_some : (r : Reply) → 0 < length (reply_frame r)
-frame_some r = omega arith
-
-pub more_taken : (r : Reply) (old new : Wire) → TakesOne r old new → old.taken < new.taken
-more_taken r old new h =
-    let f = frame_some r in
-    let e = h.read.taken in
-    let l : length (flat_map reply_frame (r ∷ [])) ≡ length (reply_frame r) = ap length (append-nil (reply_frame r)) in
-    omega (arith, e, l, f)
+-- one more was taken
+pub more_taken : (r : Reply) (old new : Wire) → TakesOne r old new → new.taken ≡ old.taken + 1
+more_taken r old new h = h.read.taken

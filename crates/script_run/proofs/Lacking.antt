@@ -2,8 +2,10 @@
 use Rattle.std.proofs.Common.{◌≡◌, ℕ, ◌≤◌, List, [], ◌∷◌, Option, Some, None, Err, Bool, true, false, length, refl, sym, ◌∙◌, ap, subst, append-nil, arith, ◌⊎◌, inl, inr}
 use Rattle.std.specs.Prelude.{flat_map}
 use Rattle.std.specs.Borrow.{GName}
+use Rattle.ae_base.specs.declared.frames.FrameVersion.{FrameVersion}
 use Rattle.ae_edge.specs.Devices.{Adds, AddsFront, Rose}
 use Rattle.wire_messages.specs.declared.replies.Reply.{Reply}
+use Rattle.wire_frames.specs.Frames.{Placed}
 use Rattle.conversation.specs.declared.outcomes.Listing.{Listing}
 use Rattle.conversation.specs.declared.outcomes.Outcome.{Outcome}
 use Rattle.conversation.specs.declared.outcomes.Outcome.TheVariants as outcome
@@ -13,8 +15,8 @@ use Rattle.conversation.specs.Paths.{Follows, stays, prints_last, IsStray, repli
 use Rattle.conversation.specs.Talk.{Talk, Ends, Stops, Hears, Heard, broken}
 use Rattle.outcome_text.specs.Counting.{printed}
 use Rattle.outcome_text.specs.Printing.{printed_listing}
-use Rattle.run_effects.specs.Shares.{ClientSide, Stream, Wire, Outside, Comes, ClientPut, WirePut, WireRead, HasPut}
-use Rattle.run_effects.specs.Ways.{Proceeds, Lacks, Breaks, StopsBy, CantBeRead, IsTooLong, IsStreamed, IsStuck, IsStuckOn, IsFirst, IsLeft, IsLeftOn, IsNextOn, StaysWithin, printed_off}
+use Rattle.run_effects.specs.Shares.{ClientSide, Queue, queue_of, Standing, Stream, Wire, Outside, Comes, ClientPut, WirePut, WireRead, HasPut, place_of}
+use Rattle.run_effects.specs.Ways.{Proceeds, Lacks, Breaks, StopsBy, CantBeRead, IsTooLong, IsAtFrame, IsStuck, IsStuckOn, IsFirst, IsLeft, IsLeftOn, IsNextOn, StaysWithin, printed_off}
 use Rattle.run_effects.specs.declared.stops.Stop.{Stop}
 use Rattle.run_effects.specs.declared.stops.Stop.TheVariants as stop
 use Rattle.outcome_text.specs.declared.tallies.Tally.{Tally}
@@ -54,19 +56,22 @@ cut_by : (t : Talk) (x z : Outside) (result : Stop) → Breaks t x z → Cut res
 cut_by t x z result b (inl h) = subst (λ s. StopsBy s t x z) (sym h.0) (b, inl h.1)
 cut_by t x z result b (inr e) = subst (λ s. StopsBy s t x z) (sym e) b
 
-streamed_read : (s t : Option Stream) → CantBeRead s t → IsStreamed t
-streamed_read s (Some t) h = tt
-streamed_read (Some s) None h = absurd h
-streamed_read None None h = absurd h
+-- where the replies can't be read further, none is left of a frame
+frame_read : (version : FrameVersion) (s t : Option Stream) → CantBeRead version s t → IsAtFrame t
+frame_read version (Some s) (Some t) h = h.1.0
+frame_read version (Some s) None h = absurd h
+frame_read version None (Some t) h = absurd h
+frame_read version None None h = absurd h
 
-streamed_before : (s t : Option Stream) (a b : List Reply) → Comes [] s t a b → IsStreamed t → IsStreamed s
-streamed_before (Some s) t a b h i = tt
-streamed_before None (Some t) a b h i = absurd h
-streamed_before None None a b h i = absurd i
+frame_before : (version : FrameVersion) (s t : Option Stream) (a b : Queue) → Comes version [] s t a b → IsAtFrame t → IsAtFrame s
+frame_before version (Some s) (Some t) a b h i = sym (ap (λ (x : Standing). x.skipped) h.1) ∙ i
+frame_before version (Some s) None a b h i = absurd h
+frame_before version None (Some t) a b h i = absurd h
+frame_before version None None a b h i = absurd i
 
-streamed_long : (taken : ℕ) (s : Option Stream) → IsTooLong taken s → IsStreamed s
-streamed_long taken (Some s) h = tt
-streamed_long taken None h = absurd h
+frame_long : (version : FrameVersion) (s : Option Stream) → IsTooLong version s → IsAtFrame s
+frame_long version (Some s) h = h.none.0
+frame_long version None h = absurd h
 
 off_silent : (comes : Option Outcome) → flat_map replies_to (printed_off comes) ≡ []
 off_silent (Some comes) = refl
@@ -91,7 +96,7 @@ module _ (session : Session) (shown : Listing) (f : Heard → Talk) (x : Outside
     away : Proceeds (Hears session shown f) (Stops (broken session shown)) x (record x { wire = w })
     away = goes_then _ _ _ _ _ _ (rests_goes (Hears session shown f) x w r) (strayed_goes session shown f next (record x { wire = w }) s n)
 
-    pub strays_off : BreaksOff result (stop.BadReply w.taken) (broken session shown) x.client client → StopsBy result (Hears session shown f) x After
+    pub strays_off : BreaksOff result (stop.BadReply (place_of w)) (broken session shown) x.client client → StopsBy result (Hears session shown f) x After
     strays_off (inl h) =
         let g : Proceeds (Stops (broken session shown)) (Stops None) (record x { wire = w }) After =
         record {
@@ -129,10 +134,10 @@ module _ (session : Session) (shown : Listing) (f : Heard → Talk) (x : Outside
       goes = stay (Hears session shown f) x;
       awaits = tt;
       put = record { client = h.1; wire = wire_so };
-      read = record { tally = h.2; wire = wire_read_then [] (printed_off (broken session shown)) x.wire w w q (read_off (broken session shown) w) };
+      read = record { tally = h.2; wire = wire_read_then [] (printed_off (broken session shown)) x.wire w w p.version q (read_off (broken session shown) w) };
     }
 
-    cut_lacks : IsStreamed w.stream → CutsOff result (broken session shown) x.client client → StopsBy result (Hears session shown f) x After
+    cut_lacks : IsAtFrame w.stream → CutsOff result (broken session shown) x.client client → StopsBy result (Hears session shown f) x After
     cut_lacks i h =
         cut_by (Hears session shown f) x After result
         (record {
@@ -142,25 +147,25 @@ module _ (session : Session) (shown : Listing) (f : Heard → Talk) (x : Outside
           last = printed_off (broken session shown);
           goes = stay (Hears session shown f) x;
           one = off_one (broken session shown);
-          follows = inr (streamed_before x.wire.stream w.stream x.wire.waiting w.waiting q.comes i, tt, refl);
+          follows = inr (frame_before x.wire.version x.wire.stream w.stream (queue_of x.wire) (queue_of w) q.comes i, tt, refl);
           put = record { client = h.1; wire = wire_front (printed_off (broken session shown)) x.wire w wire_so };
         })
         h.0
 
-    unread_fails : CantBeRead x.wire.stream w.stream → StaysWithin x.wire w → BreaksOff result stop.ReadFault (broken session shown) x.client client → StopsBy result (Hears session shown f) x After
+    unread_fails : CantBeRead w.version x.wire.stream w.stream → StaysWithin x.wire w → BreaksOff result stop.ReadFault (broken session shown) x.client client → StopsBy result (Hears session shown f) x After
     unread_fails c l (inl h) = subst (λ s. StopsBy s (Hears session shown f) x After) (sym h.0) (lacks stop.ReadFault h, c, l)
-    unread_fails c l (inr h) = cut_lacks (streamed_read x.wire.stream w.stream c) h
+    unread_fails c l (inr h) = cut_lacks (frame_read w.version x.wire.stream w.stream c) h
 
-    long_fails : IsTooLong w.taken w.stream → BreaksOff result stop.TooLong (broken session shown) x.client client → StopsBy result (Hears session shown f) x After
+    long_fails : IsTooLong w.version w.stream → BreaksOff result stop.TooLong (broken session shown) x.client client → StopsBy result (Hears session shown f) x After
     long_fails c (inl h) = subst (λ s. StopsBy s (Hears session shown f) x After) (sym h.0) (lacks stop.TooLong h, c)
-    long_fails c (inr h) = cut_lacks (streamed_long w.taken w.stream c) h
+    long_fails c (inr h) = cut_lacks (frame_long w.version w.stream c) h
 
   memory_fails : WirePut AddsFront [] x.wire w → BreaksOff result stop.OutOfMemory None x.client client → StopsBy result (Hears session shown f) x After
   memory_fails h (inl b) = subst (λ s. StopsBy s (Hears session shown f) x After) (sym b.0) (halted_so (Hears session shown f) x w client h (client_front [] x.client client b.1))
   memory_fails h (inr b) = cut_by (Hears session shown f) x After result (halted_so (Hears session shown f) x w client h b.1) b.0
 
   -- none comes, by its cause
-  pub fetch_fails : (why : ReplyFault) → Fetches (Err why) x.wire w → BreaksOff result (stop_at why w.taken) (off_by why (broken session shown)) x.client client → StopsBy result (Hears session shown f) x After
+  pub fetch_fails : (why : ReplyFault) → Fetches (Err why) x.wire w → BreaksOff result (stop_at why (place_of w)) (off_by why (broken session shown)) x.client client → StopsBy result (Hears session shown f) x After
   fetch_fails fault.BadReply h b = strays_off None tt h.0 h.1 b
   fetch_fails fault.ReadFault h b = unread_fails h.0.0 h.0.1 h.1 h.0.2 b
   fetch_fails fault.TooLong h b = long_fails h.0 h.1 h.2 b
@@ -176,15 +181,15 @@ off_none fault.OutOfMemory comes e = refl
 nothing_off : (why : Stop) (client : ClientSide) → BreaksOff why why None client client
 nothing_off why client = inl (refl, client_still client, refl)
 
-pub fetch_misses : (session : Session) (shown : Listing) (f : Heard → Talk) (x : Outside) (w : Wire) (why : ReplyFault) (result : Stop) (place : ℕ) → broken session shown ≡ None → place ≡ w.taken → result ≡ stop_at why place
+pub fetch_misses : (session : Session) (shown : Listing) (f : Heard → Talk) (x : Outside) (w : Wire) (why : ReplyFault) (result : Stop) (place : ℕ) → broken session shown ≡ None → place ≡ place_of w → result ≡ stop_at why place
     → Fetches (Err why) x.wire w → StopsBy result (Hears session shown f) x (record x { wire = w })
 fetch_misses session shown f x w why result place b p e h =
     subst (λ s. StopsBy s (Hears session shown f) x (record x { wire = w })) (sym (e ∙ ap (stop_at why) p))
-    (fetch_fails session shown f x w x.client (stop_at why w.taken) why h
-    (subst (λ c. BreaksOff (stop_at why w.taken) (stop_at why w.taken) c x.client x.client) (sym (off_none why (broken session shown) b)) (nothing_off (stop_at why w.taken) x.client)))
+    (fetch_fails session shown f x w x.client (stop_at why (place_of w)) why h
+    (subst (λ c. BreaksOff (stop_at why (place_of w)) (stop_at why (place_of w)) c x.client x.client) (sym (off_none why (broken session shown) b)) (nothing_off (stop_at why (place_of w)) x.client)))
 
 pub stray_misses : (session : Session) (shown : Listing) (f : Heard → Talk) (r : Reply) (x : Outside) (w : Wire) (place : ℕ) → broken session shown ≡ None → IsStray session shown (Some r)
-    → Rests x.wire w → IsFirst r w → place ≡ w.taken → StopsBy (stop.BadReply place) (Hears session shown f) x (record x { wire = w })
+    → Rests x.wire w → IsFirst r w → place ≡ place_of w → StopsBy (stop.BadReply place) (Hears session shown f) x (record x { wire = w })
 stray_misses session shown f r x w place b s h i p =
     fails_then (stop.BadReply place) (Hears session shown f) (Hears session shown f) x (record x { wire = w }) (record x { wire = w }) (rests_goes (Hears session shown f) x w h)
     (missed session shown f (Some r) (record x { wire = w }) place b s (first_next r w i) p)
@@ -205,8 +210,8 @@ off_is fault.ReadFault session shown reads r e = ap (λ b. shown_if b shown) e �
 off_is fault.TooLong session shown reads r e = ap (λ b. shown_if b shown) e ∙ sym (broken_is session shown r)
 off_is fault.OutOfMemory session shown reads r e = refl
 
-pub why_is : (why : ReplyFault) (place taken : ℕ) (result : Stop) → result ≡ stop_at why place → place ≡ taken → result ≡ stop_at why taken
-why_is why place taken result e p = e ∙ ap (stop_at why) p
+pub why_is : (why : ReplyFault) (place at : ℕ) (result : Stop) → result ≡ stop_at why place → place ≡ at → result ≡ stop_at why at
+why_is why place at result e p = e ∙ ap (stop_at why) p
 
 -- nothing is put
 pub none_off : (is : Bool) (shown : Listing) (result why : Stop) (client : ClientSide) → result ≡ why → is ≡ false → BreaksOff result why (shown_if is shown) client client
@@ -242,7 +247,7 @@ left_stuck : {A : Type 0} (sessions : List Session) (xs : List A) → IsLeft xs 
 left_stuck sessions [] h = absurd h
 left_stuck sessions (x ∷ xs) h = tt
 
-left_on : (sessions : List Session) (s : Option Stream) (waiting : List Reply) → IsLeftOn s waiting → IsStuckOn (Ends sessions) s waiting
+left_on : (sessions : List Session) (s : Option Stream) (waiting : List (Placed Reply)) → IsLeftOn s waiting → IsStuckOn (Ends sessions) s waiting
 left_on sessions None waiting h = left_stuck sessions waiting h
 left_on sessions (Some s) waiting h = left_stuck sessions s.held h
 
@@ -256,7 +261,7 @@ ends_lacking sessions x w p q = record {
   read = record { tally = refl; wire = q };
 }
 
-pub finish_fails : (sessions : List Session) (x : Outside) (w : Wire) (why : ReplyFault) (place : ℕ) → place ≡ w.taken → Finishes (Err why) x.wire w → StopsBy (stop_at why place) (Ends sessions) x (record x { wire = w })
+pub finish_fails : (sessions : List Session) (x : Outside) (w : Wire) (why : ReplyFault) (place : ℕ) → place ≡ place_of w → Finishes (Err why) x.wire w → StopsBy (stop_at why place) (Ends sessions) x (record x { wire = w })
 finish_fails sessions x w fault.BadReply place p h = record { rest = Ends sessions; goes = rests_goes (Ends sessions) x w h.0; place = (left_on sessions w.stream w.waiting h.1, sym p) }
 finish_fails sessions x w fault.ReadFault place p h = (ends_lacking sessions x w h.0.0 h.0.1, h.1, h.0.2)
 finish_fails sessions x w fault.TooLong place p h = (ends_lacking sessions x w h.0 h.1, h.2)

@@ -1,14 +1,19 @@
 -- What a run leaves of what it was lent.
 use Rattle.std.proofs.Common.{◌≡◌, ℕ, List, [], ◌∷◌, Option, Result, Ok, Err, ◌⊎◌, length, ◌∙◌, subst}
 use Rattle.std.specs.Borrow.{GName}
+use Rattle.std.specs.Prelude.{IfOk}
+use Rattle.ae_base.specs.declared.frames.FrameVersion.{FrameVersion}
 use Rattle.ae_edge.specs.Devices.{Rose, WhereTold}
 use Rattle.ae_edge.proofs.Interface.{told_map}
 use Rattle.conversation.specs.Paths.{Event}
+use Rattle.conversation.specs.declared.sessions.Session.{Session}
+use Rattle.wire_frames.specs.Frames.{Placed}
+use Rattle.wire_messages.specs.declared.replies.Reply.{Reply}
 use Rattle.conversation.specs.Sessions.{nobody}
-use Rattle.conversation.specs.Talk.{Talk}
+use Rattle.conversation.specs.Talk.{Talk, Ends}
 use Rattle.plain_meaning.specs.Steps.{talk}
 use Rattle.outcome_text.specs.Counting.{nothing}
-use Rattle.run_effects.specs.Shares.{Outside, Puts, HasPut}
+use Rattle.run_effects.specs.Shares.{ClientSide, Outside, Puts, HasPut, Wire}
 use Rattle.run_effects.specs.Ways.{Proceeds, Lacks, Breaks, StopsBy, Advances}
 use Rattle.run_effects.specs.declared.stops.Stop.{Stop}
 use Rattle.run_effects.specs.declared.stops.Stop.TheVariants as stop
@@ -20,6 +25,7 @@ use Rattle.script_source.specs.declared.Unread.{Unread}
 use Rattle.script_run.specs.declared.runs.Count.{Count}
 use Rattle.script_run.specs.declared.runs.Ran.{Ran}
 use Rattle.script_run.specs.declared.runs.Ran.TheVariants as ran
+use Rattle.script_run.specs.Connections.{in_version}
 use Rattle.script_run.specs.Ends.{RunDevices, outside, CameTo, RunsTo, RunsScript, IsOfPeer, read_by}
 
 -- ---- the same is lent after it
@@ -29,9 +35,10 @@ pub record AreSame (old new : Outside) : Type 0 where
   pub entropy : new.client.entropy_names ≡ old.client.entropy_names
   pub vault : new.client.vault_names ≡ old.client.vault_names
   pub wire : new.wire.names ≡ old.wire.names
+  pub version : new.wire.version ≡ old.wire.version
 
 put_same : (P : Puts) (events : List Event) (old new : Outside) → HasPut P events old new → AreSame old new
-put_same P events old new h = record { out = h.client.out_same; entropy = h.client.entropy_same; vault = h.client.vault_same; wire = h.wire.names }
+put_same P events old new h = record { out = h.client.out_same; entropy = h.client.entropy_same; vault = h.client.vault_same; wire = h.wire.names; version = h.wire.version }
 
 goes_same : (t u : Talk) (old new : Outside) → Proceeds t u old new → AreSame old new
 goes_same t u old new g = put_same _ g.events old new g.put
@@ -40,13 +47,13 @@ breaks_same : (t : Talk) (old new : Outside) → Breaks t old new → AreSame ol
 breaks_same t old new b =
     let p = goes_same t b.between old b.mid b.goes in
     let q = put_same _ b.last b.mid new b.put in
-    record { out = q.out ∙ p.out; entropy = q.entropy ∙ p.entropy; vault = q.vault ∙ p.vault; wire = q.wire ∙ p.wire }
+    record { out = q.out ∙ p.out; entropy = q.entropy ∙ p.entropy; vault = q.vault ∙ p.vault; wire = q.wire ∙ p.wire; version = q.version ∙ p.version }
 
 lacks_same : (t : Talk) (old new : Outside) → Lacks t old new → AreSame old new
 lacks_same t old new l =
     let p = goes_same t l.between old l.mid l.goes in
     let q = put_same _ _ l.mid new l.put in
-    record { out = q.out ∙ p.out; entropy = q.entropy ∙ p.entropy; vault = q.vault ∙ p.vault; wire = q.wire ∙ p.wire }
+    record { out = q.out ∙ p.out; entropy = q.entropy ∙ p.entropy; vault = q.vault ∙ p.vault; wire = q.wire ∙ p.wire; version = q.version ∙ p.version }
 
 fails_same : (s : Stop) (t : Talk) (old new : Outside) → StopsBy s t old new → AreSame old new
 fails_same (stop.BadReply place) t old new h = goes_same t h.rest old new h.goes
@@ -64,6 +71,11 @@ leads_same (Err s) t onward old new f = fails_same s t old new f
 pub only_same : (a b : GName) → a ∷ [] ≡ b ∷ [] → a ≡ b
 only_same a b e = cc
 
+-- it is told in the version that stays
+pub leads_in : (result : Result (Unit {0}) Stop) (t : Talk) (onward : Unit {0} → Talk) (old : Outside) (client : ClientSide) (wire : Wire) (version : FrameVersion) → wire.version ≡ version
+    → Advances result t onward old (record { client = client; wire = wire }) → Advances result t onward old (record { client = client; wire = in_version version wire })
+leads_in result t onward old client wire version e h = subst (λ v. Advances result t onward old (record { client = client; wire = in_version v wire })) e h
+
 -- ---- how it ended
 
 -- it ended before it began
@@ -71,6 +83,7 @@ pub unstarted : (steps : List Step) (lent : RunDevices) → RunsTo (ran.Stopped 
 unstarted steps lent = record {
   sessions = nobody;
   waiting = [];
+  behind = 0;
   taken = 0;
   out = [];
   entropy = [];
@@ -80,8 +93,38 @@ unstarted steps lent = record {
   entropy_after = [];
   vault_after = [];
   wire_after = [];
-  leads = breaks_between _ _ _ _ (stay (talk steps nobody) (outside [] [] [] [] nothing [] 0 lent));
+  leads = breaks_between _ _ _ _ (stay (talk steps nobody) (outside [] [] [] [] nothing [] 0 0 lent));
   read = tt;
+}
+
+-- from 64 idle sessions on, with nothing counted and no reply waiting
+pub came : (ended : Result (Unit {0}) Stop) (uncounted tally : Tally) (steps : List Step) (first sessions : List Session) (none waiting : List (Placed Reply)) (behind taken : ℕ)
+    → (out entropy vault : List GName) (wire : List (List GName)) (out_after entropy_after vault_after : List GName) (wire_after : List (List GName))
+    → (old new : RunDevices) → first ≡ nobody → uncounted ≡ nothing → none ≡ []
+    → Advances ended (talk steps first) (λ o. Ends sessions) (outside out entropy vault wire uncounted none 0 0 old)
+    (outside out_after entropy_after vault_after wire_after tally waiting behind taken new)
+    → IfOk ended (λ o. waiting ≡ []) → CameTo ended tally steps old new
+came ended uncounted tally steps first sessions none waiting behind taken out entropy vault wire out_after entropy_after vault_after wire_after old new n u q leads read = record {
+  sessions = sessions;
+  waiting = waiting;
+  behind = behind;
+  taken = taken;
+  out = out;
+  entropy = entropy;
+  vault = vault;
+  wire = wire;
+  out_after = out_after;
+  entropy_after = entropy_after;
+  vault_after = vault_after;
+  wire_after = wire_after;
+  leads =
+      subst (λ (w : List Session). Advances ended (talk steps w) (λ o. Ends sessions) (outside out entropy vault wire nothing [] 0 0 old)
+      (outside out_after entropy_after vault_after wire_after tally waiting behind taken new)) n
+      (subst (λ (z : Tally). Advances ended (talk steps first) (λ o. Ends sessions) (outside out entropy vault wire z [] 0 0 old)
+      (outside out_after entropy_after vault_after wire_after tally waiting behind taken new)) u
+      (subst (λ (r : List (Placed Reply)). Advances ended (talk steps first) (λ o. Ends sessions) (outside out entropy vault wire uncounted r 0 0 old)
+      (outside out_after entropy_after vault_after wire_after tally waiting behind taken new)) q leads));
+  read = read;
 }
 
 -- ---- a script

@@ -8,6 +8,7 @@ mod Lacking
 mod Leaving
 mod Lent
 mod NoStray
+mod Packed
 mod Passing
 mod PlainText
 mod Places

@@ -13,7 +13,7 @@ use Rattle.plain_meaning.specs.Awaits.{IsHeardBy, IsHeard, Awaits}
 use Rattle.plain_meaning.specs.Laws.{RepliesAreAwaited}
 use Rattle.plain_meaning.specs.Steps.{talk}
 use Rattle.outcome_text.specs.Counting.{nothing}
-use Rattle.run_effects.specs.Shares.{Outside, AreServed}
+use Rattle.run_effects.specs.Shares.{Outside, AreServed, messages_of}
 use Rattle.run_effects.specs.Ways.{StopsBy, IsStuck}
 use Rattle.run_effects.specs.declared.stops.Stop.TheVariants as stop
 use Rattle.script_run.specs.declared.runs.Count.{Count}
@@ -24,7 +24,7 @@ use Rattle.script_source.specs.Scripts.{IsScript}
 use Rattle.script_run.specs.Ends.{RunDevices, outside, RunsScript}
 use Rattle.script_run.specs.Plain.{IsDoneOrFault}
 use Rattle.script_run.proofs.Plainly.{served}
-use Rattle.script_run.proofs.Queued.{waits_of, stuck_queue}
+use Rattle.script_run.proofs.Queued.{waits_from, stuck_queue}
 
 heard_first : (P : Heard → List Reply → Type 0) (queue rest : List Reply) (reply : Reply) (session : Session) (shown : Listing) → queue ≡ reply ∷ rest → IsHeard P queue session shown
     → IsHeardBy (λ after more. IsHeard P rest after more) (λ heard. P heard rest) (hear session shown reply)
@@ -74,14 +74,15 @@ none_bad : (steps : List Step) → Awaits serve (talk steps nobody) empty_state 
 none_bad steps a place old new w q n h =
     let g = h.goes in
     let v = served g.events old.wire.state new.wire.state empty_state w g.put.wire.state in
-    let waits : Waits g.events [] new.wire.waiting = subst (λ x. Waits g.events x new.wire.waiting) q (waits_of g.events old.wire.stream new.wire.stream old.wire.waiting new.wire.waiting n g.read.wire.comes) in
-    awaits_on h.rest v.0 new.wire.waiting (path_awaits (talk steps nobody) h.rest g.events g.follows [] new.wire.waiting waits empty_state v.0 v.1 a) (stuck_queue (talk steps nobody) h.rest old new n g h.place.0)
+    let waits = waits_from (talk steps nobody) h.rest old new n q g in
+    let left = messages_of new.wire.waiting in
+    awaits_on h.rest v.0 left (path_awaits (talk steps nobody) h.rest g.events g.follows [] left waits empty_state v.0 v.1 a) (stuck_queue (talk steps nobody) h.rest old new n g h.place.0)
 
 pub runs_awaited : (law : RepliesAreAwaited) (place : ℕ) (count : Count) (bytes : List ℕ) (old new : RunDevices) → old.state ≡ Some empty_state → RunsScript (ran.Stopped (stop.BadReply place)) count bytes old new → ⊥
 runs_awaited law place count bytes old new w h =
     let c = h.runs in
-    none_bad h.steps (law h.steps h.script.limits) place (outside c.out c.entropy c.vault c.wire nothing [] 0 old)
-    (outside c.out_after c.entropy_after c.vault_after c.wire_after count.tally c.waiting c.taken new) w refl refl c.leads
+    none_bad h.steps (law h.steps h.script.limits) place (outside c.out c.entropy c.vault c.wire nothing [] 0 0 old)
+    (outside c.out_after c.entropy_after c.vault_after c.wire_after count.tally c.waiting c.behind c.taken new) w refl refl c.leads
 
 pub never_bad : (law : RepliesAreAwaited) (r : Ran) (place : ℕ) (count : Count) (bytes : List ℕ) (old new : RunDevices) → old.state ≡ Some empty_state → RunsScript r count bytes old new
     → ¬ (r ≡ ran.Stopped (stop.BadReply place))

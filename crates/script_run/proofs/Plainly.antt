@@ -12,7 +12,7 @@ use Rattle.server_core.specs.Serve.{State, serve, empty_state}
 use Rattle.conversation.specs.declared.outcomes.Outcome.{Outcome}
 use Rattle.conversation.specs.declared.sessions.Session.{Session}
 use Rattle.conversation.specs.Drive.{End, Done, Dry, BadReply, Passed, over, end_at}
-use Rattle.conversation.specs.Paths.{Event, Asked, Took, Strayed, Drew, Opened, Printed, Follows, taken_in, drawn_in, outcome_in, Waits, OpensAll}
+use Rattle.conversation.specs.Paths.{Event, Asked, Took, Strayed, Drew, Opened, Printed, Follows, taken_in, drawn_in, outcome_in, OpensAll}
 use Rattle.conversation.specs.Sessions.{nobody}
 use Rattle.conversation.specs.Talk.{Talk, Ends, Stops, Asks, Hears, Draws, Opens, Prints}
 use Rattle.conversation.proofs.Interface.{drawn_are_bytes}
@@ -23,7 +23,7 @@ use Rattle.plain_meaning.specs.Laws.{EndsWith, Agrees, ServedIsPlain}
 use Rattle.plain_meaning.specs.Steps.{talk}
 use Rattle.outcome_text.specs.Counting.{errors_in, rows_in, nothing, has_errors, counted}
 use Rattle.outcome_text.specs.Printing.{printed_outcome, print, has_refusal}
-use Rattle.run_effects.specs.Shares.{Outside, AreServed, text_of}
+use Rattle.run_effects.specs.Shares.{Outside, AreServed, messages_of, text_of}
 use Rattle.run_effects.specs.Ways.{Proceeds, HaltsAt, Breaks, StopsBy, IsStuck}
 use Rattle.run_effects.specs.declared.stops.Stop.{Stop}
 use Rattle.run_effects.specs.declared.stops.Stop.TheVariants as stop
@@ -36,7 +36,7 @@ use Rattle.script_source.specs.Scripts.{IsScript}
 use Rattle.script_run.specs.Ends.{RunDevices, outside, CameTo, RunsTo, RunsSteps, RunsScript}
 use Rattle.script_run.specs.Plain.{meaning, PrintsPlain}
 use Rattle.script_run.proofs.Passing.{ahead, path_passes}
-use Rattle.script_run.proofs.Queued.{waits_of, lacks_after, stuck_queue, breaks_follow, never_unread, never_long}
+use Rattle.script_run.proofs.Queued.{waits_from, lacks_after, stuck_queue, breaks_follow, never_unread, never_long}
 
 -- a conversation over a peer that serves from the empty state, with keys that are told
 pub record Starts (map : KeyMap) (old : Outside) : Type 0 where
@@ -93,29 +93,29 @@ module _ (keys : KeyMap) (steps : List Step) where
     pub taken : ℕ
     pub is : over serve keys (talk steps nobody) 0 (flat_map drawn_in events ++ []) empty_state [] ≡ ahead events (over serve keys u taken [] state left)
 
-  pub reached : (u : Talk) (old new : Outside) → Starts keys old → (g : Proceeds (talk steps nobody) u old new) → Reached u g.events new.wire.waiting
+  pub reached : (u : Talk) (old new : Outside) → Starts keys old → (g : Proceeds (talk steps nobody) u old new) → Reached u g.events (messages_of new.wire.waiting)
   reached u old new st g =
       let v = served g.events old.wire.state new.wire.state empty_state st.state g.put.wire.state in
-      let q : Waits g.events [] new.wire.waiting = subst (λ q. Waits g.events q new.wire.waiting) st.waiting (waits_of g.events old.wire.stream new.wire.stream old.wire.waiting new.wire.waiting st.queue g.read.wire.comes) in
+      let q = waits_from (talk steps nobody) u old new st.queue st.waiting g in
       let o : OpensAll g.events keys = subst (λ x. IfSome x (OpensAll g.events)) st.keys g.put.client.opened in
       record {
         state = v.0;
         taken = 0 + length (flat_map taken_in g.events);
-        is = path_passes keys (talk steps nobody) u g.events g.follows [] new.wire.waiting q o empty_state v.0 v.1 0 [];
+        is = path_passes keys (talk steps nobody) u g.events g.follows [] (messages_of new.wire.waiting) q o empty_state v.0 v.1 0 [];
       }
 
 module _ (keys : KeyMap) (steps : List Step) (wanted : List Outcome) (agrees : (entropy : List ℕ) → AreBytes entropy → Agrees (over serve keys (talk steps nobody) 0 entropy empty_state []) wanted) where
   module _ (u : Talk) (old new : Outside) (st : Starts keys old) (g : Proceeds (talk steps nobody) u old new) where
-    abbrev from_here : Reached keys steps u g.events new.wire.waiting
+    abbrev from_here : Reached keys steps u g.events (messages_of new.wire.waiting)
     from_here = reached keys steps u old new st g
 
-    ahead_agrees : (r : Reached keys steps u g.events new.wire.waiting) → Agrees (ahead g.events (over serve keys u r.taken [] r.state new.wire.waiting)) wanted
+    ahead_agrees : (r : Reached keys steps u g.events (messages_of new.wire.waiting)) → Agrees (ahead g.events (over serve keys u r.taken [] r.state (messages_of new.wire.waiting))) wanted
     ahead_agrees r = subst (λ p. Agrees p wanted) r.is (agrees (flat_map drawn_in g.events ++ []) (drew_bytes (talk steps nobody) u g.events g.follows))
 
     goes_front : IsFront (flat_map outcome_in g.events) wanted
     goes_front =
         let r = from_here in
-        let p = over serve keys u r.taken [] r.state new.wire.waiting in
+        let p = over serve keys u r.taken [] r.state (messages_of new.wire.waiting) in
         front_means p.end (flat_map outcome_in g.events) (flat_map outcome_in g.events ++ p.outcomes) p.outcomes wanted refl (ahead_agrees r)
 
     goes_prints : AddsFront (print wanted) old.client.out new.client.out
@@ -127,9 +127,9 @@ module _ (keys : KeyMap) (steps : List Step) (wanted : List Outcome) (agrees : (
     print_front : (comes : Outcome) (v : Talk) → Follows u (Printed comes ∷ []) v → IsFront (flat_map outcome_in g.events ++ comes ∷ []) wanted
     print_front comes v f =
         let r = from_here in
-        let p = over serve keys u r.taken [] r.state new.wire.waiting in
-        let q = over serve keys v (r.taken + 0) [] r.state new.wire.waiting in
-        let i : p ≡ ahead (Printed comes ∷ []) q = path_passes keys u v (Printed comes ∷ []) f new.wire.waiting new.wire.waiting refl tt r.state r.state refl r.taken [] in
+        let p = over serve keys u r.taken [] r.state (messages_of new.wire.waiting) in
+        let q = over serve keys v (r.taken + 0) [] r.state (messages_of new.wire.waiting) in
+        let i : p ≡ ahead (Printed comes ∷ []) q = path_passes keys u v (Printed comes ∷ []) f (messages_of new.wire.waiting) (messages_of new.wire.waiting) refl tt r.state r.state refl r.taken [] in
         let o : p.outcomes ≡ comes ∷ q.outcomes = ap (λ (x : Passed State). x.outcomes) i in
         front_means p.end (flat_map outcome_in g.events ++ comes ∷ []) (flat_map outcome_in g.events ++ p.outcomes) q.outcomes wanted
         (ap (λ xs. flat_map outcome_in g.events ++ xs) o ∙ sym (append_assoc (flat_map outcome_in g.events) (comes ∷ []) q.outcomes)) (ahead_agrees r)
@@ -154,11 +154,11 @@ module _ (keys : KeyMap) (steps : List Step) (wanted : List Outcome) (agrees : (
         (adds_then_front (flat_map text_of g.events) (flat_map text_of last) old.client.out new.client.out cut.client.out g.put.client.out h)
         (subst (λ xs. IsFront xs (print wanted)) i (text_front (flat_map outcome_in g.events ++ flat_map outcome_in last) wanted (last_front v last one f)))
 
-    never_stuck : IsStuck u new.wire.waiting → ⊥
+    never_stuck : IsStuck u (messages_of new.wire.waiting) → ⊥
     never_stuck s =
         let r = from_here in
-        let p = over serve keys u r.taken [] r.state new.wire.waiting in
-        let b = stuck_ends keys u r.taken r.state new.wire.waiting s in
+        let p = over serve keys u r.taken [] r.state (messages_of new.wire.waiting) in
+        let b = stuck_ends keys u r.taken r.state (messages_of new.wire.waiting) s in
         subst (λ e. EndsWith e (flat_map outcome_in g.events ++ p.outcomes) wanted) b.1 (ahead_agrees r)
 
   -- ---- to its end, no further, or cut
@@ -168,7 +168,7 @@ module _ (keys : KeyMap) (steps : List Step) (wanted : List Outcome) (agrees : (
     done_is sessions g e =
         let r = reached keys steps (Ends sessions) old new st g in
         let a = ahead_agrees (Ends sessions) old new st g r in
-        let b : (flat_map outcome_in g.events ++ []) ≡ wanted = subst (λ w. EndsWith (end_at sessions r.taken w) (flat_map outcome_in g.events ++ []) wanted) e a in
+        let b : (flat_map outcome_in g.events ++ []) ≡ wanted = subst (λ w. EndsWith (end_at sessions r.taken (messages_of w)) (flat_map outcome_in g.events ++ []) wanted) e a in
         sym (append-nil (flat_map outcome_in g.events)) ∙ b
 
     pub done_prints : (sessions : List Session) → Proceeds (talk steps nobody) (Ends sessions) old new → new.wire.waiting ≡ [] → Adds (print wanted) old.client.out new.client.out
@@ -199,22 +199,22 @@ module _ (law : ServedIsPlain) (keys : KeyMap) (steps : List Step) (limits : All
   agrees_so : (entropy : List ℕ) → AreBytes entropy → Agrees (over serve keys (talk steps nobody) 0 entropy empty_state []) (meaning keys steps)
   agrees_so entropy are = law keys steps limits proper alike entropy are
 
-  starts : (ended : Result (Unit {0}) Stop) (tally : Tally) (c : CameTo ended tally steps old new) → Starts keys (outside c.out c.entropy c.vault c.wire nothing [] 0 old)
+  starts : (ended : Result (Unit {0}) Stop) (tally : Tally) (c : CameTo ended tally steps old new) → Starts keys (outside c.out c.entropy c.vault c.wire nothing [] 0 0 old)
   starts ended tally c = record { state = state; keys = told; waiting = refl; queue = refl }
 
   prints : (tally : Tally) → CameTo (Ok tt) tally steps old new → Adds (print (meaning keys steps)) old.out new.out
   prints tally c =
-      done_prints keys steps (meaning keys steps) agrees_so (outside c.out c.entropy c.vault c.wire nothing [] 0 old) (outside c.out_after c.entropy_after c.vault_after c.wire_after tally c.waiting c.taken new)
+      done_prints keys steps (meaning keys steps) agrees_so (outside c.out c.entropy c.vault c.wire nothing [] 0 0 old) (outside c.out_after c.entropy_after c.vault_after c.wire_after tally c.waiting c.behind c.taken new)
       (starts (Ok tt) tally c) c.sessions c.leads c.read
 
   pub counts : (tally : Tally) → CameTo (Ok tt) tally steps old new → (has_errors tally ≡ has_refusal (meaning keys steps)) × (tally.errors ≡ errors_in (meaning keys steps)) × (tally.rows ≡ rows_in (meaning keys steps))
   counts tally c =
-      done_counts keys steps (meaning keys steps) agrees_so (outside c.out c.entropy c.vault c.wire nothing [] 0 old) (outside c.out_after c.entropy_after c.vault_after c.wire_after tally c.waiting c.taken new)
+      done_counts keys steps (meaning keys steps) agrees_so (outside c.out c.entropy c.vault c.wire nothing [] 0 0 old) (outside c.out_after c.entropy_after c.vault_after c.wire_after tally c.waiting c.behind c.taken new)
       (starts (Ok tt) tally c) c.sessions c.leads c.read refl
 
   stops_at : (s : Stop) (x y : Outside) → Starts keys x → StopsBy s (talk steps nobody) x y → x.client.out ≡ old.out → y.client.out ≡ new.out → PrintsPlain (ran.Stopped s) keys steps old.out new.out
   stops_at (stop.BadReply place) x y st h e f = no_stray keys steps (meaning keys steps) agrees_so x y st place h
-  stops_at stop.ReadFault x y st h e f = never_unread _ _ st.queue h.1
+  stops_at stop.ReadFault x y st h e f = never_unread _ _ _ st.queue h.1
   stops_at stop.TooLong x y st h e f = never_long _ _ (lacks_after (talk steps nobody) x y st.queue h.0) h.1
   stops_at stop.EntropyFault x y st h e f = rw (← e, ← f) (halts_prints keys steps (meaning keys steps) agrees_so x y st _ h.0)
   stops_at stop.VaultFault x y st h e f = rw (← e, ← f) (halts_prints keys steps (meaning keys steps) agrees_so x y st _ h.0)
@@ -223,7 +223,7 @@ module _ (law : ServedIsPlain) (keys : KeyMap) (steps : List Step) (limits : All
 
   stops : (s : Stop) (tally : Tally) → CameTo (Err s) tally steps old new → PrintsPlain (ran.Stopped s) keys steps old.out new.out
   stops s tally c =
-      stops_at s (outside c.out c.entropy c.vault c.wire nothing [] 0 old) (outside c.out_after c.entropy_after c.vault_after c.wire_after tally c.waiting c.taken new)
+      stops_at s (outside c.out c.entropy c.vault c.wire nothing [] 0 0 old) (outside c.out_after c.entropy_after c.vault_after c.wire_after tally c.waiting c.behind c.taken new)
       (starts (Err s) tally c) c.leads refl refl
 
   pub steps_plain : (r : Ran) (tally : Tally) → RunsTo r tally steps old new → PrintsPlain r keys steps old.out new.out

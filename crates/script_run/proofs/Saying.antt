@@ -21,7 +21,7 @@ use Rattle.plain_meaning.specs.Steps.{talk}
 use Rattle.outcome_text.specs.Counting.{nothing}
 use Rattle.outcome_text.specs.Printing.{printed_outcome, print}
 use Rattle.outcome_text.specs.declared.tallies.Tally.{Tally}
-use Rattle.run_effects.specs.Shares.{Outside, text_of}
+use Rattle.run_effects.specs.Shares.{Outside, messages_of, text_of}
 use Rattle.run_effects.specs.Ways.{Proceeds, HaltsAt, Breaks, StopsBy}
 use Rattle.run_effects.specs.declared.stops.Stop.{Stop}
 use Rattle.run_effects.specs.declared.stops.Stop.TheVariants as stop
@@ -45,11 +45,11 @@ module _ (IsSo : Outcome → Type 0) (keys : KeyMap) (steps : List Step) (all : 
     abbrev said : List Outcome
     said = flat_map outcome_in g.events
 
-    ahead_so : (r : Reached keys steps u g.events new.wire.waiting) → All IsSo (said ++ (over serve keys u r.taken [] r.state new.wire.waiting).outcomes)
+    ahead_so : (r : Reached keys steps u g.events (messages_of new.wire.waiting)) → All IsSo (said ++ (over serve keys u r.taken [] r.state (messages_of new.wire.waiting)).outcomes)
     ahead_so r = subst (λ (p : Passed _). All IsSo p.outcomes) r.is (all (flat_map drawn_in g.events ++ []) (drew_bytes (talk steps nobody) u g.events g.follows))
 
     said_so : All IsSo said
-    said_so = let r = reached keys steps u old new st g in front_so IsSo said (over serve keys u r.taken [] r.state new.wire.waiting).outcomes (ahead_so r)
+    said_so = let r = reached keys steps u old new st g in front_so IsSo said (over serve keys u r.taken [] r.state (messages_of new.wire.waiting)).outcomes (ahead_so r)
 
     pub goes_text : AddsTextOf IsSo old.client.out new.client.out
     goes_text = record { outcomes = said; are = said_so; text = whole_front (print said) old.client.out new.client.out (subst (λ xs. Adds xs old.client.out new.client.out) (text_is g.events) g.put.client.out) }
@@ -58,9 +58,9 @@ module _ (IsSo : Outcome → Type 0) (keys : KeyMap) (steps : List Step) (all : 
     print_so : (comes : Outcome) (v : Talk) → Follows u (Printed comes ∷ []) v → All IsSo (said ++ comes ∷ [])
     print_so comes v f =
         let r = reached keys steps u old new st g in
-        let p = over serve keys u r.taken [] r.state new.wire.waiting in
-        let q = over serve keys v (r.taken + 0) [] r.state new.wire.waiting in
-        let i : p ≡ ahead (Printed comes ∷ []) q = path_passes keys u v (Printed comes ∷ []) f new.wire.waiting new.wire.waiting refl tt r.state r.state refl r.taken [] in
+        let p = over serve keys u r.taken [] r.state (messages_of new.wire.waiting) in
+        let q = over serve keys v (r.taken + 0) [] r.state (messages_of new.wire.waiting) in
+        let i : p ≡ ahead (Printed comes ∷ []) q = path_passes keys u v (Printed comes ∷ []) f (messages_of new.wire.waiting) (messages_of new.wire.waiting) refl tt r.state r.state refl r.taken [] in
         let o : p.outcomes ≡ comes ∷ q.outcomes = ap (λ (x : Passed _). x.outcomes) i in
         front_so IsSo (said ++ comes ∷ []) q.outcomes (subst (All IsSo) (ap (λ xs. said ++ xs) o ∙ sym (append_assoc said (comes ∷ []) q.outcomes)) (ahead_so r))
 
@@ -94,7 +94,7 @@ module _ (IsSo : Outcome → Type 0) (keys : KeyMap) (steps : List Step) (all : 
 
   stops_text : (s : Stop) (old new : Outside) → Starts keys old → StopsBy s (talk steps nobody) old new → AddsTextOf IsSo old.client.out new.client.out
   stops_text (stop.BadReply place) old new st h = goes_text h.rest old new st h.goes
-  stops_text stop.ReadFault old new st h = absurd (never_unread _ _ st.queue h.1)
+  stops_text stop.ReadFault old new st h = absurd (never_unread _ _ _ st.queue h.1)
   stops_text stop.TooLong old new st h = absurd (never_long _ _ (lacks_after (talk steps nobody) old new st.queue h.0) h.1)
   stops_text stop.EntropyFault old new st h = let g = h.0 in goes_text g.rest old new st g.goes
   stops_text stop.VaultFault old new st h = let g = h.0 in goes_text g.rest old new st g.goes
@@ -105,9 +105,9 @@ module _ (IsSo : Outcome → Type 0) (keys : KeyMap) (steps : List Step) (all : 
 
   module _ (old new : RunDevices) (state : old.state ≡ Some empty_state) (told : old.keys ≡ Some keys) where
     came_text : (ended : Result (Unit {0}) Stop) (tally : Tally) → CameTo ended tally steps old new → AddsTextOf IsSo old.out new.out
-    came_text (Ok o) tally c = goes_text (Ends c.sessions) (outside c.out c.entropy c.vault c.wire nothing [] 0 old) (outside c.out_after c.entropy_after c.vault_after c.wire_after tally c.waiting c.taken new)
+    came_text (Ok o) tally c = goes_text (Ends c.sessions) (outside c.out c.entropy c.vault c.wire nothing [] 0 0 old) (outside c.out_after c.entropy_after c.vault_after c.wire_after tally c.waiting c.behind c.taken new)
         (record { state = state; keys = told; waiting = refl; queue = refl }) c.leads
-    came_text (Err s) tally c = stops_text s (outside c.out c.entropy c.vault c.wire nothing [] 0 old) (outside c.out_after c.entropy_after c.vault_after c.wire_after tally c.waiting c.taken new)
+    came_text (Err s) tally c = stops_text s (outside c.out c.entropy c.vault c.wire nothing [] 0 0 old) (outside c.out_after c.entropy_after c.vault_after c.wire_after tally c.waiting c.behind c.taken new)
         (record { state = state; keys = told; waiting = refl; queue = refl }) c.leads
 
     pub steps_text : (r : Ran) (tally : Tally) → RunsTo r tally steps old new → AddsTextOf IsSo old.out new.out

@@ -1,12 +1,13 @@
 -- What asking does at the other side of the wire.
-use Rattle.std.specs.Prelude.{◌≡◌, ℕ, ◌+◌, List, [], ◌∷◌, None, Result, Ok, Err, length}
+use Rattle.std.specs.Prelude.{◌≡◌, ℕ, ◌+◌, ◌<◌, ◌^◌, List, [], ◌∷◌, ◌++◌, Option, Some, None, Result, Ok, Err, length}
+use Rattle.ae_base.specs.declared.frames.FrameVersion.{FrameVersion}
 use Rattle.ae_edge.specs.Devices.{Rose, Adds, AddsFront}
 use Rattle.wire_messages.specs.declared.replies.Reply.{Reply}
 use Rattle.wire_messages.specs.declared.requests.Request.{Request}
 use Rattle.conversation.specs.Paths.{Asked}
-use Rattle.run_effects.specs.Shares.{Wire, WirePut, WireRead}
+use Rattle.run_effects.specs.Shares.{Begins, Stream, Wire, WirePut, WireRead}
 use Rattle.run_effects.specs.Ways.{AsksInPart, CantBeRead, IsFirst, IsLeftOn, IsNextOn, IsReadOut, IsTooLong, StaysWithin}
-use Rattle.wire_spelling.specs.Spelling.{reply_frame}
+use Rattle.wire_spelling.specs.Packing.{payload_frame}
 use Rattle.script_run.specs.declared.connection.ReplyFault.{ReplyFault}
 use Rattle.script_run.specs.declared.connection.ReplyFault.TheVariants as fault
 use Rattle.script_run.specs.declared.connection.LentReply.{LentReply}
@@ -33,18 +34,36 @@ Rests old new = WirePut Adds [] old new × WireRead [] old new × StaysWithin ol
 abbrev pub Fetches : Result (Unit {0}) ReplyFault → Wire → Wire → Type 0
 Fetches (Ok o) old new = Rests old new × ((reply : Reply) × IsFirst reply new)
 Fetches (Err fault.BadReply) old new = Rests old new × IsNextOn None new
-Fetches (Err fault.ReadFault) old new = Rests old new × CantBeRead old.stream new.stream
-Fetches (Err fault.TooLong) old new = WirePut Adds [] old new × WireRead [] old new × IsTooLong new.taken new.stream
+Fetches (Err fault.ReadFault) old new = Rests old new × CantBeRead new.version old.stream new.stream
+Fetches (Err fault.TooLong) old new = WirePut Adds [] old new × WireRead [] old new × IsTooLong new.version new.stream
 Fetches (Err fault.OutOfMemory) old new = WirePut AddsFront [] old new
 
 -- nothing is left; or something is, or that can't be known
 abbrev pub Finishes : Result (Unit {0}) ReplyFault → Wire → Wire → Type 0
 Finishes (Ok o) old new = Rests old new × IsReadOut new.stream new.waiting
 Finishes (Err fault.BadReply) old new = Rests old new × IsLeftOn new.stream new.waiting
-Finishes (Err fault.ReadFault) old new = Rests old new × CantBeRead old.stream new.stream
-Finishes (Err fault.TooLong) old new = WirePut Adds [] old new × WireRead [] old new × IsTooLong new.taken new.stream
+Finishes (Err fault.ReadFault) old new = Rests old new × CantBeRead new.version old.stream new.stream
+Finishes (Err fault.TooLong) old new = WirePut Adds [] old new × WireRead [] old new × IsTooLong new.version new.stream
 Finishes (Err fault.OutOfMemory) old new = WirePut AddsFront [] old new
 
--- the place behind the frame of the reply that stands first
-abbrev pub IsBehindFirst : ℕ → Wire → Type 0
-IsBehindFirst behind wire = (reply : Reply) × IsFirst reply wire × (behind ≡ wire.taken + length (reply_frame reply))
+-- how many bytes of its frame go with a reply behind which these of the frame follow: all with the last, else none
+abbrev pub bytes_gone : List ℕ → List Reply → ℕ
+bytes_gone frame [] = length frame
+bytes_gone frame (reply ∷ more) = 0
+
+-- of a stream, so many bytes go with the reply that stands first
+abbrev pub LetsGo : ℕ → Reply → FrameVersion → Option Stream → Type 0
+LetsGo used reply version None = Unit {0}
+LetsGo used reply version (Some s) = (b : Begins version reply s.skipped s.held) × (used ≡ bytes_gone (payload_frame version b.payload) b.more)
+
+-- the reply stands first, so many bytes go with it, and one more can be counted
+pub record StandsFirst (reply : Reply) (used : ℕ) (wire : Wire) : Type 0 where
+  pub first : IsFirst reply wire
+  pub frame : LetsGo used reply wire.version wire.stream
+  pub count : wire.taken + 1 < 2 ^ 64
+
+-- ---- a run
+
+-- told in a version
+abbrev pub in_version : FrameVersion → Wire → Wire
+in_version version w = record w { version = version }

@@ -1,9 +1,11 @@
 -- How a run ends, in words of what it was lent.
 use Rattle.std.specs.Prelude.{◌≡◌, ℕ, List, [], length, Option, None, Result, Ok, Err, true, false, IfOk}
 use Rattle.std.specs.Borrow.{GName}
+use Rattle.ae_base.specs.declared.frames.FrameVersion.{FrameVersion}
 use Rattle.ae_edge.specs.Vaults.{KeyMap}
 use Rattle.wire_messages.specs.Exchanges.{Exchange}
 use Rattle.wire_messages.specs.declared.replies.Reply.{Reply}
+use Rattle.wire_frames.specs.Frames.{Placed}
 use Rattle.server_core.specs.Serve.{State}
 use Rattle.conversation.specs.declared.sessions.Session.{Session}
 use Rattle.conversation.specs.Sessions.{nobody}
@@ -22,9 +24,10 @@ use Rattle.script_run.specs.declared.runs.Count.{Count}
 use Rattle.script_run.specs.declared.runs.Ran.{Ran}
 use Rattle.script_run.specs.declared.runs.Ran.TheVariants as ran
 
--- what is told of all that a run is lent: text and tap, the random bytes to come, the keys, what the peer was asked and answered and the
--- state that it serves by, and the counts of faults
+-- the version of the frames, and what is told of all that a run is lent: text and tap, the random bytes to come, the keys, what the peer was
+-- asked and answered and the state that it serves by, and the counts of faults
 pub record RunDevices : Type 0 where
+  pub version : FrameVersion
   pub out : Option (List ℕ)
   pub tap : Option (List ℕ)
   pub entropy : Option (List ℕ)
@@ -36,10 +39,10 @@ pub record RunDevices : Type 0 where
   pub entropy_faults : ℕ
   pub vault_faults : ℕ
 
--- with the names of what is lent, and what a run keeps for itself: what it counted, the replies that wait, and how many bytes those
--- have that were taken
-abbrev pub outside : List GName → List GName → List GName → List (List GName) → Tally → List Reply → ℕ → RunDevices → Outside
-outside out_names entropy_names vault_names wire_names tally waiting taken l = record {
+-- with the names of what is lent, and what a run keeps for itself: what it counted, the replies that wait, each with the place of its frame,
+-- the place behind all frames that came, and how many replies were taken
+abbrev pub outside : List GName → List GName → List GName → List (List GName) → Tally → List (Placed Reply) → ℕ → ℕ → RunDevices → Outside
+outside out_names entropy_names vault_names wire_names tally waiting behind taken l = record {
   client = record {
     out_names = out_names;
     entropy_names = entropy_names;
@@ -52,13 +55,14 @@ outside out_names entropy_names vault_names wire_names tally waiting taken l = r
     entropy_faults = l.entropy_faults;
     vault_faults = l.vault_faults;
   };
-  wire = record { names = wire_names; tap = l.tap; log = l.log; state = l.state; waiting = waiting; stream = None; taken = taken; faults = l.tap_faults };
+  wire = record { names = wire_names; tap = l.tap; log = l.log; state = l.state; version = l.version; waiting = waiting; behind = behind; stream = None; taken = taken; faults = l.tap_faults };
 }
 
 -- from 64 idle sessions the script's conversation was followed to its end, with no reply left, or stopped; so much was counted
 pub record CameTo (ended : Result (Unit {0}) Stop) (tally : Tally) (steps : List Step) (old new : RunDevices) : Type 0 where
   pub sessions : List Session
-  pub waiting : List Reply
+  pub waiting : List (Placed Reply)
+  pub behind : ℕ
   pub taken : ℕ
   pub out : List GName
   pub entropy : List GName
@@ -68,7 +72,7 @@ pub record CameTo (ended : Result (Unit {0}) Stop) (tally : Tally) (steps : List
   pub entropy_after : List GName
   pub vault_after : List GName
   pub wire_after : List (List GName)
-  pub leads : Advances ended (talk steps nobody) (λ o. talks.Ends sessions) (outside out entropy vault wire nothing [] 0 old) (outside out_after entropy_after vault_after wire_after tally waiting taken new)
+  pub leads : Advances ended (talk steps nobody) (λ o. talks.Ends sessions) (outside out entropy vault wire nothing [] 0 0 old) (outside out_after entropy_after vault_after wire_after tally waiting behind taken new)
   pub read : IfOk ended (λ o. waiting ≡ [])
 
 -- what a run of these steps leaves, by how it ended and what it counted

@@ -7,6 +7,7 @@ pub mod Laws
 pub mod Connections
 pub mod Onward
 pub mod Plain
+pub mod Queues
 pub mod RunOf
 pub mod Serially
 pub mod Statuses

@@ -35,4 +35,4 @@ pub record IsRunOf (r : Ran) (bytes : List ℕ) (old new : RunDevices) : Type 0 
   pub complete : WhereServed old bytes (λ steps. IsDoneOrFault r)
   pub serial : old.state ≡ Some empty_state → IsServedSerially old.log new.log new.state
   pub plain : WhereAlike old bytes (λ keys steps. PrintsPlain r keys steps old.out new.out)
-  pub transcript : WhereOpened old bytes (λ keys steps. TapsTranscript r keys steps old.entropy new.entropy old.tap new.tap)
+  pub transcript : WhereOpened old bytes (λ keys steps. TapsTranscript old.version r keys steps old.entropy new.entropy old.tap new.tap)

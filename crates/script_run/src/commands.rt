@@ -11,6 +11,7 @@ ghost use Rattle.script_run.specs.Ends.{IsOfPeer, RunsScript, read_by};
 ghost use Rattle.script_run.specs.RunOf.{IsRunOf};
 
 use crate::runs::{Count, Ran, Run, run_over};
+use ae_base::frames::FrameVersion;
 use ae_edge::entropies::Entropy;
 use ae_edge::sinks::Sink;
 use ae_edge::sources::Source;
@@ -44,10 +45,12 @@ pub fn run_source<S: Source, V: Vault, E: Entropy, W: Sink, T: Sink, P: Peer>(
     out: &mut W,
     tap: &mut T,
     peer: &mut P,
+    version: FrameVersion,
 ) -> Run
     ensures content { (bytes : List ℕ) × IfSome (S.left script.old) (λ left. bytes ≡ left)
         × RunsScript result.ran result.count bytes
         (record {
+          version = version;
           out = W.held out.old;
           tap = T.held tap.old;
           entropy = E.to_come entropy.old;
@@ -60,6 +63,7 @@ pub fn run_source<S: Source, V: Vault, E: Entropy, W: Sink, T: Sink, P: Peer>(
           vault_faults = V.faults vault.old;
         })
         (record {
+          version = version;
           out = W.held out.new;
           tap = T.held tap.new;
           entropy = E.to_come entropy.new;
@@ -83,14 +87,23 @@ pub fn run_source<S: Source, V: Vault, E: Entropy, W: Sink, T: Sink, P: Peer>(
         → Rose (V.faults vault.old) (V.faults vault.new) }
 {
     match read_steps(alloc, script) {
-        Ok(steps) => run_over(alloc, steps.as_slice(), vault, entropy, out, tap, peer),
+        Ok(steps) => run_over(
+            alloc,
+            steps.as_slice(),
+            vault,
+            entropy,
+            out,
+            tap,
+            peer,
+            version,
+        ),
         Err(why) => unread(why),
     }
 }
 
 /// Reads a script to its end and runs its steps through a driver and the peer: the text goes to
-/// `out`, and every frame to `tap` in the order in which they passed, a step's frames before its
-/// text. The values of protected columns pass as cells, and are printed as they are. A script that
+/// `out`, and every frame, in this version, to `tap` in the order in which they passed, a step's
+/// frames before its text. The values of protected columns pass as cells, and are printed as they are. A script that
 /// can't be read, has a bad line or is too long leaves everything as it was; where a device fails or
 /// memory ends, text and tap hold fronts of the whole.
 pub fn run<S: Source, V: Vault, E: Entropy, W: Sink, T: Sink, P: Peer>(
@@ -101,6 +114,7 @@ pub fn run<S: Source, V: Vault, E: Entropy, W: Sink, T: Sink, P: Peer>(
     out: &mut W,
     tap: &mut T,
     peer: &mut P,
+    version: FrameVersion,
 ) -> Ran
     // There are bytes, the source's where it tells them, of which this is a run. Over any peer: how
     // far its conversation was followed, what stands at the text, at the tap, at the peer and at the
@@ -114,6 +128,7 @@ pub fn run<S: Source, V: Vault, E: Entropy, W: Sink, T: Sink, P: Peer>(
     ensures run { (bytes : List ℕ) × IfSome (S.left script.old) (λ left. bytes ≡ left)
         × IsRunOf result bytes
         (record {
+          version = version;
           out = W.held out.old;
           tap = T.held tap.old;
           entropy = E.to_come entropy.old;
@@ -126,6 +141,7 @@ pub fn run<S: Source, V: Vault, E: Entropy, W: Sink, T: Sink, P: Peer>(
           vault_faults = V.faults vault.old;
         })
         (record {
+          version = version;
           out = W.held out.new;
           tap = T.held tap.new;
           entropy = E.to_come entropy.new;
@@ -158,5 +174,5 @@ pub fn run<S: Source, V: Vault, E: Entropy, W: Sink, T: Sink, P: Peer>(
     served_is_plain();
     replies_are_awaited();
     requests_are_serial();
-    run_source(alloc, script, vault, entropy, out, tap, peer).ran
+    run_source(alloc, script, vault, entropy, out, tap, peer, version).ran
 }

@@ -1,16 +1,14 @@
 //! The other side of the wire.
 
-ghost use Rattle.std.specs.Prelude.{◌≡◌, ◌<◌, ◌^◌, ◌+◌, IfOk, length};
+ghost use Rattle.std.specs.Prelude.{◌≡◌, IfOk};
 ghost use Rattle.wire_messages.specs.declared.replies.Reply.{Reply};
-ghost use Rattle.wire_spelling.specs.Spelling.{reply_frame};
-ghost use Rattle.run_effects.specs.Shares.{Wire};
+ghost use Rattle.run_effects.specs.Shares.{Wire, place_of};
 ghost use Rattle.run_effects.specs.Ways.{IsFirst, TakesOne};
-ghost use Rattle.script_run.specs.Connections.{Fetches, Finishes, IsBehindFirst, Sends, reply_of};
+ghost use Rattle.script_run.specs.Connections.{Fetches, Finishes, Sends, StandsFirst, reply_of};
 
 use std::alloc::{AllocError, Global};
 use wire_messages::replies::Reply;
 use wire_messages::requests::Request;
-use wire_spelling::encode_reply;
 
 /// How asking ended.
 #[derive(Clone, Copy, PartialEq, Eq, Debug)]
@@ -42,11 +40,12 @@ pub enum LentReply<'a> {
     Read(Reply<'a>),
 }
 
-/// The reply that stands first, and the place behind its frame.
+/// The reply that stands first, and how many bytes of a stream go with it: those of its frame with
+/// the last reply of that frame, else none.
 #[derive(Drop)]
 pub struct Front<'a> {
     pub reply: LentReply<'a>,
-    pub behind: u64,
+    pub used: usize,
 }
 
 /// The other side of the wire.
@@ -61,37 +60,23 @@ pub trait Connection {
     fn fetch(&mut self, alloc: Global) -> Result<(), ReplyFault>
         ensures { Fetches result (wire self.old) (wire self.new) };
 
-    /// The reply that stands first.
+    /// The reply that stands first. There is no memory for as many replies as 64 bits count.
     fn front(&self, alloc: Global) -> Result<Front<'_>, AllocError>
         requires { (reply : Reply) × IsFirst reply (wire self.now) }
-        ensures { IfOk result (λ front. IsFirst (reply_of front.reply) (wire self.now)
-            × (front.behind ≡ (wire self.now).taken + length (reply_frame (reply_of front.reply)))
-            × (front.behind < 2 ^ 64)) };
+        ensures { IfOk result
+            (λ front. StandsFirst (reply_of front.reply) front.used (wire self.now)) };
 
-    /// How many bytes the frames of the replies have that were taken.
+    /// The place of the frame in which the next reply stands, or in which it would stand.
     fn place(&self) -> u64
-        ensures { result ≡ (wire self.now).taken };
+        ensures { result ≡ place_of (wire self.now) };
 
-    /// Takes the reply that stands first; `behind` is the place behind its frame.
-    fn take(&mut self, behind: u64)
-        requires { IsBehindFirst behind (wire self.old) }
-        ensures { (reply : Reply) → IsFirst reply (wire self.old)
-            → behind ≡ (wire self.old).taken + length (reply_frame reply)
+    /// Takes the reply that stands first; so many bytes of a stream go with it.
+    fn take(&mut self, used: usize)
+        requires { (reply : Reply) × StandsFirst reply used (wire self.old) }
+        ensures { (reply : Reply) → StandsFirst reply used (wire self.old)
             → TakesOne reply (wire self.old) (wire self.new) };
 
     /// Looks whether anything is left. Nothing may be.
     fn finish(&mut self, alloc: Global) -> Result<(), ReplyFault>
         ensures { Finishes result (wire self.old) (wire self.new) };
-}
-
-/// The place behind the frame of a reply that begins at a place. There is no memory for as many
-/// bytes as 64 bits count.
-pub fn behind(alloc: Global, place: u64, reply: &Reply<'_>) -> Result<u64, AllocError>
-    ensures { IfOk result (λ n. (n ≡ place + length (reply_frame reply.now)) × (n < 2 ^ 64)) }
-{
-    let frame = encode_reply(alloc, reply)?;
-    match place.checked_add(frame.len() as u64) {
-        Some(behind) => Ok(behind),
-        None => Err(AllocError),
-    }
 }

@@ -8,7 +8,7 @@ ghost use Rattle.conversation.specs.Talk.{Talk, Hears, Heard, heard_answer, noth
 ghost use Rattle.run_effects.specs.declared.stops.Stop.TheVariants as stop_is;
 ghost use Rattle.driver.specs.Clients.{IsOfVault, session_of};
 ghost use Rattle.script_run.specs.Frames.{PutsBytes};
-ghost use Rattle.run_effects.specs.Shares.{Outside, ClientSide};
+ghost use Rattle.run_effects.specs.Shares.{Outside, ClientSide, place_of};
 ghost use Rattle.run_effects.specs.Ways.{Advances};
 ghost use Rattle.script_run.specs.Breaking.{BreaksOff, is_shown, shown_if};
 ghost use Rattle.script_run.specs.Heard.{HeardAs, stop_at};
@@ -63,13 +63,13 @@ fn hear_described<L: Connection>(
         Ok(()) => {}
         Err(fault) => return Err(stop_at(fault, connection.place())),
     }
-    let Front { reply, behind } = match connection.front(alloc) {
+    let Front { reply, used } = match connection.front(alloc) {
         Ok(front) => front,
         Err(_) => return Err(Stop::OutOfMemory),
     };
     match described(alloc, driver, number, reply) {
         Ok(answer) => {
-            connection.take(behind);
+            connection.take(used);
             Ok(answer)
         }
         Err(Halt::BadReply) => Err(Stop::BadReply(connection.place())),
@@ -185,18 +185,18 @@ impl<W: Sink, E: Entropy, V: Vault, L: Connection> Around for Env<W, E, V, L> {
             Ok(()) => {}
             Err(fault) => return Err(stop_at(fault, self.connection.place())),
         }
-        let Front { reply, behind } = match self.connection.front(alloc) {
+        let Front { reply, used } = match self.connection.front(alloc) {
             Ok(front) => front,
             Err(_) => return Err(Stop::OutOfMemory),
         };
         match replied(alloc, driver, number, &mut self.vault, reply) {
             Ok(answer) => {
-                self.connection.take(behind);
+                self.connection.take(used);
                 Ok(first_of(answer))
             }
             Err(Halt::BadReply) => Err(Stop::BadReply(self.connection.place())),
             Err(halt) => {
-                self.connection.take(behind);
+                self.connection.take(used);
                 Err(stop_of(halt))
             }
         }
@@ -214,13 +214,13 @@ impl<W: Sink, E: Entropy, V: Vault, L: Connection> Around for Env<W, E, V, L> {
             Ok(()) => {}
             Err(fault) => return Err(self.break_off(alloc, fault, reads, shown)),
         }
-        let Front { reply, behind } = match self.connection.front(alloc) {
+        let Front { reply, used } = match self.connection.front(alloc) {
             Ok(front) => front,
             Err(_) => return Err(Stop::OutOfMemory),
         };
         match replied(alloc, driver, number, &mut self.vault, reply) {
             Ok(answer) => {
-                self.connection.take(behind);
+                self.connection.take(used);
                 row_or_stop(alloc, answer, shown)
             }
             Err(Halt::BadReply) => Err(self.break_off(alloc, ReplyFault::BadReply, reads, shown)),
@@ -232,7 +232,7 @@ impl<W: Sink, E: Entropy, V: Vault, L: Connection> Around for Env<W, E, V, L> {
 impl<W: Sink, E: Entropy, V: Vault, L: Connection> Env<W, E, V, L> {
     /// Puts what an answer came to before it broke off, and says why it did.
     fn break_off(&mut self, alloc: Global, fault: ReplyFault, reads: bool, shown: &Listing) -> Stop
-        ensures off { BreaksOff result (stop_at fault (L.wire self.old.connection).taken)
+        ensures off { BreaksOff result (stop_at fault (place_of (L.wire self.old.connection)))
             (shown_if (is_shown fault reads) shown.now)
             (client (W.names self.old.out) (E.names self.old.entropy) (V.names self.old.vault)
             (W.held self.old.out) (E.to_come self.old.entropy) (V.keys self.old.vault)

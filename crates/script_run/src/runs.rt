@@ -4,6 +4,7 @@ ghost use Rattle.std.specs.Prelude.{◌≡◌, ◌∷◌, [], IfOk, length};
 ghost use Rattle.conversation.specs.Talk.{Ends};
 ghost use Rattle.driver.specs.Clients.{IsOfVault};
 ghost use Rattle.run_effects.specs.Ways.{Advances, IsReadOut};
+ghost use Rattle.script_run.specs.Connections.{in_version};
 ghost use Rattle.script_run.specs.Ends.{RunsTo};
 ghost use Rattle.plain_meaning.specs.Steps.{talk};
 
@@ -11,6 +12,7 @@ use crate::connection::Connection;
 use crate::env::Env;
 use crate::peer_connection::{PeerConnection, Waiting};
 use crate::steps::run_all;
+use ae_base::frames::FrameVersion;
 use ae_edge::entropies::Entropy;
 use ae_edge::sinks::Sink;
 use ae_edge::vaults::Vault;
@@ -21,7 +23,6 @@ use script_lang::steps::Step;
 use script_source::Unread;
 use server_core::peers::Peer;
 use std::alloc::Global;
-use std::collections::VecDeque;
 
 /// How a run ended.
 #[derive(Clone, Copy, PartialEq, Eq, Debug)]
@@ -95,14 +96,14 @@ pub fn run_lent<W: Sink, E: Entropy, V: Vault, L: Connection>(
             entropy_faults = E.faults env.new.entropy.now;
             vault_faults = V.faults env.new.vault.now;
           };
-          wire = L.wire env.new.connection;
+          wire = in_version (L.wire env.old.connection).version (L.wire env.new.connection);
         }) }
 {
     run_all(alloc, env, driver, steps)
 }
 
-/// Runs the steps of a script over a peer: the text goes to `out`, and every frame to `tap` in the
-/// order in which they passed, a step's frames before its text.
+/// Runs the steps of a script over a peer: the text goes to `out`, and every frame, in this version,
+/// to `tap` in the order in which they passed, a step's frames before its text.
 pub fn run_over<W: Sink, T: Sink, E: Entropy, V: Vault, P: Peer>(
     alloc: Global,
     steps: &[Step],
@@ -111,10 +112,12 @@ pub fn run_over<W: Sink, T: Sink, E: Entropy, V: Vault, P: Peer>(
     out: &mut W,
     tap: &mut T,
     peer: &mut P,
+    version: FrameVersion,
 ) -> Run
     ensures steps { result.count.steps ≡ length steps.now }
     ensures runs { RunsTo result.ran result.count.tally steps.now
         (record {
+          version = version;
           out = W.held out.old;
           tap = T.held tap.old;
           entropy = E.to_come entropy.old;
@@ -127,6 +130,7 @@ pub fn run_over<W: Sink, T: Sink, E: Entropy, V: Vault, P: Peer>(
           vault_faults = V.faults vault.old;
         })
         (record {
+          version = version;
           out = W.held out.new;
           tap = T.held tap.new;
           entropy = E.to_come entropy.new;
@@ -151,9 +155,7 @@ pub fn run_over<W: Sink, T: Sink, E: Entropy, V: Vault, P: Peer>(
         Ok(driver) => driver,
         Err(_) => return unstarted,
     };
-    let mut waiting = Waiting {
-        replies: VecDeque::new(alloc),
-    };
+    let mut waiting = Waiting::new(alloc);
     let mut env = Env {
         out,
         entropy,
@@ -163,7 +165,9 @@ pub fn run_over<W: Sink, T: Sink, E: Entropy, V: Vault, P: Peer>(
             tap,
             peer,
             waiting: &mut waiting,
+            version,
             taken: 0,
+            behind: 0,
         },
     };
     let ended = run_lent(alloc, &mut env, &mut driver, steps);

@@ -14,6 +14,7 @@ ghost use Rattle.script_run.specs.SummaryOf.{IsSummaryOf, Sums};
 use crate::commands::run_source;
 use crate::nowhere::Nowhere;
 use crate::runs::{Ran, Run};
+use ae_base::frames::FrameVersion;
 use ae_edge::entropies::Entropy;
 use ae_edge::sinks::Sink;
 use ae_edge::sources::Source;
@@ -57,11 +58,13 @@ pub fn summarize<S: Source, V: Vault, E: Entropy, W: Sink, T: Sink, P: Peer>(
     out: &mut W,
     tap: &mut T,
     peer: &mut P,
+    version: FrameVersion,
 ) -> Ran
     // There are bytes, the source's where it tells them, of whose run this is the summary.
     ensures summary { (bytes : List ℕ) × IfSome (S.left script.old) (λ left. bytes ≡ left)
         × IsSummaryOf result bytes
         (record {
+          version = version;
           out = W.held out.old;
           tap = T.held tap.old;
           entropy = E.to_come entropy.old;
@@ -74,6 +77,7 @@ pub fn summarize<S: Source, V: Vault, E: Entropy, W: Sink, T: Sink, P: Peer>(
           vault_faults = V.faults vault.old;
         })
         (record {
+          version = version;
           out = W.held out.new;
           tap = T.held tap.new;
           entropy = E.to_come entropy.new;
@@ -106,6 +110,15 @@ pub fn summarize<S: Source, V: Vault, E: Entropy, W: Sink, T: Sink, P: Peer>(
     served_is_plain();
     replies_are_awaited();
     requests_are_serial();
-    let run = run_source(alloc, script, vault, entropy, &mut Nowhere, tap, peer);
+    let run = run_source(
+        alloc,
+        script,
+        vault,
+        entropy,
+        &mut Nowhere,
+        tap,
+        peer,
+        version,
+    );
     put_summary(alloc, out, run)
 }

@@ -8,4 +8,4 @@ pub returns-then-is_empty : goal.returns-then-is_empty
 returns-then-is_empty g c = (rests_same _, none_waits _ _ c.args.self.now.waiting.now.replies.ok.0 (sym c.is_empty.ensures ∙ c.if-is_empty.true))
 
 pub returns-else-is_empty : goal.returns-else-is_empty
-returns-else-is_empty g c = (rests_same _, one_waits _ _ c.args.self.now.waiting.now.replies.ok.0 (sym c.is_empty.ensures ∙ c.if-is_empty.false))
+returns-else-is_empty g c = (rests_same _, one_waits c.args.self.now.version _ _ c.args.self.now.waiting.now.replies.ok.0 (sym c.is_empty.ensures ∙ c.if-is_empty.false))

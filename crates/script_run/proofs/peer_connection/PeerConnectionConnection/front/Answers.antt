@@ -3,9 +3,9 @@ use Rattle.std.proofs.Common.{refl, arith}
 use Rattle.script_run.proofs.Waiting.{front_some}
 use Rattle.script_run.proofs.peer_connection.PeerConnectionConnection.front.Goals as goal
 
-pub returns : goal.returns
-returns g c = (
-  front_some _ _ (let v = c.in-Some.ensures.variant in let o = c.args.self.now.waiting.now.replies.ok.0 in omega (arith, v.0 refl)) c.in-Some.ensures.lookup,
-  c.in_ok-behind.ensures.0,
-  c.in_ok-behind.ensures.1,
-)
+pub returns-then-self-lt18446744073709551615 : goal.returns-then-self-lt18446744073709551615
+returns-then-self-lt18446744073709551615 g c = record {
+  first = front_some c.args.self.now.version _ c.in-Some.first.now (let v = c.in-Some.ensures.variant in let o = c.args.self.now.waiting.now.replies.ok.0 in omega (arith, v.0 refl)) c.in-Some.ensures.lookup;
+  frame = tt;
+  count = omega (arith, c.if-self-lt18446744073709551615.true);
+}
