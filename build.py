@@ -19,7 +19,7 @@ SECONDS = {
     "engine": 119, "frame_feed": 67, "hmac_kdf": 20, "inference": 70, "key_wrap": 25, "operators": 131, "plain_meaning": 90,
     "resolve": 232, "row_changes": 175, "scalar": 80, "script_lang": 70, "script_run": 194, "server_core": 168,
     "sql_expressions": 142, "sql_ddl": 60, "sql_parse": 105, "sql_tree": 80, "twin_scripts": 60, "wire_bodies": 59,
-    "wire_frames": 21, "wire_messages": 81, "wire_parts": 52, "wire_reading": 61, "wire_spelling": 108,
+    "wire_frames": 40, "wire_messages": 81, "wire_parts": 52, "wire_reading": 61, "wire_spelling": 130,
 }
 OTHER = 45
 MEMORY = 2 << 30  # bytes that a proof may take; few take more

@@ -1,6 +1,7 @@
 -- The statuses that faults of devices come with, and their causes.
 use Rattle.std.proofs.Common.{◌≡◌, ◌⊎◌, ℕ, List, Some, Bool, true, false, refl, sym, ◌∙◌, inl, inr}
 use Rattle.std.specs.Prelude.{IsTrue}
+use Rattle.ae_base.specs.declared.frames.FrameVersion.{FrameVersion}
 use Rattle.ae_edge.specs.Devices.{Rose}
 use Rattle.command_words.specs.declared.commands.Command.TheVariants as command
 use Rattle.check_command.specs.declared.steps.Checked.{Checked}
@@ -34,39 +35,39 @@ module _ (old new : Seen) where
   abbrev Rises : Type 0
   Rises = Rose old.out.faults new.out.faults ⊎ Rose old.tap.faults new.tap.faults
 
-  pub run_caused : (summary : Bool) (r : Ran) → IsOfPeer r → (r ≡ ran.Unread unread.ReadFault → Rose old.script.faults new.script.faults) → (r ≡ ran.Stopped stop.WriteFault → Rises)
+  pub run_caused : (summary : Bool) (version : FrameVersion) (r : Ran) → IsOfPeer r → (r ≡ ran.Unread unread.ReadFault → Rose old.script.faults new.script.faults) → (r ≡ ran.Stopped stop.WriteFault → Rises)
       → (r ≡ ran.Stopped stop.EntropyFault → Rose old.entropy.faults new.entropy.faults) → (r ≡ ran.Stopped stop.VaultFault → Rose old.vault.faults new.vault.faults)
-      → IsCaused (uses (Some (command.Run summary))) (status_of r) old new
-  run_caused summary ran.Done p s w e v = tt
-  run_caused summary ran.Refusals p s w e v = tt
-  run_caused summary (ran.Stopped (stop.BadReply place)) p s w e v = tt
-  run_caused summary (ran.Stopped stop.ReadFault) p s w e v = absurd p
-  run_caused summary (ran.Stopped stop.TooLong) p s w e v = tt
-  run_caused summary (ran.Stopped stop.EntropyFault) p s w e v = (refl, e refl)
-  run_caused summary (ran.Stopped stop.VaultFault) p s w e v = (refl, v refl)
-  run_caused summary (ran.Stopped stop.WriteFault) p s w e v = of_two (w refl)
-  run_caused summary (ran.Stopped stop.OutOfMemory) p s w e v = tt
-  run_caused summary (ran.Unread unread.ReadFault) p s w e v = inl (refl, s refl)
-  run_caused summary (ran.Unread unread.TooLong) p s w e v = tt
-  run_caused summary (ran.Unread (unread.BadLine line)) p s w e v = tt
-  run_caused summary (ran.Unread unread.OutOfMemory) p s w e v = tt
+      → IsCaused (uses (Some (command.Run summary version))) (status_of r) old new
+  run_caused summary version ran.Done p s w e v = tt
+  run_caused summary version ran.Refusals p s w e v = tt
+  run_caused summary version (ran.Stopped (stop.BadReply place)) p s w e v = tt
+  run_caused summary version (ran.Stopped stop.ReadFault) p s w e v = absurd p
+  run_caused summary version (ran.Stopped stop.TooLong) p s w e v = tt
+  run_caused summary version (ran.Stopped stop.EntropyFault) p s w e v = (refl, e refl)
+  run_caused summary version (ran.Stopped stop.VaultFault) p s w e v = (refl, v refl)
+  run_caused summary version (ran.Stopped stop.WriteFault) p s w e v = of_two (w refl)
+  run_caused summary version (ran.Stopped stop.OutOfMemory) p s w e v = tt
+  run_caused summary version (ran.Unread unread.ReadFault) p s w e v = inl (refl, s refl)
+  run_caused summary version (ran.Unread unread.TooLong) p s w e v = tt
+  run_caused summary version (ran.Unread (unread.BadLine line)) p s w e v = tt
+  run_caused summary version (ran.Unread unread.OutOfMemory) p s w e v = tt
 
-  pub drive_caused : (r : Ran) → (r ≡ ran.Unread unread.ReadFault → Rose old.script.faults new.script.faults) → (r ≡ ran.Stopped stop.ReadFault → Rose old.replies.faults new.replies.faults)
+  pub drive_caused : (version : FrameVersion) (r : Ran) → (r ≡ ran.Unread unread.ReadFault → Rose old.script.faults new.script.faults) → (r ≡ ran.Stopped stop.ReadFault → Rose old.replies.faults new.replies.faults)
       → (r ≡ ran.Stopped stop.WriteFault → Rises) → (r ≡ ran.Stopped stop.EntropyFault → Rose old.entropy.faults new.entropy.faults)
-      → (r ≡ ran.Stopped stop.VaultFault → Rose old.vault.faults new.vault.faults) → IsCaused (uses (Some command.Drive)) (status_of r) old new
-  drive_caused ran.Done s l w e v = tt
-  drive_caused ran.Refusals s l w e v = tt
-  drive_caused (ran.Stopped (stop.BadReply place)) s l w e v = tt
-  drive_caused (ran.Stopped stop.ReadFault) s l w e v = inr (refl, l refl)
-  drive_caused (ran.Stopped stop.TooLong) s l w e v = tt
-  drive_caused (ran.Stopped stop.EntropyFault) s l w e v = (refl, e refl)
-  drive_caused (ran.Stopped stop.VaultFault) s l w e v = (refl, v refl)
-  drive_caused (ran.Stopped stop.WriteFault) s l w e v = of_two (w refl)
-  drive_caused (ran.Stopped stop.OutOfMemory) s l w e v = tt
-  drive_caused (ran.Unread unread.ReadFault) s l w e v = inl (refl, s refl)
-  drive_caused (ran.Unread unread.TooLong) s l w e v = tt
-  drive_caused (ran.Unread (unread.BadLine line)) s l w e v = tt
-  drive_caused (ran.Unread unread.OutOfMemory) s l w e v = tt
+      → (r ≡ ran.Stopped stop.VaultFault → Rose old.vault.faults new.vault.faults) → IsCaused (uses (Some (command.Drive version))) (status_of r) old new
+  drive_caused version ran.Done s l w e v = tt
+  drive_caused version ran.Refusals s l w e v = tt
+  drive_caused version (ran.Stopped (stop.BadReply place)) s l w e v = tt
+  drive_caused version (ran.Stopped stop.ReadFault) s l w e v = inr (refl, l refl)
+  drive_caused version (ran.Stopped stop.TooLong) s l w e v = tt
+  drive_caused version (ran.Stopped stop.EntropyFault) s l w e v = (refl, e refl)
+  drive_caused version (ran.Stopped stop.VaultFault) s l w e v = (refl, v refl)
+  drive_caused version (ran.Stopped stop.WriteFault) s l w e v = of_two (w refl)
+  drive_caused version (ran.Stopped stop.OutOfMemory) s l w e v = tt
+  drive_caused version (ran.Unread unread.ReadFault) s l w e v = inl (refl, s refl)
+  drive_caused version (ran.Unread unread.TooLong) s l w e v = tt
+  drive_caused version (ran.Unread (unread.BadLine line)) s l w e v = tt
+  drive_caused version (ran.Unread unread.OutOfMemory) s l w e v = tt
 
   pub check_caused : (c : Checked) → (c ≡ checked.ReadFault → Rose old.script.faults new.script.faults) → (c ≡ checked.WriteFault → Rose old.out.faults new.out.faults)
       → IsCaused (uses (Some command.Check)) (status_of_checking c) old new

@@ -1,6 +1,7 @@
 -- What a command did is what the words ask for.
 use Rattle.std.proofs.Common.{◌≡◌, ◌⊎◌, ℕ, List, Option, Some, None, Err, Bool, true, false, refl, sym, ◌∙◌, subst, inl, inr}
 use Rattle.std.specs.Prelude.{IfSome, if◌then◌else◌, take}
+use Rattle.ae_base.specs.declared.frames.FrameVersion.{FrameVersion}
 use Rattle.ae_base.specs.declared.refusals.Refusal.{Refusal}
 use Rattle.ae_base.specs.declared.refusals.Refusal.TheVariants.{Fault, OutOfMemory}
 use Rattle.ae_edge.specs.Devices.{Rose, WhereTold}
@@ -97,21 +98,21 @@ module _ (words : List (List ℕ)) (end : Status) (old new : Seen) where
     awaited = λ w place b. a w place (bad_reply r place (sym e ∙ b));
   }
 
-  pub did_run : command_in words ≡ Some (command.Run false) → (r : Ran) → end ≡ status_of r → OfBytes (λ bytes. IsRunOf r bytes (run_devices old) (run_devices new)) → Taken (TakesScript (runs.read_by r)) → Awaited r → IsOfPeer r
+  pub did_run : (version : FrameVersion) → command_in words ≡ Some (command.Run false version) → (r : Ran) → end ≡ status_of r → OfBytes (λ bytes. IsRunOf r bytes (run_devices version old) (run_devices version new)) → Taken (TakesScript (runs.read_by r)) → Awaited r → IsOfPeer r
       → (r ≡ ran.Unread unread.ReadFault → ReadRose) → (r ≡ ran.Stopped stop.WriteFault → PutRose) → (r ≡ ran.Stopped stop.EntropyFault → EntropyRose) → (r ≡ ran.Stopped stop.VaultFault → VaultRose) → Does words end old new
-  did_run is r e h t a p s w d v =
-      did_asked (command.Run false) is (status_of r) e (ran_so (λ x bytes. IsRunOf x bytes (run_devices old) (run_devices new)) r e h t a) (run_caused old new false r p s w d v)
+  did_run version is r e h t a p s w d v =
+      did_asked (command.Run false version) is (status_of r) e (ran_so (λ x bytes. IsRunOf x bytes (run_devices version old) (run_devices version new)) r e h t a) (run_caused old new false version r p s w d v)
 
-  pub did_summary : command_in words ≡ Some (command.Run true) → (r : Ran) → end ≡ status_of r → OfBytes (λ bytes. IsSummaryOf r bytes (run_devices old) (run_devices new)) → Taken (TakesScript (runs.read_by r)) → Awaited r → IsOfPeer r
+  pub did_summary : (version : FrameVersion) → command_in words ≡ Some (command.Run true version) → (r : Ran) → end ≡ status_of r → OfBytes (λ bytes. IsSummaryOf r bytes (run_devices version old) (run_devices version new)) → Taken (TakesScript (runs.read_by r)) → Awaited r → IsOfPeer r
       → (r ≡ ran.Unread unread.ReadFault → ReadRose) → (r ≡ ran.Stopped stop.WriteFault → PutRose) → (r ≡ ran.Stopped stop.EntropyFault → EntropyRose) → (r ≡ ran.Stopped stop.VaultFault → VaultRose) → Does words end old new
-  did_summary is r e h t a p s w d v =
-      did_asked (command.Run true) is (status_of r) e (ran_so (λ x bytes. IsSummaryOf x bytes (run_devices old) (run_devices new)) r e h t a) (run_caused old new true r p s w d v)
+  did_summary version is r e h t a p s w d v =
+      did_asked (command.Run true version) is (status_of r) e (ran_so (λ x bytes. IsSummaryOf x bytes (run_devices version old) (run_devices version new)) r e h t a) (run_caused old new true version r p s w d v)
 
-  pub did_drive : command_in words ≡ Some command.Drive → (r : Ran) → end ≡ status_of r → OfBytes (λ bytes. IsDriveOf r bytes (drive_devices old) (drive_devices new)) → Taken (TakesScript (runs.read_by r))
+  pub did_drive : (version : FrameVersion) → command_in words ≡ Some (command.Drive version) → (r : Ran) → end ≡ status_of r → OfBytes (λ bytes. IsDriveOf r bytes (drive_devices version old) (drive_devices version new)) → Taken (TakesScript (runs.read_by r))
       → (r ≡ ran.Unread unread.ReadFault → ReadRose) → (r ≡ ran.Stopped stop.ReadFault → Rose old.replies.faults new.replies.faults) → (r ≡ ran.Stopped stop.WriteFault → PutRose)
       → (r ≡ ran.Stopped stop.EntropyFault → EntropyRose) → (r ≡ ran.Stopped stop.VaultFault → VaultRose) → Does words end old new
-  did_drive is r e h t s l w d v =
-      did_asked command.Drive is (status_of r) e (record { how = r; ends = e; bytes = h.0; told = h.1; did = h.2; taken = t }) (drive_caused old new r s l w d v)
+  did_drive version is r e h t s l w d v =
+      did_asked (command.Drive version) is (status_of r) e (record { how = r; ends = e; bytes = h.0; told = h.1; did = h.2; taken = t }) (drive_caused old new version r s l w d v)
 
   pub did_check : command_in words ≡ Some command.Check → (c : Checked) → end ≡ status_of_checking c → OfBytes (λ bytes. ChecksScript c bytes old.out.content new.out.content) → Taken (TakesScript (checks.read_by c))
       → (c ≡ checked.ReadFault → ReadRose) → (c ≡ checked.WriteFault → WriteRose) → Does words end old new

@@ -70,9 +70,9 @@ pub record DidGen (size : ℕ) (end : Status) (old new : Seen) : Type 0 where
   pub puts : PutsScript how size old.out.content new.out.content
 
 abbrev pub Did : Command → Status → Seen → Seen → Type 0
-Did (command.Run false) end old new = DidRun (λ ran bytes. IsRunOf ran bytes (run_devices old) (run_devices new)) end old new
-Did (command.Run true) end old new = DidRun (λ ran bytes. IsSummaryOf ran bytes (run_devices old) (run_devices new)) end old new
-Did command.Drive end old new = DidScript status_of (λ ran bytes. IsDriveOf ran bytes (drive_devices old) (drive_devices new)) (λ ran. TakesScript (runs.read_by ran)) end old new
+Did (command.Run false version) end old new = DidRun (λ ran bytes. IsRunOf ran bytes (run_devices version old) (run_devices version new)) end old new
+Did (command.Run true version) end old new = DidRun (λ ran bytes. IsSummaryOf ran bytes (run_devices version old) (run_devices version new)) end old new
+Did (command.Drive version) end old new = DidScript status_of (λ ran bytes. IsDriveOf ran bytes (drive_devices version old) (drive_devices version new)) (λ ran. TakesScript (runs.read_by ran)) end old new
 Did command.Check end old new = DidScript status_of_checking (λ checked bytes. ChecksScript checked bytes old.out.content new.out.content) (λ checked. TakesScript (checks.read_by checked)) end old new
 Did (command.Wrap path) end old new = DidScript (status_of_wrapping path) (λ wrapped bytes. Wraps wrapped path bytes (wrap_devices old) (wrap_devices new)) wraps.Takes end old new
 Did (command.Serve false) end old new = DidServe end old new
@@ -95,8 +95,8 @@ abbrev pub none_of_them : Uses
 none_of_them = record { script = false; vault = false; entropy = false; replies = false; out = false; tap = false; peer = false; disk = false }
 
 abbrev pub uses : Option Command → Uses
-uses (Some (command.Run summary)) = record none_of_them { script = true; vault = true; entropy = true; out = true; tap = true; peer = true }
-uses (Some command.Drive) = record none_of_them { script = true; vault = true; entropy = true; replies = true; out = true; tap = true }
+uses (Some (command.Run summary version)) = record none_of_them { script = true; vault = true; entropy = true; out = true; tap = true; peer = true }
+uses (Some (command.Drive version)) = record none_of_them { script = true; vault = true; entropy = true; replies = true; out = true; tap = true }
 uses (Some command.Check) = record none_of_them { script = true; out = true }
 uses (Some (command.Wrap path)) = record none_of_them { script = true; vault = true; out = true }
 uses (Some (command.Serve journal)) = record none_of_them { script = true; out = true; disk = journal }

@@ -1,5 +1,6 @@
 -- What is seen of all that the program is lent.
 use Rattle.std.specs.Prelude.{ℕ, List, Option}
+use Rattle.ae_base.specs.declared.frames.FrameVersion.{FrameVersion}
 use Rattle.ae_edge.specs.Vaults.{KeyMap}
 use Rattle.disk.specs.Moments.{Moments}
 use Rattle.wire_messages.specs.Exchanges.{Exchange}
@@ -31,10 +32,11 @@ pub record Seen : Type 0 where
   pub peer : PeerSeen
   pub disk : Device Moments
 
--- ---- what a command is told of it
+-- ---- what a command is told of it, and of the version of the frames
 
-abbrev pub run_devices : Seen → RunDevices
-run_devices s = record {
+abbrev pub run_devices : FrameVersion → Seen → RunDevices
+run_devices version s = record {
+  version = version;
   out = s.out.content;
   tap = s.tap.content;
   entropy = s.entropy.content;
@@ -47,8 +49,9 @@ run_devices s = record {
   vault_faults = s.vault.faults;
 }
 
-abbrev pub drive_devices : Seen → DriveDevices
-drive_devices s = record {
+abbrev pub drive_devices : FrameVersion → Seen → DriveDevices
+drive_devices version s = record {
+  version = version;
   out = s.out.content;
   tap = s.tap.content;
   entropy = s.entropy.content;

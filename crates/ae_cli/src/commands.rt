@@ -34,11 +34,13 @@ use wrap_command::commands::wrap;
 /// their keys through the vault, draws from the random source for randomized ones, and prints what
 /// the cells hold. `run --summary` does the same, and puts four lines in the place of the text: the
 /// steps, the refusals, the result rows and the requests. `drive` runs a script against recorded
-/// replies: it takes their frames from `replies`, and puts those of the requests alone to `tap`.
+/// replies: it takes their frames from `replies`, and puts those of the requests alone to `tap`. The
+/// frames of both commands are of version 1, and with `--frames 2` of version 2, of which one has
+/// many rows.
 /// `check` reads a script from `script`, executes its definitions, describes every other batch
 /// without executing it, and puts to `out` what each comes to, a clash with the rules that show it.
 /// `serve` reads frames of requests from `script`, and puts the frames of the replies of a server
-/// that begins with nothing defined to `out`. `serve --journal` does the same with a server that keeps
+/// that begins with nothing defined to `out`, in each request's version. `serve --journal` does the same with a server that keeps
 /// its changes on `disk`: it begins with what the records there give, and each change is there before
 /// its replies are put. `wrap PATH` reads a column key from `script`, wraps it
 /// under the master key at the path, and puts its digits to `out`. `gen N` puts the script of a size
@@ -90,19 +92,25 @@ pub fn ae_main<S: Source, V: Vault, E: Entropy, L: Source, W: Sink, T: Sink, P: 
     ensures disk { (uses (command_in words.now)).disk ≡ false → disk.new ≡ disk.old }
 {
     match command_of(alloc, words) {
-        Ok(Command::Run { summary: false }) => {
-            Status::from(run(alloc, script, vault, entropy, out, tap, peer))
-        }
-        Ok(Command::Run { summary: true }) => {
-            Status::from(summarize(alloc, script, vault, entropy, out, tap, peer))
-        }
+        Ok(
+            Command::Run {
+                summary: false,
+                version,
+            },
+        ) => Status::from(run(alloc, script, vault, entropy, out, tap, peer, version)),
+        Ok(
+            Command::Run {
+                summary: true,
+                version,
+            },
+        ) => Status::from(summarize(alloc, script, vault, entropy, out, tap, peer, version)),
         Ok(Command::Serve { journal: false }) => of_serving(serve_stream(alloc, script, out)),
         Ok(Command::Serve { journal: true }) => {
             of_journaling(serve_journal(alloc, script, out, disk))
         }
-        Ok(Command::Drive) => {
-            Status::from(drive(alloc, script, vault, entropy, replies, out, tap))
-        }
+        Ok(Command::Drive { version }) => Status::from(drive(
+            alloc, script, vault, entropy, replies, out, tap, version,
+        )),
         Ok(Command::Check) => of_checking(check(alloc, script, out)),
         Ok(Command::Wrap(path)) => {
             let wrapped = wrap(alloc, &path, script, vault, out);

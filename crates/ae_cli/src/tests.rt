@@ -225,13 +225,14 @@ fn drive_tells_where_a_reply_is_missing(rt: HostRuntime) -> Result<(), Fail> {
 
 #[test]
 fn other_words_put_nothing(rt: HostRuntime) -> Result<(), Fail> {
-    let cases: [&[&str]; 11] = [
+    let cases: [&[&str]; 12] = [
         &[],
         &["ae"],
         &["ae", "walk"],
         &["ae", "RUN"],
         &["ae", "run", "run"],
         &["ae", "run", "--summaries"],
+        &["ae", "run", "--frames", "1"],
         &["ae", "run", "--help"],
         &["ae", "wrap", "-h"],
         &["ae", "wrap", "-x"],
@@ -276,12 +277,18 @@ fn gen_writes_a_script_of_one_row(rt: HostRuntime) -> Result<(), Fail> {
 #[test]
 fn a_thousand_generated_rows_are_counted(rt: HostRuntime) -> Result<(), Fail> {
     let made = left_under(rt.alloc(), &["ae", "gen", "1000"])?;
-    let left = left_by(rt.alloc(), &["ae", "run", "--summary"], made.out.bytes())?;
-    assert_eq!(rt; left.status.number(), 0);
-    assert_eq!(rt;
-        left.out.bytes(),
-        b"steps 1005\nerrors 0\nrows 11\nrequests 2010\n".as_slice()
-    );
+    let versions: [&[&str]; 2] = [
+        &["ae", "run", "--summary"],
+        &["ae", "run", "--summary", "--frames", "2"],
+    ];
+    for words in versions {
+        let left = left_by(rt.alloc(), words, made.out.bytes())?;
+        assert_eq!(rt; left.status.number(), 0);
+        assert_eq!(rt;
+            left.out.bytes(),
+            b"steps 1005\nerrors 0\nrows 11\nrequests 2010\n".as_slice()
+        );
+    }
     Ok(())
 }
 

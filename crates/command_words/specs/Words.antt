@@ -3,6 +3,8 @@ use Rattle.std.specs.Prelude.{◌≡◌, ◌++◌, ◌∷◌, [], ℕ, List, map
 use Rattle.std.specs.Option.{option_map_or}
 use Rattle.std.specs.Str.{bytes_eq, chars}
 use Rattle.std.specs.Str.Parse.{digits_value, without_leading_plus}
+use Rattle.ae_base.specs.declared.frames.FrameVersion.{FrameVersion}
+use Rattle.ae_base.specs.declared.frames.FrameVersion.TheVariants.{V1, V2}
 use Rattle.ae_base.specs.declared.refusals.Refusal.{Refusal}
 use Rattle.ae_base.specs.declared.refusals.Refusal.TheVariants.{Fault, OutOfMemory}
 use Rattle.clap.specs.Words.{App, Row, Rule, Shape, Text, takes, first_of, new_rule, one_of, subcommand_of}
@@ -26,6 +28,10 @@ text name = record (new_rule name) { required = true }
 abbrev pub size : Text → Rule
 size name = record (new_rule name) { required = true; parser = Some (Signed (pos 1) (pos 20000)) }
 
+-- a number behind its name that can only be 2, and may be left out
+abbrev pub frames : Rule
+frames = record (new_rule (codes "frames")) { long = Some (codes "frames"); parser = Some (Signed (pos 2) (pos 2)) }
+
 -- a command without arguments of its own, and with one more argument
 abbrev pub bare : Text → Shape
 bare name = new_shape name
@@ -34,13 +40,13 @@ abbrev pub with_argument : Rule → Shape → Shape
 with_argument rule shape = record shape { rules = shape.rules ++ rule ∷ [] }
 
 abbrev pub run : Shape
-run = with_argument (flag (codes "summary")) (bare (codes "run"))
+run = with_argument frames (with_argument (flag (codes "summary")) (bare (codes "run")))
 
 abbrev pub serve : Shape
 serve = with_argument (flag (codes "journal")) (bare (codes "serve"))
 
 abbrev pub drive : Shape
-drive = bare (codes "drive")
+drive = with_argument frames (bare (codes "drive"))
 
 abbrev pub check : Shape
 check = bare (codes "check")
@@ -68,6 +74,10 @@ are_taken words = takes program (map encode_utf8_all words)
 abbrev pub is_given : Text → List Row → Bool
 is_given name rows = option_map_or (λ value. bytes_eq value (codes "true")) (first_of name rows) false
 
+-- the second version where its number was given
+abbrev pub version_in : List Row → FrameVersion
+version_in rows = if is_some (first_of (codes "frames") rows) then V2 else V1
+
 abbrev pub wrap_in : List Row → Option Command
 wrap_in rows = option_map (λ path. command.Wrap (chars path)) (first_of (codes "PATH") rows)
 
@@ -81,9 +91,9 @@ gen_in rows = option_map (λ text. command.Gen (number_of text)) (one_of (codes 
 -- the command of a subcommand's name and arguments
 abbrev pub named : Text × List Row → Option Command
 named found =
-    if bytes_eq found.0 (codes "run") then Some (command.Run (is_given (codes "summary") found.1))
+    if bytes_eq found.0 (codes "run") then Some (command.Run (is_given (codes "summary") found.1) (version_in found.1))
     else (if bytes_eq found.0 (codes "serve") then Some (command.Serve (is_given (codes "journal") found.1))
-    else (if bytes_eq found.0 (codes "drive") then Some command.Drive
+    else (if bytes_eq found.0 (codes "drive") then Some (command.Drive (version_in found.1))
     else (if bytes_eq found.0 (codes "check") then Some command.Check
     else (if bytes_eq found.0 (codes "wrap") then wrap_in found.1
     else (if bytes_eq found.0 (codes "gen") then gen_in found.1

@@ -7,6 +7,7 @@ ghost use Rattle.command_words.specs.Words as words;
 ghost use Rattle.command_words.specs.Words.{Reads, TakenAreCommands};
 
 use crate::programs::program;
+use ae_base::frames::FrameVersion;
 use ae_base::refusals::Refusal;
 use ae_base::texts::Txt;
 use clap::error::ErrorKind;
@@ -16,12 +17,19 @@ use std::alloc::{AllocError, Global};
 /// What the program is asked to do.
 #[derive(Drop)]
 pub enum Command {
-    /// Run a script; its summary takes the place of its text, or not.
-    Run { summary: bool },
+    /// Run a script over frames of this version; its summary takes the place of its text, or not.
+    Run {
+        summary: bool,
+        version: FrameVersion,
+    },
     /// Serve requests; keep the accepted changes in a journal, or not.
-    Serve { journal: bool },
-    /// Run a script against recorded replies.
-    Drive,
+    Serve {
+        journal: bool,
+    },
+    /// Run a script against recorded replies, whose frames are of this version.
+    Drive {
+        version: FrameVersion,
+    },
     /// Check a script.
     Check,
     /// Wrap a key under the master key at this path.
@@ -92,11 +100,14 @@ fn named(alloc: Global, name: &str, inner: &ArgMatches<'_>) -> Result<Command, R
     match name {
         "run" => Ok(Command::Run {
             summary: is_given(inner, "summary"),
+            version: version_in(inner),
         }),
         "serve" => Ok(Command::Serve {
             journal: is_given(inner, "journal"),
         }),
-        "drive" => Ok(Command::Drive),
+        "drive" => Ok(Command::Drive {
+            version: version_in(inner),
+        }),
         "check" => Ok(Command::Check),
         "wrap" => wrap_in(alloc, inner),
         "gen" => gen_in(inner),
@@ -111,6 +122,16 @@ fn is_given(matches: &ArgMatches<'_>, name: &str) -> bool
     match matches.get_str(name) {
         Some(value) => value == "true",
         None => false,
+    }
+}
+
+/// The second version of frames where a number was given, which can only be 2.
+fn version_in(matches: &ArgMatches<'_>) -> FrameVersion
+    ensures { result ≡ words.version_in (rows_of (found_of matches.now)) }
+{
+    match matches.get_str("frames") {
+        Some(_) => FrameVersion::V2,
+        None => FrameVersion::V1,
     }
 }
 

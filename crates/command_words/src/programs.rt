@@ -34,6 +34,16 @@ fn size<'a>(alloc: Global, name: &'a str, help: &'a str) -> Arg<'a>
         .help(help)
 }
 
+/// The version of frames: a number behind its name that can only be 2, and may be left out.
+fn frames<'a>(alloc: Global) -> Arg<'a>
+    ensures { IsArgument words.frames result }
+{
+    Arg::new(alloc, "frames")
+        .long("frames")
+        .value_parser(clap::value_parser!(u32).range(2..=2))
+        .help("The version of the frames, 2, in place of 1")
+}
+
 /// A command without arguments of its own.
 fn bare<'a>(alloc: Global, name: &'a str, about: &'a str) -> Command<'a>
     ensures { IsLeaf (words.bare name.entry.now) result }
@@ -54,7 +64,19 @@ fn run<'a>(alloc: Global) -> Result<Command<'a>, AllocError>
         "run",
         "Run the script on standard input and print each result",
     )
-    .arg(summary)
+    .arg(summary)?
+    .arg(frames(alloc))
+}
+
+fn drive<'a>(alloc: Global) -> Result<Command<'a>, AllocError>
+    ensures { IfOk result (IsLeaf words.drive) }
+{
+    bare(
+        alloc,
+        "drive",
+        "Run the script against the replies in replies.bin",
+    )
+    .arg(frames(alloc))
 }
 
 fn serve<'a>(alloc: Global) -> Result<Command<'a>, AllocError>
@@ -96,11 +118,6 @@ fn gen_script<'a>(alloc: Global) -> Result<Command<'a>, AllocError>
 pub(crate) fn program<'a>(alloc: Global) -> Result<Command<'a>, AllocError>
     ensures { IfOk result (IsProgram words.program) }
 {
-    let drive = bare(
-        alloc,
-        "drive",
-        "Run the script against the replies in replies.bin",
-    );
     let check = bare(
         alloc,
         "check",
@@ -111,7 +128,7 @@ pub(crate) fn program<'a>(alloc: Global) -> Result<Command<'a>, AllocError>
         .subcommand_required(true)
         .subcommand(run(alloc)?)?
         .subcommand(serve(alloc)?)?
-        .subcommand(drive)?
+        .subcommand(drive(alloc)?)?
         .subcommand(check)?
         .subcommand(wrap(alloc)?)?
         .subcommand(gen_script(alloc)?)

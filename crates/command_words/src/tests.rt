@@ -9,11 +9,10 @@ use std::test::Fail;
 /// A command as a short text.
 fn said(alloc: Global, command: &Command) -> Result<String, AllocError> {
     match command {
-        Command::Run { summary: false } => format!(in alloc; "run"),
-        Command::Run { summary: true } => format!(in alloc; "run, summary"),
+        Command::Run { summary, version } => format!(in alloc; "run {summary} {version:?}"),
         Command::Serve { journal: false } => format!(in alloc; "serve"),
         Command::Serve { journal: true } => format!(in alloc; "serve, journal"),
-        Command::Drive => format!(in alloc; "drive"),
+        Command::Drive { version } => format!(in alloc; "drive {version:?}"),
         Command::Check => format!(in alloc; "check"),
         Command::Wrap(path) => format!(in alloc; "wrap [{}]", path.as_str()),
         Command::Gen(rows) => format!(in alloc; "gen {rows}"),
@@ -36,14 +35,22 @@ fn read(alloc: Global, words: &[&str]) -> Result<String, AllocError> {
 
 #[test]
 fn words_are_commands(rt: HostRuntime) -> Result<(), Fail> {
-    let rows: [(&[&str], &str); 21] = [
-        (&["run"], "run"),
-        (&["run", "--summary"], "run, summary"),
-        (&["run", "--"], "run"),
+    let rows: [(&[&str], &str); 29] = [
+        (&["run"], "run false V1"),
+        (&["run", "--summary"], "run true V1"),
+        (&["run", "--"], "run false V1"),
+        (&["run", "--frames", "2"], "run false V2"),
+        (&["run", "--frames=2", "--"], "run false V2"),
+        (&["run", "--frames", "2", "--summary"], "run true V2"),
+        (&["run", "--summary", "--frames", "2"], "run true V2"),
+        (&["run", "--frames", "+2"], "run false V2"),
+        (&["run", "--frames=02"], "run false V2"),
         (&["serve"], "serve"),
         (&["serve", "--"], "serve"),
         (&["serve", "--journal"], "serve, journal"),
-        (&["drive"], "drive"),
+        (&["drive"], "drive V1"),
+        (&["drive", "--frames", "2"], "drive V2"),
+        (&["drive", "--frames=2"], "drive V2"),
         (&["check"], "check"),
         (&["wrap", "main"], "wrap [main]"),
         (&["wrap", "-"], "wrap [-]"),
@@ -67,7 +74,7 @@ fn words_are_commands(rt: HostRuntime) -> Result<(), Fail> {
 
 #[test]
 fn other_words_are_refused(rt: HostRuntime) -> Result<(), Fail> {
-    let rows: [&[&str]; 42] = [
+    let rows: [&[&str]; 56] = [
         &[],
         &["walk"],
         &["RUN"],
@@ -82,6 +89,20 @@ fn other_words_are_refused(rt: HostRuntime) -> Result<(), Fail> {
         &["run", "--sum"],
         &["run", "--summaries"],
         &["run", "--", "--summary"],
+        &["run", "--frames"],
+        &["run", "--frames="],
+        &["run", "--frames", "1"],
+        &["run", "--frames", "3"],
+        &["run", "--frames=1"],
+        &["run", "--frames", "two"],
+        &["run", "--frames", "--summary"],
+        &["run", "--frames", "2", "--frames", "2"],
+        &["run", "--", "--frames", "2"],
+        &["drive", "--frames"],
+        &["drive", "--frames", "1"],
+        &["drive", "--summary"],
+        &["serve", "--frames", "2"],
+        &["check", "--frames", "2"],
         &["serve", "x"],
         &["serve", "--summary"],
         &["serve", "--journal", "--journal"],

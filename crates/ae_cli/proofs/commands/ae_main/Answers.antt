@@ -4,22 +4,24 @@ use Rattle.command_words.specs.declared.commands.Command.TheVariants as command
 use Rattle.ae_cli.proofs.Doing.{did_check, did_drive, did_gen, did_journal, did_run, did_serve, did_summary, did_wrap, unasked}
 use Rattle.ae_cli.proofs.commands.ae_main.Goals as goal
 
-pub returns-in-Ok-Run-false-clause-does : goal.returns-in-Ok-Run-false-clause-does
-returns-in-Ok-Run-false-clause-does g c =
+pub returns-in-Ok-Run-false-default-clause-does : goal.returns-in-Ok-Run-false-default-clause-does
+returns-in-Ok-Run-false-default-clause-does g c =
+    let is = c.in-Ok-Run-false-default in
     let e = c.run.ensures in
-    did_run c.args.words.now _ _ _ (c.in-Ok-Run-false.ensures ∙ ap Some (c.in-Ok-Run-false.field-0-is ∙ ap command.Run c.in-Ok-Run-false.field-0-0-test)) _ c.from-in-Ok-Run-false.ensures e.run e.taken e.awaited e.of_peer
+    did_run c.args.words.now _ _ _ _ (is.ensures ∙ ap Some (is.field-0-is ∙ ap (λ summary. command.Run summary is.version) is.field-0-0-test)) _ c.from-in-Ok-Run-false-default.ensures e.run e.taken e.awaited e.of_peer
     e.read e.write e.entropy e.vault
 
-pub returns-in-Ok-Run-true-clause-does : goal.returns-in-Ok-Run-true-clause-does
-returns-in-Ok-Run-true-clause-does g c =
+pub returns-in-Ok-Run-true-default-clause-does : goal.returns-in-Ok-Run-true-default-clause-does
+returns-in-Ok-Run-true-default-clause-does g c =
+    let is = c.in-Ok-Run-true-default in
     let e = c.summarize.ensures in
-    did_summary c.args.words.now _ _ _ (c.in-Ok-Run-true.ensures ∙ ap Some (c.in-Ok-Run-true.field-0-is ∙ ap command.Run c.in-Ok-Run-true.field-0-0-test)) _ c.from.ensures e.summary e.taken e.awaited e.of_peer e.read
-    e.write e.entropy e.vault
+    did_summary c.args.words.now _ _ _ _ (is.ensures ∙ ap Some (is.field-0-is ∙ ap (λ summary. command.Run summary is.version) is.field-0-0-test)) _ c.from.ensures e.summary e.taken e.awaited e.of_peer e.read e.write e.entropy
+    e.vault
 
 pub returns-in-Ok-Drive-clause-does : goal.returns-in-Ok-Drive-clause-does
 returns-in-Ok-Drive-clause-does g c =
     let e = c.drive.ensures in
-    did_drive c.args.words.now _ _ _ (c.in-Ok-Drive.ensures ∙ ap Some c.in-Ok-Drive.field-0-is) _ c.from-in-Ok-Drive.ensures e.drive e.taken e.read e.read_replies e.write e.entropy e.vault
+    did_drive c.args.words.now _ _ _ _ (c.in-Ok-Drive.ensures ∙ ap Some c.in-Ok-Drive.field-0-is) _ c.from-in-Ok-Drive.ensures e.drive e.taken e.read e.read_replies e.write e.entropy e.vault
 
 pub returns-in-Ok-Check-clause-does : goal.returns-in-Ok-Check-clause-does
 returns-in-Ok-Check-clause-does g c = let e = c.check.ensures in did_check c.args.words.now _ _ _ (c.in-Ok-Check.ensures ∙ ap Some c.in-Ok-Check.field-0-is) _ c.of_checking.ensures e.content e.taken e.read e.write
