@@ -1,18 +1,20 @@
 //! A peer that gives answers.
 
 use crate::words::bytes_of;
+use ae_base::frames::FrameVersion;
 use ae_base::lists::Seq;
 use mem_peer::peer::MemPeer;
 use std::alloc::{AllocError, Global};
 use std::io;
 use wire_frames::{Decoded, decode_reply};
 use wire_messages::replies::Reply;
+use wire_payloads::payloads::Payload;
 
 /// The reply whose frame stands at the front of some bytes, and how many bytes that has. It gives nothing if none stands there.
 fn front_of(alloc: Global, bytes: &[u8]) -> Result<Option<(Reply<'static>, usize)>, AllocError> {
-    let decoded = decode_reply(alloc, bytes);
+    let decoded = decode_reply(alloc, FrameVersion::V1, bytes);
     let front = match &decoded {
-        Decoded::One(reply, used) => match reply.to_own(alloc) {
+        Decoded::One(Payload::One(reply), used) => match reply.to_own(alloc) {
             Ok(own) => Ok(Some((own, *used))),
             Err(error) => Err(error),
         },

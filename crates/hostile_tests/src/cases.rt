@@ -28,7 +28,7 @@ fn case_of(line: &str) -> Case<'_> {
     }
 }
 
-/// What a command of a case comes to. The peer that gives the replies is made for the command `peer` alone.
+/// What a command of a case comes to. The peer that gives the replies is made for the commands that have one alone.
 fn left_of(
     rt: &HostRuntime,
     command: &str,
@@ -37,7 +37,11 @@ fn left_of(
 ) -> io::Result<Left> {
     let script = bytes_of(rt, case.script)?;
     let replies = bytes_of(rt, case.replies)?;
-    let answers = if command == "peer" { case.replies } else { "" };
+    let answers = if command.starts_with("peer") {
+        case.replies
+    } else {
+        ""
+    };
     let mut peer = peer_of(rt, answers)?;
     let left = come_to(rt.alloc(), command, script, replies, &mut peer, failing);
     drop(peer);
@@ -79,13 +83,16 @@ fn print_command(rt: &HostRuntime, command: &str, case: Case<'_>) -> io::Result<
         rt.stdout().write_all(&whole.out)?;
     }
     print!(rt; "{}", whole.end)?;
+    if command == "run2" {
+        print_frames(rt, &whole.tap)?;
+    }
     for device in case.devices.split_whitespace() {
         print_failing(rt, command, case, device, &whole)?;
     }
     Ok(())
 }
 
-/// Prints what each command of a case comes to.
+/// Prints what each command of a case comes to, and of a run in version 2 its frames.
 pub(crate) fn print_case(rt: &HostRuntime, line: &str) -> io::Result<()> {
     let case = case_of(line);
     println!(rt; "== {}", case.name)?;

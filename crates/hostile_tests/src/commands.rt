@@ -1,6 +1,7 @@
 //! Commands over devices in memory.
 
 use crate::devices::{Calls, Failing, master_keys};
+use ae_base::frames::FrameVersion;
 use ae_base::texts::Txt;
 use ae_edge::memory::entropy::MemEntropy;
 use ae_edge::memory::sink::MemSink;
@@ -32,6 +33,15 @@ fn status_line(alloc: Global, ran: Ran) -> Result<String, AllocError> {
     format!(in alloc; "status {}\n{status}", status.number())
 }
 
+/// The version of the frames of a command, which its name ends with if it is the second.
+fn version_of(command: &str) -> FrameVersion {
+    if command.ends_with('2') {
+        FrameVersion::V2
+    } else {
+        FrameVersion::V1
+    }
+}
+
 /// Runs the script over an empty server.
 fn run_served(
     alloc: Global,
@@ -40,9 +50,19 @@ fn run_served(
     entropy: &mut MemEntropy,
     out: &mut MemSink,
     tap: &mut MemSink,
+    version: FrameVersion,
 ) -> Ran {
     let mut server = Server::new(alloc);
-    let ran = run(alloc, script, vault, entropy, out, tap, &mut server);
+    let ran = run(
+        alloc,
+        script,
+        vault,
+        entropy,
+        out,
+        tap,
+        &mut server,
+        version,
+    );
     drop(server);
     ran
 }
@@ -59,7 +79,8 @@ fn wrapped(
     format!(in alloc; "ended {wrapped:?}\n")
 }
 
-/// How a command over some devices ends. The command `peer` is a run over the peer.
+/// How a command over some devices ends. The command `peer` is a run over the peer; `run2`, `peer2`
+/// and `drive2` have frames of version 2.
 fn end_of(
     alloc: Global,
     command: &str,
@@ -71,12 +92,19 @@ fn end_of(
     tap: &mut MemSink,
     peer: &mut MemPeer,
 ) -> Result<String, AllocError> {
+    let version = version_of(command);
     match command {
-        "run" => status_line(alloc, run_served(alloc, script, vault, entropy, out, tap)),
-        "peer" => status_line(alloc, run(alloc, script, vault, entropy, out, tap, peer)),
-        "drive" => status_line(
+        "run" | "run2" => status_line(
             alloc,
-            drive(alloc, script, vault, entropy, replies, out, tap),
+            run_served(alloc, script, vault, entropy, out, tap, version),
+        ),
+        "peer" | "peer2" => status_line(
+            alloc,
+            run(alloc, script, vault, entropy, out, tap, peer, version),
+        ),
+        "drive" | "drive2" => status_line(
+            alloc,
+            drive(alloc, script, vault, entropy, replies, out, tap, version),
         ),
         "serve" => format!(in alloc; "ended {:?}\n", serve_stream(alloc, script, out)),
         "check" => format!(in alloc; "ended {:?}\n", check(alloc, script, out)),

@@ -12,8 +12,14 @@ mod words;
 use cases::print_case;
 use std::{fs, io};
 
-/// Replies to a driver, requests to a server, requests at the limits of what is accepted, and devices that fail.
-const TABLES: [&str; 4] = ["replies.txt", "requests.txt", "limits.txt", "devices.txt"];
+/// Replies to a driver, requests to a server, requests at the limits of what is accepted, devices that fail, and frames of version 2.
+const TABLES: [&str; 5] = [
+    "replies.txt",
+    "requests.txt",
+    "limits.txt",
+    "devices.txt",
+    "version_2.txt",
+];
 
 fn main(rt: HostRuntime) -> io::Result<()> {
     for table in TABLES {

@@ -1,6 +1,7 @@
 //! A script that is driven against replies, as they were recorded and changed.
 
 use crate::runs::{Recording, passed, vault};
+use ae_base::frames::FrameVersion;
 use ae_edge::memory::entropy::MemEntropy;
 use ae_edge::memory::sink::MemSink;
 use ae_edge::memory::source::MemSource;
@@ -75,6 +76,7 @@ fn driven(
         &mut replies,
         &mut out,
         &mut tap,
+        FrameVersion::V1,
     );
     Ok(Left { ran, out, tap })
 }
@@ -106,7 +108,7 @@ fn turned(alloc: Global, bytes: &[u8], place: usize) -> Result<Vec<u8>, AllocErr
 #[test]
 fn recorded_replies_give_the_recorded_text(rt: HostRuntime) -> Result<(), Fail> {
     let alloc = rt.alloc();
-    let Recording { requests, replies } = passed(alloc, SCRIPT)?;
+    let Recording { requests, replies } = passed(alloc, SCRIPT, FrameVersion::V1)?;
     for piece in [1, 2, 7, 4096] {
         let left = driven(alloc, &replies, piece, None)?;
         assert!(rt; left.is(Ran::Done, "c\nN'x'\nN'y'\n(2 rows)\n"));
@@ -118,7 +120,7 @@ fn recorded_replies_give_the_recorded_text(rt: HostRuntime) -> Result<(), Fail> 
 #[test]
 fn changed_replies_end_where_they_change(rt: HostRuntime) -> Result<(), Fail> {
     let alloc = rt.alloc();
-    let replies = passed(alloc, SCRIPT)?.replies;
+    let replies = passed(alloc, SCRIPT, FrameVersion::V1)?.replies;
     let place = second_row(&replies);
     let here = Ran::Stopped(Stop::BadReply(place as u64));
     // A byte of the cell's tag behind the frame's head, the counts and the length: the cell alone fails.
@@ -151,7 +153,7 @@ fn changed_replies_end_where_they_change(rt: HostRuntime) -> Result<(), Fail> {
 #[test]
 fn what_is_left_has_its_place(rt: HostRuntime) -> Result<(), Fail> {
     let alloc = rt.alloc();
-    let mut replies = passed(alloc, SCRIPT)?.replies;
+    let mut replies = passed(alloc, SCRIPT, FrameVersion::V1)?.replies;
     let end = Ran::Stopped(Stop::BadReply(replies.len() as u64));
     replies.push(0)?;
     for piece in [1, 4096] {

@@ -6,6 +6,7 @@ ghost use Rattle.driver.specs.Clients.{IsOfVault};
 
 use crate::runs::vault;
 use ae_base::batches::Batch;
+use ae_base::frames::FrameVersion;
 use ae_base::params::ParamList;
 use ae_base::sessions::SessionId;
 use ae_base::texts::Txt;
@@ -19,7 +20,9 @@ use driver::Driver;
 use std::alloc::{AllocError, Global};
 use std::test::Fail;
 use wire_frames::{Decoded, decode_reply};
+use wire_messages::replies::Reply;
 use wire_messages::requests::Request;
+use wire_payloads::payloads::Payload;
 use wire_spelling::encode_request;
 
 /// What a session asks, and what it is answered to its description.
@@ -77,8 +80,17 @@ fn framed(
     answer: Result<Request<'_>, DriverFault>,
 ) -> Result<Result<Vec<u8>, DriverFault>, AllocError> {
     match answer {
-        Ok(request) => Ok(Ok(encode_request(alloc, &request)?)),
+        Ok(request) => Ok(Ok(encode_request(alloc, FrameVersion::V1, &request)?)),
         Err(fault) => Ok(Err(fault)),
+    }
+}
+
+/// The reply that a frame of version 1 carries.
+fn reply_of(alloc: Global, frame: &[u8]) -> Option<Reply<'_>> {
+    match decode_reply(alloc, FrameVersion::V1, frame) {
+        Decoded::One(Payload::One(reply), _) => Some(reply),
+        Decoded::One(Payload::Rows(_), _) | Decoded::NotYet | Decoded::Bad | Decoded::OutOfMemory =>
+            None,
     }
 }
 
@@ -109,9 +121,9 @@ fn described<V: Vault>(
     requires { IsOfVault (V.keys vault.now) driver.old }
     ensures { IsOfVault (V.keys vault.now) driver.new }
 {
-    match decode_reply(alloc, frame) {
-        Decoded::One(reply, _) => driver.described(alloc, number, &reply),
-        Decoded::NotYet | Decoded::Bad | Decoded::OutOfMemory => Err(Halt::OutOfMemory),
+    match reply_of(alloc, frame) {
+        Some(reply) => driver.described(alloc, number, &reply),
+        None => Err(Halt::OutOfMemory),
     }
 }
 
@@ -141,9 +153,9 @@ fn replied<V: Vault>(
     requires { IsOfVault (V.keys vault.old) driver.old }
     ensures { IsOfVault (V.keys vault.new) driver.new }
 {
-    match decode_reply(alloc, frame) {
-        Decoded::One(reply, _) => driver.replied(alloc, number, &reply, vault),
-        Decoded::NotYet | Decoded::Bad | Decoded::OutOfMemory => Err(Halt::OutOfMemory),
+    match reply_of(alloc, frame) {
+        Some(reply) => driver.replied(alloc, number, &reply, vault),
+        None => Err(Halt::OutOfMemory),
     }
 }
 

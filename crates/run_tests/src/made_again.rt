@@ -2,21 +2,15 @@
 
 // A column key that is dropped and made again: what its columns show, and under which key each cell was sent.
 
-use crate::runs::MAIN;
+use crate::runs::{apart, ran};
 use ae_base::cells::Cell;
-use ae_base::texts::Txt;
-use ae_edge::memory::entropy::MemEntropy;
-use ae_edge::memory::sink::MemSink;
-use ae_edge::memory::source::MemSource;
-use ae_edge::memory::vault::MemVault;
+use ae_base::frames::FrameVersion;
 use cell_codec::{CellFault, unseal};
 use hmac_kdf::CellKeys;
-use script_run::commands::run;
-use script_run::status::Status;
-use server_core::server::Server;
+use script_run::runs::Ran;
 use std::alloc::{AllocError, Global};
 use std::test::Fail;
-use wire_frames::{Decoded, decode_reply, decode_request};
+use wire_frames::{Decoded, decode_request};
 use wire_messages::requests::Request;
 use wire_parts::atoms::AtomCase;
 
@@ -57,41 +51,6 @@ const FIRST: [u8; 32] = [
 
 const SECOND: [u8; 32] = [0xff; 32];
 
-// What a run has put.
-struct Put {
-    out: MemSink,
-    tap: MemSink,
-}
-
-impl Drop for Put {
-    fn drop(self) {
-        let Put { out: _, tap: _ } = self;
-    }
-}
-
-// The status of the run, and what it has put.
-fn ran(alloc: Global) -> Result<(u8, Put), AllocError> {
-    let mut keys = Vec::new(alloc);
-    keys.push((Txt::copied(alloc, "main")?, MAIN))?;
-    let bytes = Vec::from_slice(alloc, SCRIPT.as_bytes())?;
-    let mut script = MemSource::new(bytes, 10, Vec::new(alloc));
-    let mut vault = MemVault::new(keys, Vec::new(alloc));
-    let mut entropy = MemEntropy::new(Vec::new(alloc), Vec::new(alloc));
-    let mut out = MemSink::new(alloc, Vec::new(alloc));
-    let mut tap = MemSink::new(alloc, Vec::new(alloc));
-    let mut peer = Server::new(alloc);
-    let status = run(
-        alloc,
-        &mut script,
-        &mut vault,
-        &mut entropy,
-        &mut out,
-        &mut tap,
-        &mut peer,
-    );
-    Ok((Status::from(status).number(), Put { out, tap }))
-}
-
 fn push_cells(
     alloc: Global,
     request: &Request<'_>,
@@ -108,30 +67,27 @@ fn push_cells(
     Ok(())
 }
 
-fn reply_length(alloc: Global, frames: &[u8]) -> usize {
-    match decode_reply(alloc, frames) {
-        Decoded::One(_, used) => used,
-        Decoded::NotYet | Decoded::Bad | Decoded::OutOfMemory => 0,
-    }
-}
-
-// How many bytes the frame in front has. Its cells are put to the others.
-fn frame_length(alloc: Global, frames: &[u8], cells: &mut Vec<Cell>) -> Result<usize, AllocError> {
-    match decode_request(alloc, frames) {
+// How many bytes the request in front has, or none. Its cells are put to the others.
+fn request_length(
+    alloc: Global,
+    requests: &[u8],
+    cells: &mut Vec<Cell>,
+) -> Result<usize, AllocError> {
+    match decode_request(alloc, requests) {
         Decoded::One(request, used) => {
-            push_cells(alloc, &request, cells)?;
+            push_cells(alloc, &request.message, cells)?;
             Ok(used)
         }
-        Decoded::NotYet | Decoded::Bad | Decoded::OutOfMemory => Ok(reply_length(alloc, frames)),
+        Decoded::NotYet | Decoded::Bad | Decoded::OutOfMemory => Ok(0),
     }
 }
 
-// The cells that the requests among some frames send, in their order.
-fn cells_sent(alloc: Global, frames: &[u8]) -> Result<Vec<Cell>, AllocError> {
+// The cells that some requests send, in their order.
+fn cells_sent(alloc: Global, requests: &[u8]) -> Result<Vec<Cell>, AllocError> {
     let mut cells = Vec::new(alloc);
-    let mut rest = frames;
-    for _ in 0..frames.len() {
-        let used = frame_length(alloc, rest, &mut cells)?;
+    let mut rest = requests;
+    for _ in 0..requests.len() {
+        let used = request_length(alloc, rest, &mut cells)?;
         rest = rest.get(used..).unwrap_or(&[]);
     }
     Ok(cells)
@@ -149,9 +105,10 @@ fn is_under(alloc: Global, cell: &Cell, key: &[u8; 32], other: &[u8; 32]) -> boo
 #[test]
 fn cells_are_sent_under_the_key_of_their_time(rt: HostRuntime) -> Result<(), Fail> {
     let alloc = rt.alloc();
-    let (status, put) = ran(alloc)?;
-    let cells = cells_sent(alloc, put.tap.bytes())?;
-    assert_eq!(rt; status, 1);
+    let put = ran(alloc, SCRIPT, FrameVersion::V1)?;
+    let requests = apart(alloc, put.tap.bytes())?.requests;
+    let cells = cells_sent(alloc, &requests)?;
+    assert!(rt; put.ran == Ran::Refusals);
     assert_eq!(rt; put.out.bytes(), TEXT.as_bytes());
     assert_eq!(rt; cells.len(), 2);
     assert!(rt;

@@ -2,6 +2,7 @@
 
 use crate::devices::is_served;
 use crate::runs::{DRAWN, PROTECTED, passed};
+use ae_base::frames::FrameVersion;
 use serve_command::commands::Served;
 use std::alloc::{AllocError, Global};
 use std::test::Fail;
@@ -46,10 +47,12 @@ fn renamed(alloc: Global, frames: &[u8]) -> Result<Vec<u8>, AllocError> {
 #[test]
 fn renamed_cells_have_renamed_replies(rt: HostRuntime) -> Result<(), Fail> {
     let alloc = rt.alloc();
-    let passed = passed(alloc, PROTECTED)?;
-    let requests = renamed(alloc, &passed.requests)?;
-    let replies = renamed(alloc, &passed.replies)?;
-    assert!(rt; requests != passed.requests && replies != passed.replies);
-    assert!(rt; is_served(alloc, &requests, Served::Done, &replies)?);
+    for version in [FrameVersion::V1, FrameVersion::V2] {
+        let passed = passed(alloc, PROTECTED, version)?;
+        let requests = renamed(alloc, &passed.requests)?;
+        let replies = renamed(alloc, &passed.replies)?;
+        assert!(rt; requests != passed.requests && replies != passed.replies);
+        assert!(rt; is_served(alloc, &requests, Served::Done, &replies)?);
+    }
     Ok(())
 }

@@ -1,11 +1,13 @@
 //! Runs whose frames are recorded.
 
+use ae_base::frames::FrameVersion;
 use ae_base::texts::Txt;
 use ae_edge::memory::entropy::MemEntropy;
 use ae_edge::memory::sink::MemSink;
 use ae_edge::memory::source::MemSource;
 use ae_edge::memory::vault::MemVault;
 use script_run::commands::run;
+use script_run::runs::Ran;
 use server_core::server::Server;
 use std::alloc::{AllocError, Global};
 
@@ -51,7 +53,7 @@ GO
 ";
 
 /// The master key of RFC 3394, section 4.6.
-pub const MAIN: [u8; 32] = [
+const MAIN: [u8; 32] = [
     0, 1, 2, 3, 4, 5, 6, 7, 8, 9, 10, 11, 12, 13, 14, 15, 16, 17, 18, 19, 20, 21, 22, 23, 24, 25,
     26, 27, 28, 29, 30, 31,
 ];
@@ -65,8 +67,16 @@ pub fn vault(alloc: Global) -> Result<MemVault, AllocError> {
     Ok(MemVault::new(keys, Vec::new(alloc)))
 }
 
-/// The frames that pass when a script is run.
-fn recorded(alloc: Global, script: &str) -> Result<MemSink, AllocError> {
+/// How a run ended, and what it put.
+#[derive(Drop)]
+pub struct Put {
+    pub ran: Ran,
+    pub out: MemSink,
+    pub tap: MemSink,
+}
+
+/// Runs a script over an empty server, and frames of a version.
+pub fn ran(alloc: Global, script: &str, version: FrameVersion) -> Result<Put, AllocError> {
     let script = Vec::from_slice(alloc, script.as_bytes())?;
     let random = Vec::from_slice(alloc, &[DRAWN; 64])?;
     let mut script = MemSource::new(script, 4096, Vec::new(alloc));
@@ -75,7 +85,7 @@ fn recorded(alloc: Global, script: &str) -> Result<MemSink, AllocError> {
     let mut out = MemSink::new(alloc, Vec::new(alloc));
     let mut tap = MemSink::new(alloc, Vec::new(alloc));
     let mut peer = Server::new(alloc);
-    let _ = run(
+    let ran = run(
         alloc,
         &mut script,
         &mut vault,
@@ -83,8 +93,9 @@ fn recorded(alloc: Global, script: &str) -> Result<MemSink, AllocError> {
         &mut out,
         &mut tap,
         &mut peer,
+        version,
     );
-    Ok(tap)
+    Ok(Put { ran, out, tap })
 }
 
 /// The frames of the requests that pass, and those of the replies.
@@ -94,7 +105,7 @@ pub struct Recording {
     pub replies: Vec<u8>,
 }
 
-fn apart(alloc: Global, frames: &[u8]) -> Result<Recording, AllocError> {
+pub fn apart(alloc: Global, frames: &[u8]) -> Result<Recording, AllocError> {
     let mut requests = Vec::new(alloc);
     let mut replies = Vec::new(alloc);
     let mut rest = frames;
@@ -113,8 +124,8 @@ fn apart(alloc: Global, frames: &[u8]) -> Result<Recording, AllocError> {
     Ok(Recording { requests, replies })
 }
 
-/// What passes when a script is run.
-pub fn passed(alloc: Global, script: &str) -> Result<Recording, AllocError> {
-    let tap = recorded(alloc, script)?;
-    apart(alloc, tap.bytes())
+/// What passes when a script is run over frames of a version.
+pub fn passed(alloc: Global, script: &str, version: FrameVersion) -> Result<Recording, AllocError> {
+    let put = ran(alloc, script, version)?;
+    apart(alloc, put.tap.bytes())
 }

@@ -47,7 +47,7 @@ const BEGIN: &[u8] =
 fn is_served(alloc: Global, server: &mut Server, frame: &[u8]) -> Result<bool, AllocError> {
     match decode_request(alloc, frame) {
         Decoded::One(request, _) => {
-            let replies = server.serve(alloc, &request)?;
+            let replies = server.serve(alloc, &request.message)?;
             Ok(replies.len() == 1)
         }
         Decoded::NotYet | Decoded::Bad | Decoded::OutOfMemory => Ok(false),

@@ -5,7 +5,7 @@ use serve_command::commands::Served;
 use std::test::Fail;
 
 // Some bytes, how serving them ends, and the frames that it puts.
-const CASES: [(&[u8], Served, &[u8]); 12] = [
+const CASES: [(&[u8], Served, &[u8]); 13] = [
     // no bytes
     (b"", Served::Done, b""),
     // a question, and its answer
@@ -18,9 +18,15 @@ const CASES: [(&[u8], Served, &[u8]); 12] = [
     ),
     // its first byte alone
     (b"\x01", Served::BadFrame(0), b""),
-    // version 2
+    // the question in version 2, and the answer
     (
         b"\x02\x01\x00\x00\x00\x16\x00\x01\x00\x00\x00\x0fSELECT a FROM t\x00",
+        Served::Done,
+        b"\x02\x85\x00\x00\x00\x04\x14\x00\x01t",
+    ),
+    // version 3
+    (
+        b"\x03\x01\x00\x00\x00\x16\x00\x01\x00\x00\x00\x0fSELECT a FROM t\x00",
         Served::BadFrame(0),
         b"",
     ),

@@ -1,13 +1,14 @@
 //! Runs each script of the folder that it is started in, in the order of their names, over devices in memory and an
 //! empty server, and prints what it comes to: its name, its text, its status, and the kinds of the frames that passed.
 //! A script whose name ends in `.check.sql` is checked: its text is printed, and how the check ended. One whose name ends in
-//! `.summary.sql` is run with its summary in the place of its text.
+//! `.summary.sql` is run with its summary in the place of its text, and one with `.frames_2.` in its name over frames of version 2.
 #![tactic(auto)]
 
 mod checks;
 mod kinds;
 mod runs;
 
+use ae_base::frames::FrameVersion;
 use ae_edge::memory::sink::MemSink;
 use checks::{Check, check_of};
 use kinds::kinds_of;
@@ -22,7 +23,8 @@ fn main(rt: HostRuntime) -> io::Result<()> {
         if name.ends_with(".check.sql") {
             print_check(&rt, script)?;
         } else {
-            print_came(&rt, &come_to(rt.alloc(), script, puts_of(name.as_str()))?)?;
+            let (puts, version) = (puts_of(name.as_str()), version_of(name.as_str()));
+            print_came(&rt, &come_to(rt.alloc(), script, puts, version)?)?;
         }
     }
     Ok(())
@@ -47,6 +49,15 @@ fn puts_of(name: &str) -> Puts {
         Puts::Summary
     } else {
         Puts::Text
+    }
+}
+
+// The version of the frames over which a script of that name is run.
+fn version_of(name: &str) -> FrameVersion {
+    if name.contains(".frames_2.") {
+        FrameVersion::V2
+    } else {
+        FrameVersion::V1
     }
 }
 

@@ -1,5 +1,6 @@
 //! A script that is run over devices in memory.
 
+use ae_base::frames::FrameVersion;
 use ae_base::texts::Txt;
 use ae_edge::memory::entropy::MemEntropy;
 use ae_edge::memory::sink::MemSink;
@@ -38,8 +39,13 @@ const SPARE: [u8; 32] = [0xff; 32];
 /// The master key of the path `next`.
 const NEXT: [u8; 32] = [0x5a; 32];
 
-/// Runs a script over an empty server, with three master keys, and with random bytes for sixteen cells.
-pub(crate) fn come_to(alloc: Global, script: Vec<u8>, puts: Puts) -> Result<Came, AllocError> {
+/// Runs a script over an empty server and frames of a version, with three master keys, and with random bytes for sixteen cells.
+pub(crate) fn come_to(
+    alloc: Global,
+    script: Vec<u8>,
+    puts: Puts,
+    version: FrameVersion,
+) -> Result<Came, AllocError> {
     let mut script = MemSource::new(script, 4096, Vec::new(alloc));
     let mut vault = three_keys(alloc)?;
     let mut entropy = each_byte_once(alloc)?;
@@ -55,6 +61,7 @@ pub(crate) fn come_to(alloc: Global, script: Vec<u8>, puts: Puts) -> Result<Came
             &mut text,
             &mut tap,
             &mut peer,
+            version,
         ),
         Puts::Summary => summarize(
             alloc,
@@ -64,6 +71,7 @@ pub(crate) fn come_to(alloc: Global, script: Vec<u8>, puts: Puts) -> Result<Came
             &mut text,
             &mut tap,
             &mut peer,
+            version,
         ),
     };
     Ok(Came {
