@@ -118,6 +118,11 @@ def frame(kind, *parts, length=None, version=1):
     return bytes([version, kind]) + number(len(body) if length is None else length, 4) + body
 
 
+def second(data):
+    """Frames of version 1 but for rows, in version 2."""
+    return b"".join(frame(kind, body, version=2) for kind, body in frames_of(data))
+
+
 INT, BIGINT = b"\x01", b"\x02"
 PLAIN, DET, RND = b"\x00", b"\x01" + number(1, 4), b"\x02" + number(1, 4)
 
@@ -169,6 +174,12 @@ def columns(*items, keys=()):
 
 def row(*atoms):
     return frame(0x83, number(len(atoms), 2), *atoms)
+
+
+def rows(*lists, count=None, width=None):
+    """A frame of rows, of version 2."""
+    shape = number(len(lists) if count is None else count, 2) + number(len(lists[0]) if width is None else width, 2)
+    return frame(0x86, shape, *(b"".join(it) for it in lists), version=2)
 
 
 def done(kind, count=0):
@@ -432,7 +443,7 @@ def requests_table():
         served(table, name, [ask, one, *behind], len(ask), [no_table])
 
     served(table, "a question", [ask], None, [no_table])
-    bad("version 2", b"\x02" + ask[1:])
+    bad("version 3", b"\x03" + ask[1:])
     bad("kind 3", frame(3, ask[6:]))
     bad("a reply", frame(0x81, ask[6:]))
     bad("a length past the longest", frame(1, ask[6:], length=2**24 + 1))
@@ -544,12 +555,14 @@ def limits_table():
     table.case("texts", "run", words("\nGO\n".join(texts).encode()))
     table.came("run", describe(texts[0]) + no_table, ["error 20 NoTable t", "error 13 TooLong", "status 1"])
     thousand, one = "INSERT INTO t (a) VALUES (1)" + ", (1)" * 999, "INSERT INTO t (a) VALUES (1)"
-    sqls = [table_of(""), *[thousand] * 100, one, "SELECT COUNT(*) AS n FROM t"]
-    counted_rows = columns(counted("n") + BIGINT + PLAIN) + row(num(100000)) + done(2, 1)
-    ends = [done(0), *[done(1, 1000)] * 100, refused(54), counted_rows]
+    count = "SELECT COUNT(*) AS n FROM t"
+    sqls = [table_of(""), *[thousand] * 1000, one, count]
+    counted_rows = columns(counted("n") + BIGINT + PLAIN) + row(num(1000000)) + done(2, 1)
+    ends = [done(0), *[done(1, 1000)] * 1000, refused(54), counted_rows]
     tap = [describe(it) + described(min(i, 1)) + execute(min(i, 1), it) + end for i, (it, end) in enumerate(zip(sqls, ends, strict=True))]
-    table.case("rows of a table", "run", words("\nGO\n".join(sqls).encode()))
-    lines = ["ok", *["(1000 affected)"] * 100, "error 54 TableFull", "n", "100000", "(1 rows)", "status 1"]
+    first, last = f"{table_of('')}\nGO\n", f"{one}\nGO\n{count}"
+    table.case("rows of a table", "run", f"{first.encode().hex()} {(thousand + chr(10) + 'GO' + chr(10)).encode().hex()}*1000 {last.encode().hex()}")
+    lines = ["ok", *["(1000 affected)"] * 1000, "error 54 TableFull", "n", "1000000", "(1 rows)", "status 1"]
     table.came("run", b"".join(tap), lines)
     return table.write()
 
@@ -558,47 +571,59 @@ def limits_table():
 
 
 class Calls:
-    """The calls of the devices, in their order, each with the bytes that it puts: a frame at the tap, or the text of a step. What is read
-    comes in pieces of 28 bytes. A reply is taken where none stands whole."""
+    """The calls of the devices, in their order, each with the bytes that it puts: a frame at the tap, or the text of a step; and with the
+    text that is put where it fails, which is what a step has said by then. What is read comes in pieces of 28 bytes. A reply is taken
+    where none stands whole."""
 
     PIECE = 28
 
     def __init__(self, script):
-        self.calls = [("script", b"")] * (-(-len(script) // self.PIECE) + 1)
+        self.calls = [("script", b"", b"")] * (-(-len(script) // self.PIECE) + 1)
 
-    def does(self, device, put=b""):
-        self.calls.append((device, put))
+    def does(self, device, put=b"", said=b""):
+        self.calls.append((device, put, said))
 
     def whole(self, device, until=None):
         calls = self.calls if until is None else self.calls[:until]
-        return b"".join(put for it, put in calls if it == device)
+        return b"".join(put for it, put, _ in calls if it == device)
 
     def failing(self, device, call):
         """Where that call of the device is among all, if it is made."""
-        places = [place for place, (it, _) in enumerate(self.calls) if it == device]
+        places = [place for place, (it, _, _) in enumerate(self.calls) if it == device]
         return places[call] if call < len(places) else None
+
+    def said(self, place):
+        return b"" if place is None else self.calls[place][2]
+
+
+FAULTS = {"script": "ReadFault", "replies": "ReadFault", "out": "WriteFault", "tap": "WriteFault", "vault": "VaultFault"}
+NUMBERS = {"script": 3, "replies": 3, "out": 4, "tap": 4, "entropy": 6, "vault": 7}
+
+
+def failing(table, name, command, devices, calls, script, replies=b"", printed=None):
+    """A case of which each of three calls of some devices fails."""
+
+    def ended(device=None):
+        if command in ("run", "drive", "drive2"):
+            return status_lines(0 if device is None else NUMBERS[device])
+        return ["ended Done" if device is None else f"ended {FAULTS[device]}"]
+
+    table.case(name, command, script, words(replies), devices)
+    printed = calls.whole("out").decode().splitlines() if printed is None else printed
+    table.came(command, calls.whole("tap"), [*printed, *ended()])
+    for device in devices.split():
+        for call in range(3):
+            place = calls.failing(device, call)
+            out, tap = len(calls.whole("out", place) + calls.said(place)), len(calls.whole("tap", place))
+            first, *said = ended(None if place is None else device)
+            table.printed += [f"{device} {call}: {out} and {tap} bytes, fronts true, {first}", *said]
 
 
 def devices_table():
     table = Table("devices.txt")
-    faults = {"script": "ReadFault", "replies": "ReadFault", "out": "WriteFault", "tap": "WriteFault", "vault": "VaultFault"}
-    numbers = {"script": 3, "replies": 3, "out": 4, "tap": 4, "entropy": 6, "vault": 7}
 
     def case(name, command, devices, calls, script, replies=b"", printed=None):
-        def ended(device=None):
-            if command in ("run", "drive"):
-                return status_lines(0 if device is None else numbers[device])
-            return ["ended Done" if device is None else f"ended {faults[device]}"]
-
-        table.case(name, command, script, words(replies), devices)
-        printed = calls.whole("out").decode().splitlines() if printed is None else printed
-        table.came(command, calls.whole("tap"), [*printed, *ended()])
-        for device in devices.split():
-            for call in range(3):
-                place = calls.failing(device, call)
-                out, tap = len(calls.whole("out", place)), len(calls.whole("tap", place))
-                first, *said = ended(None if place is None else device)
-                table.printed += [f"{device} {call}: {out} and {tap} bytes, fronts true, {first}", *said]
+        failing(table, name, command, devices, calls, script, replies, printed)
 
     # Three column keys, of which each is opened first for an INSERT into its randomized column.
     ceks = [bytes([byte]) * 32 for byte in (0x11, 0x22, 0x33)]
@@ -692,6 +717,157 @@ def generated_script(size):
     return "".join(f"{it}\nGO\n" for it in batches)
 
 
-printed = replies_table() + requests_table() + limits_table() + devices_table()
+# ---- version 2
+
+
+def driven(table, name, answers, lines, status=0, place=None, command="drive2", asks=2):
+    """Drives a query over some frames."""
+    table.case(name, command, words(b"SELECT a FROM t"), " ".join(map(words, answers)))
+    came_driven(table, lines, status, place, command, asks)
+
+
+def came_driven(table, lines, status, place=None, command="drive2", asks=2):
+    sent = [describe("SELECT a FROM t"), execute(0, "SELECT a FROM t")][:asks]
+    table.came(command, b"".join(sent), [*lines, *status_lines(status, place)])
+
+
+def version_2_table():
+    table = Table("version_2.txt")
+    plain_table(table)
+    told, head = described(0), columns(counted("a") + INT + PLAIN)
+    top, end = [second(told), second(head)], lambda count: second(done(2, count))
+    at_head, at_rows = len(told), len(told + head)
+    five, three = rows([num(5)]), rows([num(5)], [num(7)], [b"\0"])
+    header, printed = ["a"], ["a", "5", "7", "NULL"]
+
+    def case(name, answers, lines, status=0, place=None, **more):
+        driven(table, name, top + answers, header + lines, status, None if place is None else at_rows + place, **more)
+
+    case("three rows in a frame", [three, end(3)], ["5", "7", "NULL", "(3 rows)"])
+    case("three rows in two frames", [five, rows([num(7)], [b"\0"]), end(3)], ["5", "7", "NULL", "(3 rows)"])
+    case("no rows", [end(0)], ["(0 rows)"])
+    wide = rows([num(7), num(8)], [num(9), b"\0"])
+    case("rows of another width than the header", [five, wide, end(3)], ["5"], 11, len(five))
+    case("the second row of a frame has a text", [rows([num(5)], [text("x")]), end(2)], ["5"], 11, 0)
+    case("a text in the second frame", [five, rows([num(6)], [text("x")]), end(3)], ["5", "6"], 11, len(five))
+    case("a frame of no rows", [rows(width=1), end(0)], [], 11, 0)
+    case("rows of no atoms", [rows([]), end(1)], [], 11, 0)
+    case("rows of 513 atoms", [rows([b"\0"] * 513), end(1)], [], 11, 0)
+    case("4,097 rows", [rows(*[[b"\0"]] * 4097), end(4097)], [], 11, 0)
+    case("a byte behind the rows", [frame(0x86, b"\0\1\0\1\0\0", version=2), end(1)], [], 11, 0)
+    case("fewer atoms than the counts say", [rows([b"\0"], count=2), end(2)], [], 11, 0)
+    case("a cut inside the rows", [five, three[:-1]], ["5"], 11, len(five))
+    case("no end", [three], printed[1:], 11, len(three))
+    case("three rows, and an end of two", [three, end(2)], printed[1:], 11, len(three))
+    case("rows behind the end", [end(0), three], ["(0 rows)"], 11, len(end(0)))
+    case("a refusal behind rows", [three, second(refused(50))], printed[1:], 11, len(three))
+    case("a row of version 1", [b"\x02" + row(num(5))[1:], end(1)], [], 11, 0)
+    driven(table, "rows in the place of a header", [second(told), three, end(3)], [], 11, at_head)
+    driven(table, "rows in the place of a description", [three, second(head), end(3)], [], 11, 0, asks=1)
+    driven(table, "a header of version 1", [second(told), head, three, end(3)], [], 11, at_head)
+    driven(table, "rows in version 1", [told, head, b"\x01" + three[1:]], header, 11, at_rows, command="drive")
+    driven(table, "a request in version 2", [second(describe("SELECT a FROM t"))], [], 11, 0, asks=1)
+    # The replies of one version, driven in both.
+    table.case("the replies of version 1", "drive drive2", words(b"SELECT a FROM t"), " ".join(map(words, [told, head, row(num(5)), done(2, 1)])))
+    came_driven(table, ["a", "5", "(1 rows)"], 0, command="drive")
+    came_driven(table, [], 11, 0, asks=1)
+    table.case("the replies of version 2", "drive drive2", words(b"SELECT a FROM t"), " ".join(map(words, [*top, five, end(1)])))
+    came_driven(table, [], 11, 0, command="drive", asks=1)
+    came_driven(table, ["a", "5", "(1 rows)"], 0)
+    shared_rows(table)
+    both_versions(table)
+    return table.write()
+
+
+def plain_table(table):
+    """A run in version 2, with each of its frames."""
+    sqls = ["CREATE TABLE t (a INT)", "INSERT INTO t (a) VALUES (@p), (7), (NULL)", "SELECT a FROM t WHERE a < @p"]
+    typed = counted("p") + INT
+
+    def asked(version, sql, value):
+        ask = describe(sql, typed), described(version, counted("p") + PLAIN), execute(version, sql, typed + PLAIN + num(value))
+        return list(map(second, ask))
+
+    frames = [second(it) for it in (describe(sqls[0]), described(0), execute(0, sqls[0]), done(0))]
+    frames += [*asked(1, sqls[1], 5), second(done(1, 3)), *asked(1, sqls[2], 6)]
+    frames += [second(columns(counted("a") + INT + PLAIN)), rows([num(5)]), second(done(2, 1))]
+    script = [sqls[0], f"DECLARE @p INT = 5\n{sqls[1]}", f"DECLARE @p INT = 6\n{sqls[2]}"]
+    table.case("the plain table", "run2", words("\nGO\n".join(script).encode()))
+    table.came("run2", b"".join(frames), ["ok", "(3 affected)", "a", "5", "(1 rows)", "status 0", *(it.hex() for it in frames)])
+
+
+def shared_rows(table):
+    """Rows that share a frame, of which one comes to harm, recorded and of a peer."""
+    good = sealed(CEK, "x".encode("utf-16-le"))
+    typed = counted("p") + nvarchar(8)
+    asked = [it for version, sql in enumerate(DEFINED) for it in (describe(sql), execute(version, sql))]
+    asked += [describe(INSERT, typed), execute(3, INSERT, typed + DET + cell(good)), describe(SELECT), execute(3, SELECT)]
+    before = [it for version in range(3) for it in (described(version), done(0))]
+    before += [described(3, counted("p") + DET, keys=[key()]), done(1, 1), described(3)]
+    head = columns(counted("id") + INT + PLAIN, counted("c") + nvarchar(8) + DET, keys=[key()])
+    line = [num(1), cell(good)]
+    harmed = [num(2), cell(good[:32] + bytes([good[32] ^ 0x80]) + good[33:])]
+    tap, begun = b"".join(asked), sum(map(len, [*before, head]))
+
+    def case(name, lists, count, lines, status, place=None):
+        ended = ["ok", "ok", "ok", "(1 affected)", "id\tc", *lines, *status_lines(status, None if place is None else begun + place)]
+        packed = second(head) + rows(*lists) + second(done(2, count))
+        table.case(name, "drive2", "@replies.sql", " ".join(map(words, [*map(second, before), packed])))
+        table.came("drive2", tap, ended)
+        # The peer is told its replies one by one.
+        answer = head + b"".join(row(*it) for it in lists) + done(2, count)
+        table.case(f"{name}, of a peer", "peer2", "@replies.sql", " ".join(map(words, [*before, answer])))
+        table.came("peer2", tap + second(b"".join(before)) + packed, ended)
+
+    value, failed = "1\tN'x'", "error 75 CellFailed row 2 column 2 BadTag"
+    case("the second cell of a frame fails", [line, harmed, line], 3, [value, failed], 1)
+    case("two rows in a frame, and an end of one", [line, line], 1, [value, value], 11, len(rows(line, line)))
+    case("the second row of a frame is of other atoms", [line, [text("x"), cell(good)], line], 3, [value], 11, 0)
+    devices_of_shared_rows(table)
+
+
+def devices_of_shared_rows(table):
+    """The devices of a query whose rows share frames. Its text is put at its end, or where it breaks off."""
+    drives = Calls(b"")
+    drives.calls = []
+    told, head, end = second(described(0)), second(columns(counted("a") + INT + PLAIN)), second(done(2, 3))
+    one, two = rows([num(5)]), rows([num(7)], [b"\0"])
+    held, taken = 0, 0
+
+    def takes(reply, said=b""):
+        nonlocal held, taken
+        taken += len(reply)
+        while held < taken:
+            drives.does("replies", said=said)
+            held += Calls.PIECE
+
+    drives.does("tap", describe("SELECT a FROM t"))
+    takes(told)
+    drives.does("tap", execute(0, "SELECT a FROM t"))
+    takes(head)
+    takes(one, b"a\n")
+    takes(two, b"a\n5\n")
+    takes(end, b"a\n5\n7\nNULL\n")
+    drives.does("out", b"a\n5\n7\nNULL\n(3 rows)\n")
+    drives.does("replies")
+    failing(table, "devices of rows that share a frame", "drive2", "replies out tap", drives, words(b"SELECT a FROM t"), told + head + one + two + end)
+
+
+def both_versions(table):
+    """Requests of both versions to one server."""
+    ask, no_table = describe("SELECT a FROM t"), refused(20, counted("t"))
+    asks, refusals = (ask, second(ask)), (no_table, second(no_table))
+    order = (0, 1, 1, 0)
+    served(table, "questions of both versions", [asks[i] for i in order], None, [refusals[i] for i in order])
+    create, insert, select = "CREATE TABLE t (a INT)", "INSERT INTO t (a) VALUES (5), (7)", "SELECT a FROM t"
+    head = columns(counted("a") + INT + PLAIN)
+    requests = [second(execute(0, create)), execute(1, insert), second(execute(1, select)), execute(1, select)]
+    replies = [second(done(0)), done(1, 2), second(head), rows([num(5)], [num(7)]), second(done(2, 2))]
+    served(table, "rows in each version", requests, None, [*replies, head, row(num(5)), row(num(7)), done(2, 2)])
+    served(table, "a reply of version 2 to a server", [asks[1], refusals[1]], len(ask), [refusals[1]])
+    served(table, "kind 3 in version 2", [ask, frame(3, ask[6:], version=2), ask], len(ask), [no_table])
+
+
+printed = replies_table() + requests_table() + limits_table() + devices_table() + version_2_table()
 with open(os.path.join(HOME, "stdout"), "w") as it:
     it.write("\n".join(printed) + "\n")

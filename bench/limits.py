@@ -47,7 +47,7 @@ def texts():
         ("64 master keys", [MASTER.format(i, "main") for i in range(65)], ["ok", "error 63 Full"]),
         ("64 column keys", [MASTER.format("", "main"), *(KEY.format(i, "00" * 40) for i in range(65))], ["ok", "error 63 Full"]),
         ("256 tables", [f"CREATE TABLE t{i} (a INT)" for i in range(257)], ["ok", "error 63 Full"]),
-        ("100,000 rows of a table", [table, *[rows] * 100, one], ["(1000 affected)", "error 54 TableFull"]),
+        ("1,000,000 rows of a table", [table, *[rows] * 1000, one], ["(1000 affected)", "error 54 TableFull"]),
         ("1,000,000 rows that pass ON", [table, rows, joined, one, joined], ["(1 rows)", "(1 affected)", "error 53 TooManyRows"]),
         ("960 rows of 8,000 bytes, read", ["CREATE TABLE t (a VARBINARY(8000))", *[wide] * 480, "SELECT a FROM t"], ["(960 rows)"]),
     ]

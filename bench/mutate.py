@@ -34,15 +34,15 @@ def frames_of(data):
     return frames
 
 
-def recorded(program, top):
-    """The scripts of the repository with their frames: requests and replies."""
+def recorded(program, top, version):
+    """The scripts of the repository with their frames in a version: requests and replies."""
     found = []
     scripts = glob.glob(f"{top}/crates/script_tests/data/*.sql")
     for path in sorted(scripts):
         script = read(path)
         if os.path.exists("tap.bin"):
             os.remove("tap.bin")
-        subprocess.run([program, "run"], input=script, stdout=subprocess.DEVNULL, stderr=subprocess.DEVNULL)
+        subprocess.run([program, "run", *version], input=script, stdout=subprocess.DEVNULL, stderr=subprocess.DEVNULL)
         frames = frames_of(read("tap.bin")) if os.path.exists("tap.bin") else []
         if frames and sum(map(len, frames)) <= MOST_BYTES:
             asked, told = ([it for it in frames if (it[1] < 0x80) == asks] for asks in (True, False))
@@ -114,14 +114,14 @@ def mutated(rng, frames, others):
     return b"".join(frames)
 
 
-def status_of(program, word, data):
+def status_of(program, words, data):
     """The status with which a command ends that reads a file; negative for a signal, None where it doesn't end."""
     redirected = [
         (os.POSIX_SPAWN_OPEN, 0, data, os.O_RDONLY, 0),
         (os.POSIX_SPAWN_OPEN, 1, os.devnull, os.O_WRONLY, 0),
         (os.POSIX_SPAWN_OPEN, 2, os.devnull, os.O_WRONLY, 0),
     ]
-    child = os.posix_spawn(program, [program, word], {}, file_actions=redirected)
+    child = os.posix_spawn(program, [program, *words], {}, file_actions=redirected)
     signal.alarm(60)
     try:
         return os.waitstatus_to_exitcode(os.waitpid(child, 0)[1])
@@ -144,7 +144,7 @@ def times_up(*_):
 
 def work(task):
     """Tries some streams in a folder of its own; gives the counts, and the first stream that ends otherwise."""
-    program, command, found, streams, seed = task
+    program, command, version, found, streams, seed = task
     rng = random.Random(seed)
     signal.signal(signal.SIGALRM, times_up)
     folder = f"{command}-{seed}"
@@ -162,7 +162,8 @@ def work(task):
             if command == "drive":
                 write("script", script)
             write("requests" if command == "serve" else "replies.bin", data)
-            status = status_of(program, command, "requests" if command == "serve" else "script")
+            words = ["serve"] if command == "serve" else ["drive", *version]
+            status = status_of(program, words, "requests" if command == "serve" else "script")
             counts[status] += 1
             if status not in STATUSES[command]:
                 return counts, (command, status, script, data)
@@ -176,12 +177,14 @@ def main(program, streams, seed, top, kept):
     os.makedirs("keys")
     write("keys/main.key", bytes(range(32)).hex().encode())
     write("keys/spare.key", (b"\xff" * 32).hex().encode())
-    found = recorded(program, top)
-    print(f"{len(found)} recorded scripts, {sum(len(it[1]) for it in found)} requests, {sum(len(it[2]) for it in found)} replies", flush=True)
     workers = os.cpu_count() or 1
     share = min(1000, -(-streams // workers))
-    for command in ("serve", "drive"):
-        tasks = [(program, command, found, min(share, streams - at), seed * 1000000 + at) for at in range(0, streams, share)]
+    for command, *version in (["serve"], ["drive"], ["serve", "--frames", "2"], ["drive", "--frames", "2"]):
+        label = f"{command}, version {2 if version else 1}"
+        found = recorded(program, top, version)
+        asked, told = (sum(len(it[i]) for it in found) for i in (1, 2))
+        print(f"{len(found)} recorded scripts, {asked} requests, {told} replies", flush=True)
+        tasks = [(program, command, version, found, min(share, streams - at), seed * 1000000 + at) for at in range(0, streams, share)]
         counts = collections.Counter()
         with multiprocessing.Pool(workers) as pool:
             for part, bad in pool.imap_unordered(work, tasks):
@@ -190,10 +193,10 @@ def main(program, streams, seed, top, kept):
                     _, status, script, data = bad
                     write(f"{kept}/{command}.script", script)
                     write(f"{kept}/{command}.bin", data)
-                    print(f"{command}: status {status}, with {kept}/{command}.bin")
+                    print(f"{label}: status {status}, with {kept}/{command}.bin")
                     return 1
         tried = sum(counts.values())
-        print(f"{command}: {tried} streams; " + ", ".join(f"status {it}: {counts[it]}" for it in sorted(counts)), flush=True)
+        print(f"{label}: {tried} streams; " + ", ".join(f"status {it}: {counts[it]}" for it in sorted(counts)), flush=True)
     return 0
 
 
