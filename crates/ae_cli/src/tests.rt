@@ -96,8 +96,8 @@ fn vault(alloc: Global, fails: &str) -> Result<MemVault, AllocError> {
     Ok(MemVault::new(keys, failing(alloc, "vault", fails)?))
 }
 
-/// What the words come to over a script and replies, where the first call of one device fails. Nothing
-/// is on the disk.
+/// What the words come to over a script and replies, where the first call of one device fails.
+/// Nothing is on the disk.
 fn come_to<S: Source, L: Source>(
     alloc: Global,
     words: &[&str],

@@ -301,9 +301,9 @@ impl Catalog {
         }
     }
 
-    /// Defines a master key, at the end of the list. `Exists` for a name that a master key has, else
-    /// `Full` where no further one can be defined. After a fault or for want of memory the catalog
-    /// is as before.
+    /// Defines a master key, at the end of the list. `Exists` for a name that a master key has,
+    /// else `Full` where no further one can be defined. After a fault or for want of memory the
+    /// catalog is as before.
     fn create_master(&mut self, name: Name, path: KeyPath) -> Result<(), Refusal>
         ensures { Defines result self.old self.new (with_master self.old name path) }
     {
@@ -319,8 +319,8 @@ impl Catalog {
     }
 
     /// Defines a column key of values under different master keys that are there, at the end of the
-    /// list. It gets the next number. `Exists` for a name that a column key has, else `Full` where no
-    /// further one can be defined. After a fault or for want of memory the catalog is as before.
+    /// list. It gets the next number. `Exists` for a name that a column key has, else `Full` where
+    /// no further one can be defined. After a fault or for want of memory the catalog is as before.
     fn create_key(&mut self, name: Name, values: OneOrTwo<EncryptedValue>) -> Result<(), Refusal>
         requires there { AreMastersThere self.old values }
         requires differ { MastersDiffer values }
@@ -342,8 +342,8 @@ impl Catalog {
         Ok(())
     }
 
-    /// Adds a value to the column key of a name, which must be there (else `NoSuch`). `Exists` for a
-    /// master key that it has a value under, else `Full` where it has two or the last version is
+    /// Adds a value to the column key of a name, which must be there (else `NoSuch`). `Exists` for
+    /// a master key that it has a value under, else `Full` where it has two or the last version is
     /// used. After a fault or for want of memory the catalog is as before.
     fn add_value(&mut self, name: &Name, value: EncryptedValue) -> Result<(), Refusal>
         ensures { Defines result self.old self.new (with_value self.old name.now value) }
@@ -365,8 +365,8 @@ impl Catalog {
     }
 
     /// Drops the value under a master key of the column key of a name, which must be there (else
-    /// `NoSuch`). `NoSuch` for a master key that it has no value under, else `KeyInUse` where that is
-    /// its last value, else `Full` where the last version is used. After a fault or for want of
+    /// `NoSuch`). `NoSuch` for a master key that it has no value under, else `KeyInUse` where that
+    /// is its last value, else `Full` where the last version is used. After a fault or for want of
     /// memory, which a fault's name may take, the catalog is as before.
     fn drop_value(&mut self, name: &Name, master: &Name) -> Result<(), Refusal>
         ensures { Defines result self.old self.new (without_value self.old name.now master.now) }

@@ -7,8 +7,8 @@ pub fn definitions_keep_catalogs()
     ensures { DefinitionsKeepCatalogs }
 {}
 
-/// Each such definition leads to a catalog that follows, of the next version; and what follows by several
-/// definitions follows.
+/// Each such definition leads to a catalog that follows, of the next version; and what follows by
+/// several definitions follows.
 pub fn definitions_are_followed()
     ensures each { DefinitionsAreFollowed }
     ensures none { EachFollowsItself }

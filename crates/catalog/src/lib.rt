@@ -1,4 +1,5 @@
-//! What the server knows of keys and tables: lists in the order of their definitions, and a version.
+//! What the server knows of keys and tables: lists in the order of their definitions, and a
+//! version.
 #![tactic(auto)]
 
 pub mod catalogs;

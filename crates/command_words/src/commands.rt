@@ -43,8 +43,8 @@ pub fn taken_words_are_commands()
     ensures { TakenAreCommands }
 {}
 
-/// The command that the words, of which the first is the program's name, are by `clap`. The fault is
-/// the text with which `clap` refuses them or answers a request for help: how they are written.
+/// The command that the words, of which the first is the program's name, are by `clap`. The fault
+/// is the text with which `clap` refuses them or answers a request for help: how they are written.
 pub fn command_of(alloc: Global, words: &[Txt]) -> Result<Command, Refusal<Txt>>
     ensures { Reads words.now result }
 {

@@ -35,7 +35,8 @@ pub struct DescribedParam {
 pub enum Outcome {
     /// All rows of an answer.
     Rows(Listing),
-    /// An answer that broke off: the rows before it did, and why, where that is a fault of the driver.
+    /// An answer that broke off: the rows before it did, and why, where that is a fault of the
+    /// driver.
     Broken(Listing, Option<DriverFault>),
     /// So many rows were changed.
     Changed(u64),

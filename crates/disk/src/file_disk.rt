@@ -16,8 +16,8 @@ use std::io::{ErrorKind, Read, Seek, SeekFrom, Write};
 use std::path::Path;
 use std::rt::Files;
 
-/// A file of std as a disk. It is opened at the first call, and made where it isn't there. It doesn't
-/// tell what it holds: that such a file is a disk is trusted.
+/// A file of std as a disk. It is opened at the first call, and made where it isn't there. It
+/// doesn't tell what it holds: that such a file is a disk is trusted.
 #[derive(Drop)]
 pub struct FileDisk<'a, R: Files> {
     files: R,

@@ -89,16 +89,16 @@ fn drive_source<S: Source, V: Vault, E: Entropy, L: Source, W: Sink, T: Sink>(
     }
 }
 
-/// Reads a script to its end and runs its steps against recorded replies, which come as the bytes of
-/// their frames in a version: the frame of each request goes to `tap` in that version, and the text to
-/// `out`, a step's frames before its text. The rows that share a frame come one by one, each with the
-/// place of the frame. After the last step the replies are read to their end. A script that can't be
-/// read, has a bad line or is too long leaves everything as it was.
+/// Reads a script to its end and runs its steps against recorded replies, which come as the bytes
+/// of their frames in a version: the frame of each request goes to `tap` in that version, and the
+/// text to `out`, a step's frames before its text. The rows that share a frame come one by one,
+/// each with the place of the frame. After the last step the replies are read to their end. A
+/// script that can't be read, has a bad line or is too long leaves everything as it was.
 ///
-/// It stops with `BadReply` and the place of the frame whose reply isn't awaited, of the byte where no
-/// frame of the version comes, and of the first byte that is left after the last step; with `TooLong`
-/// where more than 1,073,741,824 bytes of replies were taken; with `ReadFault` where they couldn't be
-/// read.
+/// It stops with `BadReply` and the place of the frame whose reply isn't awaited, of the byte where
+/// no frame of the version comes, and of the first byte that is left after the last step; with
+/// `TooLong` where more than 1,073,741,824 bytes of replies were taken; with `ReadFault` where they
+/// couldn't be read.
 pub fn drive<S: Source, V: Vault, E: Entropy, L: Source, W: Sink, T: Sink>(
     alloc: Global,
     script: &mut S,
@@ -109,15 +109,15 @@ pub fn drive<S: Source, V: Vault, E: Entropy, L: Source, W: Sink, T: Sink>(
     tap: &mut T,
     version: FrameVersion,
 ) -> Ran
-    // There are bytes, the script's where it tells them, of which this is what driving comes to. Over
-    // any replies: how far its conversation was followed, what stands at the text, at the tap and at
-    // the other devices of it, how the replies were read, and why no further (`content`). Over
-    // replies that tell their bytes, with keys that are told: the text and the tap are those of what
-    // is driven over the replies that these bytes spell, with the random bytes that were drawn. It
-    // goes to the end, with every reply taken and no byte left; or to a bad reply, whose place is that
-    // of its frame, or where none comes or bytes are left. Where the replies can't be read or
-    // are past their limit, it is so over those that were taken; where a device fails or memory ends,
-    // fronts stand (`exact`).
+    // There are bytes, the script's where it tells them, of which this is what driving comes to.
+    // Over any replies: how far its conversation was followed, what stands at the text, at the tap
+    // and at the other devices of it, how the replies were read, and why no further (`content`).
+    // Over replies that tell their bytes, with keys that are told: the text and the tap are those
+    // of what is driven over the replies that these bytes spell, with the random bytes that were
+    // drawn. It goes to the end, with every reply taken and no byte left; or to a bad reply, whose
+    // place is that of its frame, or where none comes or bytes are left. Where the replies can't be
+    // read or are past their limit, it is so over those that were taken; where a device fails or
+    // memory ends, fronts stand (`exact`).
     ensures drive { (bytes : List ℕ) × IfSome (S.left script.old) (λ left. bytes ≡ left)
         × IsDriveOf result bytes
         (record {

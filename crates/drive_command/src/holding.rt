@@ -113,7 +113,8 @@ fn read_front(message: Message<'_>, used: usize) -> Result<Front<'_>, AllocError
 
 /// The bytes of replies that came and weren't let go. Where a frame of rows stands first and was
 /// opened, copies of its rows are kept until the last is taken. Contracts see the version of the
-/// frames, the place of the one that stands first, how many of its replies were taken, and the bytes.
+/// frames, the place of the one that stands first, how many of its replies were taken, and the
+/// bytes.
 #[derive(Drop)]
 pub struct Holding {
     version: FrameVersion,
@@ -205,8 +206,8 @@ impl Holding {
         self.feed.finish().is_none()
     }
 
-    /// What stands first. Where that is a frame of rows, it is opened, and its rows are lent from then
-    /// on.
+    /// What stands first. Where that is a frame of rows, it is opened, and its rows are lent from
+    /// then on.
     pub fn stands(&mut self, alloc: Global) -> Stands
         ensures same { self.new ≡ self.old }
         ensures stands { StandsSo result self.old }

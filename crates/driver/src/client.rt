@@ -137,8 +137,8 @@ impl Driver {
     }
 
     /// Takes a reply to a session's request to execute a batch. A reply that isn't awaited leaves
-    /// the driver as it was. A vault that fails and want of memory leave the session as it was. What
-    /// is kept of keys changes only where columns are shown, whose keys are opened.
+    /// the driver as it was. A vault that fails and want of memory leave the session as it was.
+    /// What is kept of keys changes only where columns are shown, whose keys are opened.
     pub fn replied<V: Vault>(
         &mut self,
         alloc: Global,

@@ -257,8 +257,8 @@ fn nothing_pending<'r>(session: Session) -> Turn<Result<Result<Request<'r>, Driv
     }
 }
 
-/// Executes the described batch of a session: the request to do so. Where none is described no key is
-/// opened, and the store stays as it is.
+/// Executes the described batch of a session: the request to do so. Where none is described no key
+/// is opened, and the store stays as it is.
 pub fn execute<'r, V: Vault, E: Entropy>(
     alloc: Global,
     store: &mut KeyStore,

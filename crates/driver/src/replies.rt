@@ -360,8 +360,8 @@ fn sent_replied<V: Vault>(
     }
 }
 
-/// Takes a reply to a session's request to execute a batch. No key is opened but at its columns; with
-/// any other reply, awaited or not, the store stays as it is.
+/// Takes a reply to a session's request to execute a batch. No key is opened but at its columns;
+/// with any other reply, awaited or not, the store stays as it is.
 pub fn replied<V: Vault>(
     alloc: Global,
     store: &mut KeyStore,

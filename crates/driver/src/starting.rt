@@ -103,8 +103,8 @@ fn asked<'r>(
     }
 }
 
-/// What a description says of a batch: the parameters that are used, the version of the catalog, the
-/// keys, and how each declared parameter is to be encrypted.
+/// What a description says of a batch: the parameters that are used, the version of the catalog,
+/// the keys, and how each declared parameter is to be encrypted.
 #[derive(Drop)]
 pub struct Found {
     pub params: Seq<DescribedParam>,

@@ -10,9 +10,9 @@ use std::alloc::{AllocError, Global};
 use std::marker::Model;
 use wire_frames::{Decoded, Way};
 
-/// The frames of one direction, from bytes that come in any pieces. Contracts see the direction, the
-/// place of the first byte that is held, the bytes held, and whether a frame was refused. Places past
-/// 2^64 - 1 are told as that.
+/// The frames of one direction, from bytes that come in any pieces. Contracts see the direction,
+/// the place of the first byte that is held, the bytes held, and whether a frame was refused.
+/// Places past 2^64 - 1 are told as that.
 #[derive(Drop)]
 pub struct FrameFeed {
     way: Way,
@@ -67,8 +67,8 @@ impl FrameFeed {
         }
     }
 
-    /// Takes the next piece of the stream. For want of memory nothing changes. Behind a frame that was
-    /// refused no byte is wanted, and none is taken.
+    /// Takes the next piece of the stream. For want of memory nothing changes. Behind a frame that
+    /// was refused no byte is wanted, and none is taken.
     pub fn feed(&mut self, piece: &[u8]) -> Result<(), AllocError>
         ensures fed { OnOk result (self.new ≡ with_piece self.old piece.now) }
         ensures kept { OnErr result (self.new ≡ self.old) }
@@ -80,12 +80,12 @@ impl FrameFeed {
         self.held.extend_from_slice(piece)
     }
 
-    /// What stands next: a message, where it is whole, whose parts borrow from the bytes that are held.
-    /// `advance` lets them go, once the message is done with.
+    /// What stands next: a message, where it is whole, whose parts borrow from the bytes that are
+    /// held. `advance` lets them go, once the message is done with.
     ///
     /// A body that comes in many pieces is read once: until all the bytes are there that the header
-    /// states, the header alone is read. So a stream costs what it has bytes, and for each piece the six
-    /// of a header.
+    /// states, the header alone is read. So a stream costs what it has bytes, and for each piece
+    /// the six of a header.
     pub fn front(&self, alloc: Global) -> Next<'_>
         ensures { Steps result self.now (after result self.now) }
     {
@@ -138,8 +138,8 @@ impl FrameFeed {
         }
     }
 
-    /// The next message, where it is whole, as one that borrows nothing; its bytes are let go. A feed
-    /// that met what is no frame answers so from then on. In the other cases nothing changes.
+    /// The next message, where it is whole, as one that borrows nothing; its bytes are let go. A
+    /// feed that met what is no frame answers so from then on. In the other cases nothing changes.
     pub fn next(&mut self, alloc: Global) -> Next<'static>
         ensures { Steps result self.old self.new }
     {

@@ -5,7 +5,8 @@ ghost use Rattle.frame_feed.specs.Laws.{GivesFrames, GivesTheSameHoweverCut, Kee
 
 use wire_frames::{frames_are_read_back, streams_are_read_once};
 
-/// A feed gives the frames of all that it was fed, however that was cut into pieces, up to 2^64 bytes.
+/// A feed gives the frames of all that it was fed, however that was cut into pieces, up to 2^64
+/// bytes.
 pub fn feeds_give_frames()
     ensures frames { GivesFrames }
     ensures cut { GivesTheSameHoweverCut }

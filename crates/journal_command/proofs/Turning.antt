@@ -12,7 +12,7 @@ use Rattle.server_core.specs.Serve.{State}
 use Rattle.serve_command.specs.ServeAll.{answer_frames, reply_frames, state_after}
 use Rattle.serve_command.specs.Serving.{Begins, AnswersAll, AnswersFirst, BreaksOff}
 use Rattle.serve_command.specs.Turns as serving
-use Rattle.serve_command.specs.Turns.{IsNext, Stands}
+use Rattle.serve_command.specs.Turns.{IsNext}
 use Rattle.serve_command.proofs.Interface.{answers_all, answers_first, begins_more, breaks_off, frames_more, refused_so, spells_asked, stands_fed, stands_first, stands_more, waits_so}
 use Rattle.wire_frames.specs.Frames.{Refused, IsNotYet, is_request_head}
 use Rattle.wire_frames.specs.declared.decoding.Way.TheVariants.{ToServer}

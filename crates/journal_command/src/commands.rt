@@ -193,17 +193,17 @@ fn serve_mounted<S: Source, W: Sink, D: Disk>(
     }
 }
 
-/// Finds the journal on a disk and serves its records again; then reads requests from the input, frame
-/// after frame, and puts the frames of the replies to the output. What a request changes is on the
-/// disk before its replies are put: all the records of a transaction at its COMMIT.
+/// Finds the journal on a disk and serves its records again; then reads requests from the input,
+/// frame after frame, and puts the frames of the replies to the output. What a request changes is
+/// on the disk before its replies are put: all the records of a transaction at its COMMIT.
 pub fn serve_journal<S: Source, W: Sink, D: Disk>(
     alloc: Global,
     input: &mut S,
     out: &mut W,
     disk: &mut D,
 ) -> Ended
-    // What was taken of the input, what was put for it and what a crash leaves of its records, by how it ended; or why the file's
-    // records weren't served again.
+    // What was taken of the input, what was put for it and what a crash leaves of its records, by
+    // how it ended; or why the file's records weren't served again.
     ensures content { ServesJournal result (S.left input.old) (S.left input.new)
         (D.told disk.old) (D.told disk.new) (W.held out.old) (W.held out.new) }
     // A file whose records are served again stays one, and isn't found damaged.

@@ -215,8 +215,8 @@ impl Keeper {
         self.sessions[place_of(session)].keep(alloc, room, sort)
     }
 
-    /// Keeps nothing of a request that wasn't done, for which room was made. Of a session that has no
-    /// transaction afterwards nothing is held.
+    /// Keeps nothing of a request that wasn't done, for which room was made. Of a session that has
+    /// no transaction afterwards nothing is held.
     pub(crate) fn leave(&mut self, alloc: Global, session: SessionId, room: &Room, stays: bool)
         ensures { (held : List (List Asked)) (request : Asked)
             → HasRoom held session request room.now self.old

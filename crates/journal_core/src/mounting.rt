@@ -95,9 +95,9 @@ fn settle_file<D: Disk>(alloc: Global, disk: &mut D) -> Mounted
 }
 
 impl Journal {
-    /// Finds the journal on a disk, puts the end of its file in order, and hands out its records. It
-    /// syncs first, so that what it reads is on the disk. While the call is under way a crash leaves
-    /// the records of some image that it could leave before.
+    /// Finds the journal on a disk, puts the end of its file in order, and hands out its records.
+    /// It syncs first, so that what it reads is on the disk. While the call is under way a crash
+    /// leaves the records of some image that it could leave before.
     pub fn mount<D: Disk>(alloc: Global, disk: &mut D) -> Mounted
         ensures content { WhereTold (Mounts result) (D.told disk.old) (D.told disk.new) }
         ensures whole { IsWhole result }

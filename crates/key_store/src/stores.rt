@@ -22,7 +22,8 @@ use std::marker::Model;
 use std::num::NonZeroUsize;
 
 /// Column keys that were opened by one vault: the 8 most recently used at most. A key is found by
-/// the value that gave it, its master key's path and its wrapped bytes, never by its name or number.
+/// the value that gave it, its master key's path and its wrapped bytes, never by its name or
+/// number.
 #[derive(Drop)]
 pub struct KeyStore {
     kept: LruCache<KeyValue, OpenedKey>,
@@ -62,10 +63,10 @@ impl KeyStore {
 
     /// The keys for the cells under a column key, opened by the one vault that the store is used
     /// with: each key that the store keeps is what this vault gives. The key's values are tried in
-    /// their order, and the first that opens gives the keys. The vault isn't asked for a value that is
-    /// kept, nor after a call on it failed. Where no keys are given the store keeps what it kept
-    /// before, in the same order; a key that is opened may put out the one that was used longest ago.
-    /// The store stays one of this vault.
+    /// their order, and the first that opens gives the keys. The vault isn't asked for a value that
+    /// is kept, nor after a call on it failed. Where no keys are given the store keeps what it kept
+    /// before, in the same order; a key that is opened may put out the one that was used longest
+    /// ago. The store stays one of this vault.
     pub fn column_key<V: Vault>(
         &mut self,
         vault: &mut V,
@@ -87,8 +88,8 @@ impl KeyStore {
         }
     }
 
-    /// The keys by the second value of a column key, whose first gives none, though its path is there,
-    /// or since it isn't.
+    /// The keys by the second value of a column key, whose first gives none, though its path is
+    /// there, or since it isn't.
     fn second_key<V: Vault>(
         &mut self,
         vault: &mut V,
@@ -118,8 +119,8 @@ impl KeyStore {
         }
     }
 
-    /// The keys that a value of a column key gives: those that are kept under it, else what the vault
-    /// opens, which is kept from then on. Where it gives none the store stays as it is.
+    /// The keys that a value of a column key gives: those that are kept under it, else what the
+    /// vault opens, which is kept from then on. Where it gives none the store stays as it is.
     fn tried<V: Vault>(
         &mut self,
         vault: &mut V,

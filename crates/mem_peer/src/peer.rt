@@ -73,7 +73,9 @@ impl MemPeer {
     ) -> Result<Seq<Reply<'static>>, AllocError>
         requires { 1 ≤ length self.old.answers }
         ensures { MatchResult result
-            (λ replies. (self.old.answers ≡ replies ∷ self.new.answers) × (self.new.exchanges ≡ self.old.exchanges ++ record { request = request.now; replies = replies } ∷ []))
+            (λ replies. (self.old.answers ≡ replies ∷ self.new.answers)
+            × (self.new.exchanges
+            ≡ self.old.exchanges ++ record { request = request.now; replies = replies } ∷ []))
             (λ _. self.new ≡ self.old) }
     {
         let exchange = Exchange::copied(alloc, request, self.answers[0].as_slice())?;

@@ -50,9 +50,9 @@ pub fn replies_are_awaited()
     laws_below();
 }
 
-/// No outcome of a plaintext meaning is `CellFailed`, `BadCell` or `ParamClash`, and no answer of it
-/// breaks off. So over a fresh server no script comes to one, where all values of a column key that
-/// open do so to one key. Whatever they open to, none comes to `BadCell` or `ParamClash`.
+/// No outcome of a plaintext meaning is `CellFailed`, `BadCell` or `ParamClash`, and no answer of
+/// it breaks off. So over a fresh server no script comes to one, where all values of a column key
+/// that open do so to one key. Whatever they open to, none comes to `BadCell` or `ParamClash`.
 pub fn cells_never_fail()
     ensures { CellsNeverFail }
 {

@@ -3,8 +3,8 @@
 ghost use Rattle.recording.specs.Laws.{FrontsAreAccepted, ReplayLaw};
 
 /// From a state without transactions, the records of some requests are served again one after
-/// another: each of their requests is done, no transaction is open behind a record, and they lead to
-/// the shared world that the requests lead to, with its change counts.
+/// another: each of their requests is done, no transaction is open behind a record, and they lead
+/// to the shared world that the requests lead to, with its change counts.
 pub fn replay_law()
     ensures { ReplayLaw }
 {}

@@ -263,8 +263,8 @@ fn passed(
 /// Binds a statement over a catalog and the declarations of its parameters: each name becomes the
 /// place of its column or parameter, from 0. The answer is the first fault of the first pass over
 /// the whole statement that has one: the tables (NoTable, Ambiguous) and the other names (NoColumn,
-/// Ambiguous, NoTable, NoParam, NoKey) in text order, the kinds of values (TypeClash) and what isn't
-/// grouped (NotGrouped) at the smallest place, and the length (TooLong).
+/// Ambiguous, NoTable, NoParam, NoKey) in text order, the kinds of values (TypeClash) and what
+/// isn't grouped (NotGrouped) at the smallest place, and the length (TooLong).
 #[tactic(auto, using(crate::proofs::Causes::bind_causes))]
 pub fn bind(
     alloc: Global,

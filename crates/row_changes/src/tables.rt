@@ -83,8 +83,8 @@ impl<K: Same> Table<K> {
         self.rows.rows()
     }
 
-    /// Puts rows at the end, all of them or, where two rows are alike on a unique key or there is no
-    /// memory, none.
+    /// Puts rows at the end, all of them or, where two rows are alike on a unique key or there is
+    /// no memory, none.
     pub fn insert(&mut self, alloc: Global, rows: Rows<K>) -> Result<(), Refusal>
         requires few { length self.old.keys ≤ 8 }
         requires distinct { AreDistinct self.old.keys self.old.rows }
@@ -231,8 +231,8 @@ fn append_each<K: Same>(stored: &mut Paged<Row<K>>, rows: Rows<K>)
     }
 }
 
-/// Indexes for the same keys of the rows as they will stand after changes, or the first key on which
-/// two are alike.
+/// Indexes for the same keys of the rows as they will stand after changes, or the first key on
+/// which two are alike.
 fn renewed<K: Same>(
     alloc: Global,
     indexes: &[UniqueIndex<K>],

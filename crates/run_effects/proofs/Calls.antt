@@ -13,7 +13,7 @@ use Rattle.server_core.specs.Serve.{State}
 use Rattle.conversation.specs.declared.outcomes.Listing.{Listing}
 use Rattle.conversation.specs.declared.outcomes.Outcome.{Outcome}
 use Rattle.conversation.specs.declared.sessions.Session.{Session}
-use Rattle.conversation.specs.Devices.{Devices, AreOwn, HasShare}
+use Rattle.conversation.specs.Devices.{Devices, AreOwn}
 use Rattle.conversation.specs.Devices as own
 use Rattle.conversation.specs.Paths.{Event, Asked, Took, Strayed, Drew, Opened, Printed, Follows, stays, asks, takes_more, takes_last, strays, replies_to, taken_in, OpensAll, IsStray}
 use Rattle.conversation.specs.Talk.{Talk, Stops, Asks, Hears, Heard, More, Got, hear, broken}

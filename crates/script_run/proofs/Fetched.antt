@@ -1,6 +1,6 @@
 -- A reply is heard that was fetched before.
-use Rattle.std.proofs.Common.{◌≡◌, ℕ, ◌+◌, [], ◌∷◌, Some, Result, Ok, Err, Bool, length, sym, ap, subst, append-nil, arith}
-use Rattle.std.specs.Prelude.{◌<◌, IfOk, MatchResult, flat_map}
+use Rattle.std.proofs.Common.{◌≡◌, ℕ, ◌+◌, [], ◌∷◌, Some, Result, Ok, Err, Bool, sym, subst, arith}
+use Rattle.std.specs.Prelude.{◌<◌, IfOk, MatchResult}
 use Rattle.wire_messages.specs.declared.replies.Reply.{Reply}
 use Rattle.conversation.specs.declared.answers.ReplyAnswer.{ReplyAnswer}
 use Rattle.conversation.specs.declared.faults.Halt.{Halt}

@@ -10,7 +10,7 @@ use Rattle.ae_edge.proofs.Interface.{adds_none, adds_then, adds_then_front, adds
 use Rattle.wire_messages.specs.declared.replies.Reply.{Reply}
 use Rattle.wire_payloads.specs.Payloads.{replies_of}
 use Rattle.wire_spelling.specs.Packing.{PacksFront, packed, payload_frame, payloads_of}
-use Rattle.wire_frames.specs.Frames.{Placed, placed_from, placed_answer, spread}
+use Rattle.wire_frames.specs.Frames.{placed_from, placed_answer, spread}
 use Rattle.script_run.specs.Frames.{PutsBytes}
 use Rattle.script_run.specs.Queues.{PlacesAnswer, placed_at}
 use Rattle.script_run.specs.declared.peer_connection.Places.{Places}

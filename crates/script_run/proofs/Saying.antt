@@ -1,5 +1,5 @@
 -- What a run prints over a server is the text of outcomes that its conversation there comes to.
-use Rattle.std.proofs.Common.{◌≡◌, ◌≤◌, ℕ, ◌+◌, List, [], ◌∷◌, ◌++◌, Option, Some, Ok, Err, Result, refl, sym, ◌∙◌, ap, subst, append_assoc, append-nil, length, arith}
+use Rattle.std.proofs.Common.{◌≡◌, ◌≤◌, ℕ, ◌+◌, List, [], ◌∷◌, ◌++◌, Some, Ok, Err, Result, refl, sym, ◌∙◌, ap, subst, append_assoc, append-nil, length, arith}
 use Rattle.std.specs.Prelude.{flat_map}
 use Rattle.std.specs.List.{All}
 use Rattle.std.proofs.lemmas.Grind.{flat_map-append}
@@ -22,7 +22,7 @@ use Rattle.outcome_text.specs.Counting.{nothing}
 use Rattle.outcome_text.specs.Printing.{printed_outcome, print}
 use Rattle.outcome_text.specs.declared.tallies.Tally.{Tally}
 use Rattle.run_effects.specs.Shares.{Outside, messages_of, text_of}
-use Rattle.run_effects.specs.Ways.{Proceeds, HaltsAt, Breaks, StopsBy}
+use Rattle.run_effects.specs.Ways.{Proceeds, Breaks, StopsBy}
 use Rattle.run_effects.specs.declared.stops.Stop.{Stop}
 use Rattle.run_effects.specs.declared.stops.Stop.TheVariants as stop
 use Rattle.script_run.specs.declared.runs.Count.{Count}

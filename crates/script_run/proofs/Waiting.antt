@@ -8,7 +8,7 @@ use Rattle.ae_edge.proofs.Interface.{told_same, adds_none}
 use Rattle.wire_messages.specs.declared.replies.Reply.{Reply}
 use Rattle.wire_frames.specs.Frames.{Placed}
 use Rattle.conversation.specs.Paths.{Took, next_of}
-use Rattle.run_effects.specs.Shares.{Queue, Stream, Wire, AreServed, first_place, messages_of, queue_of}
+use Rattle.run_effects.specs.Shares.{Queue, Stream, Wire, AreServed, messages_of, queue_of}
 use Rattle.run_effects.specs.Ways.{IsFirstOf, IsFirst, IsLeft, IsWithin, TakesOne}
 use Rattle.script_run.specs.Queues.{placed, all_placed, placed_at}
 use Rattle.script_run.specs.declared.peer_connection.PlacedReply.{PlacedReply}
@@ -38,14 +38,6 @@ one_left (p ∷ items) n l e = tt
 pub front_some : (version : FrameVersion) (items : List PlacedReply) (first : PlacedReply) → 0 < length items → first ≡ slice_index_or items 0 first → IsFirstOf version first.reply None (all_placed items)
 front_some version [] first h e = absurd (omega arith)
 front_some version (p ∷ items) first h e = (first.at, all_placed items, ap (λ w. placed w ∷ all_placed items) (sym e))
-
-pub place_some : (items : List PlacedReply) (first : PlacedReply) (behind : ℕ) → 0 < length items → first ≡ slice_index_or items 0 first → first.at ≡ first_place (all_placed items) behind
-place_some [] first behind h e = absurd (omega arith)
-place_some (p ∷ items) first behind h e = ap (λ (w : PlacedReply). w.at) e
-
-pub place_none : (items : List PlacedReply) (behind : ℕ) → ¬ (0 < length items) → behind ≡ first_place (all_placed items) behind
-place_none [] behind h = refl
-place_none (p ∷ items) behind h = absurd (h (omega arith))
 
 -- ---- one is taken
 

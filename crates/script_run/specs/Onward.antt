@@ -7,7 +7,7 @@ use Rattle.conversation.specs.declared.outcomes.Listing.{Listing}
 use Rattle.conversation.specs.declared.outcomes.Outcome.{Outcome}
 use Rattle.conversation.specs.declared.outcomes.Outcome.TheVariants.{Failed}
 use Rattle.conversation.specs.declared.sessions.Session.{Session}
-use Rattle.conversation.specs.declared.sessions.Session.TheVariants.{Idle, Begun, Pending, Sent, Reading, Skipping}
+use Rattle.conversation.specs.declared.sessions.Session.TheVariants.{Idle, Begun, Pending, Reading, Skipping}
 use Rattle.conversation.specs.Pending as told
 use Rattle.conversation.specs.Pending.{uses_of}
 use Rattle.conversation.specs.Sessions.{described_params}

@@ -103,9 +103,9 @@ pub fn run_source<S: Source, V: Vault, E: Entropy, W: Sink, T: Sink, P: Peer>(
 
 /// Reads a script to its end and runs its steps through a driver and the peer: the text goes to
 /// `out`, and every frame, in this version, to `tap` in the order in which they passed, a step's
-/// frames before its text. The values of protected columns pass as cells, and are printed as they are. A script that
-/// can't be read, has a bad line or is too long leaves everything as it was; where a device fails or
-/// memory ends, text and tap hold fronts of the whole.
+/// frames before its text. The values of protected columns pass as cells, and are printed as they
+/// are. A script that can't be read, has a bad line or is too long leaves everything as it was;
+/// where a device fails or memory ends, text and tap hold fronts of the whole.
 pub fn run<S: Source, V: Vault, E: Entropy, W: Sink, T: Sink, P: Peer>(
     alloc: Global,
     script: &mut S,
@@ -117,14 +117,14 @@ pub fn run<S: Source, V: Vault, E: Entropy, W: Sink, T: Sink, P: Peer>(
     version: FrameVersion,
 ) -> Ran
     // There are bytes, the source's where it tells them, of which this is a run. Over any peer: how
-    // far its conversation was followed, what stands at the text, at the tap, at the peer and at the
-    // other devices of it, and why it was followed no further (`content`). Over a peer that serves
-    // from the empty state: a good script is run to its end, unless memory or a device fails
+    // far its conversation was followed, what stands at the text, at the tap, at the peer and at
+    // the other devices of it, and why it was followed no further (`content`). Over a peer that
+    // serves from the empty state: a good script is run to its end, unless memory or a device fails
     // (`complete`); its requests are served one after another, and transactions take effect one
     // after another, each whole at its COMMIT (`serial`); with keys that are told, the tap has the
-    // frames of the conversation over that server, with the cells sealed under the random bytes that
-    // were drawn (`transcript`); and where all values of a column key open to one key, the text is
-    // plain SQL's over the same values, whatever columns are protected (`plain`).
+    // frames of the conversation over that server, with the cells sealed under the random bytes
+    // that were drawn (`transcript`); and where all values of a column key open to one key, the
+    // text is plain SQL's over the same values, whatever columns are protected (`plain`).
     ensures run { (bytes : List ℕ) × IfSome (S.left script.old) (λ left. bytes ≡ left)
         × IsRunOf result bytes
         (record {

@@ -85,8 +85,8 @@ pub fn put_request<T: Sink>(
 }
 
 impl Places {
-    /// Notes the place of a frame of so many bytes for each reply that it carries. There is no memory
-    /// for places past 64 bits.
+    /// Notes the place of a frame of so many bytes for each reply that it carries. There is no
+    /// memory for places past 64 bits.
     fn note(&mut self, count: usize, bytes: usize) -> Result<(), AllocError>
         ensures noted { OnOk result
             (self.new.noted.items ≡ self.old.noted.items ++ replicate count self.old.behind) }
@@ -145,7 +145,8 @@ fn put_exchange<T: Sink>(
     replies: &[Reply<'static>],
     places: &mut Places,
 ) -> PutAll
-    ensures puts { PutsBytes result (request_frame version request.now ++ packed version replies.now)
+    ensures puts { PutsBytes result
+        (request_frame version request.now ++ packed version replies.now)
         (T.held tap.old) (T.held tap.new) (T.faults tap.old) (T.faults tap.new) }
     ensures same { T.names tap.new ≡ T.names tap.old }
     ensures places { result ≡ put.Whole

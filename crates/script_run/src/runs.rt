@@ -102,8 +102,8 @@ pub fn run_lent<W: Sink, E: Entropy, V: Vault, L: Connection>(
     run_all(alloc, env, driver, steps)
 }
 
-/// Runs the steps of a script over a peer: the text goes to `out`, and every frame, in this version,
-/// to `tap` in the order in which they passed, a step's frames before its text.
+/// Runs the steps of a script over a peer: the text goes to `out`, and every frame, in this
+/// version, to `tap` in the order in which they passed, a step's frames before its text.
 pub fn run_over<W: Sink, T: Sink, E: Entropy, V: Vault, P: Peer>(
     alloc: Global,
     steps: &[Step],

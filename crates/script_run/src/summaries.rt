@@ -1,4 +1,5 @@
-//! The command `run` with a summary: a script is read whole, its steps are run, and what they come to is counted.
+//! The command `run` with a summary: a script is read whole, its steps are run, and what they come
+//! to is counted.
 
 ghost use Rattle.std.specs.Prelude.{◌≡◌, ◌⊎◌, ℕ, List, Some, IfSome};
 ghost use Rattle.ae_edge.specs.Devices.{Rose, WhereTold};
@@ -47,9 +48,9 @@ fn put_summary<W: Sink>(alloc: Global, out: &mut W, run: Run) -> Ran
     }
 }
 
-/// Runs a script as `run` does, tap included, and puts four lines in the place of its text: the steps,
-/// the outcomes that are refusals, the result rows that the text has, and the requests. They are put
-/// where the script ran to its end; else nothing is.
+/// Runs a script as `run` does, tap included, and puts four lines in the place of its text: the
+/// steps, the outcomes that are refusals, the result rows that the text has, and the requests. They
+/// are put where the script ran to its end; else nothing is.
 pub fn summarize<S: Source, V: Vault, E: Entropy, W: Sink, T: Sink, P: Peer>(
     alloc: Global,
     script: &mut S,
@@ -89,7 +90,8 @@ pub fn summarize<S: Source, V: Vault, E: Entropy, W: Sink, T: Sink, P: Peer>(
           entropy_faults = E.faults entropy.new;
           vault_faults = V.faults vault.new;
         }) }
-    // Over a peer that serves from the empty state each reply is awaited, whatever the devices tell.
+    // Over a peer that serves from the empty state each reply is awaited, whatever the devices
+    // tell.
     ensures awaited { P.state peer.old ≡ Some empty_state
         → (place : ℕ) → ¬ (result ≡ ran.Stopped (stop.BadReply place)) }
     // A peer has no stream of replies, so it stops for no fault of one.

@@ -40,8 +40,8 @@ fn steps_in(alloc: Global, script: &Blob) -> Result<Seq<Step>, Unread>
     }
 }
 
-/// Reads a script to its end: its steps, or why it has none. At most one byte more than the limit is
-/// taken.
+/// Reads a script to its end: its steps, or why it has none. At most one byte more than the limit
+/// is taken.
 pub fn read_steps<S: Source>(alloc: Global, script: &mut S) -> Result<Seq<Step>, Unread>
     // There are bytes, the source's where it tells them, of which this was read.
     ensures reads { (bytes : List ℕ) × IfSome (S.left script.old) (λ left. bytes ≡ left)

@@ -112,14 +112,16 @@ fn serve_pieces<S: Source, W: Sink>(
 
 /// Reads requests from the input, frame after frame, and puts the frames of the replies of a server
 /// that begins with nothing defined to the output: all those of one request before the next request
-/// is looked at. Of the input at most a frame and a piece are held. Up to the limit all whole frames
-/// are answered, before a byte past it is asked for.
+/// is looked at. Of the input at most a frame and a piece are held. Up to the limit all whole
+/// frames are answered, before a byte past it is asked for.
 pub fn serve_stream<S: Source, W: Sink>(alloc: Global, input: &mut S, out: &mut W) -> Served
-    // What was taken of the input, and what was put for it, by how it ended; and that transactions took effect one after another.
+    // What was taken of the input, and what was put for it, by how it ended; and that transactions
+    // took effect one after another.
     ensures content { ServesStream result (S.left input.old) (S.left input.new) (W.held out.old)
         (W.held out.new) }
-    // Where the input tells its bytes: by how those within the limit end, and the frames of their replies. So whole frames within
-    // the limit end with `Done` and all frames, unless memory or a device fails.
+    // Where the input tells its bytes: by how those within the limit end, and the frames of their
+    // replies. So whole frames within the limit end with `Done` and all frames, unless memory or a
+    // device fails.
     ensures exact { (bytes frames : List ℕ) (end : End) (after : State)
         → S.left input.old ≡ Some bytes
         → ServeAll empty_state (take most_stream_bytes bytes) end frames after

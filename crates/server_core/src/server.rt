@@ -26,8 +26,8 @@ use wire_messages::replies::Reply;
 use wire_messages::requests::Request;
 use wire_parts::texts::StatementPart;
 
-/// The server's end, which contracts see as its state: the shared world, and the transactions of its
-/// sessions.
+/// The server's end, which contracts see as its state: the shared world, and the transactions of
+/// its sessions. Every world is well typed, and its protected columns hold NULL and cells alone.
 #[derive(Drop)]
 pub struct Server {
     store: Store<Cell>,
@@ -55,10 +55,10 @@ impl Server {
         }
     }
 
-    /// Serves a request whole: the replies to it, which are of its kinds, and the state after it. Want
-    /// of memory leaves the state as before. To each request that is this one but for a renaming of
-    /// cells, in each state that is this one but for it, come these replies and this state but for
-    /// it.
+    /// Serves a request whole: the replies to it, which are of its kinds, and the state after it.
+    /// Want of memory leaves the state as before. To each request that is this one but for a
+    /// renaming of cells, in each state that is this one but for it, come these replies and this
+    /// state but for it.
     pub fn serve(
         &mut self,
         alloc: Global,

@@ -10,8 +10,8 @@ use sql_tree::statements::{Statement, TransactionControl};
 use std::alloc::{AllocError, Global};
 use wire_parts::texts::StatementPart;
 
-/// What sort a text is: a statement that asks for rows, changes rows, or defines keys or tables; BEGIN,
-/// COMMIT or ROLLBACK; or no statement.
+/// What sort a text is: a statement that asks for rows, changes rows, or defines keys or tables;
+/// BEGIN, COMMIT or ROLLBACK; or no statement.
 #[derive(Clone, Copy, PartialEq, Eq, Debug)]
 pub enum Sort {
     Reads,

@@ -116,7 +116,8 @@ pub(crate) fn passes_a_limit(statement: &Statement) -> bool
     }
 }
 
-/// Whether a table has too many unique keys: its columns with the word UNIQUE, and its lists UNIQUE.
+/// Whether a table has too many unique keys: its columns with the word UNIQUE, and its lists
+/// UNIQUE.
 fn has_many_keys(columns: &[ColumnSpec], uniques: &[UniqueSpec]) -> bool
     ensures { result ≡ nat_lt 8 (spec.unique_keys columns.now uniques.now) }
 {

@@ -91,11 +91,11 @@ impl<K: Same> Store<K> {
     }
 
     /// Executes a statement of a session that is bound on the catalog of the world that it sees,
-    /// where its parameters are encrypted so and have these values. BEGIN gives the session a copy of
-    /// the shared world, over which its statements go until COMMIT or ROLLBACK; COMMIT is refused
-    /// with Moved or Conflict where others came between, and takes no memory once a table moves. For
-    /// want of memory the state is as before. An answer of rows has noted the tables that it used,
-    /// which can be forgotten, and nothing else.
+    /// where its parameters are encrypted so and have these values. BEGIN gives the session a copy
+    /// of the shared world, over which its statements go until COMMIT or ROLLBACK; COMMIT is
+    /// refused with Moved or Conflict where others came between, and takes no memory once a table
+    /// moves. For want of memory the state is as before. An answer of rows has noted the tables
+    /// that it used, which can be forgotten, and nothing else.
     #[tactic(auto, using(crate::proofs::Forgetting::undone_so))]
     pub fn execute(
         &mut self,
@@ -223,7 +223,8 @@ impl<K: Same> Store<K> {
         }
     }
 
-    /// Has the transaction of a session forget the tables that it has used behind the first so many.
+    /// Has the transaction of a session forget the tables that it has used behind the first so
+    /// many.
     pub fn forget(&mut self, session: SessionId, used: usize)
         requires { IsHeld (forgotten self.old session used) }
         ensures { self.new ≡ forgotten self.old session used }

@@ -23,8 +23,8 @@ pub fn numbered(i: usize) -> UniqueNumber
 }
 
 /// Puts new rows into the index of each unique key, at one place after another from this one on, or
-/// answers the first key on which two are alike: two of the new ones, or one of them and one that is
-/// there. After a refusal the indexes are of the rows that they were of.
+/// answers the first key on which two are alike: two of the new ones, or one of them and one that
+/// is there. After a refusal the indexes are of the rows that they were of.
 pub fn admit<K: Same>(
     alloc: Global,
     indexes: &mut Vec<UniqueIndex<K>>,

@@ -1,7 +1,7 @@
 -- One frame more, or it broke off.
 use Rattle.std.proofs.Common.{length, refl, ◌∙◌, ap, ◌++◌, arith}
 use Rattle.script_run.proofs.Framed.{puts_so}
-use Rattle.script_run.proofs.Packed.{packs_none, packs_next, packs_cut, packs_fault, packs_stop, packs_all, places_all}
+use Rattle.script_run.proofs.Packed.{packs_none, packs_next, packs_fault, packs_stop}
 use Rattle.script_run.proofs.peer_connection.put_answer.Goals as goal
 
 pub frames-init : goal.frames-init

@@ -1,5 +1,5 @@
 -- It came to its end, or no further.
-use Rattle.std.proofs.Common.{sym, subst, ◌∙◌, ap, Ok, Err, rules}
+use Rattle.std.proofs.Common.{sym, subst, ◌∙◌, Ok, Err, rules}
 use Rattle.conversation.specs.Sessions.{nobody}
 use Rattle.script_run.proofs.Lent.{came, unstarted}
 use Rattle.script_run.specs.Ends.{CameTo}
