@@ -1,0 +1,204 @@
+-- Through the plaintext meaning of a script that gives no key a second value, each number is told as it was first told.
+use Rattle.std.proofs.Common.{◌≡◌, ℕ, ◌-◌, ◌<◌, List, [], ◌∷◌, Option, Some, None, Result, Ok, Err, Bool, true, false, cond, refl, sym, ap, ◌∙◌, subst, arith}
+use Rattle.std.specs.Prelude.{◌==◌, IfSome, map, get_or, replicate, unwrap_or, zero, suc}
+use Rattle.std.specs.List.{All, find}
+use Rattle.std.specs.Option.{option_and_then, option_map}
+use Rattle.std.proofs.lemmas.Bool.{eqb-true}
+use Rattle.std.proofs.lemmas.List.Elements.{All-nil, All-cons, All-head, All-tail}
+use Rattle.ae_base.specs.Atoms.{Atom, plain_atom}
+use Rattle.ae_base.specs.OneOrTwo.{each_of}
+use Rattle.ae_base.specs.declared.batches.Batch.{Batch}
+use Rattle.ae_base.specs.declared.batches.ParamDecl.{ParamDecl}
+use Rattle.ae_base.specs.declared.faults.SqlFault.{SqlFault}
+use Rattle.ae_base.specs.declared.key_values.KeyValue.{KeyValue}
+use Rattle.ae_base.specs.declared.keys.EncryptedValue.{EncryptedValue}
+use Rattle.ae_base.specs.declared.keys.KeyMeta.{KeyMeta}
+use Rattle.ae_edge.specs.Vaults.{KeyMap}
+use Rattle.key_store.specs.Opening.{opened}
+use Rattle.catalog.specs.Catalogs.{Catalog, key_of, meta_of, value_told, second_told, values_told}
+use Rattle.catalog.specs.Definitions.{MayDefine}
+use Rattle.catalog.specs.declared.keys.ColumnKey.{ColumnKey}
+use Rattle.resolve.specs.Laws.{BoundStatementsAre}
+use Rattle.transactions.specs.Counted.{Execution, execution, step_of}
+use Rattle.transactions.specs.Stores.{ask_of, seen_by, transact}
+use Rattle.transactions.proofs.Interface.{all_at, all_set, same_execution, shared_by}
+use Rattle.server_core.specs.Describing.{Meant, understood, describe}
+use Rattle.server_core.specs.Serve.{State, catalog_of, empty_state}
+use Rattle.server_core.proofs.Interface.{parts_of}
+use Rattle.wire_messages.specs.Messages.{Description}
+use Rattle.conversation.specs.Batches.{why_unfit}
+use Rattle.conversation.specs.Pending.{Pending, uses_of}
+use Rattle.conversation.specs.declared.faults.DriverFault.{DriverFault}
+use Rattle.script_lang.specs.declared.steps.Step.{Step}
+use Rattle.script_lang.specs.declared.steps.Step.TheVariants.{Whole, Half, Execute}
+use Rattle.plain_meaning.specs.Alike.{Fits, FitThroughout, GivesOnly, Throughout}
+use Rattle.plain_meaning.specs.Reference.{Came, nothing_held, held_at, with_held, why_unopened, declarations_of, stepped, executed_with, execution_of, pending, described, begun, begins, executes, waits, means}
+use Rattle.plain_meaning.specs.Steps.{number_of}
+use Rattle.single_values.specs.Single.{TextIsOfSingle, IsSingleStep}
+use Rattle.single_values.specs.Laws.{SingleValuesAreAlike}
+use Rattle.single_values.proofs.Fixed.{AreAs, Goes, IsAs, found_all, stays}
+use Rattle.single_values.proofs.Steps.{binds_one, step_leads}
+
+abbrev shared_of : State → Catalog
+shared_of state = state.shared.world.catalog
+
+-- a batch that waits gives no key a second value either
+abbrev HoldsSingle : Option Pending → Type 0
+HoldsSingle None = Unit {0}
+HoldsSingle (Some p) = TextIsOfSingle p.batch.text
+
+record Comes (state : State) (told : ℕ → KeyValue) (c : Came) : Type 0 where
+  goes : Goes (shared_of state) told (shared_of c.state)
+  held : HoldsSingle c.held
+
+module _ (bound : BoundStatementsAre) (keys : KeyMap) (state : State) (number : ℕ) (told : ℕ → KeyValue) (k : AreAs (shared_of state) told) where
+  here : Goes (shared_of state) told (shared_of state)
+  here = stays (shared_of state) told k
+
+  abbrev seen : Catalog
+  seen = catalog_of state number
+
+  -- ---- a statement is executed
+
+  understood_goes : (text : List ℕ) (declarations : List ParamDecl) (meant : Meant) (atoms : List Atom) → TextIsOfSingle text → understood seen text declarations ≡ Ok meant
+      → Goes (shared_of state) told (shared_of (transact state number (ask_of (execution meant.bound meant.encs atoms))).after)
+  understood_goes text declarations meant atoms one u =
+      let parts = parts_of seen text declarations meant u in
+      let b = meant.bound in
+      let may : MayDefine seen b.statement = (bound seen parts.statement declarations b parts.binds).definable in
+      let gives = binds_one seen parts.statement declarations b (one parts.statement parts.reads) parts.binds in
+      let e : Execution = execution b meant.encs atoms in
+      shared_by (Goes (shared_of state) told) state number (ask_of e) here
+      (λ x is none.
+      let same : e ≡ x = same_execution b.statement e x is in
+      let in_shared = subst (λ c. MayDefine c b.statement) (ap (λ o. (seen_by state.shared o).world.catalog) none) may in
+      subst (λ (x : Execution). Goes (shared_of state) told (step_of state.shared x).world.catalog) same (step_leads state.shared.world told k b meant.encs atoms in_shared gives))
+
+  -- ---- a batch
+
+  module _ (p : Pending) (one : TextIsOfSingle p.batch.text) where
+    stepped_comes : (r : Result Meant SqlFault) → understood seen p.batch.text (declarations_of p.batch) ≡ r → Comes state told (stepped keys state number p.batch r)
+    stepped_comes (Ok meant) u = record { goes = understood_goes p.batch.text (declarations_of p.batch) meant (map (λ p. plain_atom p.value) p.batch.params) one u; held = tt }
+    stepped_comes (Err f) u = record { goes = here; held = tt }
+
+    version_comes : (t : Bool) (moved : Came) → Comes state told moved → Comes state told (cond t (stepped keys state number p.batch (understood seen p.batch.text (declarations_of p.batch))) moved)
+    version_comes true moved h = stepped_comes (understood seen p.batch.text (declarations_of p.batch)) refl
+    version_comes false moved h = h
+
+    executed_comes : (o : Option DriverFault) → Comes state told (executed_with keys state number p o)
+    executed_comes None = version_comes (p.version == seen.version) _ (record { goes = here; held = tt })
+    executed_comes (Some f) = record { goes = here; held = tt }
+
+    execution_comes : Comes state told (execution_of keys state number p)
+    execution_comes = executed_comes (why_unopened keys p.keys (map (λ u. u.enc) (uses_of p)))
+
+  module _ (batch : Batch) (one : TextIsOfSingle batch.text) (ready : Pending → Came) (go : (d : Description) → Comes state told (ready (pending batch d))) where
+    described_comes : (r : Result Description SqlFault) → Comes state told (described state batch ready r)
+    described_comes (Ok d) = go d
+    described_comes (Err f) = record { goes = here; held = tt }
+
+    begun_comes : (o : Option DriverFault) → Comes state told (begun state number batch ready o)
+    begun_comes None = described_comes (describe seen batch.text (declarations_of batch))
+    begun_comes (Some f) = record { goes = here; held = tt }
+
+    begins_comes : (before : Option Pending) → HoldsSingle before → Comes state told (begins state number batch ready before)
+    begins_comes None h = begun_comes (why_unfit batch)
+    begins_comes (Some p) h = record { goes = here; held = h }
+
+  executes_comes : (before : Option Pending) → HoldsSingle before → Comes state told (executes keys state number before)
+  executes_comes (Some p) h = execution_comes p h
+  executes_comes None h = record { goes = here; held = tt }
+
+-- ---- a step
+
+means_comes : BoundStatementsAre → (keys : KeyMap) (step : Step) → IsSingleStep step → (before : Option Pending) → HoldsSingle before → (state : State) (told : ℕ → KeyValue) → AreAs (shared_of state) told
+    → Comes state told (means keys step before state)
+means_comes bound keys (Whole number batch) one before h state told k =
+    begins_comes bound keys state number told k batch one (execution_of keys state number) (λ d. execution_comes bound keys state number told k (pending batch d) one) before h
+means_comes bound keys (Half number batch) one before h state told k =
+    begins_comes bound keys state number told k batch one (waits state) (λ d. record { goes = here bound keys state number told k; held = one }) before h
+means_comes bound keys (Execute number) one before h state told k = executes_comes bound keys state number told k before h
+
+-- ---- all steps
+
+-- what is told of the numbers in the end; it is so throughout
+record Settles (keys : KeyMap) (steps : List Step) (holds : List (Option Pending)) (state : State) (told : ℕ → KeyValue) : Type 0 where
+  final : ℕ → KeyValue
+  same : (id : ℕ) → id < (shared_of state).next_id → final id ≡ told id
+  throughout : Throughout (λ state. AreAs (shared_of state) final) keys steps holds state
+
+settled : (c : Catalog) (told final : ℕ → KeyValue) → ((id : ℕ) → id < c.next_id → final id ≡ told id) → AreAs c told → AreAs c final
+settled c told final same k i d lt =
+    let key = k i d lt in
+    (key.0, key.1 ∙ ap Some (sym (same (get_or c.keys i d).id key.0)), key.2)
+
+settles : BoundStatementsAre → (keys : KeyMap) (steps : List Step) → All IsSingleStep steps → (holds : List (Option Pending)) → All HoldsSingle holds → (state : State) (told : ℕ → KeyValue) → AreAs (shared_of state) told
+    → Settles keys steps holds state told
+settles bound keys [] one holds h state told k = record { final = told; same = λ id lt. refl; throughout = k }
+settles bound keys (step ∷ steps) one holds h state told k =
+    let number = number_of step in
+    let c = means_comes bound keys step (All-head IsSingleStep step steps one) (held_at holds number) (all_at HoldsSingle holds (number - 1) None h tt) state told k in
+    let now = means keys step (held_at holds number) state in
+    let g = c.goes in
+    let rest = settles bound keys steps (All-tail IsSingleStep step steps one) (with_held holds number now.held) (all_set HoldsSingle holds (number - 1) now.held h c.held) now.state g.later g.are in
+    let same : (id : ℕ) → id < (shared_of state).next_id → rest.final id ≡ told id = λ id lt. let le = g.next in rest.same id (omega (arith, lt, le)) ∙ g.same id lt in
+    record { final = rest.final; same = same; throughout = (settled (shared_of state) told rest.final same k, rest.throughout) }
+
+-- ---- the values of a number open to one key
+
+abbrev key_of_number : KeyMap → (ℕ → KeyValue) → ℕ → List ℕ
+key_of_number keys told id = unwrap_or (opened keys (told id)) []
+
+gives : (o : Option (List ℕ)) → IfSome o (λ given. given ≡ unwrap_or o [])
+gives None = tt
+gives (Some key) = refl
+
+find_passes : {A : Type 0} (p : A → Bool) (xs : List A) (x : A) → find p xs ≡ Some x → p x ≡ true
+find_passes p [] x e = absurd cc
+find_passes {A = A} p (y ∷ xs) x e = at (p y) refl (find p xs) (find_passes p xs x) e
+  where
+    at : (b : Bool) → p y ≡ b → (o : Option A) → (o ≡ Some x → p x ≡ true) → cond b (Some y) o ≡ Some x → p x ≡ true
+    at true h o f e = let s : y ≡ x = cc in ap p (sym s) ∙ h
+    at false h o f e = f e
+
+-- what is told of a key gives only the key for its number
+abbrev GivesFor : KeyMap → (ℕ → KeyValue) → ℕ → Option KeyMeta → Type 0
+GivesFor keys told id o = IfSome o (λ meta. All (GivesOnly keys (key_of_number keys told id)) (each_of meta.values))
+
+fits : (keys : KeyMap) (told : ℕ → KeyValue) (c : Catalog) → AreAs c told → Fits keys (key_of_number keys told) c
+fits keys told c k id = at (key_of c id) refl
+  where
+    gives_one : (key : ColumnKey) (second : Option EncryptedValue) (value : Option KeyValue) → second ≡ None → value ≡ Some (told key.id) → key.id ≡ id
+        → GivesFor keys told id (option_map (meta_of key) (option_and_then (λ first. option_map (λ second. record { first = first; second = second }) (second_told c second)) value))
+    gives_one key second value one v is =
+        let only : KeyValue → Type 0 = GivesOnly keys (key_of_number keys told id) in
+        rw (one, v) (All-cons only (told key.id) [] (subst (λ i. only (told i)) (sym is) (gives (opened keys (told id)))) (All-nil only))
+
+    at : (o : Option ColumnKey) → key_of c id ≡ o → GivesFor keys told id (option_and_then (λ key. option_map (meta_of key) (values_told c key.values)) o)
+    at None e = tt
+    at (Some key) e =
+        let p : ColumnKey → Bool = λ key. key.id == id in
+        let one = found_all (IsAs c told) p c.keys key e k in
+        gives_one key key.values.second (value_told c key.values.first) one.2 one.1 (eqb-true key.id id (find_passes p c.keys key e))
+
+fit_throughout : (keys : KeyMap) (told : ℕ → KeyValue) (steps : List Step) (holds : List (Option Pending)) (state : State)
+    → Throughout (λ state. AreAs (shared_of state) told) keys steps holds state → FitThroughout keys (key_of_number keys told) steps holds state
+fit_throughout keys told [] holds state k = fits keys told (shared_of state) k
+fit_throughout keys told (step ∷ steps) holds state k =
+    let c = means keys step (held_at holds (number_of step)) state in
+    (fits keys told (shared_of state) k.0, fit_throughout keys told steps (with_held holds (number_of step) c.held) c.state k.1)
+
+-- ---- from the beginning
+
+none_held : (n : ℕ) → All HoldsSingle (replicate n None)
+none_held zero = All-nil HoldsSingle
+none_held (suc n) = All-cons HoldsSingle None (replicate n None) tt (none_held n)
+
+-- before any key is defined nothing is told
+untold : ℕ → KeyValue
+untold id = record { path = []; wrapped = [] }
+
+pub single_values_are_alike : BoundStatementsAre → SingleValuesAreAlike
+single_values_are_alike bound keys steps one =
+    let s = settles bound keys steps one nothing_held (none_held 64) empty_state untold (All-nil (IsAs (shared_of empty_state) untold)) in
+    (key_of_number keys s.final, fit_throughout keys s.final steps nothing_held empty_state s.throughout)
