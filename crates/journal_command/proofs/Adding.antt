@@ -9,13 +9,17 @@ use Rattle.journal_core.specs.Journals.{Records, ReadsAs, WithOrWithout, place_b
 use Rattle.journal_core.specs.declared.journal.Appended.{Appended}
 use Rattle.journal_core.specs.declared.journal.Appended.TheVariants as appended
 use Rattle.journal_core.proofs.Interface.{kept_leaves, end_reads}
-use Rattle.journal_command.specs.Records.{HasFront, HasLeast, AreAdded, AreTried, AddsEntries, TriesEntries}
+use Rattle.journal_command.specs.Records.{HasFront, HasLeast, AreAdded, AreTried, AddsEntries, TriesEntries, HaveRoom}
 
 -- ---- places
 
 pub place_append : (xs ys : List (List ℕ)) → place_behind (xs ++ ys) ≡ place_behind xs + place_behind ys
 place_append [] ys = omega arith
 place_append (x ∷ xs) ys = omega (arith, place_append xs ys)
+
+pub room_more : (gate middle : ℕ) (xs ys : List (List ℕ)) → middle ≡ gate + place_behind xs → HaveRoom gate xs → HaveRoom middle ys → HaveRoom gate (xs ++ ys)
+room_more gate middle [] ys e p q = subst (λ (n : ℕ). HaveRoom n ys) (omega (arith, e)) q
+room_more gate middle (x ∷ xs) ys e p q = (p.0, room_more (gate + 9 + length x) middle xs ys (omega (arith, e)) p.1 q)
 
 -- ---- images
 

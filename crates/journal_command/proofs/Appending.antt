@@ -1,6 +1,6 @@
 -- A record is added, and then the replies are put.
-use Rattle.std.proofs.Common.{◌≡◌, inl, ◌+◌, ◌<◌, ℕ, List, [], ◌∷◌, length, map, Option, Some, None, refl, sym, ap, subst, ◌∙◌, arith}
-use Rattle.std.specs.Prelude.{option_to_list}
+use Rattle.std.proofs.Common.{◌≡◌, inl, ◌+◌, ◌<◌, ◌≤◌, ℕ, List, [], ◌∷◌, length, map, Option, Some, None, refl, sym, ap, subst, ◌∙◌, arith}
+use Rattle.std.specs.Prelude.{◌↔◌, option_to_list}
 use Rattle.ae_edge.specs.Devices.{WhereTold, Adds}
 use Rattle.disk.specs.Moments.{Moments}
 use Rattle.journal_core.specs.Appends.{Appends, gate_after, most_bytes}
@@ -11,6 +11,7 @@ use Rattle.wire_messages.specs.declared.replies.Reply.{Reply}
 use Rattle.wire_spelling.specs.Packing.{packed}
 use Rattle.journal_command.specs.Durable.{AnswersBy, AppendsEntry, DurableState, IsServed, PutsBy}
 use Rattle.journal_command.specs.Keeping.{Asked, entries_of, frames_of, keeping}
+use Rattle.journal_command.specs.Records.{HaveRoom}
 use Rattle.journal_command.specs.Stopping.{AreThere, Outside, StopsBy}
 use Rattle.journal_command.specs.declared.durable.Answered.{Answered}
 use Rattle.journal_command.specs.declared.durable.Answered.TheVariants as answered
@@ -18,22 +19,28 @@ use Rattle.journal_command.specs.declared.endings.Stop.{Stop}
 use Rattle.journal_command.specs.declared.endings.Stop.TheVariants as stops
 use Rattle.journal_command.proofs.Adding.{adds_no_entry, appended_done, appended_tried, tries_none}
 
-appends_one : (result : Appended) (gate : ℕ) (entry : List ℕ) (a b : Option Moments) → (result ≡ appended.JournalFull → most_bytes < gate + 10 + length entry) → WhereTold (Appends result gate entry) a b
+has_room : (result : Appended) (gate : ℕ) (entry : List ℕ) → (result ≡ appended.JournalFull → ⊥) → (most_bytes < gate + 10 + length entry → result ≡ appended.JournalFull) → HaveRoom gate (entry ∷ [])
+has_room result gate entry isnt full = (not_lt most_bytes (gate + 10 + length entry) (λ less. isnt (full less)), tt)
+  where
+    not_lt : (m n : ℕ) → (m < n → ⊥) → n ≤ m
+    not_lt m n none = grind arith
+
+appends_one : (result : Appended) (gate : ℕ) (entry : List ℕ) (a b : Option Moments) → (result ≡ appended.JournalFull) ↔ (most_bytes < gate + 10 + length entry) → WhereTold (Appends result gate entry) a b
     → AppendsEntry result gate (gate_after result gate entry) (entry ∷ []) a b
-appends_one appended.Done gate entry a b full w = (appended_done gate entry a b w, omega arith)
-appends_one appended.DiskFault gate entry a b full w = appended_tried appended.DiskFault gate entry a b w
+appends_one appended.Done gate entry a b full w = (appended_done gate entry a b w, omega arith, has_room appended.Done gate entry (λ e. cc) full.1)
+appends_one appended.DiskFault gate entry a b full w = (appended_tried appended.DiskFault gate entry a b w, has_room appended.DiskFault gate entry (λ e. cc) full.1)
 appends_one appended.OutOfMemory gate entry a b full w = appended_tried appended.OutOfMemory gate entry a b w
-appends_one appended.JournalFull gate entry a b full w = (appended_tried appended.JournalFull gate entry a b w, record { entry = entry; is = refl; full = full refl })
+appends_one appended.JournalFull gate entry a b full w = (appended_tried appended.JournalFull gate entry a b w, record { entry = entry; is = refl; full = full.0 refl })
 
 pub appends_some : (result : Appended) (gate after : ℕ) (entry : Option (List ℕ)) (x : List ℕ) (a b : Option Moments) → entry ≡ Some x → after ≡ gate_after result gate x
-    → (result ≡ appended.JournalFull → most_bytes < gate + 10 + length x) → WhereTold (Appends result gate x) a b → AppendsEntry result gate after (option_to_list entry) a b
+    → (result ≡ appended.JournalFull) ↔ (most_bytes < gate + 10 + length x) → WhereTold (Appends result gate x) a b → AppendsEntry result gate after (option_to_list entry) a b
 appends_some result gate after entry x a b e g full w =
     subst (λ (o : Option (List ℕ)). AppendsEntry result gate after (option_to_list o) a b) (sym e)
     (subst (λ (n : ℕ). AppendsEntry result gate n (x ∷ []) a b) (sym g) (appends_one result gate x a b full w))
 
 pub appends_none : (gate : ℕ) (entry : Option (List ℕ)) (disk : Option Moments) → entry ≡ None → AppendsEntry appended.Done gate gate (option_to_list entry) disk disk
 appends_none gate entry disk e =
-    subst (λ (o : Option (List ℕ)). AppendsEntry appended.Done gate gate (option_to_list o) disk disk) (sym e) (adds_no_entry gate disk, omega arith)
+    subst (λ (o : Option (List ℕ)). AppendsEntry appended.Done gate gate (option_to_list o) disk disk) (sym e) (adds_no_entry gate disk, omega arith, tt)
 
 -- ---- of an answer, and of its request
 

@@ -15,7 +15,7 @@ use Rattle.serve_command.proofs.Interface.{answers_all, answers_first, answers_o
 use Rattle.journal_command.specs.Durable.{DurableState}
 use Rattle.journal_command.specs.Endings.{ended_by}
 use Rattle.journal_command.specs.Keeping.{frames_of}
-use Rattle.journal_command.specs.Running.{HasKept, KeepsBy, PutsOf, ServesPieces}
+use Rattle.journal_command.specs.Running.{HasRoomFor, KeepsBy, PutsOf, ServesPieces}
 use Rattle.journal_command.specs.Stopping.{Outside}
 use Rattle.journal_command.specs.Turns.{Comes, EndsAt, IsSoFar}
 use Rattle.journal_command.specs.declared.endings.Ended.{Ended}
@@ -52,7 +52,7 @@ module _ (start : State) (count : ℕ) (feed : Feeding) (durable : DurableState)
   abbrev so_first : AnswersFirst start g.taken first.out now.out
   so_first = answers_first start g.taken feed durable.state first.out now.out g.so_far.stands
 
-  abbrev so_kept : HasKept start g.taken first now
+  abbrev so_kept : HasRoomFor start g.taken first now
   so_kept = kept_so_far start g.taken feed durable first now g.so_far
 
   abbrev so_open : AnswersOpen start g.taken first.out now.out
@@ -81,9 +81,9 @@ module _ (start : State) (count : ℕ) (feed : Feeding) (durable : DurableState)
           waits = h.1;
         }
 
-    pub ends_refused : (place : ℕ) (new : Outside) → After (λ begin bytes old. AnswersAll begin bytes (Refused place) old.out new.out × HasKept begin bytes old new) → ServesPieces (ended.BadFrame place) start source after first new
+    pub ends_refused : (place : ℕ) (new : Outside) → After (λ begin bytes old. AnswersAll begin bytes (Refused place) old.out new.out × HasRoomFor begin bytes old new) → ServesPieces (ended.BadFrame place) start source after first new
     ends_refused place new f =
-        let h = holds (λ begin bytes old. AnswersAll begin bytes (Refused place) old.out new.out × HasKept begin bytes old new) f in
+        let h = holds (λ begin bytes old. AnswersAll begin bytes (Refused place) old.out new.out × HasRoomFor begin bytes old new) f in
         record { taken = g.taken ++ piece; lost = lost_more piece after took; puts = (still_within, inl h.0); keeps = h.1 }
 
     stopped : (stop : Stop) (new : Outside) → PutsOf stop start (g.taken ++ piece) first.out new.out × KeepsBy stop start (g.taken ++ piece) first new → ServesPieces (ended_by stop) start source after first new
@@ -98,10 +98,13 @@ module _ (start : State) (count : ℕ) (feed : Feeding) (durable : DurableState)
         (stopped stop new (holds (λ begin bytes old. PutsOf stop begin bytes old.out new.out × KeepsBy stop begin bytes old new) f))
 
   -- more bytes were taken than were looked at
-  kept_fed : (piece : List ℕ) → HasKept start (g.taken ++ piece) first now
+  kept_fed : (piece : List ℕ) → HasRoomFor start (g.taken ++ piece) first now
   kept_fed piece =
-      let k = so_kept in
-      record { answered = k.answered; tried = k.tried; others = k.others ++ piece; begins = begins_fed g.taken (k.answered ++ k.tried) k.others piece k.begins; put = k.put; kept = k.kept }
+      let k = so_kept.kept in
+      record {
+        kept = record { answered = k.answered; tried = k.tried; others = k.others ++ piece; begins = begins_fed g.taken (k.answered ++ k.tried) k.others piece k.begins; put = k.put; kept = k.kept; room = k.room };
+        room = so_kept.room;
+      }
 
   -- a byte past the limit
   pub ends_past : (piece : List ℕ) (after : Option (List ℕ)) → WhereTold (Takes (taken.Bytes piece)) left after → length piece ≡ 1 → count ≡ 0 → ServesPieces ended.TooLong start source after first now
@@ -120,7 +123,7 @@ module _ (start : State) (count : ℕ) (feed : Feeding) (durable : DurableState)
   ends_unread after h = record { taken = g.taken; lost = lost_same after (removes_failed left after h); puts = (within, so_open); keeps = so_kept }
 
   pub ends_without : (after : Option (List ℕ)) → WhereTold (Takes taken.OutOfMemory) left after → ServesPieces ended.OutOfMemory start source after first now
-  ends_without after h = record { taken = g.taken; lost = lost_same after (removes_unheld left after h); puts = (within, inl so_first); keeps = so_kept }
+  ends_without after h = record { taken = g.taken; lost = lost_same after (removes_unheld left after h); puts = (within, inl so_first); keeps = so_kept.kept }
 
   -- the end of the input
   pub ends_whole : (r : Ended) (after : Option (List ℕ)) → WhereTold (Takes taken.End) left after → EndsAt r feed → ServesPieces r start source after first now

@@ -133,15 +133,8 @@ module _ (law : FrontsAreAccepted) where
       (λ old new m. λ all. leaves_weaker (IsOfRun (entries_of records) more old.now) IsServable old new (of_run records requests old.now s d.begins.proper all) m) a c d.crashed
 
   is_durable : (how : Ended) (records : List (List Asked)) (taken : List ℕ) (a c : Option Moments) (out out_after : Option (List ℕ)) → KeepsRecords how records taken a c out out_after → IsDurable records taken a c out out_after
-  is_durable ended.Done records taken a c out out_after k = k
-  is_durable ended.ReadFault records taken a c out out_after k = k
-  is_durable ended.WriteFault records taken a c out out_after k = k
-  is_durable ended.DiskFault records taken a c out out_after k = k
   is_durable ended.OutOfMemory records taken a c out out_after k = k
-  is_durable ended.TooLong records taken a c out out_after k = k
-  is_durable (ended.BadFrame place) records taken a c out out_after k = k
-  is_durable (ended.Damaged place) records taken a c out out_after k = k
-  is_durable ended.JournalFull records taken a c out out_after k = k.durable
+  is_durable other records taken a c out out_after k = k.durable
 
   run_stays : (how : Ended) (source left out out_after : Option (List ℕ)) (a c : Option Moments) → Runs how source left a c out out_after → WhereTold StaysServable a c
   run_stays how source left out out_after a c r = durable_stays r.records r.taken out out_after a c r.served (is_durable how r.records r.taken a c out out_after r.keeps)

@@ -18,15 +18,15 @@ use Rattle.wire_frames.specs.Frames.{Refused, IsNotYet, is_request_head}
 use Rattle.wire_frames.specs.declared.decoding.Way.TheVariants.{ToServer}
 use Rattle.journal_command.specs.Durable.{DurableState}
 use Rattle.journal_command.specs.Keeping.{Asked, entries_of, frames_of, held_after, held_behind, keeping, records_of}
-use Rattle.journal_command.specs.Records.{HasNoRoom, TriesEntries}
-use Rattle.journal_command.specs.Running.{HasKept, HasNoRoomFor, KeepsBy, PutsOf}
+use Rattle.journal_command.specs.Records.{HaveRoom, HasNoRoom, TriesEntries}
+use Rattle.journal_command.specs.Running.{HasKept, HasNoRoomFor, HasRoomFor, KeepsBy, PutsOf}
 use Rattle.journal_command.specs.Stopping.{Outside, AreThere, MayBeThere}
 use Rattle.journal_command.specs.Turns.{Answers, AnswersNext, IsSoFar, StopsNext, Turns}
 use Rattle.journal_command.specs.declared.endings.Stop.{Stop}
 use Rattle.journal_command.specs.declared.endings.Stop.TheVariants as stops
 use Rattle.journal_command.specs.declared.turns.Turn.{Turn}
 use Rattle.journal_command.specs.declared.turns.Turn.TheVariants as turn
-use Rattle.journal_command.proofs.Adding.{adds_more, adds_no_entry, added_tried, place_append, tries_more}
+use Rattle.journal_command.proofs.Adding.{adds_more, adds_no_entry, added_tried, place_append, room_more, tries_more}
 use Rattle.journal_command.proofs.Recording.{entries_append, held_more, one_record, recorded_more}
 
 -- ---- what stands next
@@ -55,12 +55,13 @@ turns_refused place feed new held durable old e s = (s.0, refused_so feed.way fe
 -- ---- what is on the disk
 
 pub there_none : (old : Outside) → AreThere [] old old
-there_none old = record { added = adds_no_entry old.gate old.disk; gate = omega arith }
+there_none old = record { added = adds_no_entry old.gate old.disk; gate = omega arith; room = tt }
 
 there_more : (xs ys : List (List ℕ)) (a b c : Outside) → AreThere xs a b → AreThere ys b c → AreThere (xs ++ ys) a c
 there_more xs ys a b c p q = record {
   added = adds_more a.gate b.gate c.gate xs ys a.disk b.disk c.disk p.added q.added;
   gate = omega (arith, p.gate, q.gate, place_append xs ys);
+  room = room_more a.gate b.gate xs ys p.gate p.room q.room;
 }
 
 pub so_far_first : (durable : DurableState) (old : Outside) → durable.held ≡ map frames_of nothing_held → IsSoFar durable.state [] (empty_feed ToServer) durable old old
@@ -115,36 +116,39 @@ module _ (start : State) (taken : List ℕ) (feed : Feeding) (durable : DurableS
 
   -- ---- where it ends
 
-  pub kept_so_far : HasKept start taken first now
-  kept_so_far = record {
-    answered = answered;
-    tried = [];
-    others = feed.held;
-    begins = subst (λ (l : List Asked). Begins taken l feed.held) (sym (append-nil answered)) s.stands.begins;
-    put = front_of (reply_frames start answered) (reply_frames start answered) first.out now.out s.stands.put (front_same (reply_frames start answered));
-    kept =
-        subst (λ (l : List Asked). TriesEntries first.gate (entries_of (records_of start nothing_held answered)) (entries_of (records_of start nothing_held l)) first.disk now.disk) (sym (append-nil answered))
-        (added_tried first.gate now.gate (entries_of (records_of start nothing_held answered)) first.disk now.disk s.there.added);
-  }
+  -- these requests were answered, with their records on the disk, and no other one was tried
+  kept_whole : (requests : List Asked) (others : List ℕ) (new : Outside) → Begins taken requests others → AddsFront (reply_frames start requests) first.out new.out
+      → AreThere (entries_of (records_of start nothing_held requests)) first new → HasRoomFor start taken first new
+  kept_whole requests others new begins put t =
+      let none = sym (append-nil requests) in
+      record {
+        kept = record {
+          answered = requests;
+          tried = [];
+          others = others;
+          begins = subst (λ (l : List Asked). Begins taken l others) none begins;
+          put = put;
+          kept =
+              subst (λ (l : List Asked). TriesEntries first.gate (entries_of (records_of start nothing_held requests)) (entries_of (records_of start nothing_held l)) first.disk new.disk) none
+              (added_tried first.gate new.gate (entries_of (records_of start nothing_held requests)) first.disk new.disk t.added);
+          room = t.room;
+        };
+        room = subst (λ (l : List Asked). HaveRoom first.gate (entries_of (records_of start nothing_held l))) none t.room;
+      }
+
+  pub kept_so_far : HasRoomFor start taken first now
+  kept_so_far =
+      kept_whole answered feed.held now s.stands.begins
+      (front_of (reply_frames start answered) (reply_frames start answered) first.out now.out s.stands.put (front_same (reply_frames start answered))) s.there
 
   -- its records are on the disk, and some of its replies were put
   kept_in_part : (r : Asked) (used : ℕ) (new : Outside) → IsNext feed r used → AreThere (entries_of (keeping durable.state held r).records) now new
-      → AddsFront (answer_frames durable.state r) now.out new.out → HasKept start taken first new
+      → AddsFront (answer_frames durable.state r) now.out new.out → HasRoomFor start taken first new
   kept_in_part r used new next t put =
       let of_start = subst (λ (x : State). AddsFront (answer_frames x r) now.out new.out) s.stands.left put in
-      record {
-        answered = answered ++ r ∷ [];
-        tried = [];
-        others = drop used feed.held;
-        begins = subst (λ (l : List Asked). Begins taken l (drop used feed.held)) (sym (append-nil (answered ++ r ∷ []))) (begins_more taken answered feed.held used r s.stands.begins next.spells);
-        put =
-            subst (λ (l : List ℕ). AddsFront l first.out new.out) (sym (frames_more start answered r))
-            (adds_then_front (reply_frames start answered) (answer_frames (state_after start answered) r) first.out now.out new.out s.stands.put of_start);
-        kept =
-            subst (λ (l : List Asked). TriesEntries first.gate (entries_of (records_of start nothing_held (answered ++ r ∷ []))) (entries_of (records_of start nothing_held l)) first.disk new.disk)
-            (sym (append-nil (answered ++ r ∷ [])))
-            (added_tried first.gate new.gate (entries_of (records_of start nothing_held (answered ++ r ∷ []))) first.disk new.disk (there_next r new t).added);
-      }
+      kept_whole (answered ++ r ∷ []) (drop used feed.held) new (begins_more taken answered feed.held used r s.stands.begins next.spells)
+      (subst (λ (l : List ℕ). AddsFront l first.out new.out) (sym (frames_more start answered r))
+      (adds_then_front (reply_frames start answered) (answer_frames (state_after start answered) r) first.out now.out new.out s.stands.put of_start)) (there_next r new t)
 
   -- its records may be on the disk, and nothing was put
   kept_before : (r : Asked) (used : ℕ) (new : Outside) → IsNext feed r used → MayBeThere (entries_of (keeping durable.state held r).records) now new → HasKept start taken first new
@@ -157,6 +161,16 @@ module _ (start : State) (taken : List ℕ) (feed : Feeding) (durable : DurableS
         subst (λ (x : Option (List ℕ)). AddsFront (reply_frames start answered) first.out x) (sym t.put)
         (front_of (reply_frames start answered) (reply_frames start answered) first.out now.out s.stands.put (front_same (reply_frames start answered)));
     kept = tried_next r new t;
+    room = s.there.room;
+  }
+
+  kept_tried : (r : Asked) (used : ℕ) (new : Outside) → IsNext feed r used → MayBeThere (entries_of (keeping durable.state held r).records) now new → HaveRoom now.gate (entries_of (keeping durable.state held r).records)
+      → HasRoomFor start taken first new
+  unfolding kept_before
+  kept_tried r used new next t room = record {
+    kept = kept_before r used new next t;
+    room = subst (HaveRoom first.gate) (sym (entries_more r))
+        (room_more first.gate now.gate (entries_of (records_of start nothing_held answered)) (entries_of (keeping durable.state held r).records) s.there.gate s.there.room room);
   }
 
   kept_full : (r : Asked) (used : ℕ) (new : Outside) → IsNext feed r used → MayBeThere (entries_of (keeping durable.state held r).records) now new → HasNoRoom now.gate (entries_of (keeping durable.state held r).records)
@@ -179,19 +193,19 @@ module _ (start : State) (taken : List ℕ) (feed : Feeding) (durable : DurableS
 
   stops_next : (stop : Stop) (new : Outside) → StopsNext stop feed held durable now new → PutsOf stop start taken first.out new.out × KeepsBy stop start taken first new
   stops_next stops.WriteFault new n = (breaks_in n.request n.used new n.next n.stops.1, kept_in_part n.request n.used new n.next n.stops.0 n.stops.1)
-  stops_next stops.DiskFault new n = (first_before new n.stops.put, kept_before n.request n.used new n.next n.stops)
+  stops_next stops.DiskFault new n = (first_before new n.stops.0.put, kept_tried n.request n.used new n.next n.stops.0 n.stops.1)
   stops_next stops.JournalFull new n = (first_before new n.stops.0.put, kept_full n.request n.used new n.next n.stops.0 n.stops.1)
   stops_next stops.OutOfMemory new n =
       elim n.stops [
         | inl before ↦ (inl (first_before new before.put), kept_before n.request n.used new n.next before)
-        | inr part ↦ (inr (breaks_in n.request n.used new n.next part.1), kept_in_part n.request n.used new n.next part.0 part.1)
+        | inr part ↦ (inr (breaks_in n.request n.used new n.next part.1), (kept_in_part n.request n.used new n.next part.0 part.1).kept)
       ]
 
   stops_here : (stop : Stop) (new : Outside) → stop ≡ stops.OutOfMemory → new ≡ now → PutsOf stop start taken first.out new.out × KeepsBy stop start taken first new
   stops_here stop new e n =
       subst (λ (x : Stop). PutsOf x start taken first.out new.out × KeepsBy x start taken first new) (sym e)
       (subst (λ (x : Outside). PutsOf stops.OutOfMemory start taken first.out x.out × KeepsBy stops.OutOfMemory start taken first x) (sym n)
-      (inl (first_before now refl), kept_so_far))
+      (inl (first_before now refl), kept_so_far.kept))
 
   pub stops_so : (stop : Stop) (after : DurableState) (new : Outside) → Turns (turn.Stopped stop) feed held durable after now new → PutsOf stop start taken first.out new.out × KeepsBy stop start taken first new
   stops_so stop after new t = elim t [ inl here ↦ stops_here stop new here.0 here.1 | inr next ↦ stops_next stop new next ]
@@ -200,9 +214,9 @@ module _ (start : State) (taken : List ℕ) (feed : Feeding) (durable : DurableS
   waits_so_far after new t =
       (subst (λ (d : DurableState). IsSoFar start taken feed d first new) (sym t.2) (subst (λ (x : Outside). IsSoFar start taken feed durable first x) (sym t.3) s), t.0)
 
-  pub refused_so_far : (place : ℕ) (after : DurableState) (new : Outside) → Turns (turn.Refused place) feed held durable after now new → AnswersAll start taken (Refused place) first.out new.out × HasKept start taken first new
+  pub refused_so_far : (place : ℕ) (after : DurableState) (new : Outside) → Turns (turn.Refused place) feed held durable after now new → AnswersAll start taken (Refused place) first.out new.out × HasRoomFor start taken first new
   refused_so_far place after new t =
-      subst (λ (x : Outside). AnswersAll start taken (Refused place) first.out x.out × HasKept start taken first x) (sym t.2)
+      subst (λ (x : Outside). AnswersAll start taken (Refused place) first.out x.out × HasRoomFor start taken first x) (sym t.2)
       (answers_all start taken feed durable.state first.out now.out s.stands (Refused place) (t.0, t.1), kept_so_far)
 
 -- a piece that there was no memory for
@@ -210,4 +224,4 @@ pub unfed : (start : State) (taken piece : List ℕ) (feed : Feeding) (durable :
     → PutsOf stops.OutOfMemory start (taken ++ piece) first.out now.out × KeepsBy stops.OutOfMemory start (taken ++ piece) first now
 unfed start taken piece feed durable first now s =
     let f = so_far_fed start taken piece feed durable first now s in
-    (inl (answers_first start (taken ++ piece) (with_piece feed piece) durable.state first.out now.out f.stands), kept_so_far start (taken ++ piece) (with_piece feed piece) durable first now f)
+    (inl (answers_first start (taken ++ piece) (with_piece feed piece) durable.state first.out now.out f.stands), (kept_so_far start (taken ++ piece) (with_piece feed piece) durable first now f).kept)

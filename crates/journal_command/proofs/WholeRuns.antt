@@ -12,11 +12,11 @@ use Rattle.journal_core.specs.States.{JournalState}
 use Rattle.journal_core.specs.declared.mounting.Mounted.TheVariants as mounted
 use Rattle.recording.specs.Recorded.{nothing_held}
 use Rattle.server_core.specs.Serve.{State, empty_state}
-use Rattle.journal_command.specs.Journaling.{IsBad, IsDurable, IsFull, IsUnserved, KeepsRecords, Runs, ServesFound, ServesFrom, ServesJournal}
+use Rattle.journal_command.specs.Journaling.{IsBad, IsDurable, IsFull, IsntFull, IsUnserved, KeepsRecords, Runs, ServesFound, ServesFrom, ServesJournal}
 use Rattle.journal_command.specs.Keeping.{Asked, entries_of, records_of}
-use Rattle.journal_command.specs.Records.{AreTried, HasFront, HasLeast, IsOfRun}
+use Rattle.journal_command.specs.Records.{AreTried, HasFront, HasLeast, HaveRoom, IsOfRun}
 use Rattle.journal_command.specs.Restarts.{AreServedRecords, RefusesAt, state_behind}
-use Rattle.journal_command.specs.Running.{HasKept, HasNoRoomFor, KeepsSo, ServesPieces}
+use Rattle.journal_command.specs.Running.{HasKept, HasNoRoomFor, HasRoomFor, KeepsSo, ServesPieces}
 use Rattle.journal_command.specs.Stopping.{outside}
 use Rattle.journal_command.specs.declared.endings.Ended.{Ended}
 use Rattle.journal_command.specs.declared.endings.Ended.TheVariants as ended
@@ -91,6 +91,9 @@ module _ (journal : JournalState) (entries : List (List ℕ)) (a b : Option Mome
         told_then (Mounts (mounted.Ready journal entries)) (Tried answered all) (λ old new. IsImage old.now old.now.seen × ReadsAs (Records (entries_of records)) old.now.seen)
         (λ x y z m t. (m.1.was_image, subst (λ (es : List (List ℕ)). ReadsAs (Records es) x.now.seen) served.whole m.1.read)) a b c w q
 
+    room : (requests : List Asked) → HaveRoom journal.gate (entries_of (records_of start nothing_held requests)) → HaveRoom (place_behind (entries_of records)) (entries_of (records_of start nothing_held requests))
+    room requests h = subst (λ (n : ℕ). HaveRoom n (entries_of (records_of start nothing_held requests))) (sound ∙ ap place_behind served.whole) h
+
     is_durable : (taken : List ℕ) → HasKept start taken (outside journal.gate b out) (outside gate c out_after) → IsDurable records taken a c out out_after
     is_durable taken k = record {
       answered = k.answered;
@@ -100,7 +103,12 @@ module _ (journal : JournalState) (entries : List (List ℕ)) (a b : Option Mome
       put = k.put;
       crashed = crashed k.answered (k.answered ++ k.tried) k.kept;
       kept = kept k.answered (k.answered ++ k.tried) k.kept;
+      room = room k.answered k.room;
     }
+
+    isnt_full : (taken : List ℕ) → HasRoomFor start taken (outside journal.gate b out) (outside gate c out_after) → IsntFull records taken a c out out_after
+    unfolding is_durable
+    isnt_full taken k = record { durable = is_durable taken k.kept; room = room (k.kept.answered ++ k.kept.tried) k.room }
 
     is_full : (taken : List ℕ) → HasNoRoomFor start taken (outside journal.gate b out) (outside gate c out_after) → IsFull records taken a c out out_after
     unfolding is_durable
@@ -119,26 +127,13 @@ module _ (journal : JournalState) (entries : List (List ℕ)) (a b : Option Mome
     }
 
     has_kept : (how : Ended) (taken : List ℕ) → KeepsSo how start taken (outside journal.gate b out) (outside gate c out_after) → HasKept start taken (outside journal.gate b out) (outside gate c out_after)
-    has_kept ended.Done taken k = k
-    has_kept ended.ReadFault taken k = k
-    has_kept ended.WriteFault taken k = k
-    has_kept ended.DiskFault taken k = k
     has_kept ended.OutOfMemory taken k = k
-    has_kept ended.TooLong taken k = k
-    has_kept (ended.BadFrame place) taken k = k
-    has_kept (ended.Damaged place) taken k = k
-    has_kept ended.JournalFull taken k = k.kept
+    has_kept other taken k = k.kept
 
     keeps : (how : Ended) (taken : List ℕ) → KeepsSo how start taken (outside journal.gate b out) (outside gate c out_after) → KeepsRecords how records taken a c out out_after
-    keeps ended.Done taken k = is_durable taken k
-    keeps ended.ReadFault taken k = is_durable taken k
-    keeps ended.WriteFault taken k = is_durable taken k
-    keeps ended.DiskFault taken k = is_durable taken k
-    keeps ended.OutOfMemory taken k = is_durable taken k
-    keeps ended.TooLong taken k = is_durable taken k
-    keeps (ended.BadFrame place) taken k = is_durable taken k
-    keeps (ended.Damaged place) taken k = is_durable taken k
     keeps ended.JournalFull taken k = is_full taken k
+    keeps ended.OutOfMemory taken k = is_durable taken k
+    keeps other taken k = isnt_full taken k
 
     runs : (how : Ended) → ServesPieces how start source left (outside journal.gate b out) (outside gate c out_after) → Runs how source left a c out out_after
     runs how s =

@@ -16,7 +16,7 @@ use Rattle.server_core.specs.declared.sorts.Sort.TheVariants as sorts
 use Rattle.wire_messages.specs.declared.requests.Request.{Request}
 use Rattle.wire_messages.specs.declared.requests.Request.TheVariants.{Describe, Execute}
 use Rattle.journal_command.specs.Keeping.{Asked, HeldFrames, IsHolding, entries_of, frames_of, held_behind, keeping}
-use Rattle.journal_command.specs.Records.{AddsEntries, TriesEntries, HasNoRoom}
+use Rattle.journal_command.specs.Records.{AddsEntries, TriesEntries, HaveRoom, HasNoRoom}
 use Rattle.journal_command.specs.Stopping.{Outside, AreThere, StopsBy, Faults, CountsStop}
 use Rattle.journal_command.specs.declared.durable.Answered.{Answered}
 use Rattle.journal_command.specs.declared.durable.Answered.TheVariants as answered
@@ -55,8 +55,8 @@ pub record IsServed (given : List Reply) (entry : Option (List ℕ)) (asked : As
 -- ---- its record is added
 
 abbrev pub AppendsEntry : Appended → ℕ → ℕ → List (List ℕ) → Option Moments → Option Moments → Type 0
-AppendsEntry appended.Done gate after more old new = AddsEntries gate after more old new × (after ≡ gate + place_behind more)
-AppendsEntry appended.DiskFault gate after more old new = TriesEntries gate [] more old new
+AppendsEntry appended.Done gate after more old new = AddsEntries gate after more old new × (after ≡ gate + place_behind more) × HaveRoom gate more
+AppendsEntry appended.DiskFault gate after more old new = TriesEntries gate [] more old new × HaveRoom gate more
 AppendsEntry appended.OutOfMemory gate after more old new = TriesEntries gate [] more old new
 AppendsEntry appended.JournalFull gate after more old new = TriesEntries gate [] more old new × HasNoRoom gate more
 

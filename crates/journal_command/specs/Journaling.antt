@@ -11,7 +11,7 @@ use Rattle.recording.specs.Recorded.{nothing_held}
 use Rattle.serve_command.specs.ServeAll.{reply_frames}
 use Rattle.serve_command.specs.Serving.{Begins}
 use Rattle.journal_command.specs.Keeping.{Asked, entries_of, frames_in, records_of}
-use Rattle.journal_command.specs.Records.{HasLeast, IsOfRun}
+use Rattle.journal_command.specs.Records.{HasLeast, HaveRoom, IsOfRun}
 use Rattle.journal_command.specs.Restarts.{AreServedRecords, RefusesAt, state_behind}
 use Rattle.journal_command.specs.Running.{PutsSo, ServesPieces}
 use Rattle.journal_command.specs.Stopping.{outside}
@@ -22,7 +22,7 @@ use Rattle.journal_command.specs.declared.endings.Ended.TheVariants as ended
 
 -- Replies were put to the requests that were answered, to the last of them perhaps not all; and the next one was tried, if any.
 -- At every moment of the run a crash leaves the records of an image that the disk had at its start, and then a front of these
--- requests' records; and now those of the answered ones at least.
+-- requests' records; and now those of the answered ones at least, each of which had room in the file.
 pub record IsDurable (records : List (List Asked)) (taken : List ℕ) (disk disk_after : Option Moments) (out out_after : Option (List ℕ)) : Type 0 where
   pub answered : List Asked
   pub tried : List Asked
@@ -32,6 +32,12 @@ pub record IsDurable (records : List (List Asked)) (taken : List ℕ) (disk disk
   pub crashed : WhereTold (λ old new. Leaves (IsOfRun (entries_of records) (entries_of (records_of (state_behind empty_state records) nothing_held (answered ++ tried))) old.now) old new) disk disk_after
   pub kept : WhereTold (λ old new. LeavesNow (HasLeast (entries_of records) (entries_of (records_of (state_behind empty_state records) nothing_held answered))
       (entries_of (records_of (state_behind empty_state records) nothing_held (answered ++ tried)))) new.now) disk disk_after
+  pub room : HaveRoom (place_behind (entries_of records)) (entries_of (records_of (state_behind empty_state records) nothing_held answered))
+
+-- the record of the request that was tried had room too, if it has one
+pub record IsntFull (records : List (List Asked)) (taken : List ℕ) (disk disk_after : Option Moments) (out out_after : Option (List ℕ)) : Type 0 where
+  pub durable : IsDurable records taken disk disk_after out out_after
+  pub room : HaveRoom (place_behind (entries_of records)) (entries_of (records_of (state_behind empty_state records) nothing_held (durable.answered ++ durable.tried)))
 
 -- the file has no room for the record of the request that was tried
 pub record IsFull (records : List (List Asked)) (taken : List ℕ) (disk disk_after : Option Moments) (out out_after : Option (List ℕ)) : Type 0 where
@@ -42,7 +48,8 @@ pub record IsFull (records : List (List Asked)) (taken : List ℕ) (disk disk_af
 
 abbrev pub KeepsRecords : Ended → List (List Asked) → List ℕ → Option Moments → Option Moments → Option (List ℕ) → Option (List ℕ) → Type 0
 KeepsRecords ended.JournalFull records taken disk disk_after out out_after = IsFull records taken disk disk_after out out_after
-KeepsRecords other records taken disk disk_after out out_after = IsDurable records taken disk disk_after out out_after
+KeepsRecords ended.OutOfMemory records taken disk disk_after out out_after = IsDurable records taken disk disk_after out out_after
+KeepsRecords other records taken disk disk_after out out_after = IsntFull records taken disk disk_after out out_after
 
 -- ---- the records were found and served again
 

@@ -1,5 +1,5 @@
 -- What a crash leaves while records are added to a journal.
-use Rattle.std.specs.Prelude.{◌≡◌, ◌⊎◌, ℕ, ◌+◌, ◌<◌, List, [], ◌∷◌, ◌++◌, length, Option}
+use Rattle.std.specs.Prelude.{◌≡◌, ◌⊎◌, ℕ, ◌+◌, ◌<◌, ◌≤◌, List, [], ◌∷◌, ◌++◌, length, Option}
 use Rattle.ae_edge.specs.Devices.{WhereTold, IsFront}
 use Rattle.disk.specs.Crashes.{Stand}
 use Rattle.disk.specs.Moments.{Moments, LeavesNow, Leaves}
@@ -38,6 +38,11 @@ pub record AreTried (entries least all : List (List ℕ)) (old new : Moments) : 
 
 abbrev pub TriesEntries : ℕ → List (List ℕ) → List (List ℕ) → Option Moments → Option Moments → Type 0
 TriesEntries gate least all = WhereTold (λ old new. (entries : List (List ℕ)) → EndsAt gate entries old → AreTried entries least all old new)
+
+-- the file has room for each of these entries, one behind the other from a gate on
+abbrev pub HaveRoom : ℕ → List (List ℕ) → Type 0
+HaveRoom gate [] = Unit {0}
+HaveRoom gate (entry ∷ entries) = (gate + 10 + length entry ≤ most_bytes) × HaveRoom (gate + 9 + length entry) entries
 
 -- the file has no room for the one entry behind a gate
 pub record HasNoRoom (gate : ℕ) (more : List (List ℕ)) : Type 0 where

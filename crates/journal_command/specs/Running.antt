@@ -9,7 +9,7 @@ use Rattle.serve_command.specs.ServeAll.{reply_frames}
 use Rattle.serve_command.specs.Serving.{Begins, AnswersFirst, BreaksOff, Ends, most_stream_bytes}
 use Rattle.serve_command.specs.declared.commands.Served.TheVariants as served
 use Rattle.journal_command.specs.Keeping.{Asked, entries_of, frames_in, records_of}
-use Rattle.journal_command.specs.Records.{TriesEntries}
+use Rattle.journal_command.specs.Records.{HaveRoom, TriesEntries}
 use Rattle.journal_command.specs.Stopping.{Outside}
 use Rattle.journal_command.specs.declared.endings.Ended.{Ended}
 use Rattle.journal_command.specs.declared.endings.Ended.TheVariants as ended
@@ -17,7 +17,7 @@ use Rattle.journal_command.specs.declared.endings.Stop.{Stop}
 use Rattle.journal_command.specs.declared.endings.Stop.TheVariants as stops
 
 -- Replies were put to the requests that were answered, to the last of them perhaps not all; and the next one was tried, if any.
--- A crash leaves a front of the records of all of these, and now those of the answered ones at least.
+-- A crash leaves a front of the records of all of these, and now those of the answered ones at least, each of which had room.
 pub record HasKept (start : State) (taken : List ℕ) (old new : Outside) : Type 0 where
   pub answered : List Asked
   pub tried : List Asked
@@ -25,6 +25,12 @@ pub record HasKept (start : State) (taken : List ℕ) (old new : Outside) : Type
   pub begins : Begins taken (answered ++ tried) others
   pub put : AddsFront (reply_frames start answered) old.out new.out
   pub kept : TriesEntries old.gate (entries_of (records_of start nothing_held answered)) (entries_of (records_of start nothing_held (answered ++ tried))) old.disk new.disk
+  pub room : HaveRoom old.gate (entries_of (records_of start nothing_held answered))
+
+-- the record of the one that was tried had room too, if it has one
+pub record HasRoomFor (start : State) (taken : List ℕ) (old new : Outside) : Type 0 where
+  pub kept : HasKept start taken old new
+  pub room : HaveRoom old.gate (entries_of (records_of start nothing_held (kept.answered ++ kept.tried)))
 
 -- the file has no room for the record of the one that was tried
 pub record HasNoRoomFor (start : State) (taken : List ℕ) (old new : Outside) : Type 0 where
@@ -42,8 +48,8 @@ PutsOf stops.JournalFull start taken old new = AnswersFirst start taken old new
 PutsOf stops.OutOfMemory start taken old new = AnswersFirst start taken old new ⊎ BreaksOff start taken old new
 
 abbrev pub KeepsBy : Stop → State → List ℕ → Outside → Outside → Type 0
-KeepsBy stops.WriteFault start taken old new = HasKept start taken old new
-KeepsBy stops.DiskFault start taken old new = HasKept start taken old new
+KeepsBy stops.WriteFault start taken old new = HasRoomFor start taken old new
+KeepsBy stops.DiskFault start taken old new = HasRoomFor start taken old new
 KeepsBy stops.JournalFull start taken old new = HasNoRoomFor start taken old new
 KeepsBy stops.OutOfMemory start taken old new = HasKept start taken old new
 
@@ -64,7 +70,8 @@ PutsSo (ended.Damaged place) start taken left old new = ⊥
 
 abbrev pub KeepsSo : Ended → State → List ℕ → Outside → Outside → Type 0
 KeepsSo ended.JournalFull start taken old new = HasNoRoomFor start taken old new
-KeepsSo other start taken old new = HasKept start taken old new
+KeepsSo ended.OutOfMemory start taken old new = HasKept start taken old new
+KeepsSo other start taken old new = HasRoomFor start taken old new
 
 -- so much was taken of the input, from a first state on
 pub record ServesPieces (how : Ended) (start : State) (source left : Option (List ℕ)) (old new : Outside) : Type 0 where

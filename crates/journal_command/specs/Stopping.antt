@@ -3,7 +3,7 @@ use Rattle.std.specs.Prelude.{◌≡◌, ◌⊎◌, ℕ, ◌+◌, List, [], Opti
 use Rattle.ae_edge.specs.Devices.{AddsFront, Rose}
 use Rattle.disk.specs.Moments.{Moments}
 use Rattle.journal_core.specs.Journals.{place_behind}
-use Rattle.journal_command.specs.Records.{AddsEntries, TriesEntries, HasNoRoom}
+use Rattle.journal_command.specs.Records.{AddsEntries, TriesEntries, HaveRoom, HasNoRoom}
 use Rattle.journal_command.specs.declared.endings.Stop.{Stop}
 use Rattle.journal_command.specs.declared.endings.Stop.TheVariants as stop
 
@@ -16,10 +16,11 @@ pub record Outside : Type 0 where
 abbrev pub outside : ℕ → Option Moments → Option (List ℕ) → Outside
 outside gate disk out = record { gate = gate; disk = disk; out = out }
 
--- these entries are on the disk, and the last gate stands behind them
+-- these entries are on the disk, where the file had room for them, and the last gate stands behind them
 pub record AreThere (more : List (List ℕ)) (old new : Outside) : Type 0 where
   pub added : AddsEntries old.gate new.gate more old.disk new.disk
   pub gate : new.gate ≡ old.gate + place_behind more
+  pub room : HaveRoom old.gate more
 
 -- they may be, and nothing was put
 pub record MayBeThere (more : List (List ℕ)) (old new : Outside) : Type 0 where
@@ -29,7 +30,7 @@ pub record MayBeThere (more : List (List ℕ)) (old new : Outside) : Type 0 wher
 -- of the frames of a request's replies, and of its records' bytes
 abbrev pub StopsBy : Stop → List ℕ → List (List ℕ) → Outside → Outside → Type 0
 StopsBy stop.WriteFault frames more old new = AreThere more old new × AddsFront frames old.out new.out
-StopsBy stop.DiskFault frames more old new = MayBeThere more old new
+StopsBy stop.DiskFault frames more old new = MayBeThere more old new × HaveRoom old.gate more
 StopsBy stop.JournalFull frames more old new = MayBeThere more old new × HasNoRoom old.gate more
 StopsBy stop.OutOfMemory frames more old new = MayBeThere more old new ⊎ (AreThere more old new × AddsFront frames old.out new.out)
 

@@ -9,7 +9,7 @@ pub returns-in-Some-clause-appended : goal.returns-in-Some-clause-appended
 returns-in-Some-clause-appended g c =
     let gate = rw c.as_slice.ensures at c.append.ensures.gate in
     let content = rw c.as_slice.ensures at c.append.ensures.content in
-    let full = rw c.as_slice.ensures at c.append.ensures.full.0 in
+    let full = rw c.as_slice.ensures at c.append.ensures.full in
     subst (λ (n : ℕ). AppendsEntry c.append.result n c.append.new.self.gate (option_to_list c.args.entry.now) (g.D.Disk.told c.args.disk.now) (g.D.Disk.told c.append.new.disk))
     (ap (λ (d : DurableState). d.journal.gate) c.self.view_is)
     (appends_some c.append.result c.self.inside.journal.gate c.append.new.self.gate c.args.entry.now c.in-Some.entry _ _ c.in-Some.is gate full content)
