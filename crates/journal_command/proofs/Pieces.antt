@@ -102,7 +102,7 @@ module _ (start : State) (count : ℕ) (feed : Feeding) (durable : DurableState)
   kept_fed piece =
       let k = so_kept.kept in
       record {
-        kept = record { answered = k.answered; tried = k.tried; others = k.others ++ piece; begins = begins_fed g.taken (k.answered ++ k.tried) k.others piece k.begins; put = k.put; kept = k.kept; room = k.room };
+        kept = record { answered = k.answered; tried = k.tried; few = k.few; others = k.others ++ piece; begins = begins_fed g.taken (k.answered ++ k.tried) k.others piece k.begins; put = k.put; kept = k.kept; room = k.room };
         room = so_kept.room;
       }
 

@@ -125,6 +125,7 @@ module _ (start : State) (taken : List ℕ) (feed : Feeding) (durable : DurableS
         kept = record {
           answered = requests;
           tried = [];
+          few = omega arith;
           others = others;
           begins = subst (λ (l : List Asked). Begins taken l others) none begins;
           put = put;
@@ -155,6 +156,7 @@ module _ (start : State) (taken : List ℕ) (feed : Feeding) (durable : DurableS
   kept_before r used new next t = record {
     answered = answered;
     tried = r ∷ [];
+    few = omega arith;
     others = drop used feed.held;
     begins = begins_more taken answered feed.held used r s.stands.begins next.spells;
     put =

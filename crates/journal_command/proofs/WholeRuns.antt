@@ -98,6 +98,7 @@ module _ (journal : JournalState) (entries : List (List ℕ)) (a b : Option Mome
     is_durable taken k = record {
       answered = k.answered;
       tried = k.tried;
+      few = k.few;
       others = k.others;
       begins = k.begins;
       put = k.put;

@@ -1,5 +1,5 @@
 -- The command `serve --journal`: what is put of what was taken of the input, and what a crash leaves, by how it ended.
-use Rattle.std.specs.Prelude.{◌≡◌, ◌⊎◌, ℕ, ◌+◌, ◌<◌, List, [], ◌∷◌, ◌++◌, length, Option}
+use Rattle.std.specs.Prelude.{◌≡◌, ◌⊎◌, ℕ, ◌+◌, ◌<◌, ◌≤◌, List, [], ◌∷◌, ◌++◌, length, Option}
 use Rattle.ae_edge.specs.Devices.{WhereTold, AddsFront, Removes}
 use Rattle.disk.specs.Crashes.{IsImage}
 use Rattle.disk.specs.Moments.{Moments, LeavesNow, Leaves}
@@ -26,6 +26,7 @@ use Rattle.journal_command.specs.declared.endings.Ended.TheVariants as ended
 pub record IsDurable (records : List (List Asked)) (taken : List ℕ) (disk disk_after : Option Moments) (out out_after : Option (List ℕ)) : Type 0 where
   pub answered : List Asked
   pub tried : List Asked
+  pub few : length tried ≤ 1
   pub others : List ℕ
   pub begins : Begins taken (answered ++ tried) others
   pub put : AddsFront (reply_frames (state_behind empty_state records) answered) out out_after

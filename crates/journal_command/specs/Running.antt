@@ -21,6 +21,7 @@ use Rattle.journal_command.specs.declared.endings.Stop.TheVariants as stops
 pub record HasKept (start : State) (taken : List ℕ) (old new : Outside) : Type 0 where
   pub answered : List Asked
   pub tried : List Asked
+  pub few : length tried ≤ 1
   pub others : List ℕ
   pub begins : Begins taken (answered ++ tried) others
   pub put : AddsFront (reply_frames start answered) old.out new.out
