@@ -90,40 +90,34 @@ fn failing(alloc: Global, device: &str, failing: &str) -> Result<Vec<u64>, Alloc
     Ok(calls)
 }
 
-fn vault(alloc: Global, fails: &str) -> Result<MemVault, AllocError> {
+fn keys(alloc: Global) -> Result<Vec<(Txt, [u8; 32])>, AllocError> {
     let mut keys = Vec::new(alloc);
     keys.push((Txt::copied(alloc, "main")?, MAIN))?;
-    Ok(MemVault::new(keys, failing(alloc, "vault", fails)?))
+    Ok(keys)
 }
 
-/// What the words come to over a script and replies, where the first call of one device fails.
-/// Nothing is on the disk.
+/// What the words come to over a script, replies and a file on the disk, where the first call of
+/// one device fails. What takes memory is made before the devices.
 fn come_to<S: Source, L: Source>(
     alloc: Global,
     words: &[&str],
     script: &mut S,
     replies: &mut L,
+    file: &[u8],
     fails: &str,
-) -> Result<Left, AllocError> {
-    let disk = MemDisk::new(alloc, b"", failing(alloc, "disk", fails)?)?;
-    come_to_over(alloc, words, script, replies, fails, disk)
-}
-
-/// The same over a disk.
-fn come_to_over<S: Source, L: Source>(
-    alloc: Global,
-    words: &[&str],
-    script: &mut S,
-    replies: &mut L,
-    fails: &str,
-    mut disk: MemDisk,
 ) -> Result<Left, AllocError> {
     let words = words_of(alloc, words)?;
     let drawn = vec![in alloc; 7u8; 16_000]?;
-    let mut entropy = MemEntropy::new(drawn, failing(alloc, "entropy", fails)?);
-    let mut vault = vault(alloc, fails)?;
-    let mut out = MemSink::new(alloc, failing(alloc, "out", fails)?);
-    let mut tap = MemSink::new(alloc, failing(alloc, "tap", fails)?);
+    let keys = keys(alloc)?;
+    let entropy_calls = failing(alloc, "entropy", fails)?;
+    let vault_calls = failing(alloc, "vault", fails)?;
+    let out_calls = failing(alloc, "out", fails)?;
+    let tap_calls = failing(alloc, "tap", fails)?;
+    let mut disk = MemDisk::new(alloc, file, failing(alloc, "disk", fails)?)?;
+    let mut entropy = MemEntropy::new(drawn, entropy_calls);
+    let mut vault = MemVault::new(keys, vault_calls);
+    let mut out = MemSink::new(alloc, out_calls);
+    let mut tap = MemSink::new(alloc, tap_calls);
     let mut peer = Server::new(alloc);
     let status = ae_main(
         alloc,
@@ -153,9 +147,10 @@ fn left_where(
     fails: &str,
 ) -> Result<Left, AllocError> {
     let calls = failing(alloc, "script", fails)?;
-    let mut script = MemSource::new(script.to_vec(alloc)?, 10, calls);
+    let script = script.to_vec(alloc)?;
+    let mut script = MemSource::new(script, 10, calls);
     let mut replies = MemSource::new(Vec::new(alloc), 10, Vec::new(alloc));
-    come_to(alloc, words, &mut script, &mut replies, fails)
+    come_to(alloc, words, &mut script, &mut replies, b"", fails)
 }
 
 fn left_by(alloc: Global, words: &[&str], script: &[u8]) -> Result<Left, AllocError> {
@@ -198,10 +193,11 @@ fn run_with_a_summary_counts(rt: HostRuntime) -> Result<(), Fail> {
 
 // The definition driven over some replies.
 fn driven(alloc: Global, replies: &[u8]) -> Result<Left, AllocError> {
-    let bytes = b"CREATE TABLE t (a INT)".to_vec(alloc)?;
-    let mut script = MemSource::new(bytes, 10, Vec::new(alloc));
-    let mut replies = MemSource::new(replies.to_vec(alloc)?, 10, Vec::new(alloc));
-    come_to(alloc, &["ae", "drive"], &mut script, &mut replies, "")
+    let script = b"CREATE TABLE t (a INT)".to_vec(alloc)?;
+    let replies = replies.to_vec(alloc)?;
+    let mut script = MemSource::new(script, 10, Vec::new(alloc));
+    let mut replies = MemSource::new(replies, 10, Vec::new(alloc));
+    come_to(alloc, &["ae", "drive"], &mut script, &mut replies, b"", "")
 }
 
 #[test]
@@ -224,26 +220,121 @@ fn drive_tells_where_a_reply_is_missing(rt: HostRuntime) -> Result<(), Fail> {
 }
 
 #[test]
-fn other_words_put_nothing(rt: HostRuntime) -> Result<(), Fail> {
-    let cases: [&[&str]; 12] = [
-        &[],
-        &["ae"],
-        &["ae", "walk"],
-        &["ae", "RUN"],
-        &["ae", "run", "run"],
-        &["ae", "run", "--summaries"],
-        &["ae", "run", "--frames", "1"],
-        &["ae", "run", "--help"],
-        &["ae", "wrap", "-h"],
-        &["ae", "wrap", "-x"],
-        &["ae", "gen", "0"],
-        &["ae", "gen", "20001"],
+fn words_are_commands_as_clap_reads_them(rt: HostRuntime) -> Result<(), Fail> {
+    let cases: [(&[&str], u8); 27] = [
+        (&["ae", "run", "--"], 0),
+        (&["ae", "run", "--frames", "2"], 0),
+        (&["ae", "run", "--frames=2", "--"], 0),
+        (&["ae", "run", "--frames", "2", "--summary"], 0),
+        (&["ae", "run", "--summary", "--frames", "2"], 0),
+        (&["ae", "run", "--frames", "+2"], 0),
+        (&["ae", "run", "--frames=02"], 0),
+        (&["ae", "serve"], 10),
+        (&["ae", "serve", "--"], 10),
+        (&["ae", "serve", "--journal"], 10),
+        (&["ae", "drive"], 11),
+        (&["ae", "drive", "--frames", "2"], 11),
+        (&["ae", "drive", "--frames=2"], 11),
+        (&["ae", "check"], 0),
+        (&["ae", "wrap", "main"], 8),
+        (&["ae", "wrap", "-"], 8),
+        (&["ae", "wrap", ""], 8),
+        (&["ae", "wrap", "run"], 8),
+        (&["ae", "wrap", "--", "main"], 8),
+        (&["ae", "wrap", "main", "--"], 8),
+        (&["ae", "wrap", "--", "--help"], 8),
+        (&["ae", "gen", "1"], 0),
+        (&["ae", "gen", "20000"], 0),
+        (&["ae", "gen", "01"], 0),
+        (&["ae", "gen", "+1"], 0),
+        (&["ae", "gen", "--", "5"], 0),
+        (&["ae", "gen", "5", "--"], 0),
     ];
-    for words in cases {
+    for (words, number) in cases {
         let left = left_under(rt.alloc(), words)?;
+        assert_eq!(rt; left.status.number(), number);
+    }
+    Ok(())
+}
+
+// The words behind the program's name.
+const OTHER_WORDS: [&[&str]; 57] = [
+    &[],
+    &["walk"],
+    &["RUN"],
+    &["ru"],
+    &["--"],
+    &["--", "run"],
+    &["--summary"],
+    &["--summary", "run"],
+    &["run", "run"],
+    &["run", "--summary", "--summary"],
+    &["run", "--summary=true"],
+    &["run", "--sum"],
+    &["run", "--summaries"],
+    &["run", "--", "--summary"],
+    &["run", "--frames"],
+    &["run", "--frames="],
+    &["run", "--frames", "1"],
+    &["run", "--frames", "3"],
+    &["run", "--frames=1"],
+    &["run", "--frames", "two"],
+    &["run", "--frames", "--summary"],
+    &["run", "--frames", "2", "--frames", "2"],
+    &["run", "--", "--frames", "2"],
+    &["drive", "--frames"],
+    &["drive", "--frames", "1"],
+    &["drive", "--summary"],
+    &["serve", "--frames", "2"],
+    &["check", "--frames", "2"],
+    &["serve", "x"],
+    &["serve", "--summary"],
+    &["serve", "--journal", "--journal"],
+    &["run", "--journal"],
+    &["check", "-x"],
+    &["wrap"],
+    &["wrap", "-x"],
+    &["wrap", "a", "b"],
+    &["gen"],
+    &["gen", "0"],
+    &["gen", "-0"],
+    &["gen", "-1"],
+    &["gen", "--", "-1"],
+    &["gen", "20001"],
+    &["gen", "4294967297"],
+    &["gen", " 5"],
+    &["gen", "5x"],
+    &["gen", ""],
+    &["gen", "1", "2"],
+    &["help"],
+    &["help", "wrap"],
+    &["-h"],
+    &["--help"],
+    &["run", "-h"],
+    &["run", "--help"],
+    &["wrap", "-h"],
+    &["wrap", "--help"],
+    &["--version"],
+    &["-V"],
+];
+
+// What some words behind the program's name come to.
+fn left_behind(alloc: Global, words: &[&str]) -> Result<Left, AllocError> {
+    let mut all = Vec::new(alloc);
+    all.push("ae")?;
+    all.extend_from_slice(words)?;
+    left_under(alloc, all.as_slice())
+}
+
+#[test]
+fn other_words_put_nothing(rt: HostRuntime) -> Result<(), Fail> {
+    for words in OTHER_WORDS {
+        let left = left_behind(rt.alloc(), words)?;
         assert_eq!(rt; left.status.number(), 2);
         assert!(rt; left.out.bytes().is_empty() && left.tap.bytes().is_empty());
     }
+    let left = left_under(rt.alloc(), &[])?;
+    assert_eq!(rt; left.status.number(), 2);
     Ok(())
 }
 
@@ -274,15 +365,21 @@ fn gen_writes_a_script_of_one_row(rt: HostRuntime) -> Result<(), Fail> {
     Ok(())
 }
 
+// The script of a thousand rows.
+fn thousand(alloc: Global) -> Result<Vec<u8>, AllocError> {
+    let left = left_under(alloc, &["ae", "gen", "1000"])?;
+    left.out.bytes().to_vec(alloc)
+}
+
 #[test]
 fn a_thousand_generated_rows_are_counted(rt: HostRuntime) -> Result<(), Fail> {
-    let made = left_under(rt.alloc(), &["ae", "gen", "1000"])?;
+    let script = thousand(rt.alloc())?;
     let versions: [&[&str]; 2] = [
         &["ae", "run", "--summary"],
         &["ae", "run", "--summary", "--frames", "2"],
     ];
     for words in versions {
-        let left = left_by(rt.alloc(), words, made.out.bytes())?;
+        let left = left_by(rt.alloc(), words, script.as_slice())?;
         assert_eq!(rt; left.status.number(), 0);
         assert_eq!(rt;
             left.out.bytes(),
@@ -323,9 +420,8 @@ const JOURNAL: &[u8] =
 fn journaled(alloc: Global, requests: &[u8], file: &[u8]) -> Result<Left, AllocError> {
     let mut script = MemSource::new(requests.to_vec(alloc)?, 10, Vec::new(alloc));
     let mut replies = MemSource::new(Vec::new(alloc), 10, Vec::new(alloc));
-    let disk = MemDisk::new(alloc, file, Vec::new(alloc))?;
     let words = ["ae", "serve", "--journal"];
-    come_to_over(alloc, &words, &mut script, &mut replies, "", disk)
+    come_to(alloc, &words, &mut script, &mut replies, file, "")
 }
 
 #[test]
@@ -334,7 +430,11 @@ fn serve_with_a_journal_keeps_a_definition(rt: HostRuntime) -> Result<(), Fail> 
     assert_eq!(rt; left.status.number(), 0);
     assert_eq!(rt; left.out.bytes(), REPLIES);
     assert_eq!(rt; left.disk.bytes(), JOURNAL);
-    // Its table is there for the next one.
+    Ok(())
+}
+
+#[test]
+fn serve_with_a_journal_has_the_table_of_the_last_one(rt: HostRuntime) -> Result<(), Fail> {
     let query = b"\x01\x01\x00\x00\x00\x16\x00\x01\x00\x00\x00\x0fSELECT a FROM t\x00";
     let left = journaled(rt.alloc(), query, JOURNAL)?;
     assert_eq!(rt; left.status.number(), 0);
@@ -401,7 +501,7 @@ fn left_past(alloc: Global, words: &[&str], bytes: Vec<u8>) -> Result<Left, Allo
         at: 0,
     };
     let mut replies = MemSource::new(Vec::new(alloc), 10, Vec::new(alloc));
-    come_to(alloc, words, &mut script, &mut replies, "")
+    come_to(alloc, words, &mut script, &mut replies, b"", "")
 }
 
 #[test]
@@ -447,17 +547,23 @@ fn long_replies(alloc: Global, cell: usize) -> Result<Vec<u8>, AllocError> {
     Ok(replies)
 }
 
+// What a script comes to over replies without an end.
+fn left_over(alloc: Global, script: Vec<u8>, bytes: Vec<u8>) -> Result<Left, AllocError> {
+    let mut script = MemSource::new(script, 10, Vec::new(alloc));
+    let mut replies = Endless {
+        bytes,
+        back: FIRST_REPLIES.len(),
+        at: 0,
+    };
+    come_to(alloc, &["ae", "drive"], &mut script, &mut replies, b"", "")
+}
+
 #[test]
 fn drive_takes_replies_up_to_their_limit(rt: HostRuntime) -> Result<(), Fail> {
     let alloc = rt.alloc();
     let script = b"SELECT a FROM t".to_vec(alloc)?;
-    let mut script = MemSource::new(script, 10, Vec::new(alloc));
-    let mut replies = Endless {
-        bytes: long_replies(alloc, 16_384)?,
-        back: FIRST_REPLIES.len(),
-        at: 0,
-    };
-    let left = come_to(alloc, &["ae", "drive"], &mut script, &mut replies, "")?;
+    let bytes = long_replies(alloc, 16_384)?;
+    let left = left_over(alloc, script, bytes)?;
     assert_eq!(rt; left.status.number(), 9);
     Ok(())
 }

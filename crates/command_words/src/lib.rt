@@ -3,5 +3,3 @@
 
 pub mod commands;
 mod programs;
-#[cfg(test)]
-mod tests;

@@ -1,12 +1,9 @@
 //! A disk and a journal over a file.
 
-use crate::journals::{EXECUTE, ONE_RECORD, has_records};
+use crate::journals::{EXECUTE, ONE_RECORD, add, has_records};
 use disk::disks::{Disk, Given, Measured, Stored};
 use disk::file_disk::FileDisk;
 use journal_core::journal::{Appended, Journal};
-use journal_core::mounting::Mounted;
-use journal_core::records::is_record;
-use std::alloc::Global;
 use std::test::Fail;
 use std::{env, fs, process};
 
@@ -42,22 +39,11 @@ fn a_file_is_a_disk(rt: HostRuntime) -> Result<(), Fail> {
     Ok(())
 }
 
-// Mounts a file, and adds a record.
-fn add<D: Disk>(alloc: Global, disk: &mut D, entry: &[u8]) -> Result<bool, Fail> {
-    match Journal::mount(alloc, disk) {
-        Mounted::Ready(mut journal, records) => {
-            drop(records);
-            Ok(is_record(alloc, entry)? && journal.append(alloc, disk, entry) == Appended::Done)
-        }
-        Mounted::Damaged(_) | Mounted::DiskFault | Mounted::OutOfMemory => Ok(false),
-    }
-}
-
 #[test]
 fn a_file_keeps_a_journal(rt: HostRuntime) -> Result<(), Fail> {
     let name = file_name(&rt, "journal_test")?;
     let mut disk = FileDisk::new(&rt, name.as_str());
-    assert!(rt; add(rt.alloc(), &mut disk, EXECUTE)?);
+    assert_eq!(rt; add(rt.alloc(), &mut disk, EXECUTE), Appended::Done);
     drop(disk);
     let bytes = fs::read(&rt, name.as_str())?;
     assert_eq!(rt; bytes.as_slice(), ONE_RECORD);

@@ -6,7 +6,7 @@ use ae_edge::memory::source::MemSource;
 use disk::mem_disk::MemDisk;
 use journal_command::commands::serve_journal;
 use journal_command::endings::Ended;
-use std::alloc::Global;
+use std::alloc::{AllocError, Global};
 use std::test::Fail;
 
 const SELECT: &str = "SELECT a FROM t";
@@ -22,13 +22,13 @@ const STATEMENTS: [(u8, &str); 5] = [
 
 // The rows that are there at least and at most once so many of these were answered; with no table
 // there are none to ask for.
-const ROWS: [(Option<u8>, Option<u8>); 6] = [
-    (None, Some(0)),
-    (Some(0), Some(1)),
-    (Some(1), Some(1)),
-    (Some(1), Some(1)),
-    (Some(1), Some(2)),
-    (Some(2), Some(2)),
+const ROWS: [[Option<u8>; 2]; 6] = [
+    [None, Some(0)],
+    [Some(0), Some(1)],
+    [Some(1), Some(1)],
+    [Some(1), Some(1)],
+    [Some(1), Some(2)],
+    [Some(2), Some(2)],
 ];
 
 // The bytes of a frame of done.
@@ -36,7 +36,7 @@ const DONE_BYTES: usize = 15;
 
 // Puts a frame of session 1 at the end: the two bytes that it begins with, and what stands before the
 // text, and behind it.
-fn push(frames: &mut Vec<u8>, head: [u8; 2], before: &[u8], text: &str) -> Result<(), Fail> {
+fn push(frames: &mut Vec<u8>, head: [u8; 2], before: &[u8], text: &str) -> Result<(), AllocError> {
     let text = text.as_bytes();
     let length = before.len().saturating_add(text.len()).saturating_add(7);
     frames.extend_from_slice(&head)?;
@@ -49,16 +49,16 @@ fn push(frames: &mut Vec<u8>, head: [u8; 2], before: &[u8], text: &str) -> Resul
     Ok(())
 }
 
-fn push_execute(frames: &mut Vec<u8>, head: u8, version: u8, text: &str) -> Result<(), Fail> {
+fn push_execute(frames: &mut Vec<u8>, head: u8, version: u8, text: &str) -> Result<(), AllocError> {
     push(frames, [head, 2], &[0, 0, 0, 0, 0, 0, 0, version], text)
 }
 
 // What is put for an input, and how it ends.
-fn served(alloc: Global, disk: &mut MemDisk, input: Vec<u8>) -> Result<(Ended, Vec<u8>), Fail> {
+fn served(alloc: Global, disk: &mut MemDisk, input: Vec<u8>) -> (Ended, MemSink) {
     let mut input = MemSource::new(input, 7, Vec::new(alloc));
     let mut out = MemSink::new(alloc, Vec::new(alloc));
     let ended = serve_journal(alloc, &mut input, &mut out, disk);
-    Ok((ended, Vec::from_slice(alloc, out.bytes())?))
+    (ended, out)
 }
 
 // How many frames of rows replies have; none where they are a refusal.
@@ -79,40 +79,47 @@ fn rows_of(replies: &[u8]) -> Option<u8> {
     Some(rows)
 }
 
-// How many rows are found at the next start.
-fn found(alloc: Global, file: &[u8]) -> Result<Option<u8>, Fail> {
-    let mut disk = MemDisk::new(alloc, file, Vec::new(alloc))?;
+// Whether so many rows are found at the next start.
+fn are_found(alloc: Global, file: &[u8], rows: &[Option<u8>]) -> Result<bool, AllocError> {
     let mut input = Vec::new(alloc);
     push_execute(&mut input, 1, 1, SELECT)?;
-    let (ended, replies) = served(alloc, &mut disk, input)?;
-    if ended != Ended::Done {
-        return Err(Fail::new("not done"));
+    let mut disk = MemDisk::new(alloc, file, Vec::new(alloc))?;
+    let (ended, out) = served(alloc, &mut disk, input);
+    Ok(ended == Ended::Done && rows.contains(&rows_of(out.bytes())))
+}
+
+// The frames of the statements.
+fn statements(alloc: Global) -> Result<Vec<u8>, AllocError> {
+    let mut frames = Vec::new(alloc);
+    for (version, text) in &STATEMENTS {
+        push_execute(&mut frames, 1, *version, text)?;
     }
-    Ok(rows_of(replies.as_slice()))
+    Ok(frames)
+}
+
+// How the statements end where a call of the disk fails, how many are answered, and whether what was
+// answered is there at the next start.
+fn stopped_at(alloc: Global, call: u64) -> Result<(Ended, usize, bool), AllocError> {
+    let input = statements(alloc)?;
+    let mut disk = MemDisk::new(alloc, b"", Vec::from_slice(alloc, &[call])?)?;
+    let (ended, out) = served(alloc, &mut disk, input);
+    let answered = out.bytes().len() / DONE_BYTES;
+    let rows = ROWS.get(answered).map_or(&[] as &[Option<u8>], |rows| rows);
+    let kept = are_found(alloc, disk.bytes(), rows) == Ok(true);
+    Ok((ended, answered, kept))
 }
 
 #[test]
 fn what_was_answered_is_there(rt: HostRuntime) -> Result<(), Fail> {
-    let alloc = rt.alloc();
     let mut stops = 0u64;
     for call in 0u64..24 {
-        let mut disk = MemDisk::new(alloc, b"", Vec::from_slice(alloc, &[call])?)?;
-        let mut input = Vec::new(alloc);
-        for (version, text) in &STATEMENTS {
-            push_execute(&mut input, 1, *version, text)?;
-        }
-        let (ended, replies) = served(alloc, &mut disk, input)?;
-        let Some((least, most)) = ROWS.get(replies.len() / DONE_BYTES) else {
-            return Err(Fail::new("too many replies"));
-        };
-        let rows = found(alloc, disk.bytes())?;
-        assert!(rt; rows == *least || rows == *most, "at {call}");
-        match ended {
-            Ended::Done => assert!(rt; replies.len() == 5 * DONE_BYTES),
-            _ => {
-                assert!(rt; ended == Ended::DiskFault);
-                stops = stops.saturating_add(1);
-            }
+        let (ended, answered, kept) = stopped_at(rt.alloc(), call)?;
+        assert!(rt; kept, "at {call}");
+        if ended == Ended::Done {
+            assert_eq!(rt; answered, 5);
+        } else {
+            assert!(rt; ended == Ended::DiskFault);
+            stops = stops.saturating_add(1);
         }
     }
     // The mount has four calls, and so has each of the three records.
@@ -120,21 +127,30 @@ fn what_was_answered_is_there(rt: HostRuntime) -> Result<(), Fail> {
     Ok(())
 }
 
+// Whether an input is served to its end, and these bytes are put for it.
+fn puts(alloc: Global, disk: &mut MemDisk, input: Vec<u8>, want: &[u8]) -> bool {
+    let (ended, out) = served(alloc, disk, input);
+    ended == Ended::Done && out.bytes() == want
+}
+
+const DONE: &[u8] = b"\x01\x84\x00\x00\x00\x09\x00\x00\x00\x00\x00\x00\x00\x00\x00";
+
 #[test]
 fn a_definition_is_served_again(rt: HostRuntime) -> Result<(), Fail> {
     let alloc = rt.alloc();
-    let mut disk = MemDisk::new(alloc, b"", Vec::new(alloc))?;
-    let (ended, _) = served(alloc, &mut disk, Vec::from_slice(alloc, EXECUTE)?)?;
-    assert!(rt; ended == Ended::Done);
-    assert_eq!(rt; disk.bytes(), ONE_RECORD);
-
+    let execute = Vec::from_slice(alloc, EXECUTE)?;
     let mut describe = Vec::new(alloc);
     push(&mut describe, [1, 1], &[], SELECT)?;
-    let (ended, replies) = served(alloc, &mut disk, describe)?;
-    assert!(rt; ended == Ended::Done);
-    assert_eq!(rt;
-        replies.as_slice(),
-        b"\x01\x81\x00\x00\x00\x0a\x00\x00\x00\x00\x00\x00\x00\x01\x00\x00".as_slice()
+    let mut disk = MemDisk::new(alloc, b"", Vec::new(alloc))?;
+    assert!(rt; puts(alloc, &mut disk, execute, DONE));
+    assert_eq!(rt; disk.bytes(), ONE_RECORD);
+    assert!(rt;
+        puts(
+            alloc,
+            &mut disk,
+            describe,
+            b"\x01\x81\x00\x00\x00\x0a\x00\x00\x00\x00\x00\x00\x00\x01\x00\x00"
+        )
     );
     Ok(())
 }
@@ -146,45 +162,55 @@ const TRANSACTION: [(u8, &str); 3] = [
     (1, "COMMIT"),
 ];
 
+// The frames of the transaction.
+fn transaction(alloc: Global) -> Result<Vec<u8>, AllocError> {
+    let mut frames = Vec::new(alloc);
+    for (head, text) in &TRANSACTION {
+        push_execute(&mut frames, *head, 1, text)?;
+    }
+    Ok(frames)
+}
+
+// The journal of two records.
+fn journal(alloc: Global, first: &[u8], second: &[u8]) -> Result<Vec<u8>, AllocError> {
+    let mut file = block(alloc, 1, first.len() as u64, first)?;
+    file.truncate(file.len().saturating_sub(1));
+    file.extend_from_slice(block(alloc, 1, second.len() as u64, second)?.as_slice())?;
+    Ok(file)
+}
+
+// The replies to the query in version 2: its one row stands in a frame of rows.
+const ONE_ROW: &[u8] =
+    b"\x02\x82\x00\x00\x00\x08\x00\x00\x01\x00\x01a\x01\x00\x02\x86\x00\x00\x00\x0d\x00\x01\x00\x01\x01\x00\x00\x00\x00\x00\x00\x00\x05\x02\x84\x00\x00\x00\x09\x02\x00\x00\x00\x00\x00\x00\x00\x01";
+
 #[test]
 fn each_frame_is_recorded_as_it_came(rt: HostRuntime) -> Result<(), Fail> {
     let alloc = rt.alloc();
     let mut table = Vec::new(alloc);
     push_execute(&mut table, 2, 0, "CREATE TABLE t (a INT)")?;
-    let mut transaction = Vec::new(alloc);
-    for (head, text) in &TRANSACTION {
-        push_execute(&mut transaction, *head, 1, text)?;
-    }
-    let mut file = block(alloc, 1, 43, table.as_slice())?;
-    let second = block(alloc, 1, transaction.len() as u64, transaction.as_slice())?;
-    file.extend_from_slice(second.as_slice())?;
-    file.push(0)?;
-
-    let mut disk = MemDisk::new(alloc, b"", Vec::new(alloc))?;
+    let transaction = transaction(alloc)?;
+    let file = journal(alloc, table.as_slice(), transaction.as_slice())?;
     let input = joined(alloc, table.as_slice(), transaction.as_slice())?;
-    let (ended, _) = served(alloc, &mut disk, input)?;
-    assert!(rt; ended == Ended::Done);
-    assert_eq!(rt; disk.bytes(), file.as_slice());
-
-    // Served again, and asked for in version 2: its one row stands in a frame of rows.
     let mut select = Vec::new(alloc);
     push_execute(&mut select, 2, 1, SELECT)?;
-    let (ended, replies) = served(alloc, &mut disk, select)?;
+
+    let mut disk = MemDisk::new(alloc, b"", Vec::new(alloc))?;
+    let (ended, _) = served(alloc, &mut disk, input);
     assert!(rt; ended == Ended::Done);
-    assert_eq!(rt;
-        replies.as_slice(),
-        b"\x02\x82\x00\x00\x00\x08\x00\x00\x01\x00\x01a\x01\x00\x02\x86\x00\x00\x00\x0d\x00\x01\x00\x01\x01\x00\x00\x00\x00\x00\x00\x00\x05\x02\x84\x00\x00\x00\x09\x02\x00\x00\x00\x00\x00\x00\x00\x01".as_slice()
-    );
+    assert_eq!(rt; disk.bytes(), file.as_slice());
+    // Served again, and asked for in version 2.
+    assert!(rt; puts(alloc, &mut disk, select, ONE_ROW));
     Ok(())
 }
 
 #[test]
 fn a_file_without_its_last_byte_is_damaged(rt: HostRuntime) -> Result<(), Fail> {
     let alloc = rt.alloc();
+    let execute = Vec::from_slice(alloc, EXECUTE)?;
     let file = &ONE_RECORD[..ONE_RECORD.len() - 1];
     let mut disk = MemDisk::new(alloc, file, Vec::new(alloc))?;
-    let (ended, replies) = served(alloc, &mut disk, Vec::from_slice(alloc, EXECUTE)?)?;
+    let (ended, out) = served(alloc, &mut disk, execute);
     assert!(rt; ended == Ended::Damaged(0));
-    assert!(rt; replies.is_empty());
+    assert!(rt; out.bytes().is_empty());
     Ok(())
 }

@@ -3,7 +3,7 @@
 use crate::journals::{EXECUTE, add, has_records};
 use disk::mem_disk::{DiskCall, MadeCall, MemDisk};
 use journal_core::journal::{Appended, Journal};
-use std::alloc::Global;
+use std::alloc::{AllocError, Global};
 use std::test::Fail;
 
 // The range of the last write that no sync followed.
@@ -21,7 +21,7 @@ fn torn_range(made: &[MadeCall]) -> Option<(usize, usize)> {
 
 // A crash's image of a disk: the bytes of that range are others, and of what is past the end only the
 // first are there.
-fn image(alloc: Global, disk: &MemDisk, byte: u8, most: usize) -> Result<Vec<u8>, Fail> {
+fn image(alloc: Global, disk: &MemDisk, byte: u8, most: usize) -> Result<Vec<u8>, AllocError> {
     let Some((at, len)) = torn_range(disk.made()) else {
         return Ok(Vec::from_slice(alloc, disk.bytes())?);
     };
@@ -41,17 +41,17 @@ fn image(alloc: Global, disk: &MemDisk, byte: u8, most: usize) -> Result<Vec<u8>
 }
 
 // Adds a record again and again, until a call fails: how many are there.
-fn added(alloc: Global, disk: &mut MemDisk, most: usize) -> Result<usize, Fail> {
+fn added(alloc: Global, disk: &mut MemDisk, most: usize) -> usize {
     for done in 0..most {
-        if add(alloc, disk, EXECUTE)? != Appended::Done {
-            return Ok(done);
+        if add(alloc, disk, EXECUTE) != Appended::Done {
+            return done;
         }
     }
-    Ok(most)
+    most
 }
 
 // Whether an image is mounted with so many records or one more.
-fn holds(alloc: Global, image: &[u8], done: usize) -> Result<bool, Fail> {
+fn holds(alloc: Global, image: &[u8], done: usize) -> Result<bool, AllocError> {
     let mut disk = MemDisk::new(alloc, image, Vec::new(alloc))?;
     let mounted = Journal::mount(alloc, &mut disk);
     let records = [EXECUTE; 4];
@@ -63,24 +63,34 @@ fn holds(alloc: Global, image: &[u8], done: usize) -> Result<bool, Fail> {
     )
 }
 
+// Whether each crash of a disk leaves so many records or one more.
+fn survives(alloc: Global, disk: &MemDisk, done: usize) -> Result<bool, AllocError> {
+    for byte in [0x00u8, 0x01, 0x07, 0xff] {
+        for most in [0usize, 1, 9, 30, 99] {
+            let image = image(alloc, disk, byte, most)?;
+            if !holds(alloc, image.as_slice(), done)? {
+                return Ok(false);
+            }
+        }
+    }
+    Ok(true)
+}
+
+// How many records are added where a call of the disk fails, and whether each crash leaves them.
+fn stopped_at(alloc: Global, call: u64) -> Result<(usize, bool), AllocError> {
+    let mut disk = MemDisk::new(alloc, b"", Vec::from_slice(alloc, &[call])?)?;
+    let done = added(alloc, &mut disk, 3);
+    Ok((done, survives(alloc, &disk, done).unwrap_or(false)))
+}
+
 #[test]
 fn a_stop_at_any_call_loses_nothing(rt: HostRuntime) -> Result<(), Fail> {
-    let alloc = rt.alloc();
     let mut stops = 0u64;
     for call in 0u64..40 {
-        let mut disk = MemDisk::new(alloc, b"", Vec::from_slice(alloc, &[call])?)?;
-        let done = added(alloc, &mut disk, 3)?;
+        let (done, survived) = stopped_at(rt.alloc(), call)?;
+        assert!(rt; survived, "at {call}");
         if done < 3 {
             stops = stops.saturating_add(1);
-        }
-        for byte in [0x00u8, 0x01, 0x07, 0xff] {
-            for most in [0usize, 1, 9, 30, 99] {
-                let image = image(alloc, &disk, byte, most)?;
-                assert!(rt;
-                    holds(alloc, image.as_slice(), done)?,
-                    "at {call}, {byte}, {most}"
-                );
-            }
         }
     }
     // Each of three mounts has four calls, and so has each record.
