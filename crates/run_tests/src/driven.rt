@@ -62,8 +62,8 @@ fn driven(
     }
     let script = Vec::from_slice(alloc, SCRIPT.as_bytes())?;
     let replies = Vec::from_slice(alloc, replies)?;
-    let mut script = MemSource::new(script, 4096, Vec::new(alloc));
     let mut vault = vault(alloc)?;
+    let mut script = MemSource::new(script, 4096, Vec::new(alloc));
     let mut entropy = MemEntropy::new(Vec::new(alloc), Vec::new(alloc));
     let mut replies = MemSource::new(replies, piece.max(1), failing);
     let mut out = MemSink::new(alloc, Vec::new(alloc));
@@ -105,6 +105,19 @@ fn turned(alloc: Global, bytes: &[u8], place: usize) -> Result<Vec<u8>, AllocErr
     Ok(turned)
 }
 
+// Whether driving over replies in such pieces, of which one call may fail, ends so and prints this.
+fn drives_to(
+    alloc: Global,
+    replies: &[u8],
+    piece: usize,
+    fails: Option<u64>,
+    ran: Ran,
+    last: &str,
+) -> Result<bool, AllocError> {
+    let left = driven(alloc, replies, piece, fails)?;
+    Ok(left.is(ran, last))
+}
+
 #[test]
 fn recorded_replies_give_the_recorded_text(rt: HostRuntime) -> Result<(), Fail> {
     let alloc = rt.alloc();
@@ -122,31 +135,21 @@ fn changed_replies_end_where_they_change(rt: HostRuntime) -> Result<(), Fail> {
     let alloc = rt.alloc();
     let replies = passed(alloc, SCRIPT, FrameVersion::V1)?.replies;
     let place = second_row(&replies);
-    let here = Ran::Stopped(Stop::BadReply(place as u64));
     // A byte of the cell's tag behind the frame's head, the counts and the length: the cell alone fails.
-    let tag = driven(
-        alloc,
-        &turned(alloc, &replies, place.saturating_add(12))?,
-        7,
-        None,
-    )?;
-    assert!(rt;
-        tag.is(
-            Ran::Refusals,
-            "c\nN'x'\nerror 75 CellFailed row 2 column 1 BadTag\n"
-        )
-    );
-    // The version of a frame.
-    let other = driven(alloc, &turned(alloc, &replies, place)?, 4096, None)?;
-    assert!(rt; other.is(here, "c\nN'x'\n"));
-    // The frame is cut off, or doesn't come.
-    for length in [place, place.saturating_add(20)] {
-        let cut = driven(alloc, replies.get(..length).unwrap_or(&[]), 7, None)?;
-        assert!(rt; cut.is(here, "c\nN'x'\n"));
+    let tag = turned(alloc, &replies, place.saturating_add(12))?;
+    let failed = "c\nN'x'\nerror 75 CellFailed row 2 column 1 BadTag\n";
+    assert!(rt; drives_to(alloc, &tag, 7, None, Ran::Refusals, failed)?);
+    // The version of a frame; the frame is cut off, or doesn't come.
+    let version = turned(alloc, &replies, place)?;
+    let here = Ran::Stopped(Stop::BadReply(place as u64));
+    let short = replies.get(..place.saturating_add(20)).unwrap_or(&[]);
+    let without = replies.get(..place).unwrap_or(&[]);
+    for replies in [version.as_slice(), short, without] {
+        assert!(rt; drives_to(alloc, replies, 7, None, here, "c\nN'x'\n")?);
     }
     // It can't be read.
-    let unread = driven(alloc, &replies, 1, Some(place as u64))?;
-    assert!(rt; unread.is(Ran::Stopped(Stop::ReadFault), "c\nN'x'\n"));
+    let unread = Ran::Stopped(Stop::ReadFault);
+    assert!(rt; drives_to(alloc, &replies, 1, Some(place as u64), unread, "c\nN'x'\n")?);
     Ok(())
 }
 
@@ -157,8 +160,8 @@ fn what_is_left_has_its_place(rt: HostRuntime) -> Result<(), Fail> {
     let end = Ran::Stopped(Stop::BadReply(replies.len() as u64));
     replies.push(0)?;
     for piece in [1, 4096] {
-        let left = driven(alloc, &replies, piece, None)?;
-        assert!(rt; left.is(end, "c\nN'x'\nN'y'\n(2 rows)\n"));
+        let whole = "c\nN'x'\nN'y'\n(2 rows)\n";
+        assert!(rt; drives_to(alloc, &replies, piece, None, end, whole)?);
     }
     Ok(())
 }

@@ -79,8 +79,8 @@ pub struct Put {
 pub fn ran(alloc: Global, script: &str, version: FrameVersion) -> Result<Put, AllocError> {
     let script = Vec::from_slice(alloc, script.as_bytes())?;
     let random = Vec::from_slice(alloc, &[DRAWN; 64])?;
-    let mut script = MemSource::new(script, 4096, Vec::new(alloc));
     let mut vault = vault(alloc)?;
+    let mut script = MemSource::new(script, 4096, Vec::new(alloc));
     let mut entropy = MemEntropy::new(random, Vec::new(alloc));
     let mut out = MemSink::new(alloc, Vec::new(alloc));
     let mut tap = MemSink::new(alloc, Vec::new(alloc));
