@@ -17,39 +17,83 @@ fn key(alloc: Global, n: Option<i64>) -> Result<Key<Cell>, AllocError> {
     Key::of_row(alloc, &[0], &row)
 }
 
+fn keys(alloc: Global, numbers: &[Option<i64>]) -> Result<Vec<Key<Cell>>, AllocError> {
+    let mut keys = Vec::new(alloc);
+    for n in numbers {
+        keys.push(key(alloc, *n)?)?;
+    }
+    Ok(keys)
+}
+
+// Puts keys into an index, whose places count up from 0.
+fn fill(
+    alloc: Global,
+    index: &mut KeyIndex<Cell>,
+    numbers: &[Option<i64>],
+) -> Result<(), AllocError> {
+    for (place, n) in numbers.iter().enumerate() {
+        index.insert(alloc, key(alloc, *n)?, place)?;
+    }
+    Ok(())
+}
+
+// Whether a key has these places.
+fn has(
+    alloc: Global,
+    index: &KeyIndex<Cell>,
+    n: Option<i64>,
+    places: &[usize],
+) -> Result<bool, AllocError> {
+    Ok(index.places_of(&key(alloc, n)?) == places)
+}
+
+fn keeps_places(alloc: Global, index: &mut KeyIndex<Cell>) -> Result<[bool; 5], AllocError> {
+    fill(alloc, index, &[Some(7), None, Some(7), Some(8)])?;
+    let both = has(alloc, index, Some(7), &[0, 2])?;
+    let null = has(alloc, index, None, &[1])?;
+    index.remove(&key(alloc, Some(7))?, 0);
+    let second = has(alloc, index, Some(7), &[2])?;
+    index.forget_from(2);
+    let none = has(alloc, index, Some(7), &[])?;
+    let stays = has(alloc, index, None, &[1])?;
+    Ok([both, null, second, none, stays])
+}
+
 /// Places stand under their key in the order in which they were put in, NULL is a key like others,
 /// and what is taken out is gone.
 #[test]
 fn places_of_keys(rt: HostRuntime) -> Result<(), AllocError> {
-    let alloc = rt.alloc();
-    let mut index = KeyIndex::new(alloc);
-    for (place, n) in [Some(7), None, Some(7), Some(8)].into_iter().enumerate() {
-        index.insert(alloc, key(alloc, n)?, place)?;
-    }
-    assert!(rt; index.places_of(&key(alloc, Some(7))?) == [0, 2].as_slice());
-    assert!(rt; index.places_of(&key(alloc, None)?) == [1].as_slice());
-    index.remove(&key(alloc, Some(7))?, 0);
-    assert!(rt; index.places_of(&key(alloc, Some(7))?) == [2].as_slice());
-    index.forget_from(2);
-    assert!(rt; index.places_of(&key(alloc, Some(7))?).is_empty());
-    assert!(rt; index.places_of(&key(alloc, None)?) == [1].as_slice());
+    let mut index = KeyIndex::new(rt.alloc());
+    let kept = keeps_places(rt.alloc(), &mut index);
+    drop(index);
+    assert!(rt; kept? == [true; 5]);
     Ok(())
+}
+
+// The first of some new keys that an index of the key 1 has, or that is alike to one before it.
+fn first_alike(
+    alloc: Global,
+    index: &mut KeyIndex<Cell>,
+    new: &[Option<i64>],
+) -> Result<Option<usize>, AllocError> {
+    fill(alloc, index, &[Some(1)])?;
+    let new = keys(alloc, new)?;
+    first_uncounted(alloc, index, new.as_slice())
 }
 
 /// The first new key that is known, or alike to one before it.
 #[test]
 fn first_key_that_is_alike(rt: HostRuntime) -> Result<(), AllocError> {
-    let alloc = rt.alloc();
-    let mut index = KeyIndex::new(alloc);
-    index.insert(alloc, key(alloc, Some(1))?, 0)?;
-    let new = [
-        key(alloc, Some(2))?,
-        key(alloc, Some(3))?,
-        key(alloc, Some(2))?,
+    let cases: [(&[Option<i64>], Option<usize>); 3] = [
+        (&[Some(2), Some(3), Some(2)], Some(2)),
+        (&[None, Some(1)], Some(1)),
+        (&[Some(2), Some(3)], None),
     ];
-    assert!(rt; first_uncounted(alloc, &index, &new)? == Some(2));
-    let known = [key(alloc, None)?, key(alloc, Some(1))?];
-    assert!(rt; first_uncounted(alloc, &index, &known)? == Some(1));
-    assert!(rt; first_uncounted(alloc, &index, &new[..2])?.is_none());
+    for (new, first) in cases {
+        let mut index = KeyIndex::new(rt.alloc());
+        let found = first_alike(rt.alloc(), &mut index, new);
+        drop(index);
+        assert!(rt; found? == first);
+    }
     Ok(())
 }
