@@ -14,14 +14,15 @@ import time
 # Processor seconds of each proof: measured where docs/DECISIONS.md has them, else estimated; a crate that is not listed counts as
 # OTHER. They serve the time left and the order alone.
 SECONDS = {
-    "ae_base": 110, "ae_cli": 139, "ae_edge": 75, "aes_block": 60, "semantic_checks": 80, "catalog": 60, "cell_codec": 50,
-    "check_command": 75, "command_words": 95, "conversation": 70, "drive_command": 80, "driver": 177, "enc_types": 85,
-    "engine": 119, "frame_feed": 67, "hmac_kdf": 20, "inference": 70, "key_wrap": 25, "operators": 131, "plain_meaning": 90,
-    "resolve": 232, "row_changes": 175, "scalar": 80, "script_lang": 70, "script_run": 194, "server_core": 168,
-    "sql_expressions": 142, "sql_ddl": 60, "sql_parse": 105, "sql_tree": 80, "twin_scripts": 60, "wire_bodies": 59,
-    "wire_frames": 40, "wire_messages": 81, "wire_parts": 52, "wire_reading": 61, "wire_spelling": 130,
+    "ae_base": 110, "ae_cli": 195, "ae_edge": 83, "catalog": 99, "check_command": 104, "command_words": 83, "disk": 58,
+    "drive_command": 123, "driver": 190, "enc_types": 57, "engine": 199, "frame_feed": 84, "inference": 116,
+    "journal_command": 141, "key_index": 91, "keyed_joins": 129, "operators": 90, "plan_runs": 88, "planner": 64,
+    "query_results": 111, "resolve": 294, "row_changes": 186, "row_store": 60, "scalar": 90, "script_lang": 85,
+    "script_run": 224, "semantic_checks": 74, "serve_command": 76, "server_core": 226, "sql_ddl": 105, "sql_expressions": 139,
+    "sql_parse": 119, "sql_tree": 79, "transactions": 228, "unique_keys": 62, "wire_bodies": 92, "wire_messages": 106,
+    "wire_parts": 62, "wire_reading": 79, "wire_spelling": 111,
 }
-OTHER = 45
+OTHER = 35
 MEMORY = 2 << 30  # bytes that a proof may take; few take more
 
 
