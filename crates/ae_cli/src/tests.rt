@@ -11,7 +11,6 @@ use ae_edge::memory::source::MemSource;
 use ae_edge::memory::vault::MemVault;
 use ae_edge::sources::{Source, Taken};
 use disk::mem_disk::MemDisk;
-use script_run::status::Status;
 use server_core::server::Server;
 use std::alloc::{AllocError, Global};
 use std::test::Fail;
@@ -25,13 +24,15 @@ DECLARE @p INT = 6
 SELECT a FROM t WHERE a < @p
 ";
 
-/// What a command over an empty world leaves.
+/// What a command over an empty world leaves: the number of its status, what it says on standard
+/// error, and what it put.
 #[derive(Drop)]
 struct Left {
-    status: Status,
-    out: MemSink,
-    tap: MemSink,
-    disk: MemDisk,
+    number: u8,
+    said: String,
+    out: Vec<u8>,
+    tap: Vec<u8>,
+    disk: Vec<u8>,
 }
 
 /// The master key of the path `main`.
@@ -119,7 +120,7 @@ fn come_to<S: Source, L: Source>(
     let mut out = MemSink::new(alloc, out_calls);
     let mut tap = MemSink::new(alloc, tap_calls);
     let mut peer = Server::new(alloc);
-    let status = ae_main(
+    left_of(
         alloc,
         words.as_slice(),
         script,
@@ -130,12 +131,31 @@ fn come_to<S: Source, L: Source>(
         &mut tap,
         &mut peer,
         &mut disk,
+    )
+}
+
+/// What the words leave of devices that are lent.
+fn left_of<S: Source, L: Source>(
+    alloc: Global,
+    words: &[Txt],
+    script: &mut S,
+    vault: &mut MemVault,
+    entropy: &mut MemEntropy,
+    replies: &mut L,
+    out: &mut MemSink,
+    tap: &mut MemSink,
+    peer: &mut Server,
+    disk: &mut MemDisk,
+) -> Result<Left, AllocError> {
+    let status = ae_main(
+        alloc, words, script, vault, entropy, replies, out, tap, peer, disk,
     );
     Ok(Left {
-        status,
-        out,
-        tap,
-        disk,
+        number: status.number(),
+        said: format!(in alloc; "{status}")?,
+        out: out.bytes().to_vec(alloc)?,
+        tap: tap.bytes().to_vec(alloc)?,
+        disk: disk.bytes().to_vec(alloc)?,
     })
 }
 
@@ -172,9 +192,9 @@ fn left_under(alloc: Global, words: &[&str]) -> Result<Left, AllocError> {
 #[test]
 fn run_prints_the_plain_table(rt: HostRuntime) -> Result<(), Fail> {
     let left = left_under(rt.alloc(), &["ae", "run"])?;
-    assert_eq!(rt; left.status.number(), 0);
+    assert_eq!(rt; left.number, 0);
     assert_eq!(rt;
-        left.out.bytes(),
+        left.out.as_slice(),
         b"ok\n(3 affected)\na\n5\n(1 rows)\n".as_slice()
     );
     Ok(())
@@ -183,9 +203,9 @@ fn run_prints_the_plain_table(rt: HostRuntime) -> Result<(), Fail> {
 #[test]
 fn run_with_a_summary_counts(rt: HostRuntime) -> Result<(), Fail> {
     let left = left_under(rt.alloc(), &["ae", "run", "--summary"])?;
-    assert_eq!(rt; left.status.number(), 0);
+    assert_eq!(rt; left.number, 0);
     assert_eq!(rt;
-        left.out.bytes(),
+        left.out.as_slice(),
         b"steps 3\nerrors 0\nrows 1\nrequests 6\n".as_slice()
     );
     Ok(())
@@ -203,19 +223,19 @@ fn driven(alloc: Global, replies: &[u8]) -> Result<Left, AllocError> {
 #[test]
 fn drive_prints_what_the_replies_say(rt: HostRuntime) -> Result<(), Fail> {
     let left = driven(rt.alloc(), REPLIES)?;
-    assert_eq!(rt; left.status.number(), 0);
-    assert_eq!(rt; left.out.bytes(), b"ok\n".as_slice());
-    assert_eq!(rt; left.tap.bytes(), REQUESTS);
+    assert_eq!(rt; left.number, 0);
+    assert_eq!(rt; left.out.as_slice(), b"ok\n".as_slice());
+    assert_eq!(rt; left.tap.as_slice(), REQUESTS);
     Ok(())
 }
 
 #[test]
 fn drive_tells_where_a_reply_is_missing(rt: HostRuntime) -> Result<(), Fail> {
     let left = driven(rt.alloc(), &REPLIES[..20])?;
-    assert!(rt; matches!(left.status, Status::BadReply(16)));
-    assert_eq!(rt; left.status.number(), 11);
-    assert!(rt; left.out.bytes().is_empty());
-    assert_eq!(rt; left.tap.bytes(), REQUESTS);
+    assert_eq!(rt; left.said.as_str(), "ae: bad reply at 16\n");
+    assert_eq!(rt; left.number, 11);
+    assert!(rt; left.out.as_slice().is_empty());
+    assert_eq!(rt; left.tap.as_slice(), REQUESTS);
     Ok(())
 }
 
@@ -252,7 +272,7 @@ fn words_are_commands_as_clap_reads_them(rt: HostRuntime) -> Result<(), Fail> {
     ];
     for (words, number) in cases {
         let left = left_under(rt.alloc(), words)?;
-        assert_eq!(rt; left.status.number(), number);
+        assert_eq!(rt; left.number, number);
     }
     Ok(())
 }
@@ -330,11 +350,11 @@ fn left_behind(alloc: Global, words: &[&str]) -> Result<Left, AllocError> {
 fn other_words_put_nothing(rt: HostRuntime) -> Result<(), Fail> {
     for words in OTHER_WORDS {
         let left = left_behind(rt.alloc(), words)?;
-        assert_eq!(rt; left.status.number(), 2);
-        assert!(rt; left.out.bytes().is_empty() && left.tap.bytes().is_empty());
+        assert_eq!(rt; left.number, 2);
+        assert!(rt; left.out.as_slice().is_empty() && left.tap.as_slice().is_empty());
     }
     let left = left_under(rt.alloc(), &[])?;
-    assert_eq!(rt; left.status.number(), 2);
+    assert_eq!(rt; left.number, 2);
     Ok(())
 }
 
@@ -360,15 +380,14 @@ GO
 #[test]
 fn gen_writes_a_script_of_one_row(rt: HostRuntime) -> Result<(), Fail> {
     let left = left_under(rt.alloc(), &["ae", "gen", "1"])?;
-    assert_eq!(rt; left.status.number(), 0);
-    assert_eq!(rt; left.out.bytes(), ONE_ROW.as_bytes());
+    assert_eq!(rt; left.number, 0);
+    assert_eq!(rt; left.out.as_slice(), ONE_ROW.as_bytes());
     Ok(())
 }
 
 // The script of a thousand rows.
 fn thousand(alloc: Global) -> Result<Vec<u8>, AllocError> {
-    let left = left_under(alloc, &["ae", "gen", "1000"])?;
-    left.out.bytes().to_vec(alloc)
+    Ok(left_under(alloc, &["ae", "gen", "1000"])?.out)
 }
 
 #[test]
@@ -380,9 +399,9 @@ fn a_thousand_generated_rows_are_counted(rt: HostRuntime) -> Result<(), Fail> {
     ];
     for words in versions {
         let left = left_by(rt.alloc(), words, script.as_slice())?;
-        assert_eq!(rt; left.status.number(), 0);
+        assert_eq!(rt; left.number, 0);
         assert_eq!(rt;
-            left.out.bytes(),
+            left.out.as_slice(),
             b"steps 1005\nerrors 0\nrows 11\nrequests 2010\n".as_slice()
         );
     }
@@ -395,9 +414,9 @@ const KEY: &str = "00112233445566778899AABBCCDDEEFF000102030405060708090A0B0C0D0
 #[test]
 fn wrap_puts_the_wrapped_key(rt: HostRuntime) -> Result<(), Fail> {
     let left = left_by(rt.alloc(), &["ae", "wrap", "main"], KEY.as_bytes())?;
-    assert_eq!(rt; left.status.number(), 0);
+    assert_eq!(rt; left.number, 0);
     assert_eq!(rt;
-        left.out.bytes(),
+        left.out.as_slice(),
         b"28c9f404c4b810f4cbccb35cfb87f8263f5786e2d80ed326cbc7f0e71a99f43bfb988b9b7a02dd21\n".as_slice()
     );
     Ok(())
@@ -406,9 +425,9 @@ fn wrap_puts_the_wrapped_key(rt: HostRuntime) -> Result<(), Fail> {
 #[test]
 fn serve_answers_requests(rt: HostRuntime) -> Result<(), Fail> {
     let left = left_by(rt.alloc(), &["ae", "serve"], REQUESTS)?;
-    assert_eq!(rt; left.status.number(), 0);
-    assert_eq!(rt; left.out.bytes(), REPLIES);
-    assert!(rt; left.tap.bytes().is_empty());
+    assert_eq!(rt; left.number, 0);
+    assert_eq!(rt; left.out.as_slice(), REPLIES);
+    assert!(rt; left.tap.as_slice().is_empty());
     Ok(())
 }
 
@@ -427,9 +446,9 @@ fn journaled(alloc: Global, requests: &[u8], file: &[u8]) -> Result<Left, AllocE
 #[test]
 fn serve_with_a_journal_keeps_a_definition(rt: HostRuntime) -> Result<(), Fail> {
     let left = journaled(rt.alloc(), REQUESTS, b"")?;
-    assert_eq!(rt; left.status.number(), 0);
-    assert_eq!(rt; left.out.bytes(), REPLIES);
-    assert_eq!(rt; left.disk.bytes(), JOURNAL);
+    assert_eq!(rt; left.number, 0);
+    assert_eq!(rt; left.out.as_slice(), REPLIES);
+    assert_eq!(rt; left.disk.as_slice(), JOURNAL);
     Ok(())
 }
 
@@ -437,12 +456,12 @@ fn serve_with_a_journal_keeps_a_definition(rt: HostRuntime) -> Result<(), Fail> 
 fn serve_with_a_journal_has_the_table_of_the_last_one(rt: HostRuntime) -> Result<(), Fail> {
     let query = b"\x01\x01\x00\x00\x00\x16\x00\x01\x00\x00\x00\x0fSELECT a FROM t\x00";
     let left = journaled(rt.alloc(), query, JOURNAL)?;
-    assert_eq!(rt; left.status.number(), 0);
+    assert_eq!(rt; left.number, 0);
     assert_eq!(rt;
-        left.out.bytes(),
+        left.out.as_slice(),
         b"\x01\x81\x00\x00\x00\x0a\x00\x00\x00\x00\x00\x00\x00\x01\x00\x00".as_slice()
     );
-    assert_eq!(rt; left.disk.bytes(), JOURNAL);
+    assert_eq!(rt; left.disk.as_slice(), JOURNAL);
     Ok(())
 }
 
@@ -450,22 +469,22 @@ fn serve_with_a_journal_has_the_table_of_the_last_one(rt: HostRuntime) -> Result
 fn a_damaged_journal_is_left_as_it_is(rt: HostRuntime) -> Result<(), Fail> {
     let damaged = &JOURNAL[..52];
     let left = journaled(rt.alloc(), REQUESTS, damaged)?;
-    assert!(rt; matches!(left.status, Status::BadJournal(0)));
-    assert_eq!(rt; left.status.number(), 13);
-    assert!(rt; left.out.bytes().is_empty());
-    assert_eq!(rt; left.disk.bytes(), damaged);
+    assert_eq!(rt; left.said.as_str(), "ae: bad journal at 0\n");
+    assert_eq!(rt; left.number, 13);
+    assert!(rt; left.out.as_slice().is_empty());
+    assert_eq!(rt; left.disk.as_slice(), damaged);
     Ok(())
 }
 
 #[test]
 fn check_describes_what_is_no_definition(rt: HostRuntime) -> Result<(), Fail> {
     let left = left_under(rt.alloc(), &["ae", "check"])?;
-    assert_eq!(rt; left.status.number(), 0);
+    assert_eq!(rt; left.number, 0);
     assert_eq!(rt;
-        left.out.bytes(),
+        left.out.as_slice(),
         b"ok\ndescribed\n@p plain\ndescribed\n@p plain\n".as_slice()
     );
-    assert!(rt; left.tap.bytes().is_empty());
+    assert!(rt; left.tap.as_slice().is_empty());
     Ok(())
 }
 
@@ -488,7 +507,7 @@ fn each_fault_has_its_status(rt: HostRuntime) -> Result<(), Fail> {
     ];
     for (words, script, fails, number) in cases {
         let left = left_where(rt.alloc(), words, script, fails)?;
-        assert_eq!(rt; left.status.number(), number);
+        assert_eq!(rt; left.number, number);
     }
     Ok(())
 }
@@ -508,8 +527,8 @@ fn left_past(alloc: Global, words: &[&str], bytes: Vec<u8>) -> Result<Left, Allo
 fn a_script_past_its_limit_does_nothing(rt: HostRuntime) -> Result<(), Fail> {
     let spaces = vec![in rt.alloc(); b' '; 65_536]?;
     let left = left_past(rt.alloc(), &["ae", "run"], spaces)?;
-    assert_eq!(rt; left.status.number(), 9);
-    assert!(rt; left.out.bytes().is_empty() && left.tap.bytes().is_empty());
+    assert_eq!(rt; left.number, 9);
+    assert!(rt; left.out.as_slice().is_empty() && left.tap.as_slice().is_empty());
     Ok(())
 }
 
@@ -527,9 +546,9 @@ fn long_request(alloc: Global, marks: usize) -> Result<Vec<u8>, AllocError> {
 fn serve_answers_up_to_its_limit(rt: HostRuntime) -> Result<(), Fail> {
     let request = long_request(rt.alloc(), 65_536)?;
     let left = left_past(rt.alloc(), &["ae", "serve"], request)?;
-    assert_eq!(rt; left.status.number(), 9);
+    assert_eq!(rt; left.number, 9);
     // 1,073,741,824 bytes have so many whole frames of 65,549; each is refused in 7 bytes.
-    assert_eq!(rt; left.out.bytes().len(), 16_380 * 7);
+    assert_eq!(rt; left.out.as_slice().len(), 16_380 * 7);
     Ok(())
 }
 
@@ -564,6 +583,6 @@ fn drive_takes_replies_up_to_their_limit(rt: HostRuntime) -> Result<(), Fail> {
     let script = b"SELECT a FROM t".to_vec(alloc)?;
     let bytes = long_replies(alloc, 16_384)?;
     let left = left_over(alloc, script, bytes)?;
-    assert_eq!(rt; left.status.number(), 9);
+    assert_eq!(rt; left.number, 9);
     Ok(())
 }
