@@ -1,4 +1,4 @@
--- What a call comes to, beside what is defined: a value, a fault, or want of memory.
+-- The result of a call beside what is defined: a value, a fault, or out of memory.
 use Rattle.std.specs.Prelude.{◌≡◌, List, [], ◌∷◌, Option, Some, None, Result, Ok, Err}
 use Rattle.ae_base.specs.declared.refusals.Refusal.{Refusal}
 use Rattle.ae_base.specs.declared.refusals.Refusal.TheVariants.{Fault, OutOfMemory}
@@ -18,7 +18,7 @@ abbrev pub or_fault : {A E : Type 0} → E → Option A → Result A E
 or_fault fault None = Err fault
 or_fault fault (Some x) = Ok x
 
--- a call answers what is defined, its value or its fault; want of memory says nothing of it
+-- a call answers what is defined, its value or its fault; out of memory says nothing of it
 abbrev pub Answers : {A E : Type 0} → Result A (Refusal E) → Result A E → Type 0
 Answers (Ok x) defined = defined ≡ Ok x
 Answers (Err (Fault e)) defined = defined ≡ Err e

@@ -87,8 +87,8 @@ impl<P: Named> ParamList<P> {
         admits(self.items.as_slice(), item)
     }
 
-    /// Puts a parameter at the end where it is admitted, and says whether it did. Else, and for want
-    /// of memory, nothing changes.
+    /// Puts a parameter at the end where it is admitted, and says whether it did. Else, and out of
+    /// memory, nothing changes.
     pub fn push(&mut self, item: P) -> Result<bool, AllocError>
         ensures admits { IfOk result
             (λ taken. taken ≡ admits (map P.called self.old) (P.called item)) }

@@ -3,7 +3,7 @@
 use crate::faults::SqlFault;
 use std::alloc::AllocError;
 
-/// Why a call gives no value: a fault, or want of memory.
+/// Why a call gives no value: a fault, or out of memory.
 #[derive(Drop)]
 pub enum Refusal<F = SqlFault> {
     /// The fault.

@@ -97,7 +97,7 @@ fn keys(alloc: Global) -> Result<Vec<(Txt, [u8; 32])>, AllocError> {
     Ok(keys)
 }
 
-/// What the words come to over a script, replies and a file on the disk, where the first call of
+/// The result of the words over a script, replies and a file on the disk, where the first call of
 /// one device fails. What takes memory is made before the devices.
 fn come_to<S: Source, L: Source>(
     alloc: Global,
@@ -159,7 +159,7 @@ fn left_of<S: Source, L: Source>(
     })
 }
 
-/// What the words come to over the bytes of a script, where the first call of one device fails.
+/// The result of the words over the bytes of a script, where the first call of one device fails.
 fn left_where(
     alloc: Global,
     words: &[&str],
@@ -338,7 +338,7 @@ const OTHER_WORDS: [&[&str]; 57] = [
     &["-V"],
 ];
 
-// What some words behind the program's name come to.
+// The result of some words behind the program's name.
 fn left_behind(alloc: Global, words: &[&str]) -> Result<Left, AllocError> {
     let mut all = Vec::new(alloc);
     all.push("ae")?;
@@ -512,7 +512,7 @@ fn each_fault_has_its_status(rt: HostRuntime) -> Result<(), Fail> {
     Ok(())
 }
 
-// What the words come to over a script without an end.
+// The result of the words over a script without an end.
 fn left_past(alloc: Global, words: &[&str], bytes: Vec<u8>) -> Result<Left, AllocError> {
     let mut script = Endless {
         bytes,
@@ -566,7 +566,7 @@ fn long_replies(alloc: Global, cell: usize) -> Result<Vec<u8>, AllocError> {
     Ok(replies)
 }
 
-// What a script comes to over replies without an end.
+// The result of a script over replies without an end.
 fn left_over(alloc: Global, script: Vec<u8>, bytes: Vec<u8>) -> Result<Left, AllocError> {
     let mut script = MemSource::new(script, 10, Vec::new(alloc));
     let mut replies = Endless {

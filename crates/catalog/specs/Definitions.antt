@@ -1,4 +1,4 @@
--- What a definition comes to: the catalog that it leaves, or its fault; what it does to the list of tables; and what a call answers.
+-- The result of a definition: the catalog that it leaves, or its fault; what it does to the list of tables; and what a call answers.
 use Rattle.std.specs.Prelude.{◌≡◌, List, [], ◌∷◌, ◌++◌, Result, Ok, Err, IsSome, unwrap_or}
 use Rattle.std.specs.List.{remove}
 use Rattle.ae_base.specs.declared.faults.SqlFault.{SqlFault}
@@ -53,8 +53,8 @@ MayDefine catalog other = Unit {0}
 
 -- ---- what a call answers
 
--- It leaves the catalog that is defined. Where none is, it answers the fault, and the old catalog stays; so it does for
--- want of memory.
+-- It leaves the catalog that is defined. Where none is, it answers the fault, and the old catalog stays; so it does out
+-- of memory.
 abbrev pub Defines : {A : Type 0} → Result A (Refusal SqlFault) → Catalog → Catalog → Result Catalog SqlFault → Type 0
 Defines (Ok done) old new defined = defined ≡ Ok new
 Defines (Err (Fault fault)) old new defined = (defined ≡ Err fault) × (new ≡ old)

@@ -261,7 +261,7 @@ impl Catalog {
         self.tables.len() >= MOST_TABLES || self.is_at_last_version()
     }
 
-    /// Carries out a definition, or refuses it with its fault. After a fault or for want of memory,
+    /// Carries out a definition, or refuses it with its fault. After a fault or out of memory,
     /// which a fault's name may take, the catalog is as before.
     pub fn define(&mut self, definition: BoundDefinition) -> Result<(), Refusal>
         requires { IsDefinable self.old definition }
@@ -302,7 +302,7 @@ impl Catalog {
     }
 
     /// Defines a master key, at the end of the list. `Exists` for a name that a master key has,
-    /// else `Full` where no further one can be defined. After a fault or for want of memory the
+    /// else `Full` where no further one can be defined. After a fault or out of memory the
     /// catalog is as before.
     fn create_master(&mut self, name: Name, path: KeyPath) -> Result<(), Refusal>
         ensures { Defines result self.old self.new (with_master self.old name path) }
@@ -320,7 +320,7 @@ impl Catalog {
 
     /// Defines a column key of values under different master keys that are there, at the end of the
     /// list. It gets the next number. `Exists` for a name that a column key has, else `Full` where
-    /// no further one can be defined. After a fault or for want of memory the catalog is as before.
+    /// no further one can be defined. After a fault or out of memory the catalog is as before.
     fn create_key(&mut self, name: Name, values: OneOrTwo<EncryptedValue>) -> Result<(), Refusal>
         requires there { AreMastersThere self.old values }
         requires differ { MastersDiffer values }
@@ -344,7 +344,7 @@ impl Catalog {
 
     /// Adds a value to the column key of a name, which must be there (else `NoSuch`). `Exists` for
     /// a master key that it has a value under, else `Full` where it has two or the last version is
-    /// used. After a fault or for want of memory the catalog is as before.
+    /// used. After a fault or out of memory the catalog is as before.
     fn add_value(&mut self, name: &Name, value: EncryptedValue) -> Result<(), Refusal>
         ensures { Defines result self.old self.new (with_value self.old name.now value) }
     {
@@ -366,7 +366,7 @@ impl Catalog {
 
     /// Drops the value under a master key of the column key of a name, which must be there (else
     /// `NoSuch`). `NoSuch` for a master key that it has no value under, else `KeyInUse` where that
-    /// is its last value, else `Full` where the last version is used. After a fault or for want of
+    /// is its last value, else `Full` where the last version is used. After a fault or out of
     /// memory, which a fault's name may take, the catalog is as before.
     fn drop_value(&mut self, name: &Name, master: &Name) -> Result<(), Refusal>
         ensures { Defines result self.old self.new (without_value self.old name.now master.now) }
@@ -413,7 +413,7 @@ impl Catalog {
     }
 
     /// Defines a table, at the end of the list. `Exists` for a name that a table has, else `Full`
-    /// where no further table can be defined. After a fault or for want of memory the catalog is
+    /// where no further table can be defined. After a fault or out of memory the catalog is
     /// as before.
     fn create_table(&mut self, table: TableDef) -> Result<(), Refusal>
         ensures { Defines result self.old self.new (with_table self.old table) }
@@ -430,8 +430,8 @@ impl Catalog {
     }
 
     /// Takes out the master key of a name. `NoSuch` where there is none, else `KeyInUse` where a
-    /// column key names it, else `Full` where the last version is used. After a fault or for want
-    /// of memory, which a fault's name may take, the catalog is as before.
+    /// column key names it, else `Full` where the last version is used. After a fault or out of
+    /// memory, which a fault's name may take, the catalog is as before.
     fn drop_master(&mut self, name: &Name) -> Result<(), Refusal>
         ensures { Defines result self.old self.new (without_master self.old name.now) }
     {
@@ -451,7 +451,7 @@ impl Catalog {
 
     /// Takes out the column key of a name; its number is never used again. `NoSuch` where there is
     /// none, else `KeyInUse` where a column is encrypted under it, else `Full` where the last
-    /// version is used. After a fault or for want of memory, which a fault's name may take, the
+    /// version is used. After a fault or out of memory, which a fault's name may take, the
     /// catalog is as before.
     fn drop_key(&mut self, name: &Name) -> Result<(), Refusal>
         ensures { Defines result self.old self.new (without_key self.old name.now) }
@@ -471,7 +471,7 @@ impl Catalog {
     }
 
     /// Takes out the table of a name. `NoSuch` where there is none, else `Full` where the last
-    /// version is used. After a fault or for want of memory, which a fault's name may take, the
+    /// version is used. After a fault or out of memory, which a fault's name may take, the
     /// catalog is as before.
     fn drop_table(&mut self, name: &Name) -> Result<(), Refusal>
         ensures { Defines result self.old self.new (without_table self.old name.now) }

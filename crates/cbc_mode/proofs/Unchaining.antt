@@ -185,7 +185,7 @@ length-unchained : (key previous : List ℕ) (blocks : List (List ℕ)) → leng
 length-unchained key previous [] = refl
 length-unchained key previous (block ∷ blocks) = ap (λ (n : ℕ). suc n) (length-unchained key block blocks)
 
--- what decrypting whole blocks comes to
+-- the result of decrypting whole blocks
 pub record IsUnchained (key iv bytes plaintext : List ℕ) : Type 0 where
   pub value : plaintext ≡ concat (cbc_decryption key iv (blocks_of bytes))
   pub undoes : concat (cbc_encryption key iv (blocks_of plaintext)) ≡ bytes

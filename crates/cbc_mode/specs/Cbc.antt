@@ -69,7 +69,7 @@ decrypted_cbc key iv bytes =
     then ok_or (without_padding (concat (cbc_decryption key iv (blocks_of bytes)))) NotPadded
     else Err BadLength
 
--- a call answers what the ciphertext decrypts to; want of memory says nothing of it
+-- a call answers what the ciphertext decrypts to; out of memory says nothing of it
 abbrev pub DecryptsTo : Result (Vec ℕ) CbcFault → Result (List ℕ) CbcFault → Type 0
 DecryptsTo (Ok plaintext) answer = answer ≡ Ok plaintext.items
 DecryptsTo (Err BadLength) answer = answer ≡ Err BadLength

@@ -48,7 +48,7 @@ fn padded_block(rest: &[u8]) -> [u8; 16]
 
 /// The ciphertext of `bytes`, which are padded first: 1 to 16 bytes are always added, up to whole blocks.
 ///
-/// `iv` is the initialization vector. The only error is want of memory, which is taken once.
+/// `iv` is the initialization vector. The only error is out of memory; memory is taken once.
 pub fn encrypt(
     alloc: Global,
     key: &Aes256,

@@ -71,7 +71,7 @@ content_of keys cell =
     else if not (is_authentic keys cell) then Err fault.BadTag
     else opened (decrypted_cbc keys.enc_key (iv_in cell) (ciphertext_in cell))
 
--- a call answers what the cell holds; want of memory says nothing of it
+-- a call answers what the cell holds; out of memory says nothing of it
 abbrev pub UnsealsTo : Result (Vec ℕ) CellFault → Result (List ℕ) CellFault → Type 0
 UnsealsTo (Ok bytes) answer = answer ≡ Ok bytes.items
 UnsealsTo (Err fault.BadVersion) answer = answer ≡ Err fault.BadVersion

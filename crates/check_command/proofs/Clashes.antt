@@ -1,4 +1,4 @@
--- A batch is explained exactly where it comes to a clash, and a refusal leaves the state.
+-- A batch is explained exactly where its result is a clash, and a refusal leaves the state.
 use Rattle.std.proofs.Common.{◌≡◌, inl, inr, ℕ, zero, suc, ◌-◌, List, [], map, replicate, Option, Some, None, Result, Ok, Err, Bool, true, false, cond, refl, sym, ap, ◌∙◌, subst}
 use Rattle.std.specs.Prelude.{◌==◌, IfOk, slice_index_or}
 use Rattle.std.specs.declared.alloc.AllocError.{AllocError}

@@ -1,4 +1,4 @@
--- A definition uses no parameter: what it comes to where it is executed without any is what it means.
+-- A definition uses no parameter: its result where it is executed without any is its meaning.
 use Rattle.std.proofs.Common.{◌≡◌, ◌⊎◌, inl, inr, ℕ, suc, ◌+◌, List, [], ◌∷◌, map, Option, Some, None, Result, Ok, Err, true, false, refl, sym, ap, ◌∙◌, subst, eq-eqb}
 use Rattle.std.specs.Prelude.{unwrap_or, IfOk}
 use Rattle.ae_base.specs.Atoms.{Atom, plain_atom}
@@ -167,7 +167,7 @@ transacts_so state number e h =
         record { done = elim d [ inl x ↦ inl x | inr x ↦ inr (x.0, x.1, ap (λ (after : Counted). let v : State = record state { shared = after } in v) x.2) ]; sessions = refl }
     by (Some t) = let d = (no_rows e.bound.statement h).1 in rw d (record { done = inr (fault.InTransaction, refl, refl); sessions = refl })
 
--- ---- what it comes to
+-- ---- its result
 
 -- a definition that is understood is one that is bound
 pub defining_of : (catalog : Catalog) (batch : Batch) (meant : Meant) → defines batch.text ≡ true → understood catalog batch.text (declarations_of batch) ≡ Ok meant → IsDefining meant.bound.statement

@@ -1,4 +1,4 @@
--- What a batch comes to when its description is asked, and what the server answers to a definition.
+-- The result of a batch when its description is asked, and what the server answers to a definition.
 use Rattle.std.specs.Prelude.{◌≡◌, ◌==◌, ℕ, List, [], ◌∷◌, Some, None, Result, Ok, Err, Bool, true, false}
 use Rattle.ae_base.specs.Faults.{code_of}
 use Rattle.ae_base.specs.declared.batches.Batch.{Batch}

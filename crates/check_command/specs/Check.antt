@@ -1,4 +1,4 @@
--- What `check` comes to: the walk of the plaintext meaning from the empty state, in which a definition is executed, every other batch ends
+-- The result of `check`: the walk of the plaintext meaning from the empty state, in which a definition is executed, every other batch ends
 -- with its description, and nothing stays pending. So no session ever has a transaction. Behind a clash stands a chain of rules that shows it.
 use Rattle.std.specs.Prelude.{◌≡◌, ◌⊎◌, ℕ, List, [], ◌∷◌, ◌++◌, flat_map, replicate, codes, decimal, encode_utf8_all, Option, Some, None, Result, Ok, Err, Bool, true, false}
 use Rattle.ae_base.specs.declared.batches.Batch.{Batch}
@@ -31,7 +31,7 @@ reads_definition (Err f) = false
 abbrev pub defines : List ℕ → Bool
 defines text = reads_definition (statement_in (encode_utf8_all text))
 
--- ---- what a batch comes to
+-- ---- the result of a batch
 
 -- once it is described, a definition is executed; every other batch ends there. No key is there to open.
 abbrev pub described_only : State → ℕ → Bool → Pending → Came
@@ -56,7 +56,7 @@ abbrev pub Chains : Option DriverFault → Result Bound SqlFault → List ℕ �
 Chains None bound places = Explains bound places
 Chains (Some f) bound places = places ≡ []
 
--- the lines of a batch: what it comes to, and for each rule of a chain `because at` its place
+-- the lines of a batch: its result, and for each rule of a chain `because at` its place
 pub record AreLinesOf (state : State) (number : ℕ) (batch : Batch) (lines : List ℕ) : Type 0 where
   pub chain : List ℕ
   pub chains : Chains (why_unfit batch) (binding_of (catalog_of state number) batch.text (declarations_of batch)) chain
@@ -78,7 +78,7 @@ batch_in (Execute number) = []
 abbrev pub batches : List Step → List SessionBatch
 batches steps = flat_map batch_in steps
 
--- what the batches come to, one after another
+-- the results of the batches, one after another
 abbrev pub outcomes : State → List SessionBatch → List Outcome
 outcomes state [] = []
 outcomes state (b ∷ more) = (checked state b.number b.batch).comes ∷ outcomes (checked state b.number b.batch).state more

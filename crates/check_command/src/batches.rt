@@ -1,4 +1,4 @@
-//! What a batch comes to when it is checked.
+//! The result of checking a batch.
 
 ghost use Rattle.std.specs.Prelude.{◌≡◌, IfOk};
 ghost use Rattle.script_lang.specs.Limits.{HasParams};
@@ -14,7 +14,7 @@ use conversation::outcomes::Outcome;
 use server_core::server::Server;
 use std::alloc::{AllocError, Global};
 
-/// What a batch comes to: a definition is executed, any other batch described.
+/// The result of a batch: a definition is executed, any other batch described.
 pub fn outcome_of(
     alloc: Global,
     server: &mut Server,

@@ -13,7 +13,7 @@ use script_source::{Unread, read_steps};
 use std::alloc::Global;
 
 /// Reads a script to its end, executes its definitions over a server of its own, describes every
-/// other batch without executing it, and puts what each comes to. `:describe` ends a batch as `GO`
+/// other batch without executing it, and puts the result of each. `:describe` ends a batch as `GO`
 /// does, `:execute` is nothing, and nothing stays pending. Behind an EncryptionClash stands a line
 /// `because at N` for each rule of a chain that shows it. A script that can't be read, has a bad
 /// line or is too long leaves the output as it was; where a call of the output fails or memory

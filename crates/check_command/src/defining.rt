@@ -66,7 +66,7 @@ fn statement<'r>(text: Txt) -> StatementPart<'r>
     }
 }
 
-/// What the reply to a definition comes to.
+/// The result of the reply to a definition.
 fn outcome_in(replies: &[Reply<'static>]) -> Result<Outcome, AllocError>
     requires { (comes : Outcome) × AnswersAs replies.now comes }
     ensures { IfOk result (AnswersAs replies.now) }

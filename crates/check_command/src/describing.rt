@@ -24,7 +24,7 @@ use std::alloc::{AllocError, Global};
 use wire_messages::replies::Reply;
 use wire_messages::requests::Request;
 
-/// What a batch comes to when it is described.
+/// The result of describing a batch.
 #[derive(Drop)]
 pub enum Asked {
     /// It is described; these parameters are used.

@@ -18,7 +18,7 @@ use Rattle.conversation.specs.declared.sessions.Session.TheVariants.{Idle, Begun
 use Rattle.conversation.specs.declared.sessions.Turn.{Turn}
 use Rattle.conversation.specs.Sessions.{described, Told, Tells, Shows, Stray, replied}
 
--- what was heard: it may come to an outcome, and leaves the session so; or columns came
+-- what was heard: it may give an outcome, and leaves the session so; or columns came
 pub data Heard : Type 0 where
   Said : (comes : Option Outcome) (after : Session) → Heard
   Shown : (header : Header) → Heard

@@ -1,4 +1,4 @@
--- What a script comes to over the bytes of replies is what it is driven to over the replies that their frames carry.
+-- The result of a script over the bytes of replies is its result over the replies that their frames carry.
 use Rattle.std.proofs.Common.{◌≡◌, ℕ, List, [], ◌++◌, Option, Some, None, length, refl, sym, ◌∙◌, ap, subst, append-nil, append_assoc, inl, inr}
 use Rattle.std.specs.Prelude.{IfSome, flat_map}
 use Rattle.std.proofs.Math.Seq.{drop-nil}
@@ -219,7 +219,7 @@ module _ (path : PathIsDriven) (version : FrameVersion) (one : HasOneReading (Sp
             );
       }
 
-    -- what it comes to is cut itself
+    -- the result is cut itself
     module _ (put : HasPut AddsFront (printed_off (off u)) mid new) where
       pub cut_front : IsNext version None 0 part → (more : List ℕ) (placed : List (Placed Payload)) (end : End) → ReadsReplies version 0 (cut.parts.gone ++ part) placed end
           → let d = driven keys steps (flat_map drawn_in g.events ++ more) placed in

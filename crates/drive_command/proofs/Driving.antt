@@ -101,7 +101,7 @@ module _ (version : FrameVersion) (d e : Driven) (events : List Event) (is : d �
       requests_with n ∙ ap (λ rs. flat_map (frames_of version) events ++ flat_map (request_frame version) rs) q ∙ append-nil (flat_map (frames_of version) events) in
       subst (λ w. Adds w a b) (sym i) p
 
-  -- what it comes to at last is put
+  -- the last result is put
   pub texts_whole : (text : List ℕ) (a b c : Option (List ℕ)) → print e.outcomes ≡ text → Adds (flat_map text_of events) a b → Adds text b c → Adds (print d.outcomes) a c
   texts_whole text a b c q p r =
       subst (λ w. Adds w a c) (sym (prints_are ∙ ap (λ w. flat_map text_of events ++ w) q)) (adds_then (flat_map text_of events) text a b c p r)

@@ -109,7 +109,7 @@ pub fn drive<S: Source, V: Vault, E: Entropy, L: Source, W: Sink, T: Sink>(
     tap: &mut T,
     version: FrameVersion,
 ) -> Ran
-    // There are bytes, the script's where it tells them, of which this is what driving comes to.
+    // There are bytes, the script's where it tells them, of which this is the result of driving.
     // Over any replies: how far its conversation was followed, what stands at the text, at the tap
     // and at the other devices of it, how the replies were read, and why no further (`content`).
     // Over replies that tell their bytes, with keys that are told: the text and the tap are those

@@ -179,8 +179,8 @@ impl Holding {
         MOST_REPLY_BYTES.saturating_sub(self.came)
     }
 
-    /// Takes the next piece. There is no memory for more than one byte past the limit. For want of
-    /// memory nothing changes.
+    /// Takes the next piece. There is no memory for more than one byte past the limit. Out of
+    /// memory, nothing changes.
     pub fn push(&mut self, piece: &[u8]) -> Result<(), AllocError>
         ensures pushed { OnOk result (self.new ≡ held_more self.old piece.now) }
         ensures kept { OnErr result (self.new ≡ self.old) }

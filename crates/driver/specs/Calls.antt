@@ -1,4 +1,4 @@
--- What a call of the driver comes to, and the session after it.
+-- The result of a call of the driver, and the session after it.
 use Rattle.std.specs.Prelude.{◌≡◌, ℕ, List, Option, Some, None, Result, Ok, Err, Bool, true, false, ◌==◌}
 use Rattle.std.specs.declared.alloc.AllocError.{AllocError}
 use Rattle.hmac_kdf.specs.Keys.{Keys}
@@ -49,7 +49,7 @@ is_end done.Defined count = false
 abbrev pub IsOnlyAt : ℕ → List Session → List Session → Type 0
 IsOnlyAt number old new = new ≡ with_session old number (session_at new number)
 
--- an answer with the session after it; want of memory leaves the session
+-- an answer with the session after it; out of memory leaves the session
 abbrev pub Comes : {A : Type 0} → Result A AllocError → Turn A → Session → Session → Type 0
 Comes (Ok x) turn old new = turn ≡ record { answer = x; after = new }
 Comes (Err e) turn old new = new ≡ old

@@ -67,7 +67,7 @@ impl Driver {
     /// Begins a batch in a session: the request to describe it. Refused where the session has a
     /// batch, where a value doesn't fit its declared type, by the first such parameter, and where
     /// the text has more than 65,536 bytes, in this order. A refusal leaves the session as it was,
-    /// as want of memory does.
+    /// as it is left out of memory.
     pub fn begin<'r>(
         &mut self,
         alloc: Global,
@@ -86,7 +86,7 @@ impl Driver {
     }
 
     /// Takes the reply to a session's request to describe a batch. A reply that isn't awaited
-    /// leaves the driver as it was, as want of memory does.
+    /// leaves the driver as it was, as it is left out of memory.
     pub fn described(
         &mut self,
         alloc: Global,
@@ -106,7 +106,7 @@ impl Driver {
 
     /// Executes the described batch of a session: the request to do so. Refused where none is
     /// described, which leaves the driver as it was, and where a key of a parameter isn't opened,
-    /// which ends the batch. A vault or a source of random bytes that fails, and want of memory,
+    /// which ends the batch. A vault or a source of random bytes that fails, and out of memory,
     /// leave the session as it was; keys that were opened stay kept, and bytes that were drawn stay
     /// drawn.
     pub fn execute<'r, V: Vault, E: Entropy>(
@@ -137,7 +137,7 @@ impl Driver {
     }
 
     /// Takes a reply to a session's request to execute a batch. A reply that isn't awaited leaves
-    /// the driver as it was. A vault that fails and want of memory leave the session as it was.
+    /// the driver as it was. A vault that fails and out of memory leave the session as it was.
     /// What is kept of keys changes only where columns are shown, whose keys are opened.
     pub fn replied<V: Vault>(
         &mut self,

@@ -67,7 +67,7 @@ impl FrameFeed {
         }
     }
 
-    /// Takes the next piece of the stream. For want of memory nothing changes. Behind a frame that
+    /// Takes the next piece of the stream. Out of memory, nothing changes. Behind a frame that
     /// was refused no byte is wanted, and none is taken.
     pub fn feed(&mut self, piece: &[u8]) -> Result<(), AllocError>
         ensures fed { OnOk result (self.new ≡ with_piece self.old piece.now) }

@@ -28,7 +28,7 @@ fn case_of(line: &str) -> Case<'_> {
     }
 }
 
-/// What a command of a case comes to. The peer that gives the replies is made for the commands that have one alone.
+/// The result of a command of a case. The peer that gives the replies is made for the commands that have one alone.
 fn left_of(
     rt: &HostRuntime,
     command: &str,
@@ -48,7 +48,7 @@ fn left_of(
     Ok(left?)
 }
 
-/// Prints what a command comes to where each of three calls of a device fails: how many bytes stand at the output and at the tap, whether
+/// Prints the result of a command where each of three calls of a device fails: how many bytes stand at the output and at the tap, whether
 /// they are fronts of the whole, and the end.
 fn print_failing(
     rt: &HostRuntime,
@@ -92,7 +92,7 @@ fn print_command(rt: &HostRuntime, command: &str, case: Case<'_>) -> io::Result<
     Ok(())
 }
 
-/// Prints what each command of a case comes to, and of a run in version 2 its frames.
+/// Prints the result of each command of a case, and of a run in version 2 its frames.
 pub(crate) fn print_case(rt: &HostRuntime, line: &str) -> io::Result<()> {
     let case = case_of(line);
     println!(rt; "== {}", case.name)?;

@@ -1,5 +1,5 @@
-//! Hostile use: tables of cases, which are files of the folder in which the program is started. Of each case it prints what a command
-//! comes to over devices in memory, and what it comes to where one call of a device fails.
+//! Hostile use: tables of cases, which are files of the folder in which the program is started. Of each case it prints the result
+//! of a command over devices in memory, and its result where one call of a device fails.
 #![tactic(auto)]
 
 mod answers;

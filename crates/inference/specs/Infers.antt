@@ -1,4 +1,4 @@
--- What inference comes to: the least typing, or the first clash with a chain that shows it, exactly where there is no typing.
+-- The result of inference: the least typing, or the first clash with a chain that shows it, exactly where there is no typing.
 use Rattle.std.specs.Prelude.{◌≡◌, ℕ, ◌+◌, ◌<◌, List, true, false, length, take, Result, Ok, Err}
 use Rattle.ae_base.specs.declared.refusals.Refusal.{Refusal}
 use Rattle.ae_base.specs.declared.refusals.Refusal.TheVariants.{Fault, OutOfMemory}

@@ -56,7 +56,7 @@ impl Held {
         }
     }
 
-    /// Makes room for a frame. For want of memory nothing changes.
+    /// Makes room for a frame. Out of memory, nothing changes.
     fn reserve(&mut self, frame: Vec<u8>) -> Result<Room, AllocError>
         ensures frame { IfOk result (λ room. room.frame ≡ frame.items) }
         ensures before { IfOk result (λ room. room.before ≡ length self.old.frames) }
@@ -182,7 +182,7 @@ impl Keeper {
         Ok(Keeper { sessions })
     }
 
-    /// Makes room for a request of a session. For want of memory nothing changes.
+    /// Makes room for a request of a session. Out of memory, nothing changes.
     pub(crate) fn reserve(
         &mut self,
         alloc: Global,

@@ -29,8 +29,8 @@ is_there map value = is_some (key_at map value.path)
 abbrev pub IsShut : KeyMap → KeyValue → Bool → Type 0
 IsShut map value there = (opened map value ≡ None) × (there ≡ is_there map value)
 
--- what a try of a value comes to: what the value gives, or nothing, and whether its path is there; a vault that fails and
--- want of memory say nothing of it
+-- the result of a try of a value: what the value gives, or nothing, and whether its path is there; a vault that fails and
+-- out of memory say nothing of it
 abbrev pub Tries : {A : Type 0} → Result (Tried A) OpenFault → Option A → Bool → Type 0
 Tries (Ok (Opened x)) given there = given ≡ Some x
 Tries (Ok (Shut is_there)) given there = (given ≡ None) × (is_there ≡ there)
@@ -62,7 +62,7 @@ column_key map meta = or_fault (why_shut map meta) (first_opened map (each_of me
 unfoldable pub open_key : KeyMap → KeyMeta → Result Keys KeyFault
 open_key map meta = column_key map meta >>= λ key. Ok (keys_of key)
 
--- a call answers what is defined, its value or its fault; a vault that fails and want of memory say nothing of it
+-- a call answers what is defined, its value or its fault; a vault that fails and out of memory say nothing of it
 abbrev pub Opens : {A : Type 0} → Result A OpenFault → Result A KeyFault → Type 0
 Opens (Ok x) defined = defined ≡ Ok x
 Opens (Err (Fault fault)) defined = defined ≡ Err fault

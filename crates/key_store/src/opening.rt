@@ -50,7 +50,7 @@ impl OpenedKey {
     }
 }
 
-/// What a value of a column key comes to.
+/// The result of opening a value of a column key.
 #[derive(Drop)]
 pub enum Tried<A> {
     Opened(A),

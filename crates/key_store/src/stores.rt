@@ -163,7 +163,7 @@ impl KeyStore {
         Some(opened.cell_keys())
     }
 
-    /// Keeps a key under a value. Want of memory changes nothing.
+    /// Keeps a key under a value. Out of memory, nothing changes.
     fn keep(&mut self, value: KeyValue, key: OpenedKey) -> Result<(), AllocError>
         ensures kept { AreKeptWith value key self.old self.new }
         ensures refused { OnErr result (self.new ≡ self.old) }

@@ -1,4 +1,4 @@
-//! Which replies come to a request.
+//! Which replies a request gets.
 
 ghost use Rattle.std.specs.Prelude.{◌≡◌, ◌↔◌, IsTrue};
 ghost use Rattle.std.specs.List.{list_all};

@@ -34,7 +34,7 @@ collected_fault whole done one rest fault w e = w ∙ ap (λ o. collected done (
 pub collected_all : {A E : Type 0} (whole : Result (List A) E) (done : List A) (rest : Result (List A) E) → whole ≡ collected done rest → rest ≡ Ok [] → whole ≡ Ok done
 collected_all whole done rest w e = w ∙ ap (collected done) e ∙ ap Ok (append-nil done)
 
--- a fault of a part is one of the whole; want of memory is no fault
+-- a fault of a part is one of the whole; out of memory is no fault
 pub fault_passed : {A B E : Type 0} (e : Refusal E) (part : Result A E) (whole : Result B E) → Answers {A = A} (Err e) part → ((f : E) → part ≡ Err f → whole ≡ Err f) → Answers {A = B} (Err e) whole
 fault_passed (Fault f) part whole h pass = pass f h
 fault_passed OutOfMemory part whole h pass = tt

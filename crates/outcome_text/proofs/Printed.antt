@@ -1,4 +1,4 @@
--- What the steps of printing come to: hex digits, doubled quotes, values with tabs between.
+-- The results of the steps of printing: hex digits, doubled quotes, values with tabs between.
 use Rattle.std.proofs.Common.{◌≡◌, ℕ, suc, ◌-◌, ◌/◌, ◌%◌, ◌<◌, ◌≤◌, true, if◌then◌else◌, ◌==◌, List, [], ◌∷◌, ◌++◌, length, get_or, take, drop, map, flat_map, refl, ap, sym, subst, ◌∙◌, append_assoc, encode_utf8_all, codes, decimal, string_bytes, String, Result, Ok, Err, IfOk, Some, arith}
 use Rattle.std.proofs.lemmas.Bool.{agree_below, agree_below_at, eqb-true}
 use Rattle.std.proofs.lemmas.List.{append-nil, take_rest, take_all, take-append-drop, length-drop}

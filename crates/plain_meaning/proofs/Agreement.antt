@@ -1,4 +1,4 @@
--- Over the server a script comes to its plaintext meaning, sealed values and all.
+-- Over the server the result of a script is its plaintext meaning, sealed values and all.
 use Rattle.std.proofs.Common.{◌≡◌, ℕ, suc, ◌+◌, ◌-◌, List, [], ◌∷◌, ◌++◌, map, length, Option, Some, None, Result, Ok, Err, Bool, true, false, cond, refl, sym, ap, ◌∙◌, subst, arith}
 use Rattle.std.specs.Prelude.{◌==◌, nat_lt, take, drop}
 use Rattle.std.specs.List.{All, AllZip}
@@ -128,11 +128,11 @@ module _ (laws : LawsBelow) (keys : KeyMap) (key_for : ℕ → List ℕ) (now : 
       }
 
 module _ (laws : LawsBelow) (keys : KeyMap) (key_for : ℕ → List ℕ) where
-  -- over this state and these replies a conversation comes to those outcomes, whatever random bytes are there
+  -- over this state and these replies a conversation has those outcomes, whatever random bytes are there
   abbrev pub IsMeant : State → List Reply → Talk → List outcomes.Outcome → Type 0
   IsMeant state queue t wanted = (taken : ℕ) (left : List ℕ) → AreBytes left → Agrees (over serve keys t taken left state queue) wanted
 
-  -- whatever a turn comes to, over states that go on from these, it goes on as it is meant, where what is asked of the rest holds
+  -- whatever the result of a turn, over states that go on from these, it goes on as it is meant, where what is asked of the rest holds
   abbrev pub Onward : State → ℕ → (Session → Talk) → (Option Pending → State → List outcomes.Outcome) → (Option Pending → State → Type 0) → Type 0
   Onward state n k rest Rest = (after : Option Pending) (now beside : State) → StandsFor keys key_for now beside → Goes Always state n now after → Rest after beside → IsMeant now [] (k (resting after)) (rest after beside)
 
@@ -163,7 +163,7 @@ module _ (laws : LawsBelow) (keys : KeyMap) (key_for : ℕ → List ℕ) where
         typed = kept.1;
       }
 
-  -- ---- what a conversation comes to, node by node
+  -- ---- the result of a conversation, node by node
 
   module _ (state : State) (queue : List Reply) where
     says : (t : Talk) (comes : outcomes.Outcome) (wanted : List outcomes.Outcome) → IsMeant state queue t wanted → IsMeant state queue (Prints comes t) (comes ∷ wanted)

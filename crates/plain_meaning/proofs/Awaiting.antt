@@ -142,7 +142,7 @@ module _ (laws : LawsBelow) (keys : KeyMap) (Proper : Type 0) where
     draws : (f g : List ℕ → Talk) → ((iv vi : List ℕ) → IsBlock iv → IsBlock vi → Goes_on (f iv) now queue) → Goes_on (Draws f) now queue
     draws f g h = λ iv n b. h iv iv (n, b) (n, b)
 
-  -- whatever a turn comes to, the conversation goes on so
+  -- whatever the result of a turn, the conversation goes on so
   abbrev Onward : State → ℕ → (Session → Talk) → Type 0
   Onward state n k = (after : Option Pending) (now : State) → IsOwnState now → Goes Proper state n now after → Goes_on (k (resting after)) now []
 

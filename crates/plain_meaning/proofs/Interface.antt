@@ -1,6 +1,6 @@
 -- What crates above may cite of the proofs of this one. The rest is free to change.
 
--- Over the server a script comes to its plaintext meaning, sealed values and all.
+-- Over the server the result of a script is its plaintext meaning, sealed values and all.
 pub use Rattle.plain_meaning.proofs.Agreement.{execution_alone, is_ready, stands_on, whole_count}
 -- The worlds and the sessions between steps.
 pub use Rattle.plain_meaning.proofs.Between.{AllHold, Always, DescribedAs, Goes, HoldsBatch, HoldsIn}

@@ -1,4 +1,4 @@
--- The plaintext meaning of a script: what its steps come to over plain values. No cell, no random byte, no request and no reply is in it.
+-- The plaintext meaning of a script: the results of its steps over plain values. No cell, no random byte, no request and no reply is in it.
 use Rattle.std.specs.Prelude.{ℕ, ◌-◌, List, [], ◌∷◌, map, replicate, slice_index_or, slice_set, Option, Some, None, Result, Ok, Err, ◌==◌, if◌then◌else◌, unwrap_or}
 use Rattle.ae_base.specs.Atoms.{Atom, plain_atom, value_of_atom}
 use Rattle.ae_base.specs.declared.batches.Batch.{Batch}
@@ -33,7 +33,7 @@ use Rattle.script_lang.specs.declared.steps.Step.{Step}
 use Rattle.script_lang.specs.declared.steps.Step.TheVariants.{Whole, Half, Execute}
 use Rattle.plain_meaning.specs.Steps.{number_of}
 
--- what a step comes to, the columns of its answer's rows, what its session holds after it, nothing or a described batch, and the plain state
+-- the result of a step, the columns of its answer's rows, what its session holds after it, nothing or a described batch, and the plain state
 pub record Came : Type 0 where
   pub comes : Outcome
   pub columns : List ResultColumn
@@ -163,7 +163,7 @@ means keys (Whole number batch) before state = begins state number batch (execut
 means keys (Half number batch) before state = begins state number batch (waits state) before
 means keys (Execute number) before state = executes keys state number before
 
--- what the steps come to, one after another
+-- the results of the steps, one after another
 abbrev pub reference : KeyMap → List Step → List (Option Pending) → State → List Outcome
 reference keys [] holds state = []
 reference keys (step ∷ steps) holds state =

@@ -31,8 +31,8 @@ pub fn laws_below()
     value_of_is_the_one();
 }
 
-/// Over a fresh server the conversation of each script comes to the script's plaintext meaning, or
-/// to a front of it where random bytes are short; no reply is one that isn't awaited. So it is
+/// Over a fresh server the result of each script's conversation is the script's plaintext meaning,
+/// or a front of it where random bytes are short; no reply is one that isn't awaited. So it is
 /// whatever columns are protected, over proper values and random bytes, where all values that a
 /// column key ever has open to one key, as far as they open: a cell stands for the value that it
 /// opens to under that key, and in a deterministic class it is that value's seal.
@@ -51,8 +51,8 @@ pub fn replies_are_awaited()
 }
 
 /// No outcome of a plaintext meaning is `CellFailed`, `BadCell` or `ParamClash`, and no answer of
-/// it breaks off. So over a fresh server no script comes to one, where all values of a column key
-/// that open do so to one key. Whatever they open to, none comes to `BadCell` or `ParamClash`.
+/// it breaks off. So over a fresh server no script has one, where all values of a column key that
+/// open do so to one key. Whatever they open to, none has `BadCell` or `ParamClash`.
 pub fn cells_never_fail()
     ensures { CellsNeverFail }
 {

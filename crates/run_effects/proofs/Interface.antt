@@ -5,7 +5,7 @@ pub use Rattle.run_effects.proofs.Calls.{asked_breaks, asked_goes, client_cut, c
 pub use Rattle.run_effects.proofs.Calls.{heard_last, heard_more, own_breaks, own_goes, own_halts}
 pub use Rattle.run_effects.proofs.Calls.{printed_breaks, printed_goes, printed_read, strayed_goes}
 pub use Rattle.run_effects.proofs.Calls.{wire_printed}
--- What was counted of events is what their outcomes come to, and the requests among them.
+-- What was counted of events is what is counted of their outcomes, and the requests among them.
 pub use Rattle.run_effects.proofs.Counted.{errors_are, has_errors_where, requests_are, rows_are}
 -- One way after another, with what all that a run touches has of them.
 pub use Rattle.run_effects.proofs.Going.{breaks_between, breaks_then, client_front, client_still}

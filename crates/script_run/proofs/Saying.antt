@@ -1,4 +1,4 @@
--- What a run prints over a server is the text of outcomes that its conversation there comes to.
+-- What a run prints over a server is the text of the outcomes of its conversation there.
 use Rattle.std.proofs.Common.{◌≡◌, ◌≤◌, ℕ, ◌+◌, List, [], ◌∷◌, ◌++◌, Some, Ok, Err, Result, refl, sym, ◌∙◌, ap, subst, append_assoc, append-nil, length, arith}
 use Rattle.std.specs.Prelude.{flat_map}
 use Rattle.std.specs.List.{All}

@@ -12,7 +12,7 @@ use Rattle.script_run.specs.declared.runs.Ran.{Ran}
 use Rattle.script_run.specs.declared.runs.Ran.TheVariants as ran
 use Rattle.script_source.specs.declared.Unread.TheVariants as unread
 
--- what the steps come to over plain values, from 64 idle sessions and an empty world
+-- the results of the steps over plain values, from 64 idle sessions and an empty world
 abbrev pub meaning : KeyMap → List Step → List Outcome
 meaning keys steps = reference keys steps nothing_held empty_state
 

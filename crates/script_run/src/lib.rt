@@ -1,5 +1,4 @@
-//! Scripts run through a driver: what passes goes to a peer and a tap, and what it comes to is
-//! printed.
+//! Scripts run through a driver: what passes goes to a peer and a tap, and the results are printed.
 #![tactic(auto)]
 
 pub mod around;

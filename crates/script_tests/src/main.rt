@@ -1,5 +1,5 @@
 //! Runs each script of the folder that it is started in, in the order of their names, over devices in memory and an
-//! empty server, and prints what it comes to: its name, its text, its status, and the kinds of the frames that passed.
+//! empty server, and prints the result: its name, its text, its status, and the kinds of the frames that passed.
 //! A script whose name ends in `.check.sql` is checked: its text is printed, and how the check ended. One whose name ends in
 //! `.summary.sql` is run with its summary in the place of its text, and one with `.frames_2.` in its name over frames of version 2.
 #![tactic(auto)]

@@ -61,7 +61,7 @@ AnswersOpen first taken old new = (end : End) × IsOpen end × AnswersAll first 
 
 -- ---- how it ended
 
--- A frame that is refused ends it at once, a fault and want of memory too; else the input is taken to its end, or to one byte
+-- A frame that is refused ends it at once, a fault and out of memory too; else the input is taken to its end, or to one byte
 -- past the limit, when all requests within the limit are answered, from the first state on.
 abbrev pub Ends : State → Served → List ℕ → Option (List ℕ) → Option (List ℕ) → Option (List ℕ) → Type 0
 Ends first served.Done taken left old new = (length taken ≤ most_stream_bytes) × IsAtEnd left × AnswersAll first taken Whole old new
@@ -82,7 +82,7 @@ pub record ServesStream (ended : Served) (left left_after out out_after : Option
 
 -- ---- over a whole input
 
--- Of an input whose bytes within the limit end so, and have these frames of replies, all were put; of a fault or want of
+-- Of an input whose bytes within the limit end so, and have these frames of replies, all were put; of a fault or out of
 -- memory, a front.
 abbrev pub IsServed : Served → List ℕ → End → List ℕ → Option (List ℕ) → Option (List ℕ) → Type 0
 IsServed served.Done bytes end frames old new = (length bytes ≤ most_stream_bytes) × (end ≡ Whole) × Adds frames old new

@@ -11,7 +11,7 @@ pub use Rattle.server_core.proofs.Cells.{params_themselves}
 pub use Rattle.server_core.proofs.Suiting.{is_suited, suited_protected}
 -- What each text is made of that is understood.
 pub use Rattle.server_core.proofs.Understanding.{Parts, parts_of}
--- What requests come to is what they ask of the state.
+-- The result of requests is what they ask of the state.
 pub use Rattle.server_core.proofs.Serial.{after_one, answered_after, described_after}
 -- The sort of a text is that of the statement that it means.
 pub use Rattle.server_core.proofs.Sorting.{prepared_sort, sort_bound}

@@ -1,4 +1,4 @@
--- What a call of a server comes to: its replies, and the state after it.
+-- The result of a call of a server: its replies, and the state after it.
 use Rattle.std.specs.Prelude.{◌≡◌, ℕ, List, Result, Ok, Err}
 use Rattle.ae_base.specs.Atoms.{Atom}
 use Rattle.ae_base.specs.declared.refusals.Refusal.{Refusal}
@@ -23,12 +23,12 @@ meant_of typed = record { bound = bound_of typed.bound; encs = typed.encs }
 abbrev pub ready_of : Ready → Meant × List Atom
 ready_of ready = (meant_of ready.typed, ready.atoms)
 
--- the replies are those that are served; for want of memory the state is as before
+-- the replies are those that are served; out of memory the state is as before
 abbrev pub Serves : {E : Type 0} → Result (List Reply) E → Request → State → State → Type 0
 Serves (Ok replies) request old new = serve old request ≡ record { replies = replies; after = new }
 Serves (Err e) request old new = new ≡ old
 
--- the replies and the state that are served, or the fault for which the request is refused; want of memory leaves the state
+-- the replies and the state that are served, or the fault for which the request is refused; out of memory leaves the state
 abbrev pub ServesOrFails : Result (List Reply) (Refusal SqlFault) → Served State → State → State → Type 0
 ServesOrFails (Ok replies) served old new = served ≡ record { replies = replies; after = new }
 ServesOrFails (Err (Fault f)) served old new = served ≡ refused new f

@@ -23,7 +23,7 @@ pub trait Peer {
     /// What it is lent.
     ghost names: { Self → List GName };
 
-    /// Asks a request: the replies to it, which are of its kinds. For want of memory nothing has
+    /// Asks a request: the replies to it, which are of its kinds. Out of memory, nothing has
     /// happened.
     fn ask(
         &mut self,

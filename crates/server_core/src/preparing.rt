@@ -32,7 +32,7 @@ pub struct Ready {
     pub atoms: Seq<Atom<Cell>>,
 }
 
-/// What a request to execute comes to before it is executed, or its first fault: Moved where the
+/// The result of preparing a request to execute, or its first fault: Moved where the
 /// catalog's version is another, then those of the text, then those of the parameters.
 pub fn prepared(
     alloc: Global,

@@ -1,4 +1,4 @@
-//! What a request comes to, over a state.
+//! The replies to a request over a state, and the state after it.
 
 ghost use Rattle.std.specs.Prelude.{IfOk};
 ghost use Rattle.wire_messages.specs.Exchanges.{HasKinds};
@@ -21,7 +21,7 @@ use wire_messages::replies::Reply;
 use wire_messages::requests::Request;
 use wire_parts::texts::StatementPart;
 
-/// Serves a request: the replies to it, and the state after it. Want of memory leaves the state as
+/// Serves a request: the replies to it, and the state after it. Out of memory, the state is as
 /// before: a COMMIT that is refused ends its transaction, so room for a refusal is taken first.
 #[tactic(auto, using(crate::proofs::ReplyKinds::refusal_kinds))]
 pub fn serve(

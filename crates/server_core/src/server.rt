@@ -56,7 +56,7 @@ impl Server {
     }
 
     /// Serves a request whole: the replies to it, which are of its kinds, and the state after it.
-    /// Want of memory leaves the state as before. To each request that is this one but for a
+    /// Out of memory, the state is as before. To each request that is this one but for a
     /// renaming of cells, in each state that is this one but for it, come these replies and this
     /// state but for it.
     pub fn serve(

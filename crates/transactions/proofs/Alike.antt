@@ -1,4 +1,4 @@
--- From states that correspond, a session comes to answers and states that do.
+-- From states that correspond, a session gets answers and states that do.
 use Rattle.std.proofs.Common.{◌≡◌, ℕ, zero, suc, ◌-◌, ◌+◌, List, [], ◌∷◌, ◌++◌, refl, ap, sym, subst, ◌∙◌, Option, Some, None, unwrap_or, Result, Ok, Err, Bool, true, false}
 use Rattle.std.specs.Prelude.{slice_set, slice_index_or, ◌==◌, if◌then◌else◌}
 use Rattle.std.specs.List.{AllZip, slice_get}

@@ -1,6 +1,6 @@
 -- What crates above may cite of the proofs of this one. The rest is free to change.
 
--- From states that correspond, a session comes to answers and states that do.
+-- From states that correspond, a session gets answers and states that do.
 pub use Rattle.transactions.proofs.Alike.{transact_alike, zip_at, zip_set}
 -- What a statement asks, for all that is said of requests: crates above cite these lemmas.
 pub use Rattle.transactions.proofs.Asking.{asks_alike, asks_renamed, may_ask, rows_by_step}

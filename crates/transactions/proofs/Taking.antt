@@ -56,7 +56,7 @@ placed_other own k rows (n ∷ names) shared h =
     ap (λ r. with_tables (raised (record { world = with_rows shared.world n r; counts = shared.counts }) n) after names) same
     ∙ placed_other own k rows names (with_own_table shared n own) (All-tail (λ n. place_of own.world n ≢ k) n names h)
 
--- what is still to be placed comes to what all comes to
+-- what is still to be placed gives what all gives
 pub record IsTaking (start first : Counted) (names left : List (List ℕ)) (now own : Counted) : Type 0 where
   pub whole : with_tables now own left ≡ with_tables start first names
   pub same : own.world.catalog ≡ now.world.catalog

@@ -1,4 +1,4 @@
--- What the other sessions' calls come to by themselves.
+-- The results of the other sessions' calls by themselves.
 use Rattle.std.specs.Prelude.{◌≡◌, ℕ, ◌-◌, ◌==◌, List, [], ◌∷◌, Bool, true, if◌then◌else◌}
 use Rattle.transactions.specs.Serial.{Call}
 use Rattle.transactions.specs.Stores.{Store, transact}

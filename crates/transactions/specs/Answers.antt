@@ -9,13 +9,13 @@ use Rattle.engine.specs.declared.answers.Answer as code
 use Rattle.transactions.specs.Counted.{Counted, CountedOutcome, Execution, counted_step}
 use Rattle.transactions.specs.Stores.{Transaction, Store, Transacted, stepped_in}
 
--- A statement over a world. After a fault the world is as before; so it is for want of memory.
+-- A statement over a world. After a fault the world is as before; so it is out of memory.
 abbrev pub GivesCounted : {K : Type 0} → Result (code.Answer K) (Refusal SqlFault) → Counted → Counted → CountedOutcome → Type 0
 GivesCounted (Ok answer) old new outcome = outcome ≡ record { answer = Ok (answer_of answer); after = new }
 GivesCounted (Err (Fault fault)) old new outcome = (outcome ≡ record { answer = Err fault; after = new }) × (new ≡ old)
 GivesCounted (Err OutOfMemory) old new outcome = new ≡ old
 
--- A statement in a transaction. A refused one has used its tables; for want of memory the transaction is as before.
+-- A statement in a transaction. A refused one has used its tables; out of memory the transaction is as before.
 abbrev pub StepsIn : {K : Type 0} → Result (code.Answer K) (Refusal SqlFault) → Transaction → Transaction → Execution → Type 0
 StepsIn (Ok answer) old new e = ((counted_step old.own e).answer ≡ Ok (answer_of answer)) × (new ≡ stepped_in old e (counted_step old.own e))
 StepsIn (Err (Fault fault)) old new e = ((counted_step old.own e).answer ≡ Err fault) × (new ≡ stepped_in old e (counted_step old.own e))
@@ -28,7 +28,7 @@ StepsWhere true (Err (Fault fault)) old new e = (fault ≡ InTransaction) × (ne
 StepsWhere true (Err OutOfMemory) old new e = ⊥
 StepsWhere false result old new e = StepsIn result old new e
 
--- What a session asked. A refused COMMIT has ended its transaction; for want of memory the state is as before.
+-- What a session asked. A refused COMMIT has ended its transaction; out of memory the state is as before.
 abbrev pub Transacts : {K : Type 0} → Result (code.Answer K) (Refusal SqlFault) → Store → Store → Transacted → Type 0
 Transacts (Ok answer) old new transacted = transacted ≡ record { answer = Ok (answer_of answer); after = new }
 Transacts (Err (Fault fault)) old new transacted = transacted ≡ record { answer = Err fault; after = new }

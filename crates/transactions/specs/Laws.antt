@@ -29,7 +29,7 @@ abbrev pub TransactionsAreSerial : Type 0
 TransactionsAreSerial = (store : Store) (calls : List Call) → HasNoTransactions store → IsSerial store calls
 
 -- over any pairing that is one-to-one in deterministic classes, of values within their types: from states that correspond a session
--- comes to answers and states that do, fault for fault
+-- gets answers and states that do, fault for fault
 abbrev pub TransactionsSimulate : Type 0
 TransactionsSimulate = (cell : List ℕ → Bool) (related : Class → Atom → Atom → Bool) (store other : Store) (session : ℕ) (ask second : Ask) → IsOneToOne (Related related) → ArePairsWithin (Related related) → IsStore cell store
     → StoresCorrespond (Related related) store other → AsksCorrespond (Related related) ask second → MayAsk cell (world_of store session).world ask

@@ -107,8 +107,8 @@ impl<K: Same> Counted<K> {
     }
 
     /// Executes a statement that is bound on this world's catalog. No count is raised yet; a change
-    /// of a table that has the last count is Full, after every other fault. After a fault or for
-    /// want of memory the world is as before.
+    /// of a table that has the last count is Full, after every other fault. After a fault or
+    /// out of memory the world is as before.
     pub(crate) fn execute(
         &mut self,
         alloc: Global,

@@ -94,7 +94,7 @@ impl<K: Same> Store<K> {
     /// where its parameters are encrypted so and have these values. BEGIN gives the session a copy
     /// of the shared world, over which its statements go until COMMIT or ROLLBACK; COMMIT is
     /// refused with Moved or Conflict where others came between, and takes no memory once a table
-    /// moves. For want of memory the state is as before. An answer of rows has noted the tables
+    /// moves. Out of memory, the state is as before. An answer of rows has noted the tables
     /// that it used, which can be forgotten, and nothing else.
     #[tactic(auto, using(crate::proofs::Forgetting::undone_so))]
     pub fn execute(

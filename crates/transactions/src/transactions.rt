@@ -87,7 +87,7 @@ impl<K: Same> Transaction<K> {
     }
 
     /// Executes a statement that is bound on the catalog of its own world, and notes the tables. A
-    /// fault leaves its world as before, and want of memory all.
+    /// fault leaves its world as before, and out of memory all.
     pub(crate) fn execute(
         &mut self,
         alloc: Global,

@@ -202,7 +202,7 @@ pub fn try_push_reply(
     Ok(())
 }
 
-/// Puts the frame that spells a request in a version at the end. For want of memory the buffer is
+/// Puts the frame that spells a request in a version at the end. Out of memory, the buffer is
 /// emptied.
 pub fn push_request(
     out: &mut Vec<u8>,

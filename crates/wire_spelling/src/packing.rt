@@ -126,8 +126,8 @@ fn try_push_front(
     Ok(count)
 }
 
-/// Puts the first frame of an answer at the end, and tells how many of the replies it carries. For
-/// want of memory the buffer is emptied.
+/// Puts the first frame of an answer at the end, and tells how many of the replies it carries. Out
+/// of memory, the buffer is emptied.
 pub fn push_front(
     out: &mut Vec<u8>,
     version: FrameVersion,

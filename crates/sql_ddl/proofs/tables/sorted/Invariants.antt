@@ -1,4 +1,4 @@
--- The parts so far, with those that are left, come to what all come to.
+-- The parts so far, with those that are left, give what all give.
 use Rattle.std.proofs.Common.{◌≡◌}
 use Rattle.sql_grammar.specs.Making.{parts_in}
 use Rattle.sql_ddl.proofs.Sorting.{sorted_with}
