@@ -88,7 +88,7 @@ pub record IsDefinition (state : State) (number : ℕ) (p : Pending) : Type 0 wh
   pub is : p ≡ pending batch description
   pub defines : defines batch.text ≡ true
 
--- what it came to, and the state after it
+-- its result, and the state after it
 abbrev pub ComesTo : Came → State → Outcome → Type 0
 ComesTo c after comes = (c.comes ≡ comes) × (c.state ≡ after)
 

@@ -24,7 +24,7 @@ use std::fmt::Write;
 use wire_parts::parts::TxtPart;
 use wire_parts::texts::StatementPart;
 
-/// The printed lines of what a batch came to, and for each place of a chain `because at` it.
+/// The printed lines of a batch's result, and for each place of a chain `because at` it.
 pub fn text_with(alloc: Global, outcome: &Outcome, chain: &[u32]) -> Result<String, AllocError>
     ensures { IfOk result (λ text. string_bytes text ≡ printed_outcome outcome.now
         ++ flat_map because chain.now) }

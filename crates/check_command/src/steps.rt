@@ -59,7 +59,7 @@ pub struct Lines {
     refused: bool,
 }
 
-/// The places of the chain behind what a batch came to.
+/// The places of the chain behind the result of a batch.
 fn chain_behind(
     alloc: Global,
     server: &Server,

@@ -23,7 +23,7 @@ pub data Heard : Type 0 where
   Said : (comes : Option Outcome) (after : Session) → Heard
   Shown : (header : Header) → Heard
 
--- The client ends with its sessions; it stops at a reply that isn't awaited, or where none comes, with what an answer came to before;
+-- The client ends with its sessions; it stops at a reply that isn't awaited, or where none comes, with the part of an answer before;
 -- it asks a request; it hears replies, one after another, with the rows so far; it draws 16 bytes; it opens a key; it prints an outcome.
 pub data Talk : Type 0 where
   Ends : (sessions : List Session) → Talk

@@ -40,7 +40,7 @@ pub record HaltsAt (P : Talk → Outside → Type 0) (t : Talk) (old new : Outsi
 
 -- ---- where replies that come as bytes can't be read further
 
--- what an answer came to before it broke off
+-- the part of an answer before it broke off
 abbrev pub off : Talk → Option Outcome
 off (Hears session shown f) = broken session shown
 off other = None
@@ -60,7 +60,7 @@ abbrev pub IsAtFrame : Option Stream → Type 0
 IsAtFrame (Some s) = s.skipped ≡ 0
 IsAtFrame None = ⊥
 
--- it came whole to a place where a reply is awaited; what an answer came to before it broke off is printed
+-- it came whole to a place where a reply is awaited; the part of an answer before it broke off is printed
 pub record Lacks (t : Talk) (old new : Outside) : Type 0 where
   pub between : Talk
   pub mid : Outside
@@ -76,7 +76,7 @@ abbrev pub IsSilent : Option Stream → List Event → Type 0
 IsSilent (Some s) events = flat_map replies_to events ≡ []
 IsSilent None events = Unit {0}
 
--- the conversation goes on so; or a reply was awaited of a stream, and what an answer came to before it broke off is printed
+-- the conversation goes on so; or a reply was awaited of a stream, and the part of an answer before it broke off is printed
 abbrev pub GoesOn : Talk → List Event → Talk → Wire → Type 0
 GoesOn t events u wire = (Follows t events u × IsSilent wire.stream events) ⊎ (IsAtFrame wire.stream × IsAtReply t × (events ≡ printed_off (off t)))
 

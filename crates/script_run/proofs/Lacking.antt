@@ -30,7 +30,7 @@ use Rattle.script_run.specs.Connections.{Rests, Fetches, Finishes}
 use Rattle.script_run.specs.Onward.{IsRows}
 use Rattle.script_run.proofs.Heeded.{rests_goes, stuck_stop, missed, first_next}
 
--- ---- what an answer came to before it broke off
+-- ---- the part of an answer before it broke off
 
 off_follows : (comes : Option Outcome) → Follows (Stops comes) (printed_off comes) (Stops None)
 off_follows (Some comes) = prints_last comes (Stops None) [] (stays (Stops None))

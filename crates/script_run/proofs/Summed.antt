@@ -81,7 +81,7 @@ by_text P ended r text old new before now h f m (inl e) = subst P (sym e.0) h
 by_text P ended r text old new before now h f m (inr (inl e)) = subst P (sym e.0) f
 by_text P ended r text old new before now h f m (inr (inr e)) = subst P (sym e.0) m
 
--- what holds of how the run ended holds of how all ended, where it holds of the two stops with a run that came to its end
+-- what holds of how the run ended holds of how all ended, where it holds of the two stops with a run that reached its end
 pub by_end : (P : Ran → Type 0) (ended r : Ran) (text : List ℕ) (old new : Option (List ℕ)) (before now : ℕ) → (P ran.Done → P (ran.Stopped stop.WriteFault) × P (ran.Stopped stop.OutOfMemory))
     → (P ran.Refusals → P (ran.Stopped stop.WriteFault) × P (ran.Stopped stop.OutOfMemory)) → P ended → Sums ended r text old new before now → P r
 by_end P ran.Done r text old new before now d e h s = let f = d h in by_text P ran.Done r text old new before now h f.0 f.1 s

@@ -22,7 +22,7 @@ abbrev pub PutsText : Ran → Ran → List ℕ → Option (List ℕ) → Option 
 PutsText ended r text old new before now =
     ((r ≡ ended) × Adds text old new) ⊎ ((r ≡ ran.Stopped stop.WriteFault) × AddsFront text old new × Rose before now) ⊎ ((r ≡ ran.Stopped stop.OutOfMemory) × AddsFront text old new)
 
--- the summary of a run that came to its end is put, and nothing of any other
+-- the summary of a run that reached its end is put, and nothing of any other
 abbrev pub Sums : Ran → Ran → List ℕ → Option (List ℕ) → Option (List ℕ) → ℕ → ℕ → Type 0
 Sums ran.Done r text old new before now = PutsText ran.Done r text old new before now
 Sums ran.Refusals r text old new before now = PutsText ran.Refusals r text old new before now
@@ -41,14 +41,14 @@ pub record CountsPlain (count : Count) (keys : KeyMap) (steps : List Step) : Typ
   pub error_count : count.tally.errors ≡ errors_in (meaning keys steps)
   pub row_count : count.tally.rows ≡ rows_in (meaning keys steps)
 
--- of a run that came to its end
+-- of a run that reached its end
 abbrev pub IfEnded : Ran → Type 0 → Type 0
 IfEnded ran.Done P = P
 IfEnded ran.Refusals P = P
 IfEnded (ran.Stopped why) P = Unit {0}
 IfEnded (ran.Unread why) P = Unit {0}
 
--- It is a run whose text goes nowhere; where that came to its end, its summary was put. Over a peer that serves from the empty state, with
+-- It is a run whose text goes nowhere; where that reached its end, its summary was put. Over a peer that serves from the empty state, with
 -- keys that are told, the summary counts the requests of the conversation over that server; and where all values of a column key open to one
 -- key, it counts the refusals and rows of plain SQL over the same values.
 pub record IsSummaryOf (r : Ran) (bytes : List ℕ) (old new : RunDevices) : Type 0 where

@@ -1,5 +1,5 @@
-//! The command `run` with a summary: a script is read whole, its steps are run, and what they come
-//! to is counted.
+//! The command `run` with a summary: a script is read whole, its steps are run, and their
+//! results are counted.
 
 ghost use Rattle.std.specs.Prelude.{◌≡◌, ◌⊎◌, ℕ, List, Some, IfSome};
 ghost use Rattle.ae_edge.specs.Devices.{Rose, WhereTold};
@@ -28,7 +28,7 @@ use server_core::laws::requests_are_serial;
 use server_core::peers::Peer;
 use std::alloc::Global;
 
-/// Puts the summary of a run that came to its end.
+/// Puts the summary of a run that reached its end.
 fn put_summary<W: Sink>(alloc: Global, out: &mut W, run: Run) -> Ran
     ensures { Sums run.ran result (summary run.count.steps run.count.tally)
         (W.held out.old) (W.held out.new) (W.faults out.old) (W.faults out.new) }

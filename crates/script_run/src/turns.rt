@@ -93,7 +93,7 @@ fn hear_rows<A: Around>(
     }
 }
 
-/// Hears rows to their end, and prints what they came to.
+/// Hears rows to their end, and prints their result.
 fn hear_out<A: Around>(
     alloc: Global,
     env: &mut A,

@@ -6,7 +6,7 @@ use check_command::commands::check;
 use check_command::steps::Checked;
 use std::alloc::Global;
 
-/// What a check came to: how it ended, and the text.
+/// The result of a check: how it ended, and the text.
 #[derive(Drop)]
 pub(crate) struct Check {
     pub(crate) ended: Checked,

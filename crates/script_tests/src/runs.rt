@@ -12,7 +12,7 @@ use script_run::summaries::summarize;
 use server_core::server::Server;
 use std::alloc::{AllocError, Global};
 
-/// What a script came to: the status, the text, and the frames that passed.
+/// The result of a script: the status, the text, and the frames that passed.
 #[derive(Drop)]
 pub(crate) struct Came {
     pub(crate) status: Status,

@@ -1,4 +1,4 @@
--- It came to its end, or no further.
+-- It reached its end, or no further.
 use Rattle.std.proofs.Common.{sym, subst, ◌∙◌, Ok, Err, rules}
 use Rattle.conversation.specs.Sessions.{nobody}
 use Rattle.script_run.proofs.Lent.{came, unstarted}
