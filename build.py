@@ -1,18 +1,22 @@
 #!/usr/bin/env python3
 """Proves and builds a program and every crate below it, side by side on all processors.
 
-Usage: build.py TOP PROGRAM, where TOP/crates.txt lists the crates. Each crate is built as soon as those that it uses are
-built, the longest chain first. What was proved before is kept by `rt`, so a build that was broken off goes on where it was.
-On a terminal one line tells how far it is; in a log there is a line for each crate.
+Usage: build.py TOP PROGRAM, where TOP/crates.txt lists the crates. The gate (`rt ci`) proves a copy that holds these crates alone
+and none of their wrong bodies. What it has proved on this machine, for a build that was broken off or in another checkout,
+it doesn't prove again. On a terminal one line tells how far it is; in a log there is a line for each crate.
 """
 import os
+import re
+import shutil
 import signal
 import subprocess
 import sys
+import tempfile
+import threading
 import time
 
 # Processor seconds of each proof: measured where docs/DECISIONS.md has them, else estimated; a crate that is not listed counts as
-# OTHER. They serve the time left and the order alone.
+# OTHER. They serve the time left alone.
 SECONDS = {
     "ae_base": 110, "ae_cli": 195, "ae_edge": 83, "catalog": 99, "check_command": 104, "command_words": 83, "disk": 58,
     "drive_command": 123, "driver": 190, "enc_types": 57, "engine": 199, "frame_feed": 84, "inference": 116,
@@ -23,154 +27,123 @@ SECONDS = {
     "wire_parts": 62, "wire_reading": 79, "wire_spelling": 111,
 }
 OTHER = 35
-MEMORY = 2 << 30  # bytes that a proof may take; few take more
+LEFT_OUT = shutil.ignore_patterns("out", "must-fail")
+DONE = re.compile(r"rt: (\w+) (proved$|is kept:)")
 
 
 class Failed(Exception):
-    """A crate that could not be built."""
-
-
-class Crate:
-    """A line of crates.txt: a crate and the crates of the repository that it uses."""
-
-    def __init__(self, top, name, deps):
-        self.name, self.deps = name, deps
-        self.folder = os.path.join(top, "crates", name)
-        self.log = os.path.join(self.folder, "out", "build.log")
-        self.seconds = SECONDS.get(name, OTHER)
-        self.chain = self.seconds  # with all that waits for it
-        self.run = self.began = None
-
-    def start(self, verb):
-        os.makedirs(os.path.dirname(self.log), exist_ok=True)
-        self.began = time.monotonic()
-        with open(self.log, "wb") as log:
-            self.run = subprocess.Popen(
-                ["rt", *verb], cwd=self.folder, stdin=subprocess.DEVNULL, stdout=log, stderr=log, start_new_session=True
-            )
-
-    def stop(self):
-        """Ends the run with everything that it started; `rt` keeps what is proved."""
-        try:
-            os.killpg(self.run.pid, signal.SIGTERM)
-        except ProcessLookupError:
-            pass
-        self.run.wait()
+    """A build that did not succeed."""
 
 
 def crates_of(top, program):
-    """Returns the program's crate and those below it, by name, with the length of the chain above each."""
-    listed = {}
-    with open(os.path.join(top, "crates.txt"), encoding="utf-8") as lines:
-        for line in lines:
+    """Returns the lines of crates.txt of the program and the crates below it, by name."""
+    lines = {}
+    with open(os.path.join(top, "crates.txt"), encoding="utf-8") as listed:
+        for line in listed:
             head, colon, deps = line.partition("#")[0].partition(":")
             if colon:
-                listed[head.split()[0]] = deps.split()
+                lines[head.split()[0]] = (line, deps.split())
     found = {}
 
     def visit(name):
-        if name in listed and name not in found:
-            deps = [dep for dep in listed[name] if dep in listed]
+        if name in lines and name not in found:
+            line, deps = lines[name]
+            found[name] = line
             for dep in deps:
                 visit(dep)
-            found[name] = Crate(top, name, deps)
 
     visit(program)
-    for crate in reversed(list(found.values())):
-        for dep in crate.deps:
-            found[dep].chain = max(found[dep].chain, found[dep].seconds + crate.chain)
     return found
 
 
-def workers():
-    """Returns how many proofs run side by side: one for each processor, if memory allows."""
-    count = len(os.sched_getaffinity(0)) if hasattr(os, "sched_getaffinity") else os.cpu_count() or 1
-    try:
-        with open("/proc/meminfo", encoding="ascii") as lines:
-            free = next(int(line.split()[1]) << 10 for line in lines if line.startswith("MemAvailable"))
-    except (OSError, StopIteration):
-        return count
-    return max(1, min(count, free // MEMORY))
+def copy_crates(top, crates, room):
+    """Copies what the proofs of the crates read."""
+    for name in crates:
+        shutil.copytree(os.path.join(top, "crates", name), os.path.join(room, "crates", name), ignore=LEFT_OUT)
+    shutil.copyfile(os.path.join(top, "HANDLES"), os.path.join(room, "HANDLES"))
+    with open(os.path.join(room, "crates.txt"), "w", encoding="utf-8") as listed:
+        listed.writelines(crates.values())
 
 
 class Progress:
     """What is said of a build on standard error."""
 
-    def __init__(self, count, width):
-        self.count, self.width = count, width
+    def __init__(self, crates):
+        self.left, self.count = dict.fromkeys(crates, 0), len(crates)
+        self.width = len(os.sched_getaffinity(0)) if hasattr(os, "sched_getaffinity") else os.cpu_count() or 1
         self.begin, self.is_terminal = time.monotonic(), sys.stderr.isatty()
-        self.spent = self.known = 0.0  # of the crates that were built in this run
+        self.spent = 0  # processor seconds, as listed, of the crates that were proved in this run
+        minutes = self.minutes_left()
+        print(f"ae: proving and building {self.count} crates: from nothing about {minutes} min", file=sys.stderr)
 
-    def took(self, crate):
-        seconds = time.monotonic() - crate.began
-        if seconds > 5:  # else it stood from before
-            self.spent, self.known = self.spent + seconds, self.known + crate.seconds
+    def minutes_left(self):
+        """Returns an estimate from known costs, at the pace of this run."""
+        gone = time.monotonic() - self.begin
+        pace = gone / self.spent if self.spent > 500 else 1 / self.width
+        return max(1, round(sum(SECONDS.get(it, OTHER) for it in self.left) * pace / 60))
 
-    def minutes_left(self, left):
-        """Returns an estimate from known costs, at the pace of the crates that this run has built."""
-        work = max(sum(it.seconds for it in left) / self.width, max(it.chain for it in left))
-        return max(1, round(work * (self.spent / self.known if self.known > 60 else 1) / 60))
-
-    def line(self, left, running):
+    def line(self):
         gone = int((time.monotonic() - self.begin) / 60)
-        said = f"ae: {self.count - len(left)} of {self.count} crates proved, {gone} min gone"
-        if left:
-            said += f", about {self.minutes_left(left)} min left"
-        return f"{said} ({', '.join(running)})" if running else said
+        said = f"ae: {self.count - len(self.left)} of {self.count} crates proved, {gone} min gone"
+        return f"{said}, about {self.minutes_left()} min left" if self.left else said
 
-    def show(self, left, running):
+    def show(self):
         if self.is_terminal:
             width = os.get_terminal_size(2).columns - 1
-            print(f"\r\033[K{self.line(left, running)[:width]}", end="", file=sys.stderr, flush=True)
+            print(f"\r\033[K{self.line()[:width]}", end="", file=sys.stderr, flush=True)
 
-    def built(self, crate, left):
-        self.took(crate)
-        if not self.is_terminal:
-            print(f"{self.line(left, [])}: {crate.name}", file=sys.stderr, flush=True)
+    def proved(self, name, is_kept):
+        if name in self.left:
+            del self.left[name]
+            self.spent += 0 if is_kept else SECONDS.get(name, OTHER)
+            if not self.is_terminal:
+                print(f"{self.line()}: {name}", file=sys.stderr, flush=True)
 
     def end(self):
         if self.is_terminal:
             print(file=sys.stderr)
 
 
-def command(crate, program, jobs):
-    """Returns the words for `rt`. A program is also run once, on words that touch nothing, so that its status tells."""
-    if crate.name == program:
-        return ["run", "--jobs", str(jobs), "--", "gen", "1"]
-    return ["lib", "--jobs", str(jobs)]
+def build(room, log, progress):
+    """Proves the crates of the folder, with what is said in the log. Raises Failed where one isn't proved, or a run of it fails."""
+    run = subprocess.Popen(
+        ["rt", "ci"], cwd=room, stdin=subprocess.DEVNULL, stdout=subprocess.PIPE, stderr=subprocess.STDOUT,
+        start_new_session=True, text=True, errors="replace",
+    )
 
+    def read():
+        for line in run.stdout:
+            log.write(line)
+            found = DONE.match(line)
+            if found:
+                progress.proved(found[1], found[2] != "proved")
 
-def build(crates, program):
-    """Builds all crates, and raises Failed at the first that cannot be built. What runs then is stopped."""
-    width = workers()
-    progress = Progress(len(crates), width)
-    left, running = dict(crates), {}
-    minutes = progress.minutes_left(left.values())
-    print(f"ae: proving and building {len(left)} crates, {width} at a time: from nothing about {minutes} min", file=sys.stderr)
+    reader = threading.Thread(target=read)
+    reader.start()
     try:
-        while left:
-            ready = [it for it in left.values() if it.name not in running and not any(dep in left for dep in it.deps)]
-            for crate in sorted(ready, key=lambda it: -it.chain)[: width - len(running)]:
-                crate.start(command(crate, program, max(1, width // (len(running) + len(ready)))))
-                running[crate.name] = crate
-            progress.show(left.values(), running)
-            time.sleep(0.2)
-            for crate in [it for it in running.values() if it.run.poll() is not None]:
-                del running[crate.name]
-                if crate.run.returncode:
-                    raise Failed(crate)
-                del left[crate.name]
-                progress.built(crate, left.values())
-        progress.show([], [])
+        while reader.is_alive():
+            progress.show()
+            reader.join(1)
+        progress.show()
+        if run.wait():
+            raise Failed
     finally:
-        for crate in running.values():
-            crate.stop()
+        try:
+            os.killpg(run.pid, signal.SIGTERM)
+        except ProcessLookupError:
+            pass
+        run.wait()
+        reader.join()
         progress.end()
 
 
-def said_last(log):
-    with open(log, encoding="utf-8", errors="replace") as lines:
-        return "".join(f"  | {line}" for line in lines.readlines()[-12:])
+def said_of_failure(path):
+    """Returns the end of what was said of the first thing that failed."""
+    with open(path, encoding="utf-8", errors="replace") as file:
+        lines = file.readlines()
+    ends = [at for at, line in enumerate(lines) if "NOT PROVED" in line]
+    last = ends[0] + 1 if ends else len(lines)
+    return "".join(f"  | {line}" for line in lines[max(0, last - 12) : last])
 
 
 def main():
@@ -179,17 +152,25 @@ def main():
         if signal.getsignal(number) != signal.SIG_IGN:  # as under nohup
             signal.signal(number, signal.default_int_handler)
     crates = crates_of(top, program)
+    out = os.path.join(top, "crates", program, "out")
+    os.makedirs(out, exist_ok=True)
+    path = os.path.join(out, "build.log")
     began = time.time()
     version = subprocess.run(["rt", "version"], stdout=subprocess.PIPE, text=True, check=True).stdout
     try:
-        build(crates, program)
-    except Failed as failed:
-        (crate,) = failed.args
-        sys.exit(f"ae: {crate.name} could not be built. The end of {crate.log}:\n{said_last(crate.log)}")
+        with tempfile.TemporaryDirectory(prefix="ae-build-") as room:
+            copy_crates(top, crates, room)
+            with open(path, "w", encoding="utf-8") as log:
+                build(room, log, Progress(crates))
+            shutil.copyfile(os.path.join(room, "crates", program, "out", program), os.path.join(out, f"{program}.new"))
+    except Failed:
+        sys.exit(f"ae: the program could not be built. Of what is in {path}:\n{said_of_failure(path)}")
     except KeyboardInterrupt:
         sys.exit("ae: the build was broken off; the next one goes on from here")
+    os.chmod(os.path.join(out, f"{program}.new"), 0o755)
+    os.replace(os.path.join(out, f"{program}.new"), os.path.join(out, program))
     # Its time is that of the beginning, so that a source that changed meanwhile is newer.
-    stamp = os.path.join(crates[program].folder, "out", "built")
+    stamp = os.path.join(out, "built")
     with open(stamp, "w", encoding="utf-8") as file:
         file.write(version)
     os.utime(stamp, (began, began))
