@@ -5,7 +5,7 @@ use Rattle.semantic_checks.specs.Checks.{check_of}
 use Rattle.semantic_checks.proofs.Interface.{smallest_first}
 use Rattle.resolve.specs.Bind.{resolution, bind}
 use Rattle.resolve.specs.Laws.{IsBoundOver, BoundStatementsAre}
-use Rattle.resolve.proofs.Parts.{one_part, first_part}
+use Rattle.expression_binding.proofs.Interface.{one_part, first_part}
 use Rattle.resolve.proofs.PlacedStatements.{named_placed_well}
 use Rattle.resolve.proofs.OnCatalog.{stands_on}
 

@@ -7,10 +7,11 @@ use Rattle.ae_base.specs.declared.faults.SqlFault.{SqlFault}
 use Rattle.sql_tree.specs.declared.bound.BoundJoin as code_join
 use Rattle.sql_tree.specs.Bound.{BoundJoin, join_of}
 use Rattle.resolve.specs.declared.sources.Joined as code
-use Rattle.resolve.specs.Scopes.{Scope, with_source}
+use Rattle.expression_binding.specs.Scopes.{Scope, with_source}
 use Rattle.resolve.specs.Queries.{bind_join, bind_joins}
-use Rattle.resolve.specs.Seen.{source_seen, joined_seen}
-use Rattle.resolve.proofs.Walks.{onto, onto_push}
+use Rattle.expression_binding.specs.Seen.{source_seen}
+use Rattle.resolve.specs.Seen.{joined_seen}
+use Rattle.expression_binding.proofs.Interface.{onto, onto_push}
 
 pub joins_more : (declarations : List ParamDecl) (whole : Result (List BoundJoin) SqlFault) (before scope : Scope) (made : List code_join.BoundJoin) (one : code_join.BoundJoin) (joins : List code.Joined) (i : ℕ) (join : code.Joined)
     → i < length joins → join ≡ get_or joins i join → whole ≡ onto (map join_of made) (bind_joins declarations before (map joined_seen (drop i joins)))

@@ -15,13 +15,14 @@ use Rattle.enc_types.proofs.Interface.{found_among, inferred_alone}
 use Rattle.semantic_checks.specs.Checks.{check_of}
 use Rattle.semantic_checks.proofs.Interface.{checks_keep_the_used}
 use Rattle.catalog.specs.Catalogs.{Catalog}
-use Rattle.resolve.specs.Bind.{type_of, resolution, bind}
-use Rattle.resolve.specs.Laws.{Keeps, BindKeepsTheUsed, PreparedAlone}
-use Rattle.resolve.proofs.Parts.{one_part, first_part}
+use Rattle.expression_binding.specs.Declarations.{Keeps, type_of}
+use Rattle.resolve.specs.Bind.{resolution, bind}
+use Rattle.resolve.specs.Laws.{BindKeepsTheUsed, PreparedAlone}
+use Rattle.expression_binding.proofs.Interface.{one_part, first_part}
 use Rattle.resolve.proofs.Kept.{names_keep_the_used}
 use Rattle.resolve.proofs.OnCatalog.{stands_on}
 use Rattle.resolve.proofs.BoundStatements.{bound_statements_are}
-use Rattle.resolve.proofs.Places.{found}
+use Rattle.expression_binding.proofs.Interface.{found}
 
 -- ---- other declarations
 

@@ -16,8 +16,8 @@ use Rattle.sql_tree.specs.declared.statements.WrittenValue.{WrittenValue}
 use Rattle.catalog.specs.Catalogs.{Catalog, master_named, key_named}
 use Rattle.catalog.specs.WellFormed.{IsMasterThere, AreMastersThere, MastersDiffer}
 use Rattle.resolve.specs.Definitions.{wrapped_key, master_for, key_for, bind_key_value, bind_second_value, bind_key_values}
-use Rattle.resolve.proofs.Parts.{two_parts, first_part}
-use Rattle.resolve.proofs.Places.{found}
+use Rattle.expression_binding.proofs.Interface.{two_parts, first_part}
+use Rattle.expression_binding.proofs.Interface.{found}
 
 -- ---- keys that are found
 

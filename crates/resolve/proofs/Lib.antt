@@ -6,9 +6,5 @@ pub mod KeyValues
 mod Kept
 pub mod KeptWhole
 pub mod OnCatalog
-pub mod Parts
 pub mod PlacedStatements
-pub mod Places
 pub mod QueryParts
-pub mod Trees
-pub mod Walks

@@ -31,20 +31,21 @@ use Rattle.catalog.specs.Catalogs.{Catalog, key_named, table_named, key_of}
 use Rattle.catalog.specs.Definitions.{IsDefinable, MayDefine}
 use Rattle.catalog.specs.WellFormed.{IsKeyThere, AreKeysThere, IsCatalog}
 use Rattle.catalog.specs.declared.keys.ColumnKey.{ColumnKey}
-use Rattle.resolve.specs.Walks.{each_from}
-use Rattle.resolve.specs.Scopes.{Source, scope_of, with_source, bound_source, sites_of_source, sites_of}
-use Rattle.resolve.specs.Scopes as scopes
-use Rattle.resolve.specs.Names.{bind_condition, bind_filter}
+use Rattle.expression_binding.specs.Walks.{each_from}
+use Rattle.expression_binding.specs.Scopes.{Source, scope_of, with_source, bound_source, sites_of_source, sites_of}
+use Rattle.expression_binding.specs.Scopes as scopes
+use Rattle.expression_binding.specs.Names.{bind_condition, bind_filter}
 use Rattle.resolve.specs.Tables.{Joined, Sources, all_sources, visible, table_for, source_for, joined_from, sources_for}
 use Rattle.resolve.specs.Queries.{bind_items, bind_join, bind_joins, bind_column_at, bind_key, bind_query}
 use Rattle.resolve.specs.Changes.{places_for, bind_row, bind_insert, nth_assignment, table_scope, bind_update, bind_delete}
 use Rattle.resolve.specs.Definitions.{key_path, master_for, key_for, bind_key_value, bind_key_values, enc_of, enc_for, name_of, new_name, bind_column, bind_unique, word_keys, table_of, bind_table, bind_definition, table_sites, new_sites}
-use Rattle.resolve.specs.Bind.{type_of, bound_over, resolution}
+use Rattle.expression_binding.specs.Declarations.{type_of}
+use Rattle.resolve.specs.Bind.{bound_over, resolution}
 use Rattle.resolve.proofs.KeyValues.{master_found, key_found, value_bound, values_bound}
-use Rattle.resolve.proofs.Parts.{one_part, two_parts, first_part}
+use Rattle.expression_binding.proofs.Interface.{one_part, two_parts, first_part}
 use Rattle.resolve.proofs.QueryParts.{made, ordered, grouped, filtered, joined, in_parts}
-use Rattle.resolve.proofs.Places.{found}
-use Rattle.resolve.proofs.PlacedStatements.{each_from_placed}
+use Rattle.expression_binding.proofs.Interface.{found}
+use Rattle.expression_binding.proofs.Interface.{each_from_placed}
 
 -- ---- what is found
 

@@ -1,5 +1,5 @@
 -- What a bound statement's places lie within: the columns of its tables, and its parameters.
-use Rattle.std.proofs.Common.{◌≡◌, ℕ, ◌+◌, ◌<◌, ◌≤◌, List, [], ◌∷◌, ◌++◌, length, map, take, refl, ap, sym, subst, ◌∙◌, arith, Bool, true, false, ◌||◌, ◌&&◌, ◌==◌, cond, nat_lt, nat_le, Option, Some, None, Result, Ok, Err, length-append, encode_utf8_all}
+use Rattle.std.proofs.Common.{◌≡◌, ℕ, ◌+◌, ◌<◌, ◌≤◌, List, [], ◌∷◌, ◌++◌, length, map, take, refl, ap, sym, subst, ◌∙◌, arith, Bool, true, false, ◌||◌, ◌&&◌, ◌==◌, cond, nat_lt, nat_le, Option, Some, None, Ok, Err, encode_utf8_all}
 use Rattle.std.specs.List.{All, list_any, flat_map}
 use Rattle.std.specs.Str.{bytes_eq}
 use Rattle.std.proofs.lemmas.Bool.{leb-true, ltb-false, eqb-true, eqb-false}
@@ -10,7 +10,6 @@ use Rattle.ae_base.specs.Keys.{IsKeyPath}
 use Rattle.ae_base.specs.declared.batches.ParamDecl.{ParamDecl}
 use Rattle.ae_base.specs.declared.tables.ColumnDef.{ColumnDef}
 use Rattle.ae_base.specs.declared.tables.TableDef.{TableDef}
-use Rattle.ae_base.specs.declared.faults.SqlFault.{SqlFault}
 use Rattle.ae_base.specs.declared.faults.SqlFault.TheVariants as fault
 use Rattle.sql_tree.specs.declared.operands.ColumnRef.{ColumnRef}
 use Rattle.sql_tree.specs.declared.statements.ColumnAt.{ColumnAt}
@@ -32,24 +31,22 @@ use Rattle.sql_tree.specs.Placed.{IsPlaced, IsPlacedCondition, IsPlacedFilter, I
 use Rattle.semantic_checks.specs.Clashes.{Types, operand_clashes, paired_clashes, row_clashes, clashes}
 use Rattle.semantic_checks.specs.Checks.{is_long_statement}
 use Rattle.catalog.specs.Catalogs.{Catalog}
-use Rattle.resolve.specs.Walks.{each_from}
-use Rattle.resolve.specs.Scopes.{Source, Scope, ScopeColumn, nothing_in_scope, with_source, with_sources, scope_of, bound_source, sites_of, named_place, column_place}
-use Rattle.resolve.specs.Names.{bind_operand, bind_operands, bind_condition, bind_filter}
+use Rattle.expression_binding.specs.Walks.{each_from}
+use Rattle.expression_binding.specs.Scopes.{Scope, ScopeColumn, nothing_in_scope, with_source, with_sources, scope_of, bound_source, sites_of, named_place, column_place}
+use Rattle.expression_binding.specs.Names.{bind_operand, bind_operands, bind_condition, bind_filter}
 use Rattle.resolve.specs.Tables.{Joined, Sources, all_sources, table_for, sources_for}
 use Rattle.resolve.specs.Queries.{star_items, title_of, bind_value, bind_item, bind_items, bind_join, bind_joins, bind_column_at, bind_key, bind_query}
 use Rattle.resolve.specs.Changes.{table_scope, all_places, places_for, listed_place, bind_row, bind_insert, column_of, bind_assignment, nth_assignment, bind_update, bind_delete}
 use Rattle.resolve.specs.Definitions.{key_for, bind_key_value, bind_key_values, key_path, master_for, bind_column, word_keys, bind_key_column, bind_unique, listed_name, place_of_key, alone, places_of_list, table_of, bind_table, bind_definition, table_sites, new_sites}
-use Rattle.resolve.specs.Bind.{type_of, bound_over, resolution}
+use Rattle.expression_binding.specs.Declarations.{type_of}
+use Rattle.resolve.specs.Bind.{bound_over, resolution}
 use Rattle.resolve.proofs.KeyValues.{value_bound, values_bound}
-use Rattle.resolve.proofs.Parts.{one_part, two_parts, first_part}
+use Rattle.expression_binding.proofs.Interface.{one_part, two_parts, first_part}
 use Rattle.resolve.proofs.QueryParts.{made, ordered, grouped, filtered, joined, in_parts}
-use Rattle.resolve.proofs.Places.{place-within, column-within, operand_placed, operands_placed, condition_placed, filter_placed, each_placed}
+use Rattle.expression_binding.proofs.Interface.{place-within, column-within, operand_placed, operands_placed, condition_placed, filter_placed, each_placed}
+use Rattle.expression_binding.proofs.Interface.{each_from_placed, each_from-length, with-length, scope-sites, from-length}
 
 -- ---- changes
-
-pub each_from_placed : {A B : Type 0} (P : B → Type 0) (g : ℕ → A → Result B SqlFault) → ((i : ℕ) (x : A) (y : B) → g i x ≡ Ok y → P y) → (xs : List A) (i : ℕ) (ys : List B) → each_from g i xs ≡ Ok ys → All P ys
-each_from_placed P g one [] i ys e = let j : [] ≡ ys = cc in subst (All P) j (All-nil P)
-each_from_placed P g one (x ∷ xs) i ys e = two_parts (g i x) (each_from g (i + 1) xs) ◌∷◌ ys (All P) e (λ y zs ey ez. All-cons P y zs (one i x y ey) (each_from_placed P g one xs (i + 1) zs ez))
 
 all-places : (columns : List ColumnDef) (i : ℕ) → All (λ p. p < i + length columns) (all_places i columns)
 all-places [] i = All-nil (λ p. p < i + 0)
@@ -88,9 +85,6 @@ items_placed s ds (tree.Star at) b e =
     let i : star_items at 0 s.columns ≡ b = cc in subst (All (λ item. IsPlacedValue (length s.columns) (length ds) item.value)) i (starred_placed at (length s.columns) (length ds) s.columns 0 (omega arith))
 items_placed s ds (tree.Listed items) b e = each_placed (λ item. IsPlacedValue (length s.columns) (length ds) item.value) (bind_item s ds) (λ x y. item_placed s ds x y) items b e
 
-with-length : (s : Scope) (x : Source) → length (with_source s x).columns ≡ length s.columns + length x.def.columns
-with-length s x = length-append s.columns _ ∙ ap (λ n. length s.columns + n) (length-map x.def.columns _)
-
 pub joins_placed : (ds : List ParamDecl) (n : ℕ) (js : List Joined) (s : Scope) (b : List bound.BoundJoin) → bind_joins ds s js ≡ Ok b → length (with_sources s (map (λ join. join.source) js)).columns ≡ n
     → ArePlacedJoins n (length ds) (length s.columns) b
 joins_placed ds n [] s b e w = let i : [] ≡ b = cc in subst (ArePlacedJoins n (length ds) (length s.columns)) i w
@@ -103,17 +97,6 @@ joins_placed ds n (j ∷ js) s b e w =
       subst (λ k. ArePlacedJoins n (length ds) k m) (with-length s j.source) (joins_placed ds n js (with_source s j.source) m em w),
     )))
 
-sites-length : (xs : List Source) (s : Scope) → length (with_sources s xs).columns ≡ length s.columns + length (sites_of xs)
-sites-length [] s = omega arith
-sites-length (x ∷ xs) s =
-    let h = sites-length xs (with_source s x) in let w = with-length s x in
-    let m : length (map site_of x.def.columns) ≡ length x.def.columns = length-map x.def.columns site_of in
-    let a : length (sites_of (x ∷ xs)) ≡ length (map site_of x.def.columns) + length (sites_of xs) = length-append (map site_of x.def.columns) (sites_of xs) in
-    omega (arith, h, w, m, a)
-
-pub scope-sites : (xs : List Source) → length (scope_of xs).columns ≡ length (sites_of xs)
-scope-sites xs = let e : 0 + length (sites_of xs) ≡ length (sites_of xs) = omega arith in sites-length xs nothing_in_scope ∙ e
-
 columns_at_placed : (s : Scope) (xs : List ColumnAt) (ys : List PlaceAt) → each (bind_column_at s) xs ≡ Ok ys → All (λ key. key.place < length s.columns) ys
 columns_at_placed s xs ys e =
     each_placed (λ (key : PlaceAt). key.place < length s.columns) (bind_column_at s)
@@ -124,9 +107,6 @@ keys_placed s xs ys e =
     each_placed (λ (key : BoundOrderKey). key.place < length s.columns) (bind_key s)
     (λ x y h. one_part (column_place s x.column.column) (λ p. record { at = x.column.at; place = p; descending = x.descending }) y (λ (key : BoundOrderKey). key.place < length s.columns) h
     (λ p ep. column-within s x.column.column p ep)) xs ys e
-
-from-length : (x : Source) → length (scope_of (x ∷ [])).columns ≡ length x.def.columns
-from-length x = length-map x.def.columns _
 
 abbrev PlacedIfShort : ℕ → ℕ → bound.BoundQuery → Type 0
 PlacedIfShort columns params z = 1 ≤ length z.items → length z.items ≤ 512 → IsPlacedQuery columns params z
@@ -180,11 +160,6 @@ unique_within columns unique keys e =
     each_from_placed (λ (key : PlaceAt). key.place < length columns) (bind_key_column columns unique.columns)
     (λ i x y h. one_part (named_place columns (map listed_name (take i unique.columns)) x.name) (λ p. record { at = x.at; place = p }) y (λ (key : PlaceAt). key.place < length columns) h
     (λ p ep. place-within columns x.name (list_any (bytes_eq x.name) (map listed_name (take i unique.columns))) p ep)) unique.columns 0 keys e
-
-each_from-length : {A B : Type 0} (g : ℕ → A → Result B SqlFault) (xs : List A) (i : ℕ) (ys : List B) → each_from g i xs ≡ Ok ys → length ys ≡ length xs
-each_from-length g [] i ys e = let j : [] ≡ ys = cc in subst (λ z. length z ≡ 0) j refl
-each_from-length g (x ∷ xs) i ys e =
-    two_parts (g i x) (each_from g (i + 1) xs) ◌∷◌ ys (λ z. length z ≡ length (x ∷ xs)) e (λ y zs ey ez. let h = each_from-length g xs (i + 1) zs ez in omega (arith, h))
 
 table_placed : (catalog : Catalog) (table : List ℕ) (columns : List ColumnSpec) (uniques : List UniqueSpec) (b : BoundTable) → bind_table catalog table columns uniques ≡ Ok b → length b.def.uniques ≤ 8
     → IsPlacedTable (table_sites b.def) b

@@ -8,8 +8,8 @@ use Rattle.sql_tree.specs.declared.bound.BoundOrderKey.{BoundOrderKey}
 use Rattle.sql_tree.specs.Conditions.{Condition}
 use Rattle.sql_tree.specs.Statements as tree
 use Rattle.sql_tree.specs.Bound as bound
-use Rattle.resolve.specs.Scopes.{scope_of, bound_source}
-use Rattle.resolve.specs.Names.{bind_filter}
+use Rattle.expression_binding.specs.Scopes.{scope_of, bound_source}
+use Rattle.expression_binding.specs.Names.{bind_filter}
 use Rattle.resolve.specs.Tables.{Sources, all_sources}
 use Rattle.resolve.specs.Queries.{bind_items, bind_joins, bind_column_at, bind_key, bind_query}
 

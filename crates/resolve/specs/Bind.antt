@@ -4,7 +4,6 @@
 use Rattle.std.specs.Prelude.{List, [], map, Result, Ok}
 use Rattle.ae_base.specs.Results.{◌>>=◌}
 use Rattle.ae_base.specs.declared.batches.ParamDecl.{ParamDecl}
-use Rattle.ae_base.specs.declared.types.Ty.{Ty}
 use Rattle.ae_base.specs.declared.faults.SqlFault.{SqlFault}
 use Rattle.sql_tree.specs.declared.bound.ColumnSite.{ColumnSite}
 use Rattle.sql_tree.specs.Statements.{Statement}
@@ -12,7 +11,8 @@ use Rattle.sql_tree.specs.Statements as tree
 use Rattle.sql_tree.specs.Bound.{BoundStatement, Bound}
 use Rattle.sql_tree.specs.Bound as bound
 use Rattle.catalog.specs.Catalogs.{Catalog}
-use Rattle.resolve.specs.Scopes.{sites_of}
+pub use Rattle.expression_binding.specs.Declarations.{type_of}
+use Rattle.expression_binding.specs.Scopes.{sites_of}
 use Rattle.resolve.specs.Tables.{table_for, sources_for, all_sources}
 use Rattle.resolve.specs.Queries.{bind_query}
 use Rattle.resolve.specs.Changes.{bind_insert, bind_update, bind_delete}
@@ -20,9 +20,6 @@ use Rattle.resolve.specs.Definitions.{bind_definition, table_sites, new_sites}
 use Rattle.semantic_checks.specs.Checks.{check_of}
 
 -- ---- the tables and the other names
-
-abbrev pub type_of : ParamDecl → Ty
-type_of declaration = declaration.ty
 
 abbrev pub bound_over : List ParamDecl → List ColumnSite → BoundStatement → Bound
 bound_over declarations columns statement = record { params = map type_of declarations; columns = columns; statement = statement }

@@ -9,9 +9,9 @@ use Rattle.sql_tree.specs.declared.operands.ColumnRef.{ColumnRef}
 use Rattle.sql_tree.specs.Conditions.{Condition}
 use Rattle.sql_tree.specs.Statements.{ValueRow, Assignment}
 use Rattle.sql_tree.specs.Bound.{BoundRow, BoundInsert, BoundAssignment, BoundUpdate, BoundDelete}
-use Rattle.resolve.specs.Walks.{each_from}
-use Rattle.resolve.specs.Scopes.{Scope, nothing_in_scope, scope_of, named_place}
-use Rattle.resolve.specs.Names.{bind_operand, bind_operands, bind_filter}
+use Rattle.expression_binding.specs.Walks.{each_from}
+use Rattle.expression_binding.specs.Scopes.{Scope, nothing_in_scope, scope_of, named_place}
+use Rattle.expression_binding.specs.Names.{bind_operand, bind_operands, bind_filter}
 
 -- the scope of the one table that a change works on
 abbrev pub table_scope : List ℕ → TableDef → Scope

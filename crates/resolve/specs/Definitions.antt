@@ -27,8 +27,8 @@ use Rattle.sql_tree.specs.declared.bound.BoundDefinition.TheVariants as definiti
 use Rattle.sql_tree.specs.declared.bound.ColumnSite.{ColumnSite}
 use Rattle.sql_tree.specs.Placed.{site_of}
 use Rattle.catalog.specs.Catalogs.{Catalog, key_named, master_named}
-use Rattle.resolve.specs.Walks.{each_from}
-use Rattle.resolve.specs.Scopes.{named_place}
+use Rattle.expression_binding.specs.Walks.{each_from}
+use Rattle.expression_binding.specs.Scopes.{named_place}
 
 -- ---- keys: a path or a wrapped key past its limits is TooLong; no text that is read has one
 

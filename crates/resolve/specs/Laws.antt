@@ -1,6 +1,6 @@
 -- What each bound statement is; and one that is bound over all declarations is bound alike over others that have those it uses.
-use Rattle.std.specs.Prelude.{◌≡◌, ℕ, List, map, Bool, true, Ok}
-use Rattle.std.specs.List.{All, slice_get}
+use Rattle.std.specs.Prelude.{◌≡◌, ℕ, List, map, Ok}
+use Rattle.std.specs.List.{All}
 use Rattle.ae_base.specs.Results.{◌>>=◌}
 use Rattle.ae_base.specs.declared.batches.ParamDecl.{ParamDecl}
 use Rattle.ae_base.specs.declared.types.Enc.{Enc}
@@ -14,8 +14,9 @@ use Rattle.enc_types.specs.UsedAlone.{used_among, is_used, alone}
 use Rattle.catalog.specs.Catalogs.{Catalog}
 use Rattle.catalog.specs.Definitions.{MayDefine}
 use Rattle.catalog.specs.WellFormed.{IsKeyThere, IsCatalog}
-use Rattle.resolve.specs.Scopes.{param_place}
-use Rattle.resolve.specs.Bind.{bound_over, type_of, resolution, bind}
+use Rattle.expression_binding.specs.Declarations.{type_of}
+pub use Rattle.expression_binding.specs.Declarations.{Keeps}
+use Rattle.resolve.specs.Bind.{bound_over, resolution, bind}
 
 -- a bound statement has the declared types, its places lie within them and its columns, and its tables and keys are those of
 -- the catalog
@@ -29,12 +30,7 @@ pub record IsBoundOver (catalog : Catalog) (declarations : List ParamDecl) (b : 
 abbrev pub BoundStatementsAre : Type 0
 BoundStatementsAre = (catalog : Catalog) (statement : Statement) (declarations : List ParamDecl) (b : Bound) → bind catalog statement declarations ≡ Ok b → IsBoundOver catalog declarations b
 
--- each parameter that is used stands in the other list too, where f puts it, with its type
-pub record Keeps (declarations others : List ParamDecl) (f : ℕ → ℕ) (used : ℕ → Bool) : Type 0 where
-  pub named : (name : List ℕ) (place : ℕ) → param_place declarations name ≡ Ok place → used place ≡ true → param_place others name ≡ Ok (f place)
-  pub typed : (place : ℕ) → used place ≡ true → slice_get (map type_of others) (f place) ≡ slice_get (map type_of declarations) place
-
--- over those it is the same statement, its parameters where f puts them
+-- over others that have those it uses it is the same statement, its parameters where f puts them
 pub record NamesKeepTheUsed : Type 0 where
   pub kept : (catalog : Catalog) (statement : Statement) (declarations others : List ParamDecl) (f : ℕ → ℕ) (bound : Bound)
       → resolution catalog statement declarations ≡ Ok bound → Keeps declarations others f (λ place. uses place bound)

@@ -1,11 +1,9 @@
+pub use Rattle.expression_binding.specs.Scopes
 pub mod Bind
 pub mod Changes
 pub mod Definitions
 pub mod Faults
 pub mod Laws
-pub mod Names
 pub mod Queries
-pub mod Scopes
 pub mod Seen
 pub mod Tables
-pub mod Walks

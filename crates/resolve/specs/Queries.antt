@@ -14,9 +14,9 @@ use Rattle.sql_tree.specs.Statements.{Item, ItemValue, Items, Query}
 use Rattle.sql_tree.specs.Statements as tree
 use Rattle.sql_tree.specs.Bound.{BoundItem, BoundItemValue, BoundJoin, BoundQuery}
 use Rattle.sql_tree.specs.Bound as bound
-use Rattle.resolve.specs.Scopes.{Scope, ScopeColumn, scope_of, with_source, bound_source, column_place}
+use Rattle.expression_binding.specs.Scopes.{Scope, ScopeColumn, scope_of, with_source, bound_source, column_place}
 use Rattle.resolve.specs.Tables.{Joined, Sources, all_sources}
-use Rattle.resolve.specs.Names.{bind_operand, bind_condition, bind_filter}
+use Rattle.expression_binding.specs.Names.{bind_operand, bind_condition, bind_filter}
 
 -- * is each column in scope, at its place
 abbrev pub star_items : ℕ → ℕ → List ScopeColumn → List BoundItem

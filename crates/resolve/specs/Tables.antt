@@ -11,7 +11,7 @@ use Rattle.sql_tree.specs.declared.statements.SourceTable.{SourceTable}
 use Rattle.sql_tree.specs.Conditions.{Condition}
 use Rattle.sql_tree.specs.Statements.{Join, Query}
 use Rattle.catalog.specs.Catalogs.{Catalog, table_named}
-use Rattle.resolve.specs.Scopes.{Source}
+use Rattle.expression_binding.specs.Scopes.{Source}
 
 -- a further table with its condition ON
 pub record Joined : Type 0 where

@@ -5,19 +5,20 @@ ghost use Rattle.ae_base.specs.Results.{each, Answers, AnswersAs};
 ghost use Rattle.sql_tree.specs.Operands.{operand_of};
 ghost use Rattle.sql_tree.specs.Bound as bound;
 ghost use Rattle.sql_tree.specs.Statements as tree;
-ghost use Rattle.resolve.specs.Scopes.{bound_source, scope_of};
+ghost use Rattle.expression_binding.specs.Scopes.{bound_source, scope_of};
 ghost use Rattle.resolve.specs.Tables.{all_sources};
 ghost use Rattle.resolve.specs.Queries.{bind_column_at, bind_item, bind_items, bind_join, bind_joins, bind_key, bind_order, bind_over, bind_query, bind_value, operand_title, star_items, title_of};
-ghost use Rattle.resolve.specs.Seen.{column_seen, joined_seen, scope_seen, source_seen, sources_seen};
+ghost use Rattle.expression_binding.specs.Seen.{column_seen, scope_seen, source_seen};
+ghost use Rattle.resolve.specs.Seen.{joined_seen, sources_seen};
 
-use crate::conditions::{bind_condition, bind_filter};
-use crate::operands::bind_operand;
-use crate::scopes::{Scope, ScopeColumn, Source, column_place};
 use crate::sources::{Joined, Sources};
 use ae_base::batches::ParamDecl;
 use ae_base::lists::{Duplicate, Seq};
 use ae_base::names::{ParamName, Title};
 use ae_base::refusals::Refusal;
+use expression_binding::conditions::{bind_condition, bind_filter};
+use expression_binding::operands::bind_operand;
+use expression_binding::scopes::{Scope, ScopeColumn, Source, column_place};
 use sql_tree::bound::{
     BoundItem, BoundItemValue, BoundJoin, BoundOrderKey, BoundQuery, BoundSource, PlaceAt,
 };

@@ -4,15 +4,16 @@ ghost use Rattle.std.specs.Prelude.{◌≡◌, [], ◌∷◌, map};
 ghost use Rattle.sql_tree.specs.Statements.{join_of, query_of};
 ghost use Rattle.ae_base.specs.Results.{Answers, AnswersAs};
 ghost use Rattle.resolve.specs.Tables.{joined_from, source_for, sources_for, table_for, visible};
-ghost use Rattle.resolve.specs.Seen.{joined_seen, source_seen, sources_seen};
+ghost use Rattle.expression_binding.specs.Seen.{source_seen};
+ghost use Rattle.resolve.specs.Seen.{joined_seen, sources_seen};
 
-use crate::scopes::{Source, is_source};
 use ae_base::faults::SqlFault;
 use ae_base::lists::{Duplicate, Seq};
 use ae_base::names::{Name, ParamName};
 use ae_base::refusals::Refusal;
 use ae_base::tables::TableDef;
 use catalog::catalogs::Catalog;
+use expression_binding::scopes::{Source, is_source};
 use sql_tree::conditions::Condition;
 use sql_tree::operands::ColumnRef;
 use sql_tree::statements::{Join, Query, SourceTable};

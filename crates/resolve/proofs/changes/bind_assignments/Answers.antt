@@ -4,8 +4,8 @@ use Rattle.std.proofs.lemmas.Result.{err_from_is_err_and}
 use Rattle.sql_tree.specs.Bound as bound
 use Rattle.sql_tree.specs.Statements as tree
 use Rattle.resolve.specs.Changes.{bind_assignment}
-use Rattle.resolve.specs.Seen.{scope_seen}
-use Rattle.resolve.proofs.Walks.{fails, behind_more, behind_fault}
+use Rattle.expression_binding.specs.Seen.{scope_seen}
+use Rattle.expression_binding.proofs.Interface.{fails, behind_more, behind_fault}
 use Rattle.resolve.proofs.changes.bind_assignments.Goals as goal
 
 pub returns-in_err-bind_assignment : goal.returns-in_err-bind_assignment

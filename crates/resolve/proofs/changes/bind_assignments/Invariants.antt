@@ -1,11 +1,11 @@
 -- Those bound so far stand before the others.
 use Rattle.std.proofs.Common.{◌≡◌, drop, map}
-use Rattle.resolve.specs.Walks.{each_from}
-use Rattle.resolve.proofs.Walks.{onto}
+use Rattle.expression_binding.specs.Walks.{each_from}
+use Rattle.expression_binding.proofs.Interface.{onto}
 use Rattle.sql_tree.specs.Bound as bound
 use Rattle.sql_tree.specs.Statements as tree
 use Rattle.resolve.specs.Changes.{nth_assignment}
-use Rattle.resolve.specs.Seen.{scope_seen}
+use Rattle.expression_binding.specs.Seen.{scope_seen}
 use Rattle.resolve.proofs.changes.bind_assignments.Given as goal
 
 abbrev pub invariant-loop-i : goal.invariant-loop-i

@@ -1,7 +1,7 @@
 -- Those bound so far stand before the others.
 use Rattle.std.proofs.Common.{◌≡◌, drop, map}
 use Rattle.ae_base.specs.Results.{each}
-use Rattle.resolve.proofs.Walks.{onto}
+use Rattle.expression_binding.proofs.Interface.{onto}
 use Rattle.sql_tree.specs.Bound as bound
 use Rattle.sql_tree.specs.Statements as tree
 use Rattle.resolve.specs.Changes.{bind_row}

@@ -1,7 +1,7 @@
 -- Those bound so far stand before the others.
 use Rattle.std.proofs.Common.{◌≡◌, drop}
-use Rattle.resolve.specs.Walks.{each_from}
-use Rattle.resolve.proofs.Walks.{onto}
+use Rattle.expression_binding.specs.Walks.{each_from}
+use Rattle.expression_binding.proofs.Interface.{onto}
 use Rattle.resolve.specs.Changes.{listed_place}
 use Rattle.resolve.proofs.changes.listed_places.Given as goal
 

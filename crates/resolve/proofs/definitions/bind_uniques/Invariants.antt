@@ -1,7 +1,7 @@
 -- Those bound so far stand before the others.
 use Rattle.std.proofs.Common.{◌≡◌, drop}
 use Rattle.ae_base.specs.Results.{each}
-use Rattle.resolve.proofs.Walks.{onto}
+use Rattle.expression_binding.proofs.Interface.{onto}
 use Rattle.resolve.specs.Definitions.{bind_unique}
 use Rattle.resolve.proofs.definitions.bind_uniques.Given as goal
 

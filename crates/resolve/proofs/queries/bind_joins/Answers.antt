@@ -1,6 +1,6 @@
 -- A join's table is in scope at its ON and behind it.
 use Rattle.std.proofs.Common.{arith}
-use Rattle.resolve.specs.Seen.{scope_seen}
+use Rattle.expression_binding.specs.Seen.{scope_seen}
 use Rattle.resolve.proofs.Joins.{joins_more}
 use Rattle.resolve.proofs.queries.bind_joins.Goals as goal
 

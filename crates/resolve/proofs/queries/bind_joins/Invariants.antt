@@ -1,10 +1,11 @@
 -- The joins so far stand before the others, and their tables are in scope.
 use Rattle.std.proofs.Common.{◌≡◌, [], ◌∷◌, drop, map}
 use Rattle.sql_tree.specs.Bound as bound
-use Rattle.resolve.specs.Scopes.{scope_of}
+use Rattle.expression_binding.specs.Scopes.{scope_of}
 use Rattle.resolve.specs.Queries.{bind_joins}
-use Rattle.resolve.specs.Seen.{joined_seen, scope_seen, source_seen}
-use Rattle.resolve.proofs.Walks.{onto}
+use Rattle.expression_binding.specs.Seen.{scope_seen, source_seen}
+use Rattle.resolve.specs.Seen.{joined_seen}
+use Rattle.expression_binding.proofs.Interface.{onto}
 use Rattle.resolve.proofs.queries.bind_joins.Given as goal
 
 abbrev pub invariant-loop-join : goal.invariant-loop-join

@@ -1,9 +1,9 @@
 -- Those bound so far stand before the others.
 use Rattle.std.proofs.Common.{◌≡◌, drop}
 use Rattle.ae_base.specs.Results.{each}
-use Rattle.resolve.proofs.Walks.{onto}
+use Rattle.expression_binding.proofs.Interface.{onto}
 use Rattle.resolve.specs.Queries.{bind_key}
-use Rattle.resolve.specs.Seen.{scope_seen}
+use Rattle.expression_binding.specs.Seen.{scope_seen}
 use Rattle.resolve.proofs.queries.bind_keys.Given as goal
 
 abbrev pub invariant-loop-key : goal.invariant-loop-key

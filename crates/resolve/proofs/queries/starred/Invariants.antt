@@ -2,7 +2,7 @@
 use Rattle.std.proofs.Common.{◌≡◌, ◌++◌, drop, map}
 use Rattle.sql_tree.specs.Bound as bound
 use Rattle.resolve.specs.Queries.{star_items}
-use Rattle.resolve.specs.Seen.{column_seen, scope_seen}
+use Rattle.expression_binding.specs.Seen.{column_seen, scope_seen}
 use Rattle.resolve.proofs.queries.starred.Given as goal
 
 abbrev pub invariant-loop-place : goal.invariant-loop-place

@@ -1,8 +1,9 @@
 -- The tables so far are in scope.
 use Rattle.std.proofs.Common.{◌≡◌, drop, map}
-use Rattle.resolve.specs.Scopes.{scope_of, with_sources}
+use Rattle.expression_binding.specs.Scopes.{scope_of, with_sources}
 use Rattle.resolve.specs.Tables.{all_sources}
-use Rattle.resolve.specs.Seen.{joined_seen, scope_seen, sources_seen}
+use Rattle.expression_binding.specs.Seen.{scope_seen}
+use Rattle.resolve.specs.Seen.{joined_seen, sources_seen}
 use Rattle.resolve.proofs.queries.whole_scope.Given as goal
 
 abbrev pub invariant-loop-join : goal.invariant-loop-join

@@ -3,7 +3,7 @@ use Rattle.std.proofs.Common.{◌≡◌, [], ◌∷◌, drop, map}
 use Rattle.sql_tree.specs.Statements.{join_of}
 use Rattle.resolve.specs.Tables.{joined_from}
 use Rattle.resolve.specs.Seen.{joined_seen}
-use Rattle.resolve.proofs.Walks.{onto}
+use Rattle.expression_binding.proofs.Interface.{onto}
 use Rattle.resolve.proofs.sources.joined_from.Given as goal
 
 abbrev pub invariant-loop-join : goal.invariant-loop-join

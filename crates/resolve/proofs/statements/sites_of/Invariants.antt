@@ -1,6 +1,6 @@
 -- The sites so far stand before the others.
 use Rattle.std.proofs.Common.{◌≡◌, ◌++◌, drop, map}
-use Rattle.resolve.specs.Scopes.{sites_of}
+use Rattle.expression_binding.specs.Scopes.{sites_of}
 use Rattle.resolve.specs.Tables.{all_sources}
 use Rattle.resolve.specs.Seen.{joined_seen, sources_seen}
 use Rattle.resolve.proofs.statements.sites_of.Given as goal

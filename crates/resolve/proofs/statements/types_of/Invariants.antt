@@ -1,6 +1,6 @@
 -- What was made so far, with what the others make, is the whole.
 use Rattle.std.proofs.Common.{◌≡◌, ◌++◌, drop, map}
-use Rattle.resolve.specs.Bind.{type_of}
+use Rattle.expression_binding.specs.Declarations.{type_of}
 use Rattle.resolve.proofs.statements.types_of.Given as goal
 
 abbrev pub invariant-loop-declaration : goal.invariant-loop-declaration

@@ -1,9 +1,10 @@
 -- What is bound lies within its columns and parameters.
-use Rattle.std.proofs.Common.{◌≡◌, ℕ, ◌+◌, ◌<◌, ◌≤◌, List, [], ◌∷◌, length, refl, ap, subst, arith, Bool, true, false, cond, nat_lt, nat_le, Option, Some, None, Result, Ok, Err}
+use Rattle.std.proofs.Common.{◌≡◌, ℕ, ◌+◌, ◌<◌, ◌≤◌, List, [], ◌∷◌, length, length-append, map, refl, ap, subst, ◌∙◌, arith, Bool, true, false, cond, nat_lt, nat_le, Option, Some, None, Result, Ok, Err}
 use Rattle.std.specs.List.{All, position, position_or_len}
 use Rattle.std.specs.Str.{bytes_eq}
 use Rattle.std.proofs.lemmas.Bool.{ltb-true, leb-true}
-use Rattle.std.proofs.lemmas.List.Elements.{All-cons}
+use Rattle.std.proofs.lemmas.List.{length-map}
+use Rattle.std.proofs.lemmas.List.Elements.{All-nil, All-cons}
 use Rattle.ae_base.specs.Results.{each, or_fault}
 use Rattle.ae_base.specs.Values.{units}
 use Rattle.ae_base.specs.declared.batches.ParamDecl.{ParamDecl}
@@ -18,10 +19,11 @@ use Rattle.sql_tree.specs.Operands.{Operand, Terms}
 use Rattle.sql_tree.specs.Operands as operands
 use Rattle.sql_tree.specs.Conditions.{Condition, Conditions}
 use Rattle.sql_tree.specs.Conditions as conditions
-use Rattle.sql_tree.specs.Placed.{IsShort, IsPlaced, ArePlaced, IsPlacedCondition, ArePlacedConditions, IsPlacedFilter}
-use Rattle.resolve.specs.Scopes.{Scope, ScopeColumn, is_meant, places_from, one_place, known_source, param_place, column_place, new_place}
-use Rattle.resolve.specs.Names.{short, bind_operand, bind_terms, bind_operands, bind_condition, bind_conditions, bind_filter}
-use Rattle.resolve.proofs.Parts.{one_part, two_parts, first_part}
+use Rattle.sql_tree.specs.Placed.{site_of, IsShort, IsPlaced, ArePlaced, IsPlacedCondition, ArePlacedConditions, IsPlacedFilter}
+use Rattle.expression_binding.specs.Walks.{each_from}
+use Rattle.expression_binding.specs.Scopes.{Source, Scope, ScopeColumn, nothing_in_scope, with_source, with_sources, scope_of, sites_of, is_meant, places_from, one_place, known_source, param_place, column_place, new_place}
+use Rattle.expression_binding.specs.Names.{short, bind_operand, bind_terms, bind_operands, bind_condition, bind_conditions, bind_filter}
+use Rattle.expression_binding.proofs.Parts.{one_part, two_parts, first_part}
 
 -- ---- places of names
 
@@ -124,3 +126,33 @@ mutual
 pub filter_placed : (s : Scope) (ds : List ParamDecl) (o : Option (Condition ColumnRef (List ℕ))) (b : Option (Condition ℕ ℕ)) → bind_filter s ds o ≡ Ok b → IsPlacedFilter (length s.columns) (length ds) b
 filter_placed s ds None b e = let i : None ≡ b = cc in subst (IsPlacedFilter (length s.columns) (length ds)) i tt
 filter_placed s ds (Some c) b e = one_part (bind_condition s ds c) Some b (IsPlacedFilter (length s.columns) (length ds)) e (λ a ea. condition_placed s ds c a ea)
+
+-- ---- lists with their numbers
+
+pub each_from_placed : {A B : Type 0} (P : B → Type 0) (g : ℕ → A → Result B SqlFault) → ((i : ℕ) (x : A) (y : B) → g i x ≡ Ok y → P y) → (xs : List A) (i : ℕ) (ys : List B) → each_from g i xs ≡ Ok ys → All P ys
+each_from_placed P g one [] i ys e = let j : [] ≡ ys = cc in subst (All P) j (All-nil P)
+each_from_placed P g one (x ∷ xs) i ys e = two_parts (g i x) (each_from g (i + 1) xs) ◌∷◌ ys (All P) e (λ y zs ey ez. All-cons P y zs (one i x y ey) (each_from_placed P g one xs (i + 1) zs ez))
+
+pub each_from-length : {A B : Type 0} (g : ℕ → A → Result B SqlFault) (xs : List A) (i : ℕ) (ys : List B) → each_from g i xs ≡ Ok ys → length ys ≡ length xs
+each_from-length g [] i ys e = let j : [] ≡ ys = cc in subst (λ z. length z ≡ 0) j refl
+each_from-length g (x ∷ xs) i ys e =
+    two_parts (g i x) (each_from g (i + 1) xs) ◌∷◌ ys (λ z. length z ≡ length (x ∷ xs)) e (λ y zs ey ez. let h = each_from-length g xs (i + 1) zs ez in omega (arith, h))
+
+-- ---- columns in scope
+
+pub with-length : (s : Scope) (x : Source) → length (with_source s x).columns ≡ length s.columns + length x.def.columns
+with-length s x = length-append s.columns _ ∙ ap (λ n. length s.columns + n) (length-map x.def.columns _)
+
+sites-length : (xs : List Source) (s : Scope) → length (with_sources s xs).columns ≡ length s.columns + length (sites_of xs)
+sites-length [] s = omega arith
+sites-length (x ∷ xs) s =
+    let h = sites-length xs (with_source s x) in let w = with-length s x in
+    let m : length (map site_of x.def.columns) ≡ length x.def.columns = length-map x.def.columns site_of in
+    let a : length (sites_of (x ∷ xs)) ≡ length (map site_of x.def.columns) + length (sites_of xs) = length-append (map site_of x.def.columns) (sites_of xs) in
+    omega (arith, h, w, m, a)
+
+pub scope-sites : (xs : List Source) → length (scope_of xs).columns ≡ length (sites_of xs)
+scope-sites xs = let e : 0 + length (sites_of xs) ≡ length (sites_of xs) = omega arith in sites-length xs nothing_in_scope ∙ e
+
+pub from-length : (x : Source) → length (scope_of (x ∷ [])).columns ≡ length x.def.columns
+from-length x = length-map x.def.columns _

@@ -1,7 +1,7 @@
 -- Walks over lists: what was found or bound so far, and the ends.
 use Rattle.std.proofs.Common.{◌≡◌, ℕ, ◌+◌, ◌<◌, List, [], ◌∷◌, ◌++◌, length, get_or, take, drop, map, refl, ap, sym, ◌∙◌, Option, Some, None, Result, Ok, Err}
 use Rattle.std.proofs.lemmas.List.{append_assoc, at_drop_more, map-append, take-map}
-use Rattle.resolve.specs.Walks.{each_from}
+use Rattle.expression_binding.specs.Walks.{each_from}
 use Rattle.ae_base.specs.Results.{◌>>=◌, AnswersAs}
 use Rattle.ae_base.specs.declared.refusals.Refusal.{Refusal}
 use Rattle.ae_base.specs.declared.refusals.Refusal.TheVariants.{Fault, OutOfMemory}

@@ -1,10 +1,10 @@
 -- The terms so far stand before the others.
 use Rattle.std.proofs.Common.{◌≡◌, drop}
 use Rattle.sql_tree.specs.Listed.{terms_listed}
-use Rattle.resolve.specs.Names.{bind_terms}
-use Rattle.resolve.specs.Seen.{scope_seen}
-use Rattle.resolve.proofs.Trees.{onto_terms}
-use Rattle.resolve.proofs.operands.+bind_operand.Given as goal
+use Rattle.expression_binding.specs.Names.{bind_terms}
+use Rattle.expression_binding.specs.Seen.{scope_seen}
+use Rattle.expression_binding.proofs.Trees.{onto_terms}
+use Rattle.expression_binding.proofs.operands.+bind_operand.Given as goal
 
 abbrev pub invariant-bind_terms-loop-term : goal.invariant-bind_terms-loop-term
 invariant-bind_terms-loop-term l =

@@ -2,10 +2,10 @@
 use Rattle.std.proofs.Common.{◌≡◌, drop, map}
 use Rattle.sql_tree.specs.Operands.{operand_of}
 use Rattle.ae_base.specs.Results.{each}
-use Rattle.resolve.specs.Names.{bind_operand}
-use Rattle.resolve.specs.Seen.{scope_seen}
-use Rattle.resolve.proofs.Walks.{onto}
-use Rattle.resolve.proofs.operands.bind_operands.Given as goal
+use Rattle.expression_binding.specs.Names.{bind_operand}
+use Rattle.expression_binding.specs.Seen.{scope_seen}
+use Rattle.expression_binding.proofs.Walks.{onto}
+use Rattle.expression_binding.proofs.operands.bind_operands.Given as goal
 
 abbrev pub invariant-loop-operand : goal.invariant-loop-operand
 invariant-loop-operand l =

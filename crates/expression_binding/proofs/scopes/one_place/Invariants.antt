@@ -1,9 +1,9 @@
 -- The place that was found, with those of the columns that are left.
 use Rattle.std.proofs.Common.{◌≡◌, drop, map}
-use Rattle.resolve.specs.Scopes.{places_from, one_place}
-use Rattle.resolve.specs.Seen.{column_seen}
-use Rattle.resolve.proofs.Walks.{found_before}
-use Rattle.resolve.proofs.scopes.one_place.Given as goal
+use Rattle.expression_binding.specs.Scopes.{places_from, one_place}
+use Rattle.expression_binding.specs.Seen.{column_seen}
+use Rattle.expression_binding.proofs.Walks.{found_before}
+use Rattle.expression_binding.proofs.scopes.one_place.Given as goal
 
 abbrev pub invariant-loop-place : goal.invariant-loop-place
 invariant-loop-place l =

@@ -4,10 +4,10 @@ use Rattle.std.proofs.lemmas.Result.{err_from_is_err_and}
 use Rattle.ae_base.specs.Results.{AnswersAs}
 use Rattle.sql_tree.specs.Listed.{terms_listed}
 use Rattle.sql_tree.specs.Operands.{operand_of}
-use Rattle.resolve.specs.Seen.{scope_seen}
-use Rattle.resolve.proofs.Walks.{fails}
-use Rattle.resolve.proofs.Trees.{sum_fault, sum_bound, terms_fault, terms_more, terms_done}
-use Rattle.resolve.proofs.operands.+bind_operand.Goals as goal
+use Rattle.expression_binding.specs.Seen.{scope_seen}
+use Rattle.expression_binding.proofs.Walks.{fails}
+use Rattle.expression_binding.proofs.Trees.{sum_fault, sum_bound, terms_fault, terms_more, terms_done}
+use Rattle.expression_binding.proofs.operands.+bind_operand.Goals as goal
 
 pub bind_operand-returns-in_err-terms-in-Sum : goal.bind_operand-returns-in_err-terms-in-Sum
 bind_operand-returns-in_err-terms-in-Sum t c =

@@ -1,9 +1,9 @@
 -- Conditions are bound one after another.
 use Rattle.std.proofs.Common.{arith}
 use Rattle.sql_tree.specs.Listed.{conditions_listed}
-use Rattle.resolve.specs.Seen.{scope_seen}
-use Rattle.resolve.proofs.Trees.{conditions_more, conditions_done}
-use Rattle.resolve.proofs.conditions.+bind_condition.Goals as goal
+use Rattle.expression_binding.specs.Seen.{scope_seen}
+use Rattle.expression_binding.proofs.Trees.{conditions_more, conditions_done}
+use Rattle.expression_binding.proofs.conditions.+bind_condition.Goals as goal
 
 pub bind_conditions-loop-condition-preserved : goal.bind_conditions-loop-condition-preserved
 bind_conditions-loop-condition-preserved t c =

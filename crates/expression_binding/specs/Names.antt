@@ -12,7 +12,7 @@ use Rattle.sql_tree.specs.Operands as operands
 use Rattle.sql_tree.specs.Conditions.{Condition, Conditions}
 use Rattle.sql_tree.specs.Conditions as conditions
 use Rattle.sql_tree.specs.Literals.{literal_type}
-use Rattle.resolve.specs.Scopes.{Scope, column_place, param_place}
+use Rattle.expression_binding.specs.Scopes.{Scope, column_place, param_place}
 
 -- a literal past its type is TooLong; no text that is read has one
 abbrev pub short : Value → Result (Unit {0}) SqlFault

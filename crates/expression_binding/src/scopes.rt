@@ -4,8 +4,8 @@ ghost use Rattle.std.specs.Prelude.{◌≡◌, ◌++◌, OnOk, map};
 ghost use Rattle.std.specs.List.{list_any, position};
 ghost use Rattle.std.specs.Str.{bytes_eq};
 ghost use Rattle.ae_base.specs.Results.{Answers};
-ghost use Rattle.resolve.specs.Scopes.{column_place, columns_under, is_meant, is_of, known_source, new_place, nothing_in_scope, one_place, param_place, places_from, with_source};
-ghost use Rattle.resolve.specs.Seen.{column_seen, scope_seen, source_seen};
+ghost use Rattle.expression_binding.specs.Scopes.{column_place, columns_under, is_meant, is_of, known_source, new_place, nothing_in_scope, one_place, param_place, places_from, with_source};
+ghost use Rattle.expression_binding.specs.Seen.{column_seen, scope_seen, source_seen};
 
 use ae_base::batches::ParamDecl;
 use ae_base::faults::SqlFault;
@@ -18,23 +18,30 @@ use std::alloc::{AllocError, Global};
 
 /// A table that a statement reads, under its visible name.
 #[derive(Clone, Copy, Drop)]
-pub(crate) struct Source<'a> {
+pub struct Source<'a> {
+    /// Its own name.
     pub table: &'a Name,
+    /// The name under which the statement knows it.
     pub visible: &'a Name,
+    /// Its columns and unique keys.
     pub def: &'a TableDef,
 }
 
 /// A column in scope, with the visible name of its table.
 #[derive(Clone, Copy, Drop)]
-pub(crate) struct ScopeColumn<'a> {
+pub struct ScopeColumn<'a> {
+    /// The visible name of its table.
     pub visible: &'a Name,
+    /// The column itself.
     pub column: &'a ColumnDef,
 }
 
 /// What a name can mean: the visible names of the tables, and their columns one after another.
 #[derive(Drop)]
-pub(crate) struct Scope<'a> {
+pub struct Scope<'a> {
+    /// The visible names, in the order of the tables.
     pub sources: Seq<&'a Name>,
+    /// The columns of the tables, in the same order.
     pub columns: Seq<ScopeColumn<'a>>,
 }
 
@@ -77,7 +84,7 @@ fn add_columns<'a>(
     Ok(())
 }
 
-/// The place of a declared parameter, from 0.
+/// The place of a declared parameter, from 0; NoParam where none has the name.
 pub(crate) fn param_place(declarations: &[ParamDecl], name: &ParamName) -> Result<usize, Refusal>
     ensures { Answers result (param_place declarations.now name.now) }
 {
@@ -96,8 +103,9 @@ fn declared(declarations: &[ParamDecl], name: &ParamName) -> Option<usize>
         .position(|declaration| declaration.name == *name)
 }
 
-/// The place of the column that a name means, from 0.
-pub(crate) fn column_place(scope: &Scope<'_>, column: &ColumnRef) -> Result<usize, Refusal>
+/// The place of the column that a name means, from 0. A qualifier that no table has is NoTable; a
+/// column that none has is NoColumn, and one that several have Ambiguous.
+pub fn column_place(scope: &Scope<'_>, column: &ColumnRef) -> Result<usize, Refusal>
     ensures { Answers result (column_place (scope_seen scope.now) column.now) }
 {
     if let Some(qualifier) = &column.qualifier {
@@ -109,7 +117,7 @@ pub(crate) fn column_place(scope: &Scope<'_>, column: &ColumnRef) -> Result<usiz
 }
 
 /// Whether a table is visible under a name.
-pub(crate) fn is_source(sources: &[&Name], name: &Name) -> bool
+pub fn is_source(sources: &[&Name], name: &Name) -> bool
     ensures { result ≡ list_any (bytes_eq name.now) (map (λ source. source.now) sources.now) }
 {
     for source in sources {
@@ -152,18 +160,15 @@ fn is_meant(column: &ColumnRef, candidate: &ScopeColumn<'_>) -> bool
 }
 
 /// The place of a column of a table.
-pub(crate) fn place_named(columns: &[ColumnDef], name: &Name) -> Option<usize>
+fn place_named(columns: &[ColumnDef], name: &Name) -> Option<usize>
     ensures { result ≡ position (λ column. bytes_eq column.name name.now) columns.now }
 {
     columns.iter().position(|column| column.name == *name)
 }
 
-/// The place of a column of a table that wasn't given before.
-pub(crate) fn new_place(
-    columns: &[ColumnDef],
-    name: &Name,
-    is_given: bool,
-) -> Result<usize, Refusal>
+/// The place of a column of a table that wasn't given before: NoColumn where the table lacks it,
+/// Ambiguous where it was given.
+pub fn new_place(columns: &[ColumnDef], name: &Name, is_given: bool) -> Result<usize, Refusal>
     ensures { Answers result (new_place columns.now name.now is_given) }
 {
     match place_named(columns, name) {

@@ -1,10 +1,10 @@
 -- The conditions so far stand before the others.
 use Rattle.std.proofs.Common.{◌≡◌, drop}
 use Rattle.sql_tree.specs.Listed.{conditions_listed}
-use Rattle.resolve.specs.Names.{bind_conditions}
-use Rattle.resolve.specs.Seen.{scope_seen}
-use Rattle.resolve.proofs.Trees.{onto_conditions}
-use Rattle.resolve.proofs.conditions.+bind_condition.Given as goal
+use Rattle.expression_binding.specs.Names.{bind_conditions}
+use Rattle.expression_binding.specs.Seen.{scope_seen}
+use Rattle.expression_binding.proofs.Trees.{onto_conditions}
+use Rattle.expression_binding.proofs.conditions.+bind_condition.Given as goal
 
 abbrev pub invariant-bind_conditions-loop-condition : goal.invariant-bind_conditions-loop-condition
 invariant-bind_conditions-loop-condition l =

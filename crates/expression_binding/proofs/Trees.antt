@@ -14,8 +14,8 @@ use Rattle.sql_tree.specs.declared.operands.Operand as code
 use Rattle.sql_tree.specs.declared.operands.Term as code_term
 use Rattle.sql_tree.specs.declared.conditions.Condition as code_condition
 use Rattle.sql_tree.proofs.Interface.{operand_of-Sum, condition_of-AllOf, condition_of-AnyOf}
-use Rattle.resolve.specs.Scopes.{Scope}
-use Rattle.resolve.specs.Names.{bind_operand, bind_terms, bind_condition, bind_conditions}
+use Rattle.expression_binding.specs.Scopes.{Scope}
+use Rattle.expression_binding.specs.Names.{bind_operand, bind_terms, bind_condition, bind_conditions}
 
 pub sum_seen : {C P : Type 0} (first : Box (code.Operand C P) Global) (terms : Vec (code_term.Term C P) Global)
     → operand_of (code.Sum first terms) ≡ operands.Sum (operand_of first.value) (terms_listed terms.items)

@@ -6,8 +6,8 @@ ghost use Rattle.ae_base.specs.Results.{AnswersAs};
 ghost use Rattle.sql_tree.specs.Listed.{conditions_listed};
 ghost use Rattle.sql_tree.specs.Operands.{operand_of};
 ghost use Rattle.sql_tree.specs.Conditions.{Compare, In, condition_of};
-ghost use Rattle.resolve.specs.Names.{bind_condition, bind_conditions, bind_filter};
-ghost use Rattle.resolve.specs.Seen.{scope_seen};
+ghost use Rattle.expression_binding.specs.Names.{bind_condition, bind_conditions, bind_filter};
+ghost use Rattle.expression_binding.specs.Seen.{scope_seen};
 
 use crate::boxes::boxed;
 use crate::operands::{bind_operand, bind_operands};
@@ -77,9 +77,10 @@ fn is_in(
     }
 }
 
+/// The condition with its names as places, or the first fault of its operands in text order.
 #[cycle(bind_condition)]
 #[tactic(auto, using(crate::proofs::Trees::all_seen, crate::proofs::Trees::any_seen))]
-pub(crate) fn bind_condition(
+pub fn bind_condition(
     alloc: Global,
     scope: &Scope<'_>,
     declarations: &[ParamDecl],
@@ -142,7 +143,8 @@ fn bind_conditions(
     Ok(bound)
 }
 
-pub(crate) fn bind_filter(
+/// The condition of a WHERE, where there is one, with its names as places, or its first fault.
+pub fn bind_filter(
     alloc: Global,
     scope: &Scope<'_>,
     declarations: &[ParamDecl],

@@ -4,8 +4,8 @@ ghost use Rattle.std.specs.Prelude.{Ok, [], ◌∷◌, map};
 ghost use Rattle.sql_tree.specs.Listed.{terms_listed};
 ghost use Rattle.sql_tree.specs.Operands.{Sum, operand_of};
 ghost use Rattle.ae_base.specs.Results.{Answers, AnswersAs};
-ghost use Rattle.resolve.specs.Names.{bind_operand, bind_operands, bind_terms, short};
-ghost use Rattle.resolve.specs.Seen.{scope_seen};
+ghost use Rattle.expression_binding.specs.Names.{bind_operand, bind_operands, bind_terms, short};
+ghost use Rattle.expression_binding.specs.Seen.{scope_seen};
 
 use crate::boxes::boxed;
 use crate::scopes::{Scope, column_place, param_place};
@@ -30,8 +30,10 @@ fn short(value: &Value) -> Result<(), Refusal>
     }
 }
 
+/// The operand with its names as places, or its first fault in text order: NoParam, NoTable,
+/// NoColumn, Ambiguous, or TooLong for a literal past its type.
 #[cycle(bind_operand)]
-pub(crate) fn bind_operand(
+pub fn bind_operand(
     alloc: Global,
     scope: &Scope<'_>,
     declarations: &[ParamDecl],
@@ -124,7 +126,8 @@ fn bind_term(
     }
 }
 
-pub(crate) fn bind_operands(
+/// Operands one after another, or the first fault of the first that has one.
+pub fn bind_operands(
     alloc: Global,
     scope: &Scope<'_>,
     declarations: &[ParamDecl],

@@ -1,8 +1,8 @@
 -- The columns so far stand before the others.
 use Rattle.std.proofs.Common.{◌≡◌, ◌++◌, drop, map}
-use Rattle.resolve.specs.Scopes.{columns_under}
-use Rattle.resolve.specs.Seen.{column_seen}
-use Rattle.resolve.proofs.scopes.add_columns.Given as goal
+use Rattle.expression_binding.specs.Scopes.{columns_under}
+use Rattle.expression_binding.specs.Seen.{column_seen}
+use Rattle.expression_binding.proofs.scopes.add_columns.Given as goal
 
 abbrev pub invariant-loop-column : goal.invariant-loop-column
 invariant-loop-column l =

@@ -1,0 +1,7 @@
+mod Causes
+pub mod Interface
+mod Kept
+mod Parts
+mod Places
+mod Trees
+mod Walks
