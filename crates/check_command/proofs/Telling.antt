@@ -8,7 +8,7 @@ use Rattle.ae_base.specs.declared.faults.SqlFault.{SqlFault}
 use Rattle.ae_base.specs.declared.types.Enc.{Enc}
 use Rattle.enc_types.specs.Laws.{TypingsAreOfColumns}
 use Rattle.enc_types.specs.UsedAlone.{is_used}
-use Rattle.resolve.specs.Bind.{type_of}
+use Rattle.expression_binding.specs.Declarations.{type_of}
 use Rattle.resolve.specs.Laws.{BoundStatementsAre}
 use Rattle.wire_messages.specs.Messages.{Description}
 use Rattle.wire_messages.specs.declared.replies.Reply.{Reply}

@@ -18,7 +18,7 @@ use Rattle.aes_block.specs.Aes.{IsBlock}
 use Rattle.aes_block.specs.Bytes.{AreBytes}
 use Rattle.hmac_kdf.specs.Keys.{Keys}
 use Rattle.enc_types.specs.UsedAlone.{alone, is_used}
-use Rattle.resolve.specs.Bind.{type_of}
+use Rattle.expression_binding.specs.Declarations.{type_of}
 use Rattle.scalar.specs.Classes.{BothAnswer, RowsCorrespond}
 use Rattle.engine.specs.BoundOn.{IsBoundOn}
 use Rattle.engine.specs.Correspond.{Related, AnswersCorrespond, class_of_result}

@@ -28,7 +28,7 @@ use Rattle.catalog.specs.Catalogs.{Catalog, master_named, key_named, table_named
 use Rattle.catalog.specs.Definitions.{defined_by}
 use Rattle.enc_types.specs.Least.{inferred_encs}
 use Rattle.resolve.specs.Bind.{bind}
-use Rattle.resolve.specs.Faults.{IsStatementFault}
+use Rattle.expression_binding.specs.Faults.{IsStatementFault}
 use Rattle.resolve.proofs.Interface.{bind_blames}
 use Rattle.scalar.specs.Eval.{eval, truth}
 use Rattle.scalar.specs.declared.faults.Overflow.{Overflow}

@@ -6,7 +6,7 @@ use Rattle.ae_base.specs.declared.atoms.AtomOf.TheVariants.{Null, Plain, Sealed}
 use Rattle.ae_base.specs.declared.types.Enc.{Enc}
 use Rattle.ae_base.specs.declared.types.Enc.TheVariants as enc
 use Rattle.ae_base.specs.declared.types.Ty.{Ty}
-use Rattle.resolve.specs.Bind.{type_of}
+use Rattle.expression_binding.specs.Declarations.{type_of}
 use Rattle.scalar.specs.Classes.{RowsCorrespond}
 use Rattle.operators.proofs.Interface.{came_before}
 use Rattle.engine.specs.Correspond.{Related}

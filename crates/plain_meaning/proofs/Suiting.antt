@@ -11,7 +11,7 @@ use Rattle.ae_edge.specs.Vaults.{KeyMap}
 use Rattle.catalog.specs.Catalogs.{Catalog}
 use Rattle.enc_types.specs.Least.{inferred_encs}
 use Rattle.enc_types.specs.UsedAlone.{used_among, is_used, alone}
-use Rattle.resolve.specs.Bind.{type_of}
+use Rattle.expression_binding.specs.Declarations.{type_of}
 use Rattle.engine.specs.BoundOn.{IsBoundOn}
 use Rattle.wire_messages.specs.declared.params.SentParam.{SentParam}
 use Rattle.server_core.specs.Describing.{Meant, understood, description, keys_of}

@@ -28,7 +28,8 @@ use Rattle.catalog.specs.Catalogs.{Catalog, table_named, key_named, master_named
 use Rattle.resolve.specs.Bind.{resolution, bind}
 use Rattle.resolve.specs.Changes.{places_for, listed_place, bind_row, bind_assignment, nth_assignment, table_scope, bind_insert, bind_update, bind_delete}
 use Rattle.resolve.specs.Definitions.{key_path, is_key_path, wrapped_key, is_wrapped_key, master_for, key_for, bind_key_value, bind_second_value, bind_key_values, enc_for, new_name, column_behind, bind_column, bind_key_column, bind_unique, bind_table, bind_definition}
-use Rattle.resolve.specs.Faults.{IsStatementFault, IsBindFault}
+use Rattle.expression_binding.specs.Faults.{IsStatementFault}
+use Rattle.resolve.specs.Faults.{IsBindFault}
 use Rattle.expression_binding.specs.Names.{bind_operand, bind_operands, bind_condition, bind_filter}
 use Rattle.resolve.specs.Queries.{bind_value, bind_item, bind_items, bind_join, bind_joins, bind_column_at, bind_key, bind_order, bind_over, bind_query}
 use Rattle.expression_binding.specs.Scopes.{Scope, column_place, named_place}

@@ -11,7 +11,7 @@ use Rattle.sql_tree.specs.Statements as tree
 use Rattle.sql_tree.specs.Bound.{BoundStatement, Bound}
 use Rattle.sql_tree.specs.Bound as bound
 use Rattle.catalog.specs.Catalogs.{Catalog}
-pub use Rattle.expression_binding.specs.Declarations.{type_of}
+use Rattle.expression_binding.specs.Declarations.{type_of}
 use Rattle.expression_binding.specs.Scopes.{sites_of}
 use Rattle.resolve.specs.Tables.{table_for, sources_for, all_sources}
 use Rattle.resolve.specs.Queries.{bind_query}

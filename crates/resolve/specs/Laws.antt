@@ -14,8 +14,7 @@ use Rattle.enc_types.specs.UsedAlone.{used_among, is_used, alone}
 use Rattle.catalog.specs.Catalogs.{Catalog}
 use Rattle.catalog.specs.Definitions.{MayDefine}
 use Rattle.catalog.specs.WellFormed.{IsKeyThere, IsCatalog}
-use Rattle.expression_binding.specs.Declarations.{type_of}
-pub use Rattle.expression_binding.specs.Declarations.{Keeps}
+use Rattle.expression_binding.specs.Declarations.{type_of, Keeps}
 use Rattle.resolve.specs.Bind.{bound_over, resolution, bind}
 
 -- a bound statement has the declared types, its places lie within them and its columns, and its tables and keys are those of

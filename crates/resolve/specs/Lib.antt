@@ -1,4 +1,3 @@
-pub use Rattle.expression_binding.specs.Scopes
 pub mod Bind
 pub mod Changes
 pub mod Definitions

@@ -37,7 +37,7 @@ use Rattle.engine.specs.Step as engine
 use Rattle.engine.specs.Typed.{param_classes}
 use Rattle.engine.specs.Worlds.{World}
 use Rattle.engine.specs.declared.answers.ResultColumn.{ResultColumn}
-use Rattle.resolve.specs.Bind.{type_of}
+use Rattle.expression_binding.specs.Declarations.{type_of}
 use Rattle.resolve.specs.Laws.{BoundStatementsAre}
 use Rattle.scalar.specs.Classes.{Class, Open, Det, Rnd, Pairing, Listing, IsOneToOne, Correspond, RowsCorrespond, BothAnswer, class_of}
 use Rattle.wire_parts.specs.AtomBounds.{IsSendable}

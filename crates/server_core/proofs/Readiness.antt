@@ -25,7 +25,7 @@ use Rattle.engine.specs.Laws.{AreShown, IsShownBy, RowsAreShown, TypedStatements
 use Rattle.enc_types.specs.declared.typed.Typed.{Typed}
 use Rattle.engine.specs.Step.{Rows}
 use Rattle.engine.specs.WellTyped.{AreValuesOf, IsAnswerOf}
-use Rattle.resolve.specs.Bind.{type_of}
+use Rattle.expression_binding.specs.Declarations.{type_of}
 use Rattle.wire_parts.specs.AtomBounds.{IsSendable}
 use Rattle.wire_messages.specs.declared.params.SentParam.{SentParam}
 use Rattle.engine.specs.Worlds.{World}

@@ -15,7 +15,7 @@ use Rattle.resolve.specs.Bind.{bound_over, resolution, bind}
 use Rattle.resolve.specs.Changes.{bind_insert, bind_update, bind_delete}
 use Rattle.resolve.specs.Definitions.{bind_definition, table_sites, new_sites}
 use Rattle.resolve.specs.Queries.{bind_query}
-use Rattle.resolve.specs.Scopes.{sites_of}
+use Rattle.expression_binding.specs.Scopes.{sites_of}
 use Rattle.resolve.specs.Tables.{table_for, sources_for, all_sources}
 use Rattle.semantic_checks.specs.Checks.{check_of}
 use Rattle.wire_messages.specs.declared.params.SentParam.{SentParam}
