@@ -1,9 +1,10 @@
 #!/usr/bin/env python3
 """Proves and builds a program and every crate below it, side by side on all processors.
 
-Usage: build.py TOP PROGRAM, where TOP/crates.txt lists the crates. The gate (`rt ci`) proves a copy that holds these crates alone
-and none of their wrong bodies. What it has proved on this machine, for a build that was broken off or in another checkout,
-it doesn't prove again. On a terminal one line tells how far it is; in a log there is a line for each crate.
+Usage: build.py TOP PROGRAM, where TOP/crates.txt lists the crates. What the gate (`rt ci`) has proved on this machine, in any
+checkout, it gives: then it also builds what changed since. Else each crate is built by `rt lib` as soon as those that it uses are
+built, the longest chain first. `rt` keeps what is proved, so a build that was broken off goes on where it was.
+On a terminal one line tells how far it is; in a log there is a line for each crate.
 """
 import os
 import re
@@ -12,90 +13,127 @@ import signal
 import subprocess
 import sys
 import tempfile
-import threading
 import time
 
-# Processor seconds of each proof: measured where docs/DECISIONS.md has them, else estimated; a crate that is not listed counts as
-# OTHER. They serve the time left alone.
+# Processor seconds of each proof, as measured; a crate that is not listed counts as OTHER. They serve the time left and the order
+# alone.
 SECONDS = {
-    "ae_base": 110, "ae_cli": 195, "ae_edge": 83, "catalog": 99, "check_command": 104, "command_words": 83, "disk": 58,
-    "drive_command": 123, "driver": 190, "enc_types": 57, "engine": 199, "frame_feed": 84, "inference": 116,
-    "journal_command": 141, "key_index": 91, "keyed_joins": 129, "operators": 90, "plan_runs": 88, "planner": 64,
-    "query_results": 111, "resolve": 294, "row_changes": 186, "row_store": 60, "scalar": 90, "script_lang": 85,
-    "script_run": 224, "semantic_checks": 74, "serve_command": 76, "server_core": 226, "sql_ddl": 105, "sql_expressions": 139,
-    "sql_parse": 119, "sql_tree": 79, "transactions": 228, "unique_keys": 62, "wire_bodies": 92, "wire_messages": 106,
-    "wire_parts": 62, "wire_reading": 79, "wire_spelling": 111,
+    "ae_base": 124, "ae_cli": 200, "ae_edge": 80, "aes_block": 59, "catalog": 106, "check_command": 116, "command_words": 89,
+    "disk": 57, "drive_command": 119, "driver": 180, "enc_types": 54, "engine": 195, "expression_binding": 68, "frame_feed": 75,
+    "inference": 128, "journal_command": 147, "journal_core": 47, "key_index": 88, "keyed_joins": 127, "operators": 93,
+    "outcome_text": 49, "plan_runs": 88, "planner": 70, "query_results": 109, "resolve": 210, "row_changes": 192, "row_store": 61,
+    "scalar": 91, "script_lang": 82, "script_run": 220, "semantic_checks": 76, "serve_command": 86, "server_core": 220,
+    "sql_ddl": 110, "sql_expressions": 145, "sql_parse": 130, "sql_tree": 76, "transactions": 198, "unique_keys": 65,
+    "wire_bodies": 91, "wire_messages": 107, "wire_parts": 63, "wire_reading": 69, "wire_spelling": 124,
 }
-OTHER = 35
+OTHER = 22
+MEMORY = 2 << 30  # bytes that a proof may take; few take more
 LEFT_OUT = shutil.ignore_patterns("out", "must-fail")
-DONE = re.compile(r"rt: (\w+) (proved$|is kept:)")
+LOOK = 10  # seconds in which the gate gives the lowest crate, if it has proved it
 
 
 class Failed(Exception):
-    """A build that did not succeed."""
+    """A build that did not succeed, with its log."""
+
+
+class Crate:
+    """A line of crates.txt: a crate and the crates of the repository that it uses."""
+
+    def __init__(self, top, name, line, deps):
+        self.name, self.line, self.deps = name, line, deps
+        self.folder = os.path.join(top, "crates", name)
+        self.log = os.path.join(self.folder, "out", "build.log")
+        self.seconds = SECONDS.get(name, OTHER)
+        self.chain = self.seconds  # with all that waits for it
+
+
+def start(verb, folder, path):
+    """Starts a command of `rt` in a folder, with what it says in a log."""
+    os.makedirs(os.path.dirname(path), exist_ok=True)
+    with open(path, "wb") as log:
+        return subprocess.Popen(
+            ["rt", *verb], cwd=folder, stdin=subprocess.DEVNULL, stdout=log, stderr=log, start_new_session=True
+        )
+
+
+def stop(run):
+    """Ends a run with everything that it started; `rt` keeps what is proved."""
+    try:
+        os.killpg(run.pid, signal.SIGTERM)
+    except ProcessLookupError:
+        pass
+    run.wait()
 
 
 def crates_of(top, program):
-    """Returns the lines of crates.txt of the program and the crates below it, by name."""
-    lines = {}
-    with open(os.path.join(top, "crates.txt"), encoding="utf-8") as listed:
-        for line in listed:
+    """Returns the program's crate and those below it, lowest first, with the length of the chain above each."""
+    listed = {}
+    with open(os.path.join(top, "crates.txt"), encoding="utf-8") as lines:
+        for line in lines:
             head, colon, deps = line.partition("#")[0].partition(":")
             if colon:
-                lines[head.split()[0]] = (line, deps.split())
+                listed[head.split()[0]] = line, deps.split()
     found = {}
 
     def visit(name):
-        if name in lines and name not in found:
-            line, deps = lines[name]
-            found[name] = line
+        if name in listed and name not in found:
+            line, deps = listed[name]
+            deps = [dep for dep in deps if dep in listed]
             for dep in deps:
                 visit(dep)
+            found[name] = Crate(top, name, line, deps)
 
     visit(program)
+    for crate in reversed(list(found.values())):
+        for dep in crate.deps:
+            found[dep].chain = max(found[dep].chain, found[dep].seconds + crate.chain)
     return found
 
 
-def copy_crates(top, crates, room):
-    """Copies what the proofs of the crates read."""
-    for name in crates:
-        shutil.copytree(os.path.join(top, "crates", name), os.path.join(room, "crates", name), ignore=LEFT_OUT)
-    shutil.copyfile(os.path.join(top, "HANDLES"), os.path.join(room, "HANDLES"))
-    with open(os.path.join(room, "crates.txt"), "w", encoding="utf-8") as listed:
-        listed.writelines(crates.values())
+def workers():
+    """Returns how many proofs run side by side: one for each processor, if memory allows."""
+    count = len(os.sched_getaffinity(0)) if hasattr(os, "sched_getaffinity") else os.cpu_count() or 1
+    try:
+        with open("/proc/meminfo", encoding="ascii") as lines:
+            free = next(int(line.split()[1]) << 10 for line in lines if line.startswith("MemAvailable"))
+    except (OSError, StopIteration):
+        return count
+    return max(1, min(count, free // MEMORY))
 
 
 class Progress:
     """What is said of a build on standard error."""
 
     def __init__(self, crates):
-        self.left, self.count = dict.fromkeys(crates, 0), len(crates)
-        self.width = len(os.sched_getaffinity(0)) if hasattr(os, "sched_getaffinity") else os.cpu_count() or 1
+        self.left, self.count, self.width = dict(crates), len(crates), workers()
         self.begin, self.is_terminal = time.monotonic(), sys.stderr.isatty()
-        self.spent = 0  # processor seconds, as listed, of the crates that were proved in this run
-        minutes = self.minutes_left()
-        print(f"ae: proving and building {self.count} crates: from nothing about {minutes} min", file=sys.stderr)
+        self.known = 0  # seconds, as listed, of the crates that were proved in this run
 
     def minutes_left(self):
         """Returns an estimate from known costs, at the pace of this run."""
+        left = self.left.values()
+        # (a crate that all others wait for gets several processors)
+        work = max(sum(it.seconds for it in left) / self.width, 0.8 * max(it.chain for it in left))
         gone = time.monotonic() - self.begin
-        pace = gone / self.spent if self.spent > 500 else 1 / self.width
-        return max(1, round(sum(SECONDS.get(it, OTHER) for it in self.left) * pace / 60))
+        return max(1, round(work * (gone * self.width / self.known if self.known > 500 else 1) / 60))
 
-    def line(self):
+    def line(self, running=()):
         gone = int((time.monotonic() - self.begin) / 60)
         said = f"ae: {self.count - len(self.left)} of {self.count} crates proved, {gone} min gone"
-        return f"{said}, about {self.minutes_left()} min left" if self.left else said
+        if self.left:
+            said += f", about {self.minutes_left()} min left"
+        return f"{said} ({', '.join(running)})" if running else said
 
-    def show(self):
+    def show(self, running=()):
         if self.is_terminal:
             width = os.get_terminal_size(2).columns - 1
-            print(f"\r\033[K{self.line()[:width]}", end="", file=sys.stderr, flush=True)
+            print(f"\r\033[K{self.line(running)[:width]}", end="", file=sys.stderr, flush=True)
 
-    def proved(self, name, is_kept):
-        if name in self.left:
-            del self.left[name]
-            self.spent += 0 if is_kept else SECONDS.get(name, OTHER)
+    def built(self, name, was_there):
+        """Notes that a crate is proved, now or before."""
+        crate = self.left.pop(name, None)
+        if crate:
+            self.known += 0 if was_there else crate.seconds
             if not self.is_terminal:
                 print(f"{self.line()}: {name}", file=sys.stderr, flush=True)
 
@@ -104,42 +142,91 @@ class Progress:
             print(file=sys.stderr)
 
 
-def build(room, log, progress):
-    """Proves the crates of the folder, with what is said in the log. Raises Failed where one isn't proved, or a run of it fails."""
-    run = subprocess.Popen(
-        ["rt", "ci"], cwd=room, stdin=subprocess.DEVNULL, stdout=subprocess.PIPE, stderr=subprocess.STDOUT,
-        start_new_session=True, text=True, errors="replace",
-    )
+def copy_crates(top, crates, room):
+    """Copies what the gate reads of the crates, but for the wrong bodies."""
+    for name, crate in crates.items():
+        shutil.copytree(crate.folder, os.path.join(room, "crates", name), ignore=LEFT_OUT)
+    shutil.copyfile(os.path.join(top, "HANDLES"), os.path.join(room, "HANDLES"))
+    with open(os.path.join(room, "crates.txt"), "w", encoding="utf-8") as listed:
+        listed.writelines(crate.line for crate in crates.values())
 
-    def read():
-        for line in run.stdout:
-            log.write(line)
-            found = DONE.match(line)
-            if found:
-                progress.proved(found[1], found[2] != "proved")
 
-    reader = threading.Thread(target=read)
-    reader.start()
+def told_by_gate(log):
+    """Returns the crates that the gate says are proved, and whether each was kept."""
+    with open(log, encoding="utf-8", errors="replace") as lines:
+        found = [re.match(r"rt: (\w+) (proved$|is kept:)", line) for line in lines]
+    return {it[1]: it[2] != "proved" for it in found if it}
+
+
+def build_by_gate(top, crates, program):
+    """Builds the program by the gate, over a copy of its crates, if the gate has proved the lowest. Returns whether it did."""
+    lowest, log, progress = next(iter(crates)), crates[program].log, None
+    made = os.path.join(crates[program].folder, "out", program)
+    room = tempfile.mkdtemp(prefix="ae-build-")
+    copy_crates(top, crates, room)
+    run, begin = start(["ci"], room, log), time.monotonic()
     try:
-        while reader.is_alive():
-            progress.show()
-            reader.join(1)
-        progress.show()
-        if run.wait():
-            raise Failed
+        while run.poll() is None:
+            told = told_by_gate(log)
+            if lowest not in told and time.monotonic() - begin > LOOK:
+                return False
+            if lowest in told:
+                progress = progress or Progress(crates)
+                for name, was_there in told.items():
+                    progress.built(name, was_there)
+                progress.show()
+            time.sleep(0.5)
+        if run.returncode:
+            raise Failed(log)
+        shutil.copyfile(os.path.join(room, "crates", program, "out", program), f"{made}.new")
+        os.chmod(f"{made}.new", 0o755)
+        os.replace(f"{made}.new", made)
+        return True
     finally:
-        try:
-            os.killpg(run.pid, signal.SIGTERM)
-        except ProcessLookupError:
-            pass
-        run.wait()
-        reader.join()
+        stop(run)
+        shutil.rmtree(room, ignore_errors=True)
+        if progress:
+            progress.end()
+
+
+def command(crate, program, jobs):
+    """Returns the words for `rt`. A program is also run once, on words that touch nothing, so that its status tells."""
+    if crate.name == program:
+        return ["run", "--jobs", str(jobs), "--", "gen", "1"]
+    return ["lib", "--jobs", str(jobs)]
+
+
+def build_each(crates, program):
+    """Builds all crates, and raises Failed at the first that cannot be built. What runs then is stopped."""
+    progress = Progress(crates)
+    width, left, running = progress.width, dict(crates), {}
+    print(f"ae: {len(left)} crates, {width} at a time: from nothing about {progress.minutes_left()} min", file=sys.stderr)
+    try:
+        while left:
+            ready = [it for it in left.values() if it.name not in running and not any(dep in left for dep in it.deps)]
+            for crate in sorted(ready, key=lambda it: -it.chain)[: width - len(running)]:
+                jobs = max(1, width // (len(running) + len(ready)))
+                if crate.chain == max(it.chain for it in left.values()):
+                    jobs = min(width, max(jobs, 2))  # all else waits for it
+                running[crate.name] = start(command(crate, program, jobs), crate.folder, crate.log), time.monotonic()
+            progress.show(running)
+            time.sleep(0.2)
+            for name in [name for name, (run, _) in running.items() if run.poll() is not None]:
+                run, began = running.pop(name)
+                if run.returncode:
+                    raise Failed(left[name].log)
+                del left[name]
+                progress.built(name, time.monotonic() - began < 5)
+        progress.show()
+    finally:
+        for run, _ in running.values():
+            stop(run)
         progress.end()
 
 
-def said_of_failure(path):
-    """Returns the end of what was said of the first thing that failed."""
-    with open(path, encoding="utf-8", errors="replace") as file:
+def said_of_failure(log):
+    """Returns the end of what a log says of the first thing that failed."""
+    with open(log, encoding="utf-8", errors="replace") as file:
         lines = file.readlines()
     ends = [at for at, line in enumerate(lines) if "NOT PROVED" in line]
     last = ends[0] + 1 if ends else len(lines)
@@ -152,25 +239,19 @@ def main():
         if signal.getsignal(number) != signal.SIG_IGN:  # as under nohup
             signal.signal(number, signal.default_int_handler)
     crates = crates_of(top, program)
-    out = os.path.join(top, "crates", program, "out")
-    os.makedirs(out, exist_ok=True)
-    path = os.path.join(out, "build.log")
     began = time.time()
     version = subprocess.run(["rt", "version"], stdout=subprocess.PIPE, text=True, check=True).stdout
+    print("ae: proving and building the program", file=sys.stderr)
     try:
-        with tempfile.TemporaryDirectory(prefix="ae-build-") as room:
-            copy_crates(top, crates, room)
-            with open(path, "w", encoding="utf-8") as log:
-                build(room, log, Progress(crates))
-            shutil.copyfile(os.path.join(room, "crates", program, "out", program), os.path.join(out, f"{program}.new"))
-    except Failed:
-        sys.exit(f"ae: the program could not be built. Of what is in {path}:\n{said_of_failure(path)}")
+        if not build_by_gate(top, crates, program):
+            build_each(crates, program)
+    except Failed as failed:
+        (log,) = failed.args
+        sys.exit(f"ae: the program could not be built. The end of {log}:\n{said_of_failure(log)}")
     except KeyboardInterrupt:
         sys.exit("ae: the build was broken off; the next one goes on from here")
-    os.chmod(os.path.join(out, f"{program}.new"), 0o755)
-    os.replace(os.path.join(out, f"{program}.new"), os.path.join(out, program))
     # Its time is that of the beginning, so that a source that changed meanwhile is newer.
-    stamp = os.path.join(out, "built")
+    stamp = os.path.join(crates[program].folder, "out", "built")
     with open(stamp, "w", encoding="utf-8") as file:
         file.write(version)
     os.utime(stamp, (began, began))
