@@ -1,9 +1,10 @@
 #!/usr/bin/env python3
 """Proves and builds a program and every crate below it, side by side on all processors.
 
-Usage: build.py TOP PROGRAM, where TOP/crates.txt lists the crates. What the gate (`rt ci`) has proved on this machine, in any
-checkout, it gives: then it also builds what changed since. Else each crate is built by `rt lib` as soon as those that it uses are
-built, the longest chain first. `rt` keeps what is proved, so a build that was broken off goes on where it was.
+Usage: build.py TOP PROGRAM LINK, where TOP/crates.txt lists the crates, and LINK names a link beside the program.
+What the gate (`rt ci`) has proved on this machine, in any checkout, it gives: then it also builds what changed since. Else each
+crate is built by `rt lib` as soon as those that it uses are built, the longest chain first. `rt` keeps what is proved, so a build
+that was broken off goes on where it was.
 On a terminal one line tells how far it is; in a log there is a line for each crate.
 """
 import os
@@ -234,7 +235,7 @@ def said_of_failure(log):
 
 
 def main():
-    top, program = sys.argv[1:]
+    top, program, name = sys.argv[1:]
     for number in (signal.SIGHUP, signal.SIGTERM):
         if signal.getsignal(number) != signal.SIG_IGN:  # as under nohup
             signal.signal(number, signal.default_int_handler)
@@ -250,8 +251,12 @@ def main():
         sys.exit(f"ae: the program could not be built. The end of {log}:\n{said_of_failure(log)}")
     except KeyboardInterrupt:
         sys.exit("ae: the build was broken off; the next one goes on from here")
+    out = os.path.join(crates[program].folder, "out")
+    link = os.path.join(out, name)
+    if not os.path.lexists(link):
+        os.symlink(program, link)
     # Its time is that of the beginning, so that a source that changed meanwhile is newer.
-    stamp = os.path.join(crates[program].folder, "out", "built")
+    stamp = os.path.join(out, "built")
     with open(stamp, "w", encoding="utf-8") as file:
         file.write(version)
     os.utime(stamp, (began, began))
