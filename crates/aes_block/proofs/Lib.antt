@@ -1,3 +1,4 @@
+mod AllBlocks
 mod Blocks
 mod Computed
 mod Entries

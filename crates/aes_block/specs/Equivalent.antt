@@ -11,10 +11,14 @@ inv_key_word words i = if nat_le 4 i && nat_lt i 56 then word_product inv_mix_po
 unfoldable pub inv_key_words : List (List ℕ) → List (List ℕ)
 inv_key_words words = map (inv_key_word words) (range_with_len 0 60)
 
+-- a round with InvMixColumns
+abbrev pub equivalent_round : List (List ℕ) → ℕ → List ℕ → List ℕ
+equivalent_round words round state = add_round_key words round (inv_mix_columns (inv_shift_rows (inv_sub_bytes state)))
+
 -- the state after the first addition and n rounds
 unfoldable pub equivalent_rounds : List (List ℕ) → List ℕ → ℕ → List ℕ
 equivalent_rounds words block zero = add_round_key words 14 block
-equivalent_rounds words block (suc n) = add_round_key words (13 - n) (inv_mix_columns (inv_shift_rows (inv_sub_bytes (equivalent_rounds words block n))))
+equivalent_rounds words block (suc n) = equivalent_round words (13 - n) (equivalent_rounds words block n)
 
 -- EqInvCipher
 unfoldable pub equivalent_cipher : List (List ℕ) → List ℕ → List ℕ

@@ -5,6 +5,7 @@
 ghost use Rattle.std.specs.Prelude.{◌≡◌, ℕ, List, map};
 ghost use Rattle.aes_block.specs.Aes.{IsBlock, decryption, encryption};
 
+use crate::eights::equivalent_ciphers;
 use crate::key::{inv_key_words, key_columns};
 use crate::rounds::{cipher, equivalent_cipher};
 use std::marker::Model;
@@ -72,15 +73,11 @@ impl Aes256 {
         equivalent_cipher(&self.inverse_words, block)
     }
 
-    /// Eight blocks, each decrypted under the key.
+    /// Eight blocks, each decrypted under the key, in less time than one by one.
     pub fn decrypt8(&self, blocks: &[[u8; 16]; 8]) -> [[u8; 16]; 8]
         ensures value { result ≡ map (decryption self.now) blocks.now }
         ensures undoes { map (encryption self.now) result ≡ blocks.now }
     {
-        let mut decrypted = [[0; 16]; 8];
-        for i in 0..8 {
-            decrypted[i] = self.decrypt(&blocks[i]);
-        }
-        decrypted
+        equivalent_ciphers(&self.inverse_words, blocks)
     }
 }

@@ -5,6 +5,7 @@
 mod bytes;
 mod cipher;
 mod columns;
+mod eights;
 mod key;
 mod laws;
 mod rounds;

@@ -3,8 +3,9 @@
 // The state in four columns of 32 bits, and a round's transformations of it.
 
 ghost use Rattle.std.specs.Prelude.{◌≡◌, ◌<◌};
-ghost use Rattle.aes_block.specs.Aes.{add_round_key, inv_mix_columns, inv_shift_rows, inv_sub_bytes, mix_columns, shift_rows, sub_bytes};
+ghost use Rattle.aes_block.specs.Aes.{IsBlock, add_round_key, inv_shift_rows, inv_sub_bytes, mix_columns, shift_rows, sub_bytes};
 ghost use Rattle.aes_block.specs.Columns.{state_of, words_of};
+ghost use Rattle.aes_block.specs.Equivalent.{equivalent_round};
 
 use crate::columns::{
     column, inv_mixed_column, inv_substituted_column, mixed_column, substituted_column,
@@ -12,7 +13,8 @@ use crate::columns::{
 
 /// The block's columns.
 pub(crate) fn columns_of(block: &[u8; 16]) -> [u32; 4]
-    ensures { state_of result ≡ block.now }
+    ensures state { state_of result ≡ block.now }
+    ensures is_block { IsBlock block.now }
 {
     [
         column([block[0], block[1], block[2], block[3]]),
@@ -65,8 +67,7 @@ pub(crate) fn substituted(s: [u32; 4]) -> [u32; 4]
 /// InvSubBytes, InvShiftRows, InvMixColumns and AddRoundKey (sections 5.3.1 to 5.3.4).
 pub(crate) fn inv_mixed(words: &[u32; 60], round: usize, s: [u32; 4]) -> [u32; 4]
     requires { round < 15 }
-    ensures { state_of result ≡ add_round_key (words_of words.now) round
-        (inv_mix_columns (inv_shift_rows (inv_sub_bytes (state_of s)))) }
+    ensures { state_of result ≡ equivalent_round (words_of words.now) round (state_of s) }
 {
     [
         inv_mixed_column(s[0], s[3], s[2], s[1], words[4 * round]),
