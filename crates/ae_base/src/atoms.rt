@@ -22,9 +22,14 @@ pub enum AtomOf<K> {
 
 /// What a row holds in one column. Contracts see the case, with the bytes that a sealed value
 /// stands for.
-#[derive(Drop)]
 pub struct Atom<K: Same> {
     atom: AtomOf<K>,
+}
+
+impl<K: Same> Drop for Atom<K> {
+    fn drop(self) {
+        let Atom { atom: _ } = self;
+    }
 }
 
 impl<K: Same> Model for Atom<K> {
@@ -57,7 +62,8 @@ impl<K: Same> Atom<K> {
     pub fn into_case(self) -> AtomOf<K>
         ensures { atom_of K.stands result ≡ self }
     {
-        self.atom
+        let Atom { atom } = self;
+        atom
     }
 
     /// Whether two atoms are known to be equal, as `=` of SQL asks: two values of one kind, or two

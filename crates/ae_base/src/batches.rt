@@ -19,10 +19,18 @@ pub struct ParamDecl {
 }
 
 /// A declared parameter with the value that it is given.
-#[derive(Drop)]
 pub struct Param {
     pub declaration: ParamDecl,
     pub value: Value,
+}
+
+impl Drop for Param {
+    fn drop(self) {
+        let Param {
+            declaration: _,
+            value: _,
+        } = self;
+    }
 }
 
 /// Declarations, as a statement is described with.

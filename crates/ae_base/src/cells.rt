@@ -15,9 +15,14 @@ use std::marker::Model;
 
 /// An encrypted value, which stands for its bytes. The codec of cells and the frames alone see
 /// them; everybody else has sameness, the length and the first byte.
-#[derive(Drop)]
 pub struct Cell {
     bytes: Vec<u8>,
+}
+
+impl Drop for Cell {
+    fn drop(self) {
+        let Cell { bytes: _ } = self;
+    }
 }
 
 impl Model for Cell {

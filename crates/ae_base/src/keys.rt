@@ -40,9 +40,14 @@ impl Ruled<KeyPathRule> {
 }
 
 /// A column encryption key as its master key wraps it: 1 to 1,024 bytes.
-#[derive(Drop)]
 pub struct WrappedKey {
     bytes: Blob,
+}
+
+impl Drop for WrappedKey {
+    fn drop(self) {
+        let WrappedKey { bytes: _ } = self;
+    }
 }
 
 impl Model for WrappedKey {
@@ -76,7 +81,8 @@ impl WrappedKey {
         ensures bytes { result ≡ self }
         ensures key { IsWrappedKey self }
     {
-        self.bytes
+        let WrappedKey { bytes } = self;
+        bytes
     }
 
     /// The bytes.

@@ -22,9 +22,14 @@ pub trait Named: Drop {
 
 /// The parameters of a statement in the order of their declarations: at most 128, whose names all
 /// differ. Contracts see the list of them.
-#[derive(Drop)]
 pub struct ParamList<P: Named> {
     items: Seq<P>,
+}
+
+impl<P: Named> Drop for ParamList<P> {
+    fn drop(self) {
+        let ParamList { items: _ } = self;
+    }
 }
 
 impl<P: Named> Model for ParamList<P> {
@@ -76,7 +81,8 @@ impl<P: Named> ParamList<P> {
         ensures few { length self ≤ 128 }
         ensures differ { IsTrue (all_differ (map P.called self)) }
     {
-        self.items
+        let ParamList { items } = self;
+        items
     }
 
     /// Whether a further parameter may stand at the end: fewer than 128 are there, and none has its

@@ -21,10 +21,15 @@ pub trait TextRule: Drop {
 }
 
 /// A text that meets the condition of a rule, which contracts see as the list of its characters.
-#[derive(Drop)]
 pub struct Ruled<R: TextRule> {
     text: Txt,
     rule: PhantomData<R>,
+}
+
+impl<R: TextRule> Drop for Ruled<R> {
+    fn drop(self) {
+        let Ruled { text: _, rule: _ } = self;
+    }
 }
 
 impl<R: TextRule> Model for Ruled<R> {
@@ -57,7 +62,8 @@ impl<R: TextRule> Ruled<R> {
         ensures text { result ≡ self }
         ensures condition { R.Asks self }
     {
-        self.text
+        let Ruled { text, rule: _ } = self;
+        text
     }
 
     /// The text.

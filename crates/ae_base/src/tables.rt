@@ -6,12 +6,22 @@ use crate::types::{Enc, Ty};
 use std::alloc::AllocError;
 
 /// A column of a table: its name, its type, its encryption, and whether it refuses NULL.
-#[derive(Drop)]
 pub struct ColumnDef {
     pub name: Name,
     pub ty: Ty,
     pub enc: Enc,
     pub not_null: bool,
+}
+
+impl Drop for ColumnDef {
+    fn drop(self) {
+        let ColumnDef {
+            name: _,
+            ty: _,
+            enc: _,
+            not_null: _,
+        } = self;
+    }
 }
 
 /// A unique key: the places of its columns in the table, from 0.

@@ -10,9 +10,14 @@ use std::alloc::{AllocError, Global};
 use std::marker::Model;
 
 /// A text, which contracts see as the list of its characters.
-#[derive(Drop)]
 pub struct Txt {
     text: String,
+}
+
+impl Drop for Txt {
+    fn drop(self) {
+        let Txt { text: _ } = self;
+    }
 }
 
 impl Model for Txt {
@@ -43,7 +48,8 @@ impl Txt {
         ensures bytes { string_bytes result ≡ encode_utf8_all self }
         ensures characters { chars (string_bytes result) ≡ self }
     {
-        self.text
+        let Txt { text } = self;
+        text
     }
 
     /// The text as a borrowed one, in UTF-8.

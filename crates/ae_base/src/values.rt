@@ -20,10 +20,18 @@ pub enum Datum {
 }
 
 /// A value of SQL.
-#[derive(Drop)]
 pub enum Value {
     Null,
     Is(Datum),
+}
+
+impl Drop for Value {
+    fn drop(self) {
+        match self {
+            Value::Null => {}
+            Value::Is(_) => {}
+        }
+    }
 }
 
 impl Datum {

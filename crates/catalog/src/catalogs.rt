@@ -25,13 +25,24 @@ use std::marker::Model;
 
 /// Master keys, column keys and tables, each in the order of their definitions, and the version,
 /// which each accepted definition raises by one.
-#[derive(Drop)]
 pub struct Catalog {
     masters: Seq<MasterKey>,
     keys: Seq<ColumnKey>,
     tables: Seq<TableDef>,
     next_id: u64,
     version: u64,
+}
+
+impl Drop for Catalog {
+    fn drop(self) {
+        let Catalog {
+            masters: _,
+            keys: _,
+            tables: _,
+            next_id: _,
+            version: _,
+        } = self;
+    }
 }
 
 impl Model for Catalog {

@@ -12,19 +12,33 @@ use ae_base::types::KeyId;
 use std::alloc::AllocError;
 
 /// A column master key, and the path of its bytes in a key store.
-#[derive(Drop)]
 pub struct MasterKey {
     pub name: Name,
     pub path: KeyPath,
 }
 
+impl Drop for MasterKey {
+    fn drop(self) {
+        let MasterKey { name: _, path: _ } = self;
+    }
+}
+
 /// A column encryption key: its number, its name, and its values in the order in which they were
 /// added.
-#[derive(Drop)]
 pub struct ColumnKey {
     pub id: KeyId,
     pub name: Name,
     pub values: OneOrTwo<EncryptedValue>,
+}
+
+impl Drop for ColumnKey {
+    fn drop(self) {
+        let ColumnKey {
+            id: _,
+            name: _,
+            values: _,
+        } = self;
+    }
 }
 
 /// Whether a value is under the master key of a name.

@@ -43,10 +43,15 @@ enum Noted {
 }
 
 /// The calls that were made, and which of those to come fail.
-#[derive(Drop)]
 struct Log {
     made: Seq<MadeCall>,
     calls: Calls,
+}
+
+impl Drop for Log {
+    fn drop(self) {
+        let Log { made: _, calls: _ } = self;
+    }
 }
 
 impl Model for Log {
@@ -86,12 +91,22 @@ impl Log {
 
 /// A disk in memory. It keeps the file that it had at first, and all its calls. A write that fails
 /// leaves what reads give as it was.
-#[derive(Drop)]
 pub struct MemDisk {
     alloc: Global,
     first: Vec<u8>,
     bytes: Vec<u8>,
     log: Log,
+}
+
+impl Drop for MemDisk {
+    fn drop(self) {
+        let MemDisk {
+            alloc: _,
+            first: _,
+            bytes: _,
+            log: _,
+        } = self;
+    }
 }
 
 impl Model for MemDisk {

@@ -28,10 +28,18 @@ use wire_messages::replies::Reply;
 use wire_messages::requests::Request;
 
 /// The client's end of 64 sessions, used with one vault.
-#[derive(Drop)]
 pub struct Driver {
     sessions: Vec<Session>,
     store: KeyStore,
+}
+
+impl Drop for Driver {
+    fn drop(self) {
+        let Driver {
+            sessions: _,
+            store: _,
+        } = self;
+    }
 }
 
 impl Model for Driver {

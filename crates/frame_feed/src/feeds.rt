@@ -13,12 +13,22 @@ use wire_frames::{Decoded, Way};
 /// The frames of one direction, from bytes that come in any pieces. Contracts see the direction,
 /// the place of the first byte that is held, the bytes held, and whether a frame was refused.
 /// Places past 2^64 - 1 are told as that.
-#[derive(Drop)]
 pub struct FrameFeed {
     way: Way,
     at: u64,
     held: BytesMut,
     failed: bool,
+}
+
+impl Drop for FrameFeed {
+    fn drop(self) {
+        let FrameFeed {
+            way: _,
+            at: _,
+            held: _,
+            failed: _,
+        } = self;
+    }
 }
 
 impl Model for FrameFeed {

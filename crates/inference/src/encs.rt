@@ -12,9 +12,14 @@ use std::alloc::{AllocError, Global};
 use std::collections::HashMap;
 
 /// The encryptions that were found so far. Where none was found a site is plain.
-#[derive(Drop)]
 pub(crate) struct Encs {
     found: HashMap<Site, Enc>,
+}
+
+impl Drop for Encs {
+    fn drop(self) {
+        let Encs { found: _ } = self;
+    }
 }
 
 impl Encs {

@@ -23,10 +23,15 @@ use std::alloc::{AllocError, Global};
 
 /// The encryptions that rules force on open sites, as far as they were found, and the steps by
 /// which they were found.
-#[derive(Drop)]
 pub(crate) struct Reach {
     encs: Encs,
     pub(crate) steps: Vec<Step>,
+}
+
+impl Drop for Reach {
+    fn drop(self) {
+        let Reach { encs: _, steps: _ } = self;
+    }
 }
 
 impl Reach {

@@ -31,11 +31,20 @@ use wire_messages::requests::Request;
 use wire_payloads::versioned::Versioned;
 
 /// A server, what is held of its sessions' transactions, and the journal.
-#[derive(Drop)]
 pub(crate) struct Durable {
     server: Server,
     keeper: Keeper,
     journal: Journal,
+}
+
+impl Drop for Durable {
+    fn drop(self) {
+        let Durable {
+            server: _,
+            keeper: _,
+            journal: _,
+        } = self;
+    }
 }
 
 impl Model for Durable {

@@ -17,10 +17,18 @@ use wire_payloads::versioned::Versioned;
 use wire_spelling::encode_request;
 
 /// The frames that are held of a session, in a row.
-#[derive(Drop)]
 struct Held {
     frames: Vec<u8>,
     changes: bool,
+}
+
+impl Drop for Held {
+    fn drop(self) {
+        let Held {
+            frames: _,
+            changes: _,
+        } = self;
+    }
 }
 
 impl Model for Held {
@@ -147,9 +155,14 @@ impl Held {
 }
 
 /// What is held of each session.
-#[derive(Drop)]
 pub(crate) struct Keeper {
     sessions: Vec<Held>,
+}
+
+impl Drop for Keeper {
+    fn drop(self) {
+        let Keeper { sessions: _ } = self;
+    }
 }
 
 impl Model for Keeper {

@@ -14,10 +14,15 @@ use std::alloc::{AllocError, Global};
 use std::marker::Model;
 
 /// The places of rows by their keys.
-#[derive(Drop)]
 pub struct KeyIndex<K: Same> {
     keys: IndexSet<Vec<Kept<K>>>,
     lists: Vec<Vec<usize>>,
+}
+
+impl<K: Same> Drop for KeyIndex<K> {
+    fn drop(self) {
+        let KeyIndex { keys: _, lists: _ } = self;
+    }
 }
 
 impl<K: Same> Model for KeyIndex<K> {

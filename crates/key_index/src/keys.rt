@@ -13,9 +13,14 @@ use std::hash::{Hash, Hasher};
 use std::marker::Model;
 
 /// An atom of its own, compared as unique keys do: NULL is like NULL.
-#[derive(Drop)]
 pub(crate) struct Kept<K: Same> {
     atom: Atom<K>,
+}
+
+impl<K: Same> Drop for Kept<K> {
+    fn drop(self) {
+        let Kept { atom: _ } = self;
+    }
 }
 
 impl<K: Same> Model for Kept<K> {

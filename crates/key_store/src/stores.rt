@@ -24,9 +24,14 @@ use std::num::NonZeroUsize;
 /// Column keys that were opened by one vault: the 8 most recently used at most. A key is found by
 /// the value that gave it, its master key's path and its wrapped bytes, never by its name or
 /// number.
-#[derive(Drop)]
 pub struct KeyStore {
     kept: LruCache<KeyValue, OpenedKey>,
+}
+
+impl Drop for KeyStore {
+    fn drop(self) {
+        let KeyStore { kept: _ } = self;
+    }
 }
 
 impl Model for KeyStore {

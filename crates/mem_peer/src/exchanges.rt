@@ -9,10 +9,18 @@ use wire_messages::replies::Reply;
 use wire_messages::requests::Request;
 
 /// A request and the replies to it.
-#[derive(Drop)]
 pub struct Exchange {
     request: Request<'static>,
     replies: Seq<Reply<'static>>,
+}
+
+impl Drop for Exchange {
+    fn drop(self) {
+        let Exchange {
+            request: _,
+            replies: _,
+        } = self;
+    }
 }
 
 impl Model for Exchange {

@@ -16,10 +16,18 @@ use wire_messages::replies::Reply;
 use wire_messages::requests::Request;
 
 /// A peer in memory, which gives listed answers in order, and keeps what was asked and answered.
-#[derive(Drop)]
 pub struct MemPeer {
     answers: VecDeque<Seq<Reply<'static>>>,
     exchanges: Vec<Exchange>,
+}
+
+impl Drop for MemPeer {
+    fn drop(self) {
+        let MemPeer {
+            answers: _,
+            exchanges: _,
+        } = self;
+    }
 }
 
 impl Model for MemPeer {

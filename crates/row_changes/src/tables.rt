@@ -40,10 +40,18 @@ pub fn copies<T: Duplicate>(alloc: Global, values: &[T]) -> Result<Vec<T>, Alloc
 
 /// The rows of one table, in the order in which they came, and for each of its unique keys an index
 /// of them all.
-#[derive(Drop)]
 pub struct Table<K: Same> {
     rows: Paged<Row<K>>,
     indexes: Vec<UniqueIndex<K>>,
+}
+
+impl<K: Same> Drop for Table<K> {
+    fn drop(self) {
+        let Table {
+            rows: _,
+            indexes: _,
+        } = self;
+    }
 }
 
 impl<K: Same> Model for Table<K> {

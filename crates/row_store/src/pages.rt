@@ -8,9 +8,14 @@ use std::alloc::{AllocError, Global};
 use std::marker::Model;
 
 /// At most 256 rows, with room for as many.
-#[derive(Drop)]
 pub struct Page<T> {
     rows: Vec<T>,
+}
+
+impl<T: Drop> Drop for Page<T> {
+    fn drop(self) {
+        let Page { rows: _ } = self;
+    }
 }
 
 impl<T> Model for Page<T> {
@@ -94,7 +99,7 @@ impl<T: Drop> Page<T> {
         requires { length self.old + length other ≤ 256 }
         ensures { self.new ≡ self.old ++ other }
     {
-        let mut rows = other.rows;
+        let Page { mut rows } = other;
         let _ = self.rows.append(&mut rows);
     }
 }

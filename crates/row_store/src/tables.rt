@@ -18,12 +18,22 @@ use std::marker::Model;
 pub type Table<K> = Paged<Row<K>>;
 
 /// Rows in pages of at most 256, of which two neighbours always have more than 256 together.
-#[derive(Drop)]
 pub struct Paged<T> {
     pages: Vec<Page<T>>,
     ready: Vec<Page<T>>,
     count: usize,
     spare: usize,
+}
+
+impl<T: Drop> Drop for Paged<T> {
+    fn drop(self) {
+        let Paged {
+            pages: _,
+            ready: _,
+            count: _,
+            spare: _,
+        } = self;
+    }
 }
 
 impl<T> Model for Paged<T> {

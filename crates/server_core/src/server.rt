@@ -28,9 +28,14 @@ use wire_parts::texts::StatementPart;
 
 /// The server's end, which contracts see as its state: the shared world, and the transactions of
 /// its sessions. Every world is well typed, and its protected columns hold NULL and cells alone.
-#[derive(Drop)]
 pub struct Server {
     store: Store<Cell>,
+}
+
+impl Drop for Server {
+    fn drop(self) {
+        let Server { store: _ } = self;
+    }
 }
 
 impl Model for Server {

@@ -28,9 +28,14 @@ use std::collections::VecDeque;
 use std::marker::Model;
 
 /// The tokens of a statement that are not read yet, each number at most `MOST_NUMBER`.
-#[derive(Drop)]
 pub struct Cursor {
     rest: VecDeque<Token>,
+}
+
+impl Drop for Cursor {
+    fn drop(self) {
+        let Cursor { rest: _ } = self;
+    }
 }
 
 impl Model for Cursor {

@@ -4,10 +4,18 @@ use ae_base::names::Name;
 use ae_base::values::Value;
 
 /// A column as a statement names it.
-#[derive(Drop)]
 pub struct ColumnRef {
     pub qualifier: Option<Name>,
     pub name: Name,
+}
+
+impl Drop for ColumnRef {
+    fn drop(self) {
+        let ColumnRef {
+            qualifier: _,
+            name: _,
+        } = self;
+    }
 }
 
 /// A value that a statement computes. `C` is what names a column, and `P` what names a parameter. Places are

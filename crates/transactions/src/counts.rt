@@ -30,10 +30,18 @@ use std::alloc::{AllocError, Global};
 use std::marker::Model;
 
 /// A world, and how often each of its tables was changed.
-#[derive(Drop)]
 pub(crate) struct Counted<K: Same> {
     world: World<K>,
     counts: Vec<u64>,
+}
+
+impl<K: Same> Drop for Counted<K> {
+    fn drop(self) {
+        let Counted {
+            world: _,
+            counts: _,
+        } = self;
+    }
 }
 
 impl<K: Same> Model for Counted<K> {

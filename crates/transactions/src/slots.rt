@@ -11,9 +11,14 @@ use std::alloc::{AllocError, Global};
 use std::marker::Model;
 
 /// What each session has: a transaction, or nothing.
-#[derive(Drop)]
 pub(crate) struct Slots<K: Same> {
     held: Vec<Option<Transaction<K>>>,
+}
+
+impl<K: Same> Drop for Slots<K> {
+    fn drop(self) {
+        let Slots { held: _ } = self;
+    }
 }
 
 impl<K: Same> Model for Slots<K> {

@@ -30,10 +30,18 @@ use std::alloc::Global;
 use std::marker::Model;
 
 /// The shared world, with the change counts of its tables, and the transactions of the sessions.
-#[derive(Drop)]
 pub struct Store<K: Same> {
     shared: Counted<K>,
     slots: Slots<K>,
+}
+
+impl<K: Same> Drop for Store<K> {
+    fn drop(self) {
+        let Store {
+            shared: _,
+            slots: _,
+        } = self;
+    }
 }
 
 impl<K: Same> Model for Store<K> {

@@ -31,12 +31,22 @@ use std::marker::Model;
 
 /// A session's own world, the version at its BEGIN, and the tables that it has used and changed
 /// since, in the order of their first use and change.
-#[derive(Drop)]
 pub(crate) struct Transaction<K: Same> {
     own: Counted<K>,
     version: u64,
     used: Vec<Used>,
     changed: Vec<Name>,
+}
+
+impl<K: Same> Drop for Transaction<K> {
+    fn drop(self) {
+        let Transaction {
+            own: _,
+            version: _,
+            used: _,
+            changed: _,
+        } = self;
+    }
 }
 
 impl<K: Same> Model for Transaction<K> {
@@ -146,8 +156,13 @@ impl<K: Same> Transaction<K> {
         requires free { spec.why_not shared.old self ≡ None }
         ensures { shared.new ≡ with_tables shared.old self.own self.changed }
     {
-        let mut own = self.own;
-        shared.take_tables(&mut own, self.changed.as_slice());
+        let Transaction {
+            mut own,
+            version: _,
+            used: _,
+            changed,
+        } = self;
+        shared.take_tables(&mut own, changed.as_slice());
     }
 }
 

@@ -18,10 +18,18 @@ use std::alloc::{AllocError, Global};
 use std::marker::Model;
 
 /// The index of a unique key: the places of rows, found by what they have in its columns.
-#[derive(Drop)]
 pub struct UniqueIndex<K: Same> {
     places: UniqueKey,
     index: KeyIndex<K>,
+}
+
+impl<K: Same> Drop for UniqueIndex<K> {
+    fn drop(self) {
+        let UniqueIndex {
+            places: _,
+            index: _,
+        } = self;
+    }
 }
 
 impl<K: Same> Model for UniqueIndex<K> {

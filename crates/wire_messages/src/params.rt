@@ -12,10 +12,15 @@ use wire_parts::copies::{ToOwn, own_parts};
 use wire_parts::texts::ParamNamePart;
 
 /// A parameter's declaration, which contracts see as a `ParamDecl`.
-#[derive(Drop)]
 pub struct Declaration<'a> {
     name: ParamNamePart<'a>,
     ty: Ty,
+}
+
+impl<'a> Drop for Declaration<'a> {
+    fn drop(self) {
+        let Declaration { name: _, ty: _ } = self;
+    }
 }
 
 impl<'a> Model for Declaration<'a> {

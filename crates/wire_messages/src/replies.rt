@@ -18,11 +18,20 @@ use wire_parts::keys::KeyPart;
 
 /// A described statement: the version of the catalog, the keys of its parameters in the order of
 /// their first use, and the parameters that it uses.
-#[derive(Drop)]
 pub struct Description<'a> {
     version: u64,
     keys: Seq<KeyPart<'a>>,
     params: UsedParams<'a>,
+}
+
+impl<'a> Drop for Description<'a> {
+    fn drop(self) {
+        let Description {
+            version: _,
+            keys: _,
+            params: _,
+        } = self;
+    }
 }
 
 impl<'a> Model for Description<'a> {
@@ -88,7 +97,12 @@ impl<'a> Description<'a> {
         ensures keys { result ≡ self.entry.keys }
         ensures description { told.IsDescription self.entry }
     {
-        self.keys
+        let Description {
+            version: _,
+            keys,
+            params: _,
+        } = self;
+        keys
     }
 
     /// The keys and the parameters, by value. It takes no memory.
@@ -97,7 +111,12 @@ impl<'a> Description<'a> {
         ensures params { result.1 ≡ self.entry.params }
         ensures description { told.IsDescription self.entry }
     {
-        (self.keys, self.params)
+        let Description {
+            version: _,
+            keys,
+            params,
+        } = self;
+        (keys, params)
     }
 
     /// A copy that borrows nothing.
@@ -113,10 +132,18 @@ impl<'a> Description<'a> {
 }
 
 /// The columns of an answer, from 1 to 512, with their keys in the order of their first use.
-#[derive(Drop)]
 pub struct Header<'a> {
     keys: Seq<KeyPart<'a>>,
     columns: Seq<SentColumn<'a>>,
+}
+
+impl<'a> Drop for Header<'a> {
+    fn drop(self) {
+        let Header {
+            keys: _,
+            columns: _,
+        } = self;
+    }
 }
 
 impl<'a> Model for Header<'a> {
@@ -169,7 +196,8 @@ impl<'a> Header<'a> {
         ensures columns { result.1 ≡ self.entry.columns }
         ensures header { told.IsHeader self.entry }
     {
-        (self.keys, self.columns)
+        let Header { keys, columns } = self;
+        (keys, columns)
     }
 
     /// A copy that borrows nothing.
@@ -184,9 +212,14 @@ impl<'a> Header<'a> {
 }
 
 /// A row of an answer: 1 to 512 atoms, which contracts see as the list of them.
-#[derive(Drop)]
 pub struct RowParts<'a> {
     atoms: Seq<AtomPart<'a>>,
+}
+
+impl<'a> Drop for RowParts<'a> {
+    fn drop(self) {
+        let RowParts { atoms: _ } = self;
+    }
 }
 
 impl<'a> Model for RowParts<'a> {
@@ -226,7 +259,8 @@ impl<'a> RowParts<'a> {
         ensures atoms { result ≡ self.entry }
         ensures few { IsFew self.entry }
     {
-        self.atoms
+        let RowParts { atoms } = self;
+        atoms
     }
 
     /// A copy that borrows nothing.

@@ -27,9 +27,14 @@ pub enum AtomCase<'a> {
 
 /// What is sent for a value: NULL, the value as it is, or an encrypted one. A text has at most
 /// 12,000 bytes, a binary 8,000 and a cell 16,384. Contracts see the atom.
-#[derive(Drop)]
 pub struct AtomPart<'a> {
     case: AtomCase<'a>,
+}
+
+impl<'a> Drop for AtomPart<'a> {
+    fn drop(self) {
+        let AtomPart { case: _ } = self;
+    }
 }
 
 impl<'a> Model for AtomPart<'a> {
@@ -140,7 +145,8 @@ impl<'a> AtomPart<'a> {
         ensures atom { atom_of result ≡ self.entry }
         ensures short { IsSendable self.entry }
     {
-        self.case
+        let AtomPart { case } = self;
+        case
     }
 
     /// An own copy of the atom.

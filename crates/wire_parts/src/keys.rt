@@ -14,10 +14,18 @@ use std::alloc::{AllocError, Global};
 use std::marker::Model;
 
 /// A value of a column encryption key, which contracts see as a `KeyValue`.
-#[derive(Drop)]
 pub struct ValuePart<'a> {
     path: PathPart<'a>,
     wrapped: BlobPart<'a>,
+}
+
+impl<'a> Drop for ValuePart<'a> {
+    fn drop(self) {
+        let ValuePart {
+            path: _,
+            wrapped: _,
+        } = self;
+    }
 }
 
 impl<'a> Model for ValuePart<'a> {
@@ -104,11 +112,20 @@ impl<'a, 'b> ToOwn<ValuePart<'b>> for ValuePart<'a> {
 }
 
 /// What a client is told of a column encryption key, which contracts see as a `KeyMeta`.
-#[derive(Drop)]
 pub struct KeyPart<'a> {
     id: KeyId,
     name: NamePart<'a>,
     values: OneOrTwo<ValuePart<'a>>,
+}
+
+impl<'a> Drop for KeyPart<'a> {
+    fn drop(self) {
+        let KeyPart {
+            id: _,
+            name: _,
+            values: _,
+        } = self;
+    }
 }
 
 impl<'a> Model for KeyPart<'a> {

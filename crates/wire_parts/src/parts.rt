@@ -17,9 +17,14 @@ enum TxtSource<'a> {
 }
 
 /// A text, own or borrowed, which contracts see as the list of its characters.
-#[derive(Drop)]
 pub struct TxtPart<'a> {
     source: TxtSource<'a>,
+}
+
+impl<'a> Drop for TxtPart<'a> {
+    fn drop(self) {
+        let TxtPart { source: _ } = self;
+    }
 }
 
 impl<'a> Model for TxtPart<'a> {
@@ -88,9 +93,14 @@ enum BytesSource<'a, T> {
 }
 
 /// Some bytes, own or borrowed, which contracts see as the list of them.
-#[derive(Drop)]
 pub struct BlobPart<'a> {
     source: BytesSource<'a, Blob>,
+}
+
+impl<'a> Drop for BlobPart<'a> {
+    fn drop(self) {
+        let BlobPart { source: _ } = self;
+    }
 }
 
 impl<'a> Model for BlobPart<'a> {
@@ -147,9 +157,14 @@ impl<'a> BlobPart<'a> {
 }
 
 /// A cell, own or borrowed, which contracts see as the list of its bytes.
-#[derive(Drop)]
 pub struct CellPart<'a> {
     source: BytesSource<'a, Cell>,
+}
+
+impl<'a> Drop for CellPart<'a> {
+    fn drop(self) {
+        let CellPart { source: _ } = self;
+    }
 }
 
 impl<'a> Model for CellPart<'a> {

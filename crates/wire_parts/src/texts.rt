@@ -27,10 +27,15 @@ impl TextRule for StatementRule {
 }
 
 /// A text that meets the condition of a rule, own or borrowed.
-#[derive(Drop)]
 pub struct RuledPart<'a, R: TextRule> {
     text: TxtPart<'a>,
     rule: PhantomData<R>,
+}
+
+impl<'a, R: TextRule> Drop for RuledPart<'a, R> {
+    fn drop(self) {
+        let RuledPart { text: _, rule: _ } = self;
+    }
 }
 
 /// The text of a statement, of at most 65,536 bytes.
@@ -103,6 +108,14 @@ impl<'a, R: TextRule> RuledPart<'a, R> {
         self.text.as_str()
     }
 
+    // The text, by value. It takes no memory.
+    fn into_part(self) -> TxtPart<'a>
+        ensures { result ≡ self.entry }
+    {
+        let RuledPart { text, rule: _ } = self;
+        text
+    }
+
     /// An own copy of the text.
     pub fn to_ruled(&self, alloc: Global) -> Result<Ruled<R>, AllocError>
         ensures { IfOk result (λ copy. copy ≡ self.now) }
@@ -127,6 +140,6 @@ impl<'a> RuledPart<'a, ParamNameRule> {
         ensures name { IfSome result (λ part. part ≡ name.entry) }
         ensures exactly { IsSome result ↔ IsParamName name.entry }
     {
-        RuledPart::from_part(name.text)
+        RuledPart::from_part(name.into_part())
     }
 }

@@ -11,9 +11,14 @@ use wire_messages::replies::{Reply, RowParts};
 
 /// Rows of an answer that share a frame: 1 to 4,096, each of as many atoms. Contracts see the list
 /// of them.
-#[derive(Drop)]
 pub struct RowBatch<'a> {
     rows: Seq<RowParts<'a>>,
+}
+
+impl<'a> Drop for RowBatch<'a> {
+    fn drop(self) {
+        let RowBatch { rows: _ } = self;
+    }
 }
 
 impl<'a> Model for RowBatch<'a> {
@@ -63,7 +68,8 @@ impl<'a> RowBatch<'a> {
         ensures rows { result ≡ self.entry }
         ensures batch { IsBatch self.entry }
     {
-        self.rows
+        let RowBatch { rows } = self;
+        rows
     }
 
     /// A copy that borrows nothing.

@@ -10,11 +10,20 @@ use crate::memory::calls::Calls;
 use std::marker::Model;
 
 /// A random source in memory. It fails too where fewer than sixteen bytes are left.
-#[derive(Drop)]
 pub struct MemEntropy {
     bytes: Vec<u8>,
     at: usize,
     calls: Calls,
+}
+
+impl Drop for MemEntropy {
+    fn drop(self) {
+        let MemEntropy {
+            bytes: _,
+            at: _,
+            calls: _,
+        } = self;
+    }
 }
 
 impl Model for MemEntropy {

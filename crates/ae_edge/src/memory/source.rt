@@ -12,12 +12,22 @@ use std::alloc::Global;
 use std::marker::Model;
 
 /// A source in memory, which gives pieces of at most a fixed size.
-#[derive(Drop)]
 pub struct MemSource {
     bytes: Vec<u8>,
     at: usize,
     piece: usize,
     calls: Calls,
+}
+
+impl Drop for MemSource {
+    fn drop(self) {
+        let MemSource {
+            bytes: _,
+            at: _,
+            piece: _,
+            calls: _,
+        } = self;
+    }
 }
 
 impl Model for MemSource {

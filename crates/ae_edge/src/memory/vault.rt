@@ -11,10 +11,15 @@ use ae_base::texts::Txt;
 use std::marker::Model;
 
 /// A vault in memory.
-#[derive(Drop)]
 pub struct MemVault {
     keys: Vec<(Txt, [u8; 32])>,
     calls: Calls,
+}
+
+impl Drop for MemVault {
+    fn drop(self) {
+        let MemVault { keys: _, calls: _ } = self;
+    }
 }
 
 impl Model for MemVault {
