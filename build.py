@@ -2,9 +2,9 @@
 """Proves and builds a program and every crate below it, side by side on all processors.
 
 Usage: build.py TOP PROGRAM LINK, where TOP/crates.txt lists the crates, and LINK names a link beside the program.
-What the gate (`rt ci`) has proved on this machine, in any checkout, it gives: then it also builds what changed since. Else each
-crate is built by `rt lib` as soon as those that it uses are built, the longest chain first. `rt` keeps what is proved, so a build
-that was broken off goes on where it was.
+The gate's command (`rt ci`) proves the crates. It keeps what is proved beside the kit, and gives what any checkout on this machine
+has proved. Where nothing can be kept there, each crate is built by `rt lib` as soon as those that it uses are built, the longest
+chain first, and kept in the checkout. So a build that was broken off goes on where it was.
 On a terminal one line tells how far it is; in a log there is a line for each crate.
 """
 import os
@@ -30,7 +30,6 @@ SECONDS = {
 OTHER = 22
 MEMORY = 2 << 30  # bytes that a proof may take; few take more
 LEFT_OUT = shutil.ignore_patterns("out", "must-fail")
-LOOK = 10  # seconds in which the gate gives the lowest crate, if it has proved it
 
 
 class Failed(Exception):
@@ -159,35 +158,35 @@ def told_by_gate(log):
     return {it[1]: it[2] != "proved" for it in found if it}
 
 
+def is_kept():
+    """Returns whether `rt` can keep what it proves, which it does beside the kit."""
+    page = subprocess.run(["rt", "doc"], stdout=subprocess.PIPE, text=True, check=True).stdout.strip()
+    return os.access(os.path.dirname(os.path.dirname(page)), os.W_OK)
+
+
 def build_by_gate(top, crates, program):
-    """Builds the program by the gate, over a copy of its crates, if the gate has proved the lowest. Returns whether it did."""
-    lowest, log, progress = next(iter(crates)), crates[program].log, None
-    made = os.path.join(crates[program].folder, "out", program)
+    """Proves the crates by the gate's command, over a copy without wrong bodies. Raises Failed if that ends before the program."""
+    log, made = crates[program].log, os.path.join(crates[program].folder, "out", program)
     room = tempfile.mkdtemp(prefix="ae-build-")
     copy_crates(top, crates, room)
-    run, begin = start(["ci"], room, log), time.monotonic()
+    run, progress = start(["ci"], room, log), Progress(crates)
     try:
-        while run.poll() is None:
-            told = told_by_gate(log)
-            if lowest not in told and time.monotonic() - begin > LOOK:
-                return False
-            if lowest in told:
-                progress = progress or Progress(crates)
-                for name, was_there in told.items():
-                    progress.built(name, was_there)
-                progress.show()
+        # (the program's tests, which come behind it, aren't awaited)
+        while program in progress.left:
+            ended = run.poll() is not None
+            for name, was_there in told_by_gate(log).items():
+                progress.built(name, was_there)
+            if ended and program in progress.left:
+                raise Failed(log)
+            progress.show()
             time.sleep(0.5)
-        if run.returncode:
-            raise Failed(log)
         shutil.copyfile(os.path.join(room, "crates", program, "out", program), f"{made}.new")
         os.chmod(f"{made}.new", 0o755)
         os.replace(f"{made}.new", made)
-        return True
     finally:
         stop(run)
         shutil.rmtree(room, ignore_errors=True)
-        if progress:
-            progress.end()
+        progress.end()
 
 
 def command(crate, program, jobs):
@@ -201,7 +200,6 @@ def build_each(crates, program):
     """Builds all crates, and raises Failed at the first that cannot be built. What runs then is stopped."""
     progress = Progress(crates)
     width, left, running = progress.width, dict(crates), {}
-    print(f"ae: {len(left)} crates, {width} at a time: from nothing about {progress.minutes_left()} min", file=sys.stderr)
     try:
         while left:
             ready = [it for it in left.values() if it.name not in running and not any(dep in left for dep in it.deps)]
@@ -242,9 +240,11 @@ def main():
     crates = crates_of(top, program)
     began = time.time()
     version = subprocess.run(["rt", "version"], stdout=subprocess.PIPE, text=True, check=True).stdout
-    print("ae: proving and building the program", file=sys.stderr)
+    print(f"ae: proving and building the program, {len(crates)} crates", file=sys.stderr)
     try:
-        if not build_by_gate(top, crates, program):
+        if is_kept():
+            build_by_gate(top, crates, program)
+        else:
             build_each(crates, program)
     except Failed as failed:
         (log,) = failed.args
