@@ -12,8 +12,8 @@ use Rattle.sql_tree.specs.Bound.{Bound}
 use Rattle.enc_types.specs.Least.{inferred_encs}
 use Rattle.transactions.specs.Stores.{Transaction, Transacted, seen_by}
 use Rattle.wire_messages.specs.Messages.{Description}
-use Rattle.server_core.specs.Describing.{Meant, binding_of, typed, with_encs, understood, describe, description}
-use Rattle.server_core.specs.Explaining.{Explains, Shows}
+use Rattle.statement_analysis.specs.Describing.{Meant, binding_of, typed, with_encs, understood, describe, description}
+use Rattle.statement_analysis.specs.Explaining.{Explains, Shows}
 use Rattle.server_core.specs.Serve.{State, catalog_of}
 use Rattle.conversation.specs.Batches.{why_unfit}
 use Rattle.conversation.specs.Pending.{Pending, Use, uses_of}

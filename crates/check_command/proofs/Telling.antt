@@ -13,7 +13,7 @@ use Rattle.resolve.specs.Laws.{BoundStatementsAre}
 use Rattle.wire_messages.specs.Messages.{Description}
 use Rattle.wire_messages.specs.declared.replies.Reply.{Reply}
 use Rattle.wire_messages.specs.declared.replies.Reply.TheVariants as reply
-use Rattle.server_core.specs.Describing.{Meant, understood, description, describe}
+use Rattle.statement_analysis.specs.Describing.{Meant, understood, description, describe}
 use Rattle.server_core.specs.Serve.{State, catalog_of, described}
 use Rattle.conversation.specs.Batches.{why_unfit}
 use Rattle.conversation.specs.Pending.{Pending, uses_of}

@@ -33,7 +33,7 @@ use Rattle.wire_messages.specs.declared.params.UsedParam.{UsedParam}
 use Rattle.wire_messages.specs.declared.replies.Reply.{Reply}
 use Rattle.wire_messages.specs.declared.requests.Request.{Request}
 use Rattle.wire_messages.specs.declared.requests.Request.TheVariants.{Execute}
-use Rattle.server_core.specs.Describing.{Meant, understood, used_from, description}
+use Rattle.statement_analysis.specs.Describing.{Meant, understood, used_from, description}
 use Rattle.server_core.specs.Serve.{State, catalog_of, answered, serve}
 use Rattle.wire_messages.specs.Exchanges.{Served}
 use Rattle.conversation.specs.declared.outcomes.Outcome as comes_to

@@ -8,7 +8,7 @@ use Rattle.wire_messages.specs.declared.replies.Reply.{Reply}
 use Rattle.wire_messages.specs.declared.replies.Reply.TheVariants as reply
 use Rattle.wire_messages.specs.declared.requests.Request.{Request}
 use Rattle.wire_messages.specs.declared.requests.Request.TheVariants as request
-use Rattle.server_core.specs.Describing.{describe}
+use Rattle.statement_analysis.specs.Describing.{describe}
 use Rattle.server_core.specs.Serve.{State, catalog_of, described}
 use Rattle.enc_types.specs.Laws.{TypingsAreOfColumns}
 use Rattle.resolve.specs.Laws.{BoundStatementsAre}

@@ -9,8 +9,8 @@ use Rattle.sql_tree.specs.Statements.{Statement}
 use Rattle.sql_tree.specs.Sorts as sorts
 use Rattle.sql_tree.specs.Sorts.{sort_written}
 use Rattle.sql_grammar.specs.Texts.{statement_in}
-use Rattle.server_core.specs.Describing.{binding_of}
-use Rattle.server_core.specs.Explaining.{Explains}
+use Rattle.statement_analysis.specs.Describing.{binding_of}
+use Rattle.statement_analysis.specs.Explaining.{Explains}
 use Rattle.server_core.specs.Serve.{State, catalog_of}
 use Rattle.conversation.specs.Batches.{why_unfit}
 use Rattle.conversation.specs.Pending.{Pending}

@@ -6,7 +6,7 @@ ghost use Rattle.ae_edge.specs.Devices.{Rose};
 ghost use Rattle.conversation.specs.Batches.{why_unfit};
 ghost use Rattle.plain_meaning.specs.Reference.{declarations_of};
 ghost use Rattle.script_lang.specs.Limits.{HasParams, IsWithinLimits};
-ghost use Rattle.server_core.specs.Describing.{binding_of};
+ghost use Rattle.statement_analysis.specs.Describing.{binding_of};
 ghost use Rattle.server_core.specs.Serve.{State, catalog_of, empty_state};
 ghost use Rattle.check_command.specs.Asked.{ComesTo};
 ghost use Rattle.check_command.specs.Check as check;

@@ -10,9 +10,9 @@ use Rattle.journal_core.specs.declared.journal.Appended.TheVariants as appended
 use Rattle.serve_command.specs.ServeAll.{answer_frames}
 use Rattle.server_core.specs.Serve.{State, serve}
 use Rattle.wire_messages.specs.declared.replies.Reply.{Reply}
-use Rattle.server_core.specs.Sorts.{sort_of}
-use Rattle.server_core.specs.declared.sorts.Sort.{Sort}
-use Rattle.server_core.specs.declared.sorts.Sort.TheVariants as sorts
+use Rattle.statement_analysis.specs.Sorts.{sort_of}
+use Rattle.statement_analysis.specs.declared.sorts.Sort.{Sort}
+use Rattle.statement_analysis.specs.declared.sorts.Sort.TheVariants as sorts
 use Rattle.wire_messages.specs.declared.requests.Request.{Request}
 use Rattle.wire_messages.specs.declared.requests.Request.TheVariants.{Describe, Execute}
 use Rattle.journal_command.specs.Keeping.{Asked, HeldFrames, IsHolding, entries_of, frames_of, held_behind, keeping}

@@ -5,9 +5,9 @@ use Rattle.journal_core.specs.Records.{IsExecute}
 use Rattle.serve_command.specs.Serving.{IsProper}
 use Rattle.recording.specs.Recorded.{Kept, held_at, kept_by, recorded, session_of, with_held}
 use Rattle.serve_command.specs.ServeAll.{messages_of}
+use Rattle.statement_analysis.specs.declared.sorts.Sort.{Sort}
+use Rattle.statement_analysis.specs.declared.sorts.Sort.TheVariants as sort
 use Rattle.server_core.specs.Serve.{State, serve}
-use Rattle.server_core.specs.declared.sorts.Sort.{Sort}
-use Rattle.server_core.specs.declared.sorts.Sort.TheVariants as sort
 use Rattle.wire_messages.specs.declared.requests.Request.{Request}
 use Rattle.wire_payloads.specs.declared.versioned.Versioned.{Versioned}
 use Rattle.wire_spelling.specs.Spelling.{asked_frame}

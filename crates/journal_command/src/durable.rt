@@ -23,7 +23,7 @@ use disk::disks::Disk;
 use journal_core::journal::{Appended, Journal};
 use serve_command::answers::put_replies;
 use server_core::server::Server;
-use server_core::sorts::Sort;
+use statement_analysis::sorts::Sort;
 use std::alloc::{AllocError, Global};
 use std::marker::Model;
 use wire_messages::replies::Reply;

@@ -8,7 +8,7 @@ ghost use Rattle.journal_command.specs.Keeping.{Asked, HasRoom, HeldFrames, IsKe
 
 use ae_base::blobs::Blob;
 use ae_base::sessions::SessionId;
-use server_core::sorts::Sort;
+use statement_analysis::sorts::Sort;
 use std::alloc::{AllocError, Global};
 use std::marker::Model;
 use std::mem;

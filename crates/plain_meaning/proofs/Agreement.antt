@@ -22,8 +22,8 @@ use Rattle.engine.specs.declared.answers.ResultColumn.{ResultColumn}
 use Rattle.wire_messages.specs.declared.columns.SentColumn.{SentColumn}
 use Rattle.wire_messages.specs.declared.replies.Done.TheVariants.{Answered}
 use Rattle.wire_messages.specs.declared.replies.Reply.TheVariants.{Row, Ended}
-use Rattle.server_core.specs.Describing.{Meant, understood, describe, description, keys_of}
-use Rattle.server_core.specs.Params.{declaration_of, suited}
+use Rattle.statement_analysis.specs.Describing.{Meant, understood, describe, description, keys_of}
+use Rattle.statement_analysis.specs.Params.{declaration_of, suited}
 use Rattle.server_core.specs.Serve.{State, empty_state, catalog_of, described, answered, executed, sent_column, header, serve}
 use Rattle.server_core.specs.States.{is_short}
 use Rattle.conversation.specs.Batches.{why_unfit, unless}

@@ -37,8 +37,8 @@ use Rattle.wire_messages.specs.declared.params.SentParam.{SentParam}
 use Rattle.wire_messages.specs.declared.replies.Done.TheVariants.{Answered}
 use Rattle.wire_messages.specs.declared.replies.Reply.{Reply}
 use Rattle.wire_messages.specs.declared.replies.Reply.TheVariants.{Row, Ended}
-use Rattle.server_core.specs.Describing.{Meant, understood, description}
-use Rattle.server_core.specs.Params.{declaration_of, suited}
+use Rattle.statement_analysis.specs.Describing.{Meant, understood, description}
+use Rattle.statement_analysis.specs.Params.{declaration_of, suited}
 use Rattle.server_core.specs.Serve.{State, empty_state, catalog_of, serve, header, described, answered, executed}
 use Rattle.conversation.specs.Batches.{why_unfit, unless}
 use Rattle.conversation.specs.Cells.{read_atoms}

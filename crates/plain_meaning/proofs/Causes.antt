@@ -44,7 +44,7 @@ use Rattle.engine.specs.Worlds.{World, rows_of}
 use Rattle.transactions.specs.Counted.{Execution, Counted, CountedOutcome, count_of, is_at_last_count, counted, counted_step, step_of}
 use Rattle.transactions.specs.Stores.{Store, Ask, Begins, Commits, RollsBack, Executes, Transaction, Transacted, transaction_at, conflict, why_not, committed, transacted, transact}
 use Rattle.transactions.specs.declared.uses.Used.{Used}
-use Rattle.server_core.specs.Describing.{with_encs, typed, binding_of, understood, description, describe}
+use Rattle.statement_analysis.specs.Describing.{with_encs, typed, binding_of, understood, description, describe}
 use Rattle.plain_meaning.specs.PlainOutcomes.{IsPlainFault}
 
 -- a part has a fault of these, if any

@@ -23,7 +23,7 @@ use Rattle.engine.specs.Step.{Answer, Rows, Changed, Defined}
 use Rattle.transactions.specs.Counted.{execution}
 use Rattle.transactions.specs.Stores.{ask_of, transact}
 use Rattle.wire_messages.specs.Messages.{Description}
-use Rattle.server_core.specs.Describing.{Meant, understood, describe, keys_of}
+use Rattle.statement_analysis.specs.Describing.{Meant, understood, describe, keys_of}
 use Rattle.server_core.specs.Serve.{State, catalog_of, empty_state, serve}
 use Rattle.conversation.specs.Batches.{unfit_by, why_unfit}
 use Rattle.conversation.specs.Drive.{End, Done, Dry, BadReply, over}

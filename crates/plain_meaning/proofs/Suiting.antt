@@ -14,8 +14,8 @@ use Rattle.enc_types.specs.UsedAlone.{used_among, is_used, alone}
 use Rattle.expression_binding.specs.Declarations.{type_of}
 use Rattle.engine.specs.BoundOn.{IsBoundOn}
 use Rattle.wire_messages.specs.declared.params.SentParam.{SentParam}
-use Rattle.server_core.specs.Describing.{Meant, understood, description, keys_of}
-use Rattle.server_core.specs.Params.{declaration_of, suited}
+use Rattle.statement_analysis.specs.Describing.{Meant, understood, description, keys_of}
+use Rattle.statement_analysis.specs.Params.{declaration_of, suited}
 use Rattle.server_core.proofs.Interface.{parts_of}
 use Rattle.conversation.specs.Batches.{why_unfit}
 use Rattle.conversation.specs.Pending.{Pending, Use, uses_in, uses_of}

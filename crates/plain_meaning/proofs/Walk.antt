@@ -21,7 +21,7 @@ use Rattle.hmac_kdf.specs.Keys.{Keys}
 use Rattle.engine.specs.declared.answers.ResultColumn.{ResultColumn}
 use Rattle.wire_messages.specs.declared.columns.SentColumn.{SentColumn}
 use Rattle.wire_messages.specs.declared.params.SentParam.{SentParam}
-use Rattle.server_core.specs.Describing.{keys_of}
+use Rattle.statement_analysis.specs.Describing.{keys_of}
 use Rattle.server_core.specs.Serve.{sent_column, header}
 use Rattle.conversation.specs.Cells.{det_atom, rnd_atom}
 use Rattle.conversation.specs.Keys.{open_key, meta_of}

@@ -16,7 +16,7 @@ use Rattle.semantic_checks.specs.Checks.{check_of}
 use Rattle.resolve.specs.Bind.{bind}
 use Rattle.enc_types.specs.Least.{inferred_encs, least, has_typing, clash_behind}
 use Rattle.enc_types.specs.Rules.{rules}
-use Rattle.server_core.specs.Describing.{understood}
+use Rattle.statement_analysis.specs.Describing.{understood}
 use Rattle.server_core.specs.Serve.{State}
 use Rattle.conversation.specs.declared.outcomes.Outcome.{Outcome}
 use Rattle.conversation.specs.declared.outcomes.Outcome.TheVariants.{Rows, Changed}

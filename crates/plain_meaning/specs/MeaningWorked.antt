@@ -18,7 +18,7 @@ use Rattle.catalog.specs.Catalogs.{Catalog}
 use Rattle.resolve.specs.Bind.{bind}
 use Rattle.enc_types.specs.Least.{inferred_encs, least, has_typing, clash_behind}
 use Rattle.enc_types.specs.Rules.{rules}
-use Rattle.server_core.specs.Describing.{understood}
+use Rattle.statement_analysis.specs.Describing.{understood}
 use Rattle.server_core.specs.Serve.{State, empty_state}
 use Rattle.conversation.specs.declared.faults.DriverFault.TheVariants.{StillPending, NothingPending, DoesNotFit, NoMasterKey}
 use Rattle.conversation.specs.declared.outcomes.NamedEnc.TheVariants as named

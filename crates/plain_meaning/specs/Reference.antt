@@ -18,7 +18,7 @@ use Rattle.engine.specs.declared.answers.ResultColumn.{ResultColumn}
 use Rattle.transactions.specs.Counted.{execution}
 use Rattle.transactions.specs.Stores.{Transacted, ask_of, transact}
 use Rattle.wire_messages.specs.Messages.{Description}
-use Rattle.server_core.specs.Describing.{Meant, understood, describe, keys_of}
+use Rattle.statement_analysis.specs.Describing.{Meant, understood, describe, keys_of}
 use Rattle.server_core.specs.Serve.{State, catalog_of}
 use Rattle.conversation.specs.Batches.{why_unfit}
 use Rattle.conversation.specs.Keys.{open_key, meta_of}

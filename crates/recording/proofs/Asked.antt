@@ -18,9 +18,9 @@ use Rattle.transactions.specs.Serial.{Deed, deed}
 use Rattle.transactions.specs.Stores.{Ask, Begins, Commits, RollsBack, Executes, Transaction, Transacted, refused, ask_by, transaction_at, with_transaction, seen_by, stepped_in, why_not, committed, transacted}
 use Rattle.transactions.proofs.Interface.{IsKeptSo, changes_show_no_rows}
 use Rattle.wire_messages.specs.declared.requests.Request.{Request}
+use Rattle.statement_analysis.specs.declared.sorts.Sort.{Sort}
+use Rattle.statement_analysis.specs.declared.sorts.Sort.TheVariants as sort
 use Rattle.server_core.specs.Serve.{State}
-use Rattle.server_core.specs.declared.sorts.Sort.{Sort}
-use Rattle.server_core.specs.declared.sorts.Sort.TheVariants as sort
 use Rattle.server_core.proofs.Interface.{sort_bound}
 use Rattle.recording.proofs.Held.{AsksSo, Holds}
 use Rattle.recording.proofs.Slots.{there_within}

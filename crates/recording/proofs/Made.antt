@@ -17,7 +17,7 @@ use Rattle.transactions.proofs.Interface.{IsKeptSo, changes_show_no_rows, idle, 
 use Rattle.wire_messages.specs.Exchanges.{Served}
 use Rattle.wire_messages.specs.declared.requests.Request.{Request}
 use Rattle.wire_messages.specs.declared.requests.Request.TheVariants.{Describe, Execute}
-use Rattle.server_core.specs.Describing.{Meant}
+use Rattle.statement_analysis.specs.Describing.{Meant}
 use Rattle.server_core.specs.Serve.{State, answered, prepared, ask_of, catalog_of, executed, serve, asked, called}
 use Rattle.server_core.proofs.Interface.{answered_after}
 use Rattle.recording.specs.Recorded.{is_done, session_of, after_requests, after_records}

@@ -7,10 +7,10 @@ use Rattle.transactions.proofs.Interface.{all_at, all_set}
 use Rattle.wire_messages.specs.Exchanges.{Served}
 use Rattle.wire_messages.specs.declared.requests.Request.{Request}
 use Rattle.wire_messages.specs.declared.requests.Request.TheVariants.{Describe, Execute}
+use Rattle.statement_analysis.specs.Sorts.{sort_of}
+use Rattle.statement_analysis.specs.declared.sorts.Sort.{Sort}
+use Rattle.statement_analysis.specs.declared.sorts.Sort.TheVariants.{Reads, Changes, Defines, Begins, Commits, RollsBack, NoStatement}
 use Rattle.server_core.specs.Serve.{State, serve}
-use Rattle.server_core.specs.Sorts.{sort_of}
-use Rattle.server_core.specs.declared.sorts.Sort.{Sort}
-use Rattle.server_core.specs.declared.sorts.Sort.TheVariants.{Reads, Changes, Defines, Begins, Commits, RollsBack, NoStatement}
 use Rattle.recording.specs.Recorded.{Kept, kept, is_done, kept_of, kept_where, kept_by, has_transaction, nothing_held, held_at, with_held, session_of, recorded}
 
 -- a request that is executed

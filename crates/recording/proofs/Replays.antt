@@ -13,9 +13,9 @@ use Rattle.transactions.proofs.Interface.{AreLogged, committed_catalog, idle, le
 use Rattle.wire_messages.specs.declared.params.SentParam.{SentParam}
 use Rattle.wire_messages.specs.declared.requests.Request.{Request}
 use Rattle.wire_messages.specs.declared.requests.Request.TheVariants.{Describe, Execute}
-use Rattle.server_core.specs.Describing.{Meant, describe}
+use Rattle.statement_analysis.specs.Describing.{Meant, describe}
+use Rattle.statement_analysis.specs.Sorts.{sort_of}
 use Rattle.server_core.specs.Serve.{State, answered, prepared, ask_of, catalog_of, executed, serve, asked}
-use Rattle.server_core.specs.Sorts.{sort_of}
 use Rattle.server_core.proofs.Interface.{answered_after, described_after, prepared_sort, sort_bound}
 use Rattle.recording.specs.Recorded.{Kept, kept, is_done, kept_of, kept_where, kept_by, has_transaction, nothing_held, held_at, with_held, session_of, requests_recorded, after_requests, after_records}
 use Rattle.recording.specs.Laws.{AreServedAgain, IsReplayed}

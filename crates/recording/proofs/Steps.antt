@@ -15,9 +15,9 @@ use Rattle.transactions.specs.Serial.{Deed, deed}
 use Rattle.transactions.specs.Stores.{Begins, Commits, Executes, Transaction, Transacted, refused, transaction_at, with_transaction, begun_over, stepped_in}
 use Rattle.transactions.proofs.Interface.{IsKeptSo, set_back, work_catalog}
 use Rattle.wire_messages.specs.declared.requests.Request.{Request}
+use Rattle.statement_analysis.specs.declared.sorts.Sort.{Sort}
+use Rattle.statement_analysis.specs.declared.sorts.Sort.TheVariants as sort
 use Rattle.server_core.specs.Serve.{State, answered}
-use Rattle.server_core.specs.declared.sorts.Sort.{Sort}
-use Rattle.server_core.specs.declared.sorts.Sort.TheVariants as sort
 use Rattle.recording.specs.Recorded.{Kept, kept, is_done, kept_of, kept_where, has_transaction}
 use Rattle.recording.proofs.Held.{AsksSo, IsChange, IsHeld, Holds, held_still, held_more}
 use Rattle.recording.proofs.Made.{Goes, nothing_goes, one_makes, record_goes, whole_makes}

@@ -8,7 +8,7 @@ use Rattle.resolve.specs.Bind.{bind}
 use Rattle.semantic_checks.specs.Checks.{check_of}
 use Rattle.enc_types.specs.Rules.{rules}
 use Rattle.enc_types.specs.Least.{least, has_typing, clash_behind, inferred_encs}
-use Rattle.server_core.specs.Describing.{understood}
+use Rattle.statement_analysis.specs.Describing.{understood}
 use Rattle.server_core.specs.Serve.{empty_state}
 use Rattle.recording.specs.Recorded.{nothing_held, requests_recorded}
 

@@ -2,7 +2,7 @@
 
 use ae_base::sessions::SessionId;
 use server_core::server::Server;
-use server_core::sorts::Sort;
+use statement_analysis::sorts::Sort;
 use std::alloc::Global;
 use std::test::Fail;
 use wire_frames::{Decoded, decode_request};

@@ -50,14 +50,15 @@ use Rattle.wire_messages.specs.declared.replies.Reply.{Reply}
 use Rattle.wire_messages.specs.declared.replies.Reply.TheVariants.{Row, Ended, Refused}
 use Rattle.wire_messages.specs.declared.requests.Request.{Request}
 use Rattle.wire_messages.specs.declared.requests.Request.TheVariants.{Describe, Execute}
+use Rattle.statement_analysis.specs.Describing.{Meant, understood, describe}
+use Rattle.statement_analysis.specs.Params.{declaration_of, is_of, is_shaped, suited_atom, suited}
+use Rattle.statement_analysis.specs.Understood.{IsUnderstood}
 use Rattle.server_core.specs.Calls.{Serves}
 use Rattle.server_core.specs.Correspond.{CellsPaired, SentAtomsCorrespond, ParamsCorrespond, RequestsCorrespond, class_of_sent, RepliesCorrespond, StatesCorrespond, IsServedAlike}
-use Rattle.server_core.specs.Describing.{Meant, understood, describe}
 use Rattle.server_core.specs.Laws.{RequestsAreServedAlike, ServedAlike}
-use Rattle.server_core.specs.Params.{declaration_of, is_of, is_shaped, suited_atom, suited}
 use Rattle.server_core.specs.Serve.{State, empty_state, refused, sent_column, replies_of, answered, described, understood_at, prepared, ask_of, catalog_of, stepped, executed, serve, serve_all}
 use Rattle.server_core.specs.States.{is_short, IsState}
-use Rattle.server_core.specs.Understood.{IsUnderstood, IsReady}
+use Rattle.server_core.specs.Understood.{IsReady}
 use Rattle.server_core.proofs.Beginning.{empty_is_state}
 use Rattle.server_core.proofs.Cells.{call_leaves}
 use Rattle.server_core.proofs.Readiness.{bound_on, is_ready, sent_count}

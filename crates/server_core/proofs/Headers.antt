@@ -13,8 +13,8 @@ use Rattle.engine.specs.declared.answers.ResultColumn.{ResultColumn}
 use Rattle.wire_messages.specs.KeyLists.{AreTheKeysOf}
 use Rattle.wire_messages.specs.Messages.{Header, IsFew}
 use Rattle.wire_messages.specs.declared.columns.SentColumn.{SentColumn}
-use Rattle.server_core.proofs.Listing.{are_the_keys}
-use Rattle.server_core.specs.Describing.{keys_of}
+use Rattle.statement_analysis.proofs.Interface.{are_the_keys}
+use Rattle.statement_analysis.specs.Describing.{keys_of}
 use Rattle.server_core.specs.Serve.{header, sent_column}
 
 abbrev pub encs_of : List SentColumn → List Enc

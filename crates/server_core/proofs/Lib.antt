@@ -3,9 +3,7 @@ mod Beginning
 mod Cells
 mod Headers
 pub mod Interface
-mod Listing
 mod Moving
-mod Passing
 mod Readiness
 mod ReplyKinds
 mod Sendable
@@ -13,9 +11,6 @@ mod Serial
 mod Sorting
 mod Steps
 mod Suiting
-mod Told
-mod Typings
 mod Understanding
 mod Untyped
-mod Used
 mod Versions

@@ -3,7 +3,7 @@ use Rattle.std.proofs.Common.{◌≡◌, ℕ, ◌⊎◌, inl, inr, List, [], ◌
 use Rattle.std.specs.Prelude.{Contains, IfOk}
 use Rattle.std.specs.List.{All}
 use Rattle.std.proofs.lemmas.List.{length-map}
-use Rattle.std.proofs.lemmas.List.Elements.{All-nil, All-cons, All-head, All-tail, All-contains, All-map}
+use Rattle.std.proofs.lemmas.List.Elements.{All-contains, All-weaker}
 use Rattle.ae_base.specs.Atoms.{Atom}
 use Rattle.ae_base.specs.declared.batches.ParamDecl.{ParamDecl}
 use Rattle.ae_base.specs.declared.faults.SqlFault.{SqlFault}
@@ -37,14 +37,15 @@ use Rattle.transactions.specs.Stores as stores
 use Rattle.transactions.specs.Stores.{Transacted, transact, world_of}
 use Rattle.transactions.proofs.Interface.{may_ask, rows_by_step}
 use Rattle.transactions.proofs.Interface.{seen_well}
+use Rattle.statement_analysis.proofs.Interface.{encs_count, keys_there, there_if}
+use Rattle.statement_analysis.specs.Describing.{Meant, meant_of}
+use Rattle.statement_analysis.specs.Params.{declaration_of, suited}
+use Rattle.statement_analysis.specs.Understood.{IsUnderstood}
 use Rattle.server_core.proofs.Cells.{call_leaves}
 use Rattle.server_core.proofs.Suiting.{are_suited, suited_protected}
-use Rattle.server_core.specs.Calls.{meant_of}
-use Rattle.server_core.specs.Describing.{Meant}
-use Rattle.server_core.specs.Params.{declaration_of, suited}
 use Rattle.server_core.specs.Serve.{State, ask_of, catalog_of}
 use Rattle.server_core.specs.States.{IsState, is_short}
-use Rattle.server_core.specs.Understood.{IsUnderstood, IsReady, CanBeSent}
+use Rattle.server_core.specs.Understood.{IsReady, CanBeSent}
 
 pub bound_on : (catalog : Catalog) (declarations : List ParamDecl) (meant : Meant) (atoms : List Atom) → TypingsAreOfColumns → IsReady catalog declarations meant atoms
     → IsBoundOn catalog meant.bound meant.encs atoms
@@ -58,11 +59,6 @@ bound_on catalog declarations meant atoms law r = record {
 }
 
 -- ---- what is ready
-
--- each declared parameter has an encryption
-pub encs_count : (catalog : Catalog) (declarations : List ParamDecl) (meant : Meant) → TypingsAreOfColumns → IsUnderstood catalog declarations meant → length meant.encs ≡ length declarations
-unfolding IsUnderstood
-encs_count catalog declarations meant law u = (law meant.bound meant.encs u.typed).0 ∙ ap length u.bound.params ∙ length-map declarations type_of
 
 pub sent_count : (catalog : Catalog) (params : List SentParam) (meant : Meant) → TypingsAreOfColumns → IsUnderstood catalog (map declaration_of params) meant → length meant.encs ≡ length params
 sent_count catalog params meant law u = encs_count catalog (map declaration_of params) meant law u ∙ length-map params declaration_of
@@ -81,25 +77,6 @@ is_ready catalog params meant atoms law u s short =
     }
 
 -- ---- keys
-
-All-by : {X : Type 0} (P Q : X → Type 0) → ((x : X) → P x → Q x) → (xs : List X) → All P xs → All Q xs
-All-by P Q f [] a = All-nil Q
-All-by P Q f (x ∷ xs) a = All-cons Q x xs (f x (All-head P x xs a)) (All-by P Q f xs (All-tail P x xs a))
-
-there_if : (catalog : Catalog) (sites : List ColumnSite) → All (λ (site : ColumnSite). IsKeyThere catalog site.enc) sites → (e : Enc)
-    → (e ≡ Plain) ⊎ Contains (map (λ (site : ColumnSite). site.enc) sites) e → IsKeyThere catalog e
-there_if catalog sites a e w = elim w [
-  | inl p ↦ subst (IsKeyThere catalog) (sym p) tt
-  | inr c ↦ All-contains (IsKeyThere catalog) (map (λ (site : ColumnSite). site.enc) sites) e (All-map (IsKeyThere catalog) (λ (site : ColumnSite). site.enc) sites a) c
-]
-
--- the keys of the parameters are there
-pub keys_there : (catalog : Catalog) (declarations : List ParamDecl) (meant : Meant) → TypingsAreOfColumns → IsCatalog catalog → IsUnderstood catalog declarations meant
-    → All (IsKeyThere catalog) meant.encs
-unfolding IsUnderstood
-keys_there catalog declarations meant law c u =
-    All-by (λ e. (e ≡ Plain) ⊎ Contains (map (λ (site : ColumnSite). site.enc) meant.bound.columns) e) (IsKeyThere catalog)
-    (there_if catalog meant.bound.columns (u.bound.keys c)) meant.encs (law meant.bound meant.encs u.typed).1
 
 shown_there : (catalog : Catalog) (declarations : List ParamDecl) (meant : Meant) → TypingsAreOfColumns → IsCatalog catalog → IsUnderstood catalog declarations meant → (e : Enc)
     → IsShownBy meant.bound meant.encs e → IsKeyThere catalog e
@@ -129,7 +106,7 @@ module _ (old : State) (session : ℕ) (declarations : List ParamDecl) (meant : 
       let s = (shown columns rows f).1 in
       record {
         few = (s.some, s.few);
-        keys = All-by (λ (column : ResultColumn). IsShownBy meant.bound meant.encs column.enc) (λ (column : ResultColumn). IsKeyThere (catalog_of old session) column.enc)
+        keys = All-weaker (λ (column : ResultColumn). IsShownBy meant.bound meant.encs column.enc) (λ (column : ResultColumn). IsKeyThere (catalog_of old session) column.enc)
             (λ column w. shown_there (catalog_of old session) declarations meant law c u column.enc w) columns s.shown;
         typed = subst (IsAnswerOf is_short) f typed;
         same = undone.catalog;

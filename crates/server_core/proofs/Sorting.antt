@@ -19,12 +19,12 @@ use Rattle.expression_binding.specs.Scopes.{sites_of}
 use Rattle.resolve.specs.Tables.{table_for, sources_for, all_sources}
 use Rattle.semantic_checks.specs.Checks.{check_of}
 use Rattle.wire_messages.specs.declared.params.SentParam.{SentParam}
-use Rattle.server_core.specs.Describing.{Meant, understood}
-use Rattle.server_core.specs.Params.{declaration_of, suited}
+use Rattle.statement_analysis.specs.Describing.{Meant, understood}
+use Rattle.statement_analysis.specs.Params.{declaration_of, suited}
+use Rattle.statement_analysis.specs.Sorts.{sort_of_control, sort_of_statement, sort_of_parsed, sort_of}
+use Rattle.statement_analysis.specs.declared.sorts.Sort.{Sort}
+use Rattle.statement_analysis.specs.declared.sorts.Sort.TheVariants.{Reads, Changes, Defines}
 use Rattle.server_core.specs.Serve.{understood_at, prepared}
-use Rattle.server_core.specs.Sorts.{sort_of_control, sort_of_statement, sort_of_parsed, sort_of}
-use Rattle.server_core.specs.declared.sorts.Sort.{Sort}
-use Rattle.server_core.specs.declared.sorts.Sort.TheVariants.{Reads, Changes, Defines}
 use Rattle.server_core.proofs.Understanding.{went_on, parts_of}
 
 -- the sort of a bound statement

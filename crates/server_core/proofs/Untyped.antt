@@ -9,7 +9,7 @@ use Rattle.catalog.specs.Catalogs.{Catalog}
 use Rattle.enc_types.specs.Least.{inferred_encs}
 use Rattle.inference.specs.Laws.{IsInferredExactly, IsClashAt, InferredExactly, RefusedAtFirst}
 use Rattle.wire_messages.specs.Messages.{Description}
-use Rattle.server_core.specs.Describing.{Meant, with_encs, typed, binding_of, understood, description, describe}
+use Rattle.statement_analysis.specs.Describing.{Meant, with_encs, typed, binding_of, understood, description, describe}
 use Rattle.server_core.specs.Laws.{IsDescribedByTyping}
 
 -- the description of what a bound statement is typed as

@@ -4,22 +4,17 @@ use Rattle.ae_base.specs.Atoms.{Atom}
 use Rattle.ae_base.specs.declared.refusals.Refusal.{Refusal}
 use Rattle.ae_base.specs.declared.refusals.Refusal.TheVariants.{Fault, OutOfMemory}
 use Rattle.ae_base.specs.declared.faults.SqlFault.{SqlFault}
-use Rattle.sql_tree.specs.Bound.{bound_of}
-use Rattle.enc_types.specs.declared.typed.Typed.{Typed}
 use Rattle.wire_messages.specs.declared.replies.Reply.{Reply}
 use Rattle.wire_messages.specs.declared.requests.Request.{Request}
 use Rattle.ae_base.specs.declared.batches.ParamDecl.{ParamDecl}
 use Rattle.wire_messages.specs.declared.params.SentParam.{SentParam}
 use Rattle.wire_messages.specs.declared.requests.Request.TheVariants.{Describe, Execute}
 use Rattle.wire_messages.specs.Exchanges.{Served, HasKinds}
-use Rattle.server_core.specs.Describing.{Meant}
+use Rattle.statement_analysis.specs.Describing.{Meant, meant_of}
 use Rattle.server_core.specs.Serve.{State, serve, refused}
 use Rattle.server_core.specs.declared.preparing.Ready.{Ready}
 
--- a typed statement of the code, without where it lies in memory
-abbrev pub meant_of : Typed → Meant
-meant_of typed = record { bound = bound_of typed.bound; encs = typed.encs }
-
+-- what is ready, without where it lies in memory
 abbrev pub ready_of : Ready → Meant × List Atom
 ready_of ready = (meant_of ready.typed, ready.atoms)
 

@@ -21,8 +21,8 @@ use Rattle.wire_messages.specs.declared.requests.Request.{Request}
 use Rattle.wire_messages.specs.declared.requests.Request.TheVariants.{Describe, Execute}
 use Rattle.wire_messages.specs.Exchanges.{Served}
 use Rattle.wire_messages.specs.Messages.{Description, Header}
-use Rattle.server_core.specs.Describing.{Meant, understood, describe, keys_of}
-use Rattle.server_core.specs.Params.{declaration_of, suited}
+use Rattle.statement_analysis.specs.Describing.{Meant, understood, describe, keys_of}
+use Rattle.statement_analysis.specs.Params.{declaration_of, suited}
 
 -- what a server serves by: a shared world, and the transactions of its sessions
 abbrev pub State : Type 0

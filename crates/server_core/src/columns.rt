@@ -8,12 +8,12 @@ ghost use Rattle.wire_messages.specs.KeyLists.{AreTheKeysOf};
 ghost use Rattle.wire_messages.specs.Messages.{IsFew};
 ghost use Rattle.server_core.specs.Serve as spec;
 
-use crate::keys::keys_of;
 use ae_base::lists::Seq;
 use ae_base::types::Ty;
 use catalog::catalogs::Catalog;
 use catalog::laws::keys_are_told;
 use engine::answers::ResultColumn;
+use statement_analysis::keys::keys_of;
 use std::alloc::{AllocError, Global};
 use wire_messages::columns::SentColumn;
 use wire_messages::replies::Header;

@@ -2,18 +2,18 @@
 
 ghost use Rattle.std.specs.Prelude.{IfOk};
 ghost use Rattle.wire_messages.specs.Exchanges.{HasKinds};
+ghost use Rattle.statement_analysis.specs.Describing.{describe};
 ghost use Rattle.server_core.specs.Calls.{AreDescribeKinds, Serves, ServesOrFails};
-ghost use Rattle.server_core.specs.Describing.{describe};
 ghost use Rattle.server_core.specs.Serve as spec;
 ghost use Rattle.server_core.specs.States.{IsState};
 
-use crate::describing::describe;
 use crate::executing::execute;
 use crate::replies::{one_reply, one_reply_in};
 use ae_base::cells::Cell;
 use ae_base::lists::Seq;
 use ae_base::refusals::Refusal;
 use ae_base::sessions::SessionId;
+use statement_analysis::describing::describe;
 use std::alloc::{AllocError, Global};
 use transactions::stores::Store;
 use wire_messages::params::DeclarationParts;

@@ -2,23 +2,23 @@
 
 ghost use Rattle.std.specs.Prelude.{◌≡◌, ◌↔◌, IfOk, IsTrue, None, is_some, replicate};
 ghost use Rattle.wire_messages.specs.Exchanges.{HasKinds};
+ghost use Rattle.statement_analysis.specs.Describing.{binding_of};
+ghost use Rattle.statement_analysis.specs.Explaining.{Explains};
+ghost use Rattle.statement_analysis.specs.Sorts as sorts;
 ghost use Rattle.server_core.specs.Calls.{Serves};
 ghost use Rattle.server_core.specs.Correspond.{IsServedAlike};
-ghost use Rattle.server_core.specs.Describing.{binding_of};
-ghost use Rattle.server_core.specs.Explaining.{Explains};
 ghost use Rattle.server_core.specs.Serve.{empty_state};
-ghost use Rattle.server_core.specs.Sorts as sorts;
 ghost use Rattle.transactions.specs.Stores.{transaction_at};
 
-use crate::explaining::explain;
 use crate::laws::requests_are_served_alike;
 use crate::requests::serve;
-use crate::sorts::{Sort, sort_of};
 use ae_base::batches::Declarations;
 use ae_base::cells::Cell;
 use ae_base::lists::Seq;
 use ae_base::sessions::SessionId;
 use catalog::laws::definitions_keep_catalogs;
+use statement_analysis::explaining::explain;
+use statement_analysis::sorts::{Sort, sort_of};
 use std::alloc::{AllocError, Global};
 use std::marker::Model;
 use transactions::stores::Store;

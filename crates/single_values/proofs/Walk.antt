@@ -22,7 +22,7 @@ use Rattle.resolve.specs.Laws.{BoundStatementsAre}
 use Rattle.transactions.specs.Counted.{Execution, execution, step_of}
 use Rattle.transactions.specs.Stores.{ask_of, seen_by, transact}
 use Rattle.transactions.proofs.Interface.{all_at, all_set, same_execution, shared_by}
-use Rattle.server_core.specs.Describing.{Meant, understood, describe}
+use Rattle.statement_analysis.specs.Describing.{Meant, understood, describe}
 use Rattle.server_core.specs.Serve.{State, catalog_of, empty_state}
 use Rattle.server_core.proofs.Interface.{parts_of}
 use Rattle.wire_messages.specs.Messages.{Description}

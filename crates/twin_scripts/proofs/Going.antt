@@ -32,8 +32,8 @@ use Rattle.engine.specs.WellTyped.{IsAnswerOf, AreResults}
 use Rattle.engine.specs.declared.answers.ResultColumn.{ResultColumn}
 use Rattle.hmac_kdf.specs.Keys.{Keys}
 use Rattle.scalar.specs.Classes.{Class, Det, Rnd, Pairing, Entry, Listing, NullOr, Correspond, RowsCorrespond, BothAnswer, class_of}
+use Rattle.statement_analysis.specs.Describing.{keys_of}
 use Rattle.server_core.specs.Correspond.{ExchangeCorresponds, ExchangesCorrespond}
-use Rattle.server_core.specs.Describing.{keys_of}
 use Rattle.catalog.specs.Catalogs.{Catalog}
 use Rattle.server_core.specs.Serve.{State, header, answered, serve}
 use Rattle.server_core.specs.States.{is_short}

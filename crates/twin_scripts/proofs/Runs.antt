@@ -41,10 +41,10 @@ use Rattle.scalar.specs.Classes.{Pairing, Entry, Listing, Correspond, RowsCorres
 use Rattle.script_lang.specs.Limits.{IsWithinLimits, HasParams, HasProperParams, IsProperStep}
 use Rattle.script_lang.specs.declared.steps.Step.{Step}
 use Rattle.script_lang.specs.declared.steps.Step.TheVariants as steps_of
+use Rattle.statement_analysis.specs.Describing.{Meant, understood, describe, description, keys_of}
+use Rattle.statement_analysis.specs.Params.{declaration_of, suited}
 use Rattle.server_core.proofs.Interface as served
 use Rattle.server_core.specs.Correspond.{ParamsCorrespond, ExchangeCorresponds}
-use Rattle.server_core.specs.Describing.{Meant, understood, describe, description, keys_of}
-use Rattle.server_core.specs.Params.{declaration_of, suited}
 use Rattle.server_core.specs.Serve.{State, catalog_of, answered, described, executed, serve}
 use Rattle.server_core.specs.States.{is_short}
 use Rattle.wire_messages.specs.Exchanges.{Exchange, Served}

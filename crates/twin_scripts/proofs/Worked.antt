@@ -19,7 +19,7 @@ use Rattle.plain_meaning.specs.Reference.{nothing_held}
 use Rattle.resolve.specs.Bind.{bind}
 use Rattle.scalar.specs.Classes.{Det, Entry, Listing}
 use Rattle.script_lang.specs.declared.steps.Step.{Step}
-use Rattle.server_core.specs.Describing.{understood}
+use Rattle.statement_analysis.specs.Describing.{understood}
 use Rattle.sql_grammar.specs.Parse.{operand_in, inner_in}
 use Rattle.sql_grammar.specs.Texts.{tree_of, statement_in}
 use Rattle.twin_scripts.specs.Laws.{AllTwinOutcomes, columns_met}

@@ -1,7 +1,7 @@
 -- The keys are those of the columns.
 use Rattle.std.proofs.Common.{List, ◌∙◌, ap}
 use Rattle.wire_messages.specs.declared.columns.SentColumn.{SentColumn}
-use Rattle.server_core.specs.Describing.{keys_of}
+use Rattle.statement_analysis.specs.Describing.{keys_of}
 use Rattle.server_core.proofs.Headers.{encs_of, header_keys, header_few, header_is, types_of}
 use Rattle.server_core.proofs.columns.header.Goals as goal
 

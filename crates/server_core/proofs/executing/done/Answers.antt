@@ -1,6 +1,6 @@
 -- What is ready may be executed, and what is answered may be sent.
 use Rattle.std.proofs.Common.{◌∙◌}
-use Rattle.server_core.specs.Calls.{meant_of}
+use Rattle.statement_analysis.specs.Describing.{meant_of}
 use Rattle.server_core.proofs.Readiness.{Laws, parts_bound, parts_given, done_well}
 use Rattle.server_core.proofs.executing.done.Goals as goal
 

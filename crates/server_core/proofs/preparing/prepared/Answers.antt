@@ -1,8 +1,8 @@
 -- Each parameter has an encryption, and the values are of their types and encryptions.
 use Rattle.std.proofs.Common.{◌∙◌, List, length, sym, ap}
 use Rattle.ae_base.specs.declared.types.Enc.{Enc}
-use Rattle.server_core.specs.Calls.{meant_of}
-use Rattle.server_core.specs.Params.{suited}
+use Rattle.statement_analysis.specs.Describing.{meant_of}
+use Rattle.statement_analysis.specs.Params.{suited}
 use Rattle.server_core.proofs.Readiness.{sent_count, is_ready}
 use Rattle.server_core.proofs.preparing.prepared.Goals as goal
 

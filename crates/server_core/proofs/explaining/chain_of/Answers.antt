@@ -1,9 +1,0 @@
--- A clash is shown by its chain.
-use Rattle.sql_tree.specs.Bound.{bound_of}
-use Rattle.server_core.proofs.Typings.{shows_places}
-use Rattle.server_core.proofs.explaining.chain_of.Goals as goal
-
-pub returns-in-Err-Fault : goal.returns-in-Err-Fault
-returns-in-Err-Fault c =
-    let clashes = rw c.in-Err-Fault.field-0-is at c.in-Err-Fault.ensures.encs in
-    shows_places (bound_of c.args.bound) c.in-Err-Fault.clash c.as_slice.result.now c.places_of.result clashes c.as_slice.ensures c.places_of.ensures
