@@ -21,7 +21,7 @@ use Rattle.script_source.specs.declared.Unread.TheVariants as unread
 use Rattle.script_run.specs.declared.runs.Ran.{Ran}
 use Rattle.script_run.specs.declared.runs.Ran.TheVariants as ran
 use Rattle.script_run.specs.declared.status.Status.TheVariants as status
-use Rattle.script_run.specs.Ends.{IsOfPeer}
+use Rattle.run_command.specs.Ends.{IsOfPeer}
 use Rattle.ae_cli.specs.Does.{IsCaused, uses}
 use Rattle.ae_cli.specs.Endings.{status_of, status_of_checking, status_of_generating, status_of_journaling, status_of_serving, status_of_wrapping}
 use Rattle.ae_cli.specs.Seen.{Seen}

@@ -18,9 +18,9 @@ use Rattle.script_run.specs.declared.runs.Ran.TheVariants as ran
 use Rattle.script_run.specs.declared.status.Status.{Status}
 use Rattle.script_run.specs.declared.status.Status.TheVariants as status
 use Rattle.script_run.specs.Ends as runs
-use Rattle.script_run.specs.Ends.{IsOfPeer}
-use Rattle.script_run.specs.RunOf.{IsRunOf}
-use Rattle.script_run.specs.SummaryOf.{IsSummaryOf}
+use Rattle.run_command.specs.Ends.{IsOfPeer}
+use Rattle.run_command.specs.RunOf.{IsRunOf}
+use Rattle.run_command.specs.SummaryOf.{IsSummaryOf}
 use Rattle.drive_command.specs.DriveOf.{IsDriveOf}
 use Rattle.check_command.specs.Ends as checks
 use Rattle.check_command.specs.Ends.{ChecksScript}

@@ -5,7 +5,7 @@ use Rattle.ae_edge.specs.Vaults.{KeyMap}
 use Rattle.disk.specs.Moments.{Moments}
 use Rattle.wire_messages.specs.Exchanges.{Exchange}
 use Rattle.server_core.specs.Serve.{State}
-use Rattle.script_run.specs.Ends.{RunDevices}
+use Rattle.run_command.specs.Ends.{RunDevices}
 use Rattle.drive_command.specs.Ends.{DriveDevices}
 use Rattle.wrap_command.specs.Wrapping.{WrapDevices}
 

@@ -25,7 +25,7 @@ use Rattle.outcome_text.specs.Printing.{print, has_refusal}
 use Rattle.run_effects.specs.Shares.{Comes, HasPut, IsNext, Outside, Standing, Stream, Streams, coming_behind, frames_of, messages_of, queue_of, text_of}
 use Rattle.run_effects.specs.Ways.{Proceeds, Breaks, GoesOn, IsAtFrame, IsAtReply, IsSilent, IsStuck, off, printed_off}
 use Rattle.run_effects.proofs.Interface.{has_errors_where}
-use Rattle.script_run.specs.Transcript.{Drew}
+use Rattle.script_run.specs.Draws.{Drew}
 use Rattle.drive_command.specs.Drives.{Told, DrivesWhole, DrivesFront, DrivesPart, IsDone, IsBadAt, IsCut, IsWhole, IsAt, IsByReplies, driven, place_behind}
 use Rattle.drive_command.proofs.Cutting.{Cut, Gone, cut_by, gone_by, lost, off_drawn, off_frames, one_front, straight, stuck}
 use Rattle.drive_command.proofs.Driving.{Came, Reached, StandsAt, bytes_end, came_to, no_replies, off_text, place_last, place_so, reached, taps_front, taps_whole, texts_front, texts_whole, told_at}

@@ -19,7 +19,7 @@ use Rattle.run_effects.specs.Ways.{most_stream_bytes}
 use Rattle.run_effects.specs.declared.stops.Stop.TheVariants as stop
 use Rattle.script_run.specs.declared.runs.Ran.{Ran}
 use Rattle.script_run.specs.declared.runs.Ran.TheVariants as ran
-use Rattle.script_run.specs.Transcript.{Drew}
+use Rattle.script_run.specs.Draws.{Drew}
 
 -- the steps, driven over the replies that the frames of some bytes carry
 abbrev pub driven : KeyMap → List Step → List ℕ → List (Placed Payload) → Driven

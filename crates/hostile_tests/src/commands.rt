@@ -11,7 +11,7 @@ use check_command::commands::check;
 use drive_command::commands::drive;
 use gen_command::commands::generate;
 use mem_peer::peer::MemPeer;
-use script_run::commands::run;
+use run_command::commands::run;
 use script_run::runs::Ran;
 use script_run::status::Status;
 use serve_command::commands::serve_stream;

@@ -6,7 +6,7 @@ use ae_edge::memory::entropy::MemEntropy;
 use ae_edge::memory::sink::MemSink;
 use ae_edge::memory::source::MemSource;
 use ae_edge::memory::vault::MemVault;
-use script_run::commands::run;
+use run_command::commands::run;
 use script_run::runs::Ran;
 use server_core::server::Server;
 use std::alloc::{AllocError, Global};

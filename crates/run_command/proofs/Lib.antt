@@ -1,0 +1,15 @@
+mod Framed
+mod Fronts
+mod Lent
+mod NoStray
+mod Packed
+mod Passing
+mod PlainText
+mod Plainly
+mod Queued
+mod RunsAre
+mod Saying
+mod Serving
+mod Summed
+mod Tapping
+mod Waiting
