@@ -1,5 +1,5 @@
 -- A reply is heard that was fetched before.
-use Rattle.std.proofs.Common.{◌≡◌, ℕ, ◌+◌, [], ◌∷◌, Some, Result, Ok, Err, Bool, sym, subst, arith}
+use Rattle.std.proofs.Common.{◌≡◌, ℕ, ◌+◌, Some, Result, Ok, Err, Bool, sym, subst, arith}
 use Rattle.std.specs.Prelude.{◌<◌, IfOk, MatchResult}
 use Rattle.wire_messages.specs.declared.replies.Reply.{Reply}
 use Rattle.conversation.specs.declared.answers.ReplyAnswer.{ReplyAnswer}

@@ -1,6 +1,6 @@
 -- A reply is heard, or it isn't awaited.
 use Rattle.std.proofs.Common.{◌≡◌, ℕ, ◌+◌, List, [], ◌∷◌, ◌++◌, Option, Some, None, Result, Ok, Err, refl, sym, ◌∙◌, ap, subst, append_assoc, arith, inl}
-use Rattle.std.specs.Prelude.{◌<◌, IfOk, IfSome, MatchResult}
+use Rattle.std.specs.Prelude.{IfOk, IfSome, MatchResult}
 use Rattle.ae_base.specs.declared.frames.FrameVersion.{FrameVersion}
 use Rattle.ae_edge.proofs.Interface.{told_map, front_of, front_same}
 use Rattle.hmac_kdf.specs.Keys.{Keys}
