@@ -1,5 +1,5 @@
 -- What a run over a peer leaves of what it was lent.
-use Rattle.std.proofs.Common.{◌≡◌, ℕ, List, [], ◌∷◌, Option, Result, Ok, Err, ◌⊎◌, length, ◌∙◌, subst}
+use Rattle.std.proofs.Common.{◌≡◌, ℕ, List, [], Option, Result, Ok, Err, ◌⊎◌, length, subst}
 use Rattle.std.specs.Borrow.{GName}
 use Rattle.std.specs.Prelude.{IfOk}
 use Rattle.ae_edge.specs.Devices.{Rose, WhereTold}

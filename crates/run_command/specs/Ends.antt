@@ -18,7 +18,6 @@ use Rattle.run_effects.specs.declared.stops.Stop.TheVariants as stop
 use Rattle.outcome_text.specs.declared.tallies.Tally.{Tally}
 use Rattle.script_lang.specs.declared.steps.Step.{Step}
 use Rattle.script_source.specs.Scripts.{AreScriptSteps, HasNoSteps}
-use Rattle.script_source.specs.declared.Unread.{Unread}
 use Rattle.plain_meaning.specs.Steps.{talk}
 use Rattle.run_command.specs.declared.runs.Count.{Count}
 use Rattle.script_run.specs.declared.runs.Ran.{Ran}

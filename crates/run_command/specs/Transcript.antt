@@ -11,6 +11,7 @@ use Rattle.conversation.specs.Drive.{over}
 use Rattle.conversation.specs.Sessions.{nobody}
 use Rattle.script_lang.specs.declared.steps.Step.{Step}
 use Rattle.plain_meaning.specs.Steps.{talk}
+use Rattle.script_run.specs.Draws.{Drew}
 use Rattle.script_run.specs.declared.runs.Ran.{Ran}
 use Rattle.script_run.specs.declared.runs.Ran.TheVariants as ran
 
