@@ -1,5 +1,5 @@
 -- The statuses that faults of devices come with, and their causes.
-use Rattle.std.proofs.Common.{◌≡◌, ◌⊎◌, ℕ, List, Some, Bool, true, false, refl, ◌∙◌, inl, inr}
+use Rattle.std.proofs.Common.{◌≡◌, ◌⊎◌, ℕ, List, Some, Bool, true, false, refl, inl, inr}
 use Rattle.std.specs.Prelude.{IsTrue}
 use Rattle.ae_base.specs.declared.frames.FrameVersion.{FrameVersion}
 use Rattle.ae_edge.specs.Devices.{Rose}
@@ -14,9 +14,7 @@ use Rattle.serve_command.specs.declared.commands.Served.{Served}
 use Rattle.serve_command.specs.declared.commands.Served.TheVariants as served
 use Rattle.wrap_command.specs.declared.commands.Wrapped.{Wrapped}
 use Rattle.wrap_command.specs.declared.commands.Wrapped.TheVariants as wrapped
-use Rattle.run_effects.specs.declared.stops.Stop.{Stop}
 use Rattle.run_effects.specs.declared.stops.Stop.TheVariants as stop
-use Rattle.script_source.specs.declared.Unread.{Unread}
 use Rattle.script_source.specs.declared.Unread.TheVariants as unread
 use Rattle.script_run.specs.declared.runs.Ran.{Ran}
 use Rattle.script_run.specs.declared.runs.Ran.TheVariants as ran
