@@ -19,15 +19,16 @@ import time
 # Processor seconds of each proof, as measured; a crate that is not listed counts as OTHER. They serve the time left and the order
 # alone.
 SECONDS = {
-    "ae_base": 124, "ae_cli": 200, "ae_edge": 80, "aes_block": 59, "catalog": 106, "check_command": 116, "command_words": 89,
-    "disk": 57, "drive_command": 119, "driver": 180, "enc_types": 54, "engine": 195, "expression_binding": 68, "frame_feed": 75,
-    "inference": 128, "journal_command": 147, "journal_core": 47, "key_index": 88, "keyed_joins": 127, "operators": 93,
-    "outcome_text": 49, "plan_runs": 88, "planner": 70, "query_results": 109, "resolve": 210, "row_changes": 192, "row_store": 61,
-    "scalar": 91, "script_lang": 82, "script_run": 220, "semantic_checks": 76, "serve_command": 86, "server_core": 220,
-    "sql_ddl": 110, "sql_expressions": 145, "sql_parse": 130, "sql_tree": 76, "transactions": 198, "unique_keys": 65,
-    "wire_bodies": 91, "wire_messages": 107, "wire_parts": 63, "wire_reading": 69, "wire_spelling": 124,
+    "ae_base": 141, "ae_cli": 200, "ae_edge": 91, "aes_block": 78, "catalog": 95, "cell_codec": 33, "check_command": 70,
+    "command_words": 103, "conversation": 36, "disk": 63, "drive_command": 100, "driver": 198, "enc_types": 61, "engine": 169,
+    "expression_binding": 78, "frame_feed": 48, "inference": 58, "journal_command": 111, "journal_core": 40, "key_index": 92,
+    "key_store": 40, "keyed_joins": 121, "operators": 107, "outcome_text": 59, "plan_runs": 98, "planner": 76,
+    "query_results": 75, "resolve": 225, "row_changes": 197, "row_store": 68, "run_command": 80, "scalar": 99, "script_lang": 100,
+    "script_run": 127, "semantic_checks": 87, "serve_command": 62, "server_core": 121, "sql_ddl": 112, "sql_expressions": 152,
+    "sql_parse": 137, "sql_tree": 108, "statement_analysis": 93, "transactions": 203, "unique_keys": 61, "value_norm": 36,
+    "wire_bodies": 83, "wire_messages": 87, "wire_parts": 65, "wire_payloads": 33, "wire_reading": 89, "wire_spelling": 134,
 }
-OTHER = 22
+OTHER = 18
 MEMORY = 2 << 30  # bytes that a proof may take; few take more
 LEFT_OUT = shutil.ignore_patterns("out", "must-fail")
 
