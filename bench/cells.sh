@@ -69,11 +69,12 @@ openssl_line() {
 }
 
 # The part of the processor time of `ae drive` that the crates of the cipher, the hash and the cells take; nothing where it can't
-# be counted.
+# be counted. The compiler puts the decryption of eight blocks into the driver's `replied`, which does little else: it counts whole.
 cipher_part() {
     perf record -q -o counted "$top/ae" drive <script >/dev/null 2>&1 || return 0
     perf report -i counted --stdio -q --no-children -F overhead,symbol 2>/dev/null |
-        awk '/ (aes_block|cbc_mode|sha2|hmac_kdf|cell_codec)::/ { sub(/%/, "", $1); sum += $1 } END { if (sum > 0) print sum / 100 }'
+        awk '/ (aes_block|cbc_mode|sha2|hmac_kdf|cell_codec)::| driver::client::Driver::replied/ { sub(/%/, "", $1); sum += $1 }
+            END { if (sum > 0) print sum / 100 }'
 }
 
 # One kind: its name, how many rows, how many queries, the bytes of its ciphertext.
@@ -90,6 +91,7 @@ kind() {
     run >text
     python3 "$top/bench/apart.py"
     once=$(seconds drive)
+    part_once=$(cipher_part)
     cells "$1" "$2" "$3" >script
     run >text
     python3 "$top/bench/apart.py"
@@ -97,7 +99,8 @@ kind() {
     line 'opened by ae drive' $(($2 * ($3 - 1))) $size "$(awk -v a="$once" -v b="$often" 'BEGIN { print b - a }')"
     part=$(cipher_part)
     if [ -n "$part" ]; then
-        line '  its cipher and HMAC alone' $(($2 * $3)) $size "$(awk -v all="$often" -v part="$part" 'BEGIN { print all * part }')"
+        line '  its cipher and HMAC alone' $(($2 * ($3 - 1))) $size "$(awk -v a="$once" -v of_a="$part_once" -v b="$often" -v of_b="$part" \
+            'BEGIN { print b * of_b - a * of_a }')"
     else
         echo '    skipped: perf is not installed, or counts nothing here'
     fi
