@@ -1,5 +1,5 @@
 -- Names that differ, when one more is put behind them.
-use Rattle.std.proofs.Common.{◌≡◌, ℕ, ◌<◌, ◌≤◌, List, [], ◌∷◌, ◌++◌, length, map, true, false, ◌||◌, not, IsTrue, nat_lt, refl, sym, ap, ◌∙◌, arith, length-append}
+use Rattle.std.proofs.Common.{◌≡◌, ℕ, ◌<◌, ◌≤◌, List, [], ◌∷◌, ◌++◌, length, map, true, false, not, IsTrue, nat_lt, refl, sym, ◌∙◌, arith, length-append}
 use Rattle.std.specs.List.{list_any}
 use Rattle.std.specs.Str.{bytes_eq}
 use Rattle.std.specs.Bool.{one_answer}
@@ -8,12 +8,6 @@ use Rattle.std.proofs.lemmas.List.Folds.{list_any-append}
 use Rattle.std.proofs.lemmas.List.{map-append, length-map}
 use Rattle.std.proofs.lemmas.Bool.{ltb-true, lt-ltb, le-ltb, and_parts, or_parts, not-true}
 use Rattle.ae_base.specs.Names.{admits, all_differ}
-
--- whether a name is among those that some things are called
-pub among_called : {P : Type 0} (called : P → List ℕ) (name : List ℕ) (xs : List P)
-    → list_any (λ x. bytes_eq name (called x)) xs ≡ list_any (bytes_eq name) (map called xs)
-among_called called name [] = refl
-among_called called name (x ∷ xs) = ap (λ b. bytes_eq name (called x) || b) (among_called called name xs)
 
 pub bytes_eq_sym : (a b : List ℕ) → bytes_eq a b ≡ bytes_eq b a
 bytes_eq_sym a b = one_answer (bytes_eq a b) (bytes_eq b a) (bytes_eq-Decides a b) (

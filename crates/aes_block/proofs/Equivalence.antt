@@ -54,8 +54,6 @@ inv_key_word-last words i high =
     let last : nat_lt i 56 ≡ false = grind (arith, nat_tests) in
     rw (first, last) refl
 
-pub ruleset inv_key_word-cases = (inv_key_word-inner, inv_key_word-first, inv_key_word-last)
-
 inv_word : (words : List (List ℕ)) (i : ℕ) → i < 60 → word (inv_key_words words) i ≡ inv_key_word words i
 unfolding inv_key_words
 inv_word words i low = get_or-map-range_with_len (inv_key_word words) 0 60 i i [] low (omega arith)

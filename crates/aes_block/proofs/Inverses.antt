@@ -1,5 +1,5 @@
 -- The inverses of all bytes in a list, and the S-box and its inverse by them.
-use Rattle.std.proofs.Common.{◌≡◌, ℕ, ◌+◌, ◌/◌, ◌<◌, List, [], ◌∷◌, slice_index, refl, ◌∙◌, arith}
+use Rattle.std.proofs.Common.{◌≡◌, ℕ, ◌/◌, ◌<◌, List, [], ◌∷◌, slice_index, refl, ◌∙◌, arith}
 use Rattle.aes_block.specs.Field.{times_x, partial_product, product, power, inverse}
 use Rattle.aes_block.specs.Aes.{affine, sub_byte, inv_affine, inv_sub_byte}
 use Rattle.aes_block.specs.declared.tables.TheConstants.{SBOX, INV_SBOX}
@@ -31,11 +31,6 @@ inverses_below = refl
 
 inverse-listed : (b : ℕ) → b < 256 → inverse b ≡ slice_index inverses b
 inverse-listed b low = same_below inverse (slice_index inverses) 256 b inverses_below low
-
--- the product of a byte other than 0 and its inverse is 1
-products_below : SameBelow (λ n. product (n + 1) (slice_index inverses (n + 1))) (λ _. 1) 255
-unfolding times_x partial_product product
-products_below = refl
 
 inv_affine_below : SameBelow (λ b. inv_affine b / 256) (λ _. 0) 256
 unfolding inv_affine

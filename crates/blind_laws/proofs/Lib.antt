@@ -1,3 +1,1 @@
 mod InTurn
-pub mod Interface
-mod Wider

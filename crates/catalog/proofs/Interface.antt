@@ -7,4 +7,4 @@ pub use Rattle.catalog.proofs.History.{defined_by-followed}
 -- A definition keeps what a catalog is.
 pub use Rattle.catalog.proofs.Kept.{defined_by-kept}
 -- The tables that a definition leaves.
-pub use Rattle.catalog.proofs.Tables.{TablesFollow, tables_follow}
+pub use Rattle.catalog.proofs.Tables.{tables_follow}

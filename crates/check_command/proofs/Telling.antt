@@ -15,13 +15,10 @@ use Rattle.wire_messages.specs.declared.replies.Reply.{Reply}
 use Rattle.wire_messages.specs.declared.replies.Reply.TheVariants as reply
 use Rattle.statement_analysis.specs.Describing.{Meant, understood, description, describe}
 use Rattle.server_core.specs.Serve.{State, catalog_of, described}
-use Rattle.conversation.specs.Batches.{why_unfit}
 use Rattle.conversation.specs.Pending.{Pending, uses_of}
 use Rattle.conversation.specs.Sessions as held
 use Rattle.conversation.specs.Sessions.{encs_of, described_as, described_params}
 use Rattle.conversation.specs.declared.answers.DescribeAnswer.{DescribeAnswer}
-use Rattle.conversation.specs.declared.answers.DescribeAnswer.TheVariants.{Ready}
-use Rattle.conversation.specs.declared.outcomes.DescribedParam.{DescribedParam}
 use Rattle.conversation.specs.declared.sessions.Session.{Session}
 use Rattle.conversation.specs.declared.sessions.Session.TheVariants as session
 use Rattle.conversation.specs.declared.sessions.Turn.{Turn}
@@ -33,8 +30,7 @@ use Rattle.check_command.proofs.Following.{bind_ok}
 use Rattle.conversation.specs.declared.faults.Halt.{Halt}
 use Rattle.conversation.specs.declared.faults.Halt.TheVariants as halt
 use Rattle.driver.specs.Calls.{Describes}
-use Rattle.check_command.specs.Asked.{said_of, IsToldOf, IsAsked, TellsAs, AnswersOf}
-use Rattle.check_command.specs.declared.describing.Asked.TheVariants as asked
+use Rattle.check_command.specs.Asked.{said_of, TellsAs, AnswersOf}
 
 -- it is awaited, and says so
 abbrev pub IsHeardAs : State → ℕ → Batch → Option (Turn DescribeAnswer) → Type 0
@@ -74,14 +70,6 @@ module _ (bound : BoundStatementsAre) (typings : TypingsAreOfColumns) (state : S
       let i : x ≡ reply.Refused f = cc in
       subst (λ y. IsHeardAs state number batch (held.described (session.Begun batch) y)) (sym i) e
 
--- there is one reply
-one_reply : (state : State) (r : Result Description SqlFault) → length (described state r).replies ≡ 1
-one_reply state (Ok d) = refl
-one_reply state (Err f) = refl
-
-pub told_one : (s : Session) (replies : List Reply) → IsToldOf s replies → length replies ≡ 1
-told_one s replies t = ap length t.told ∙ one_reply t.state (describe (catalog_of t.state t.number) t.batch.text (declarations_of t.batch))
-
 answers_of : (state : State) (number : ℕ) (batch : Batch) (o : Option (Turn DescribeAnswer)) (r : Result DescribeAnswer Halt) (old after : Session) → IsHeardAs state number batch o → Describes r o old after → AnswersOf state number batch r after
 answers_of state number batch (Some turn) (Ok x) old after h e =
     let i : turn ≡ record { answer = x; after = after } = cc in
@@ -97,13 +85,6 @@ pub told_answers : BoundStatementsAre → TypingsAreOfColumns → (state : State
 told_answers bound typings state number batch params s b x t r after h =
     answers_of state number batch (held.described s x) r s after
     (subst (λ y. IsHeardAs state number batch (held.described y x)) (sym b) (hears bound typings state number batch params (describe (catalog_of state number) batch.text (declarations_of batch)) refl x t)) h
-
--- what is asked of a batch
-pub ready_is : (state : State) (number : ℕ) (batch : Batch) (p : Pending) (params : List DescribedParam) → why_unfit batch ≡ None → TellsAs state number batch (Ready params) (session.Pending p) → IsAsked state number batch (asked.Ready p params)
-ready_is state number batch p params fit h =
-    let i : session.Pending p ≡ session.Pending (pending batch h.0) = h.2 in
-    let e : p ≡ pending batch h.0 = cc in
-    (fit, (h.0, h.1, e), h.3 ∙ ap (λ (v : Pending). described_params v.keys (uses_of v)) (sym e))
 
 -- the one that there is
 pub alone_is : (replies : List Reply) (x : Reply) → 1 ≤ length replies → length replies < 2 → x ≡ slice_index_or replies 0 x → x ∷ [] ≡ replies

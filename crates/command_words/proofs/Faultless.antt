@@ -43,10 +43,6 @@ unmet : (b : Bool) (k : ErrorKind) (rest : Kinds) → (if b then k ∷ [] else r
 unmet true k rest e = cc
 unmet false k rest e = (refl, e)
 
-unmet_two : (b : Bool) (k j : ErrorKind) → (if b then k ∷ j ∷ [] else []) ≡ [] → b ≡ false
-unmet_two true k j e = cc
-unmet_two false k j e = refl
-
 -- ---- values
 
 values_ok : (ic : Bool) (p : ValueParser) (vs : List Text) → values_kinds ic p vs ≡ [] → list_all (accepts ic p) vs ≡ true

@@ -18,7 +18,7 @@ use Rattle.clap.specs.Simple.{built}
 use Rattle.clap.specs.Takes.{takes}
 use Rattle.command_words.proofs.Taken.{by_program}
 use Rattle.command_words.proofs.Faultless.{is_set, subs_set, takes_faultless, top_set}
-use Rattle.command_words.specs.Words.{Reads, are_taken, command_in, named, program, wrap_in}
+use Rattle.command_words.specs.Words.{Reads, are_taken, named, program, wrap_in}
 use Rattle.command_words.specs.Found.{Is, FindsPath, FindsSize, IsOfKind}
 use Rattle.command_words.specs.declared.commands.Command.TheVariants as command
 use Rattle.command_words.specs.declared.commands.Command.{Command}
@@ -97,13 +97,3 @@ module _ (a : App) (bytes : List Text) (words : List (List ℕ)) (same : a ≡ p
 
   pub refused : (e : Error) (r : Refusal (List ℕ)) → (takes a bytes ≡ true → kind_of e ≡ kind.OutOfMemory) → IsOfKind (kind_of e) r → Reads words (Err r)
   refused e r why w = reads_by (Err r) (by_refusal (takes a bytes) (option_and_then named (subcommand_of a bytes)) (kind_of e) r why w)
-
--- ---- for the crates above
-
-if_false : (b : Bool) (found : Option Command) → b ≡ false → (if b then found else None) ≡ None
-if_false true found e = cc
-if_false false found e = refl
-
--- words that aren't taken are no command
-pub no_command : (words : List (List ℕ)) → are_taken words ≡ false → command_in words ≡ None
-no_command words e = if_false (are_taken words) (option_and_then named (subcommand_of program (map encode_utf8_all words))) e

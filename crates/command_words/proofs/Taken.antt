@@ -145,10 +145,6 @@ built_named a words on wanted all u =
 
 -- ---- the six commands
 
-given_of : (wanted : Bool) (given rest : Bool) → wanted ≡ true → ((not wanted || given) && rest) ≡ true → given ≡ true
-given_of true given rest e u = (apart given rest u).0
-given_of false given rest e u = cc
-
 required_there : (s : Shape) (rows : List Row) → s.subcommand_negates_reqs ≡ false → is_valid s rows false ≡ true → list_all (λ a. not a.required || is_given a.id rows) s.rules ≡ true
 required_there s rows keeps u =
     let a = apart (not s.arg_required_else_help || (false || list_any (λ r. explicit_source r.source) rows)) _ u in

@@ -9,4 +9,4 @@ pub use Rattle.disk.proofs.Images.{torn_length, torn_same}
 pub use Rattle.disk.proofs.Moments.{leaves_last, leaves_none, leaves_pass, leaves_then}
 pub use Rattle.disk.proofs.Moments.{leaves_weaker}
 -- Images don't depend on what reads give; a sync of a file that is on the disk.
-pub use Rattle.disk.proofs.Syncing.{same_images, sync_kept}
+pub use Rattle.disk.proofs.Syncing.{sync_kept}

@@ -12,7 +12,7 @@ use Rattle.disk.specs.declared.disks.Stored.TheVariants as stored
 use Rattle.std.proofs.lemmas.List.{take_all}
 use Rattle.std.proofs.Math.Seq.{take-add}
 use Rattle.disk.specs.Durable.{ReadsWhole}
-use Rattle.ae_edge.proofs.Interface.{told_then, told_map}
+use Rattle.ae_edge.proofs.Interface.{told_then}
 use Rattle.disk.proofs.Told.{told_from, told_from_then}
 use Rattle.disk.proofs.Images.{kept_only, torn_same}
 use Rattle.disk.proofs.Moments.{leaves_none, leaves_pass}
@@ -47,9 +47,6 @@ module _ (file : List ℕ) (asked : Asked) where
       let q : b.now.asked ≡ asked ∷ [] = more ∙ ap (λ (w : Stand). asked ∷ w.asked) k in
       let here : LeavesNow (Torn file asked) b.now = λ image im. same_images (record { seen = file; synced = file; asked = asked ∷ [] }) b.now image s q im in
       leaves_pass (Torn file asked) Q a a b (leaves_none (Torn file asked) a (kept_leaves (Torn file asked) file a.now k (torn_same file asked))) p here
-
-  asked_now : (a b : Moments) → Leaves (Torn file asked) a b → LeavesNow (Torn file asked) b.now → Leaves (Torn file asked) a b
-  asked_now a b p now = p
 
 -- no call had its memory
 none_asked : (file : List ℕ) (asked : Asked) (a b : Moments) → a.now ≡ kept file → b ≡ a → Leaves (Torn file asked) a b
@@ -172,9 +169,6 @@ read_end part bytes a b c h r none =
 read_failed : (bytes : List ℕ) (a b c : Moments) → HasRead bytes a b → Gives (length bytes) given.Failed b c → ReadsWhole given.Failed a c
 read_failed bytes a b c h r = stays_pass StaysSynced a b c h.kept h.stays r (stays_kept b c (is_kept_now a b h.kept h.stays) r)
 
-read_unasked : (bytes : List ℕ) (a b c : Moments) → HasRead bytes a b → Gives (length bytes) given.OutOfMemory b c → ReadsWhole given.OutOfMemory a c
-read_unasked bytes a b c h r = subst (λ (w : Moments). StaysKept a w) (sym r) h.stays
-
 pub read_none_told : (a : Option Moments) → IfSome a IsKept → WhereTold (HasRead []) a a
 read_none_told (Some a) k = record { front = refl; kept = k; stays = stays_same a k }
 read_none_told None k = tt
@@ -188,17 +182,10 @@ read_end_told part bytes a b c h r none = told_then (HasRead bytes) (Gives (leng
 pub read_failed_told : (bytes : List ℕ) (a b c : Option Moments) → WhereTold (HasRead bytes) a b → WhereTold (Gives (length bytes) given.Failed) b c → WhereTold (ReadsWhole given.Failed) a c
 read_failed_told bytes = told_then (HasRead bytes) (Gives (length bytes) given.Failed) (ReadsWhole given.Failed) (read_failed bytes)
 
-pub read_unasked_told : (bytes : List ℕ) (a b c : Option Moments) → WhereTold (HasRead bytes) a b → WhereTold (Gives (length bytes) given.OutOfMemory) b c → WhereTold (ReadsWhole given.OutOfMemory) a c
-read_unasked_told bytes = told_then (HasRead bytes) (Gives (length bytes) given.OutOfMemory) (ReadsWhole given.OutOfMemory) (read_unasked bytes)
-
 -- without memory for what came
 pub read_stopped_told : (part bytes : List ℕ) (a b c : Option Moments) → WhereTold (HasRead bytes) a b → WhereTold (Gives (length bytes) (given.Bytes part)) b c → WhereTold (ReadsWhole given.OutOfMemory) a c
 read_stopped_told part bytes =
     told_then (HasRead bytes) (Gives (length bytes) (given.Bytes part)) (ReadsWhole given.OutOfMemory) (λ a b c h r. (read_on part bytes a b c h r).stays)
-
--- or for any more
-pub read_full_told : (bytes : List ℕ) (a b : Option Moments) → WhereTold (HasRead bytes) a b → WhereTold (ReadsWhole given.OutOfMemory) a b
-read_full_told bytes = told_map (HasRead bytes) (ReadsWhole given.OutOfMemory) (λ a b h. h.stays)
 
 -- ---- a sync alone
 

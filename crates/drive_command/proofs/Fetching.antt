@@ -1,24 +1,20 @@
 -- Pieces of a stream of replies, one after another.
 use Rattle.std.proofs.Common.{◌≡◌, ℕ, ◌+◌, ◌≤◌, List, [], ◌∷◌, ◌++◌, Option, Some, None, length, refl, sym, ◌∙◌, ap, subst, arith, append-nil, append_assoc, length-append}
-use Rattle.std.specs.Prelude.{◌<◌, ◌-◌, IfSome, Err}
+use Rattle.std.specs.Prelude.{◌<◌, ◌-◌, Err}
 use Rattle.ae_base.specs.declared.frames.FrameVersion.{FrameVersion}
 use Rattle.ae_edge.specs.Devices.{WhereTold, Removes}
 use Rattle.ae_edge.specs.Sources.{Takes}
 use Rattle.ae_edge.specs.declared.sources.Taken.TheVariants as taken
-use Rattle.ae_edge.proofs.Interface.{told_same}
 use Rattle.wire_spelling.specs.Packing.{SpellsPayload, payload_frame}
 use Rattle.wire_frames.specs.Frames.{IsNotYet, IsRefused, is_reply_head}
 use Rattle.wire_frames.specs.Laws.{IsReadOnce}
 use Rattle.run_effects.specs.Shares.{IsNext, coming_behind}
-use Rattle.run_effects.specs.Ways.{IsLeft, IsPast, LacksReply, most_stream_bytes}
+use Rattle.run_effects.specs.Ways.{IsPast, LacksReply, most_stream_bytes}
 use Rattle.drive_command.specs.Holding.{Holding, IsAmong, came, held_more}
 use Rattle.script_run.specs.declared.connection.ReplyFault.{ReplyFault}
 use Rattle.script_run.specs.declared.connection.ReplyFault.TheVariants as fault
-use Rattle.drive_command.specs.Reading.{Moves, Moved, HoldsWithin, Ends, ReadsMore, FetchesReply}
+use Rattle.drive_command.specs.Reading.{Moves, Moved, HoldsWithin, ReadsMore, FetchesReply}
 use Rattle.drive_command.proofs.Beginning.{among_none, none_coming, none_yet}
-
-pub moved_still : (h : Holding) (left : Option (List ℕ)) → Moved h h left left
-moved_still h left = record { version = refl; at = refl; skipped = refl; comes = told_same (λ a b. b ≡ a) (λ x. refl) (coming_behind h.held left) }
 
 comes_same : (held piece : List ℕ) (left after : Option (List ℕ)) → Removes piece left after → WhereTold (λ a b. b ≡ a) (coming_behind held left) (coming_behind (held ++ piece) after)
 comes_same held piece (Some x) (Some y) e = append_assoc held piece y ∙ ap (λ w. held ++ w) (sym e)
@@ -46,12 +42,6 @@ moved_more a b c piece l m n p q =
     } in
     subst (λ h. Moved a h l n) (sym e) r
 
-ends_same : (held : List ℕ) (m n : Option (List ℕ)) → Ends m n → WhereTold (λ a b. b ≡ a) (coming_behind held m) (coming_behind held n)
-ends_same held (Some x) (Some y) e = ap (λ w. held ++ w) (e.1 ∙ sym e.0)
-ends_same held None None e = tt
-ends_same held (Some x) None e = absurd e
-ends_same held None (Some y) e = absurd e
-
 -- with no byte more
 none_more : (b c : Holding) (l m : Option (List ℕ)) → Moves [] b c l m → c ≡ b
 none_more b c l m q = q.held ∙ ap (λ (w : List ℕ). record { version = b.version; at = b.at; skipped = b.skipped; held = w }) (append-nil b.held)
@@ -59,42 +49,15 @@ none_more b c l m q = q.held ∙ ap (λ (w : List ℕ). record { version = b.ver
 pub within_still : (a b c : Holding) (l m : Option (List ℕ)) → HoldsWithin a b → Moves [] b c l m → HoldsWithin a c
 within_still a b c l m w q = subst (HoldsWithin a) (sym (none_more b c l m q)) w
 
--- the end
-pub moved_end : (a b c : Holding) (l m n : Option (List ℕ)) → Moved a b l m → c ≡ b → Ends m n → Moved a c l n
-moved_end a b c l m n p e q =
-    subst (λ h. Moved a h l n) (sym e)
-    (record { version = p.version; at = p.at; skipped = p.skipped; comes = both (coming_behind a.held l) (coming_behind b.held m) (coming_behind b.held n) p.comes (ends_same b.held m n q) })
-
-pub none_at_end : (version : FrameVersion) (skipped : ℕ) (held : List ℕ) (m n : Option (List ℕ)) → Ends m n → IsNext version None skipped held → IfSome (coming_behind held n) (IsNext version None skipped)
-none_at_end version skipped held m None e h = tt
-none_at_end version skipped held (Some x) (Some y) e h = subst (IsNext version None skipped) (sym (ap (λ w. held ++ w) e.1 ∙ append-nil held)) h
-none_at_end version skipped held None (Some y) e h = absurd e
-
-pub left_at_end : (m n : Option (List ℕ)) → Ends m n → IfSome n (λ bytes. bytes ≡ [])
-left_at_end m None e = tt
-left_at_end (Some x) (Some y) e = e.1
-left_at_end None (Some y) e = absurd e
-
 -- no frame is in no bytes
 pub none_in_none : (version : FrameVersion) (skipped : ℕ) → IsNext version None skipped []
 none_in_none version skipped = λ r b. let e = ap length b.is in let l = length-append (payload_frame version b.payload) b.rest in omega (arith, e, l)
-
-pub lacks_none : (version : FrameVersion) (skipped : ℕ) (held : List ℕ) → held ≡ [] → skipped ≡ 0 → LacksReply version skipped held
-lacks_none version skipped held e z = (z, subst (IsNext version None skipped) (sym e) (none_in_none version skipped))
 
 -- one byte past the limit
 pub is_past : (b c : Holding) (byte : ℕ) (l m : Option (List ℕ)) → Moves (byte ∷ []) b c l m → came b ≡ most_stream_bytes → LacksReply b.version b.skipped b.held → IsPast c.version c.at c.skipped c.held
 is_past b c byte l m q e n =
     let i = q.held in
     subst (λ h. IsPast h.version h.at h.skipped h.held) (sym i) (record { within = b.held; byte = byte; is = refl; limit = e; none = n })
-
-left_behind : (xs ys : List ℕ) → 0 < length ys → IsLeft (xs ++ ys)
-left_behind [] [] n = absurd (omega (arith, n))
-left_behind [] (y ∷ ys) n = tt
-left_behind (x ∷ xs) ys n = tt
-
-pub some_left : (b c : Holding) (piece : List ℕ) (l m : Option (List ℕ)) → Moves piece b c l m → 0 < length piece → IsLeft c.held
-some_left b c piece l m q n = let i = q.held in subst (λ h. IsLeft h.held) (sym i) (left_behind b.held piece n)
 
 -- ---- a piece
 

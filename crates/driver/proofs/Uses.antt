@@ -29,12 +29,6 @@ use Rattle.driver.proofs.Listing.{drop_next}
 abbrev pub blank : Param
 blank = record { declaration = record { name = []; ty = Int }; value = Null }
 
--- an atom beside its parameter
-pub sent_on : (sealed : Result (AtomOf (List ℕ)) DriverFault) (param : Param) (enc : Enc) (k : SentParam → Talk) (fails : DriverFault → Talk)
-    → on_result (λ a. k (sent_param (record { param = param; enc = enc }) a)) fails sealed ≡ on_result k fails (with_atom param enc sealed)
-sent_on (Ok a) param enc k fails = refl
-sent_on (Err f) param enc k fails = refl
-
 get_or_again : (ps : List Param) (i : ℕ) (p q : Param) → i < length ps → get_or ps i p ≡ get_or ps i q
 get_or_again [] i p q l = absurd (omega arith)
 get_or_again (x ∷ xs) zero p q l = refl

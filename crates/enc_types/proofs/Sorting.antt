@@ -20,9 +20,6 @@ at_tied x y e = grind (arith, nat_tests)
 above_untied : (x y : Rule) → at_of x < at_of y → tied x y ≡ false
 above_untied x y e = grind (arith, nat_tests)
 
-below_untied : (x y : Rule) → at_of y < at_of x → tied x y ≡ false
-below_untied x y e = grind (arith, nat_tests)
-
 abbrev AllFrom : ℕ → List Rule → Type 0
 AllFrom n [] = Unit {0}
 AllFrom n (x ∷ xs) = (n ≤ at_of x) × AllFrom n xs

@@ -1,5 +1,5 @@
 -- What a feed holds after its calls.
-use Rattle.std.proofs.Common.{◌≡◌, ◌<◌, ◌≤◌, ◌+◌, ◌-◌, ◌^◌, ◌∙◌, ℕ, List, [], ◌∷◌, ◌++◌, length, take, drop, min, Bool, true, false, eqb, Some, None, if◌then◌else◌, refl, sym, ap, subst, append_assoc, length-append, arith}
+use Rattle.std.proofs.Common.{◌≡◌, ◌<◌, ◌≤◌, ◌+◌, ◌-◌, ◌^◌, ◌∙◌, ℕ, List, [], ◌∷◌, ◌++◌, length, take, drop, Bool, true, false, eqb, Some, None, if◌then◌else◌, refl, sym, ap, subst, append_assoc, length-append, arith}
 use Rattle.std.proofs.lemmas.Bool.{ne_eqb}
 use Rattle.std.proofs.lemmas.List.{append-nil, take-append-drop, length-take-le}
 use Rattle.wire_frames.specs.Decoding.{has_head}
@@ -165,9 +165,3 @@ pub fault_kept : (old failed now after : Feeding) (place : ℕ) (calls : List Ca
 fault_kept old failed now after place calls answer s lead a =
     let same : now ≡ refused old = lead_refused calls old now (subst (λ (f : Feeding). Lead calls f now) s.2 lead) in
     (only_fault answer old after place s.0 (subst (λ (f : Feeding). Steps answer f after) same a), ap rest_of same ∙ rest_there old place s.0 s.1.0)
-
--- ---- the call itself
-
-pub after_frame : (way : Way) (at : ℕ) (held : List ℕ) (failed : Bool) (used place : ℕ) (rest : List ℕ) → place ≡ min (at + used) (2 ^ 64 - 1) → rest ≡ drop used held
-    → record { way = way; at = place; held = rest; failed = failed } ≡ behind (record { way = way; at = at; held = held; failed = failed }) used
-after_frame way at held failed used place rest e f = rw (e, f) refl

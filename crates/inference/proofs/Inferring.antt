@@ -1,5 +1,5 @@
 -- From what was found to the least typing, or to the first clash.
-use Rattle.std.proofs.Common.{◌≡◌, ℕ, zero, suc, ◌+◌, ◌<◌, List, [], ◌∷◌, ◌++◌, length, take, drop, get_or, reverse, refl, ap, sym, subst, ◌∙◌, arith, Some, Bool, true, false, not, ◌&&◌, ◌||◌, Ok, add-one, append_assoc, ◌≤◌}
+use Rattle.std.proofs.Common.{◌≡◌, ℕ, zero, suc, ◌+◌, ◌<◌, List, [], ◌∷◌, ◌++◌, length, take, drop, get_or, reverse, refl, ap, sym, subst, ◌∙◌, arith, Some, Bool, true, false, not, ◌&&◌, ◌||◌, Ok, add-one, append_assoc}
 use Rattle.std.specs.List.{list_all}
 use Rattle.ae_base.specs.declared.types.Ty.{Ty}
 use Rattle.ae_base.specs.declared.types.Enc.{Enc}
@@ -16,7 +16,7 @@ use Rattle.enc_types.specs.declared.rules.Rule.TheVariants.{Same, NotRnd, PlainO
 use Rattle.enc_types.proofs.Interface.{has_typing-Decides, one_least}
 use Rattle.enc_types.proofs.Interface.{no_clash, none_typed, clash_at, first_clash, untyped}
 use Rattle.inference.specs.Steps.{goes, is_settled, traced, way_back}
-use Rattle.std.proofs.lemmas.List.{reverse-append, append-nil, at_drop_more, at_drop_all}
+use Rattle.std.proofs.lemmas.List.{reverse-append, at_drop_more}
 use Rattle.ae_base.specs.declared.types.Ty.TheVariants.{Int}
 use Rattle.inference.specs.Ways.{onto, beyond, through_either, chain_through}
 use Rattle.inference.specs.Reached.{typing_of, IsReached, AreSettled}
@@ -147,24 +147,7 @@ encs_more typing params all now next i lt h e =
     ∙ ap (λ z. now ++ z) (ap (λ n. typing (Param i) ∷ encs_from typing n (drop (i + 1) params)) (add-one i) ∙ sym (at_drop_more (encs_from typing i) params i Int lt))
     ∙ h
 
-pub encs_all : (typing : Typing) (params : List Ty) (all now : List Enc) (i : ℕ) → length params ≤ i → now ++ encs_from typing i (drop i params) ≡ all → now ≡ all
-encs_all typing params all now i le h = sym (append-nil now) ∙ ap (λ z. now ++ z) (sym (at_drop_all (encs_from typing i) params i le)) ∙ h
-
 -- ---- the way back step by step
-
-pub way_more : (steps : List Step) (all now next : List Rule) (from to : Site) (i : ℕ) (step : Step) → i < length steps → step ≡ get_or steps i step
-    → now ++ way_back (reverse (take (i + 1) steps)) to ≡ all
-    → ((rest : List Step) → next ++ way_back rest from ≡ now ++ way_back (step ∷ rest) to)
-    → next ++ way_back (reverse (take i steps)) from ≡ all
-way_more steps all now next from to i step lt e h more =
-    more (reverse (take i steps))
-    ∙ ap (λ z. now ++ way_back z to) (sym (reverse-append (take i steps) (step ∷ [])) ∙ ap reverse (ap (λ z. take i steps ++ z ∷ []) e ∙ sym (ap (λ n. take n steps) (add-one i) ∙ taken_steps steps i step lt)))
-    ∙ h
-  where
-    taken_steps : (xs : List Step) (k : ℕ) (default : Step) → k < length xs → take (suc k) xs ≡ take k xs ++ get_or xs k default ∷ []
-    taken_steps [] k default l = absurd (omega arith)
-    taken_steps (x ∷ xs) zero default l = refl
-    taken_steps (x ∷ xs) (suc k) default l = ap (λ z. x ∷ z) (taken_steps xs k default (omega arith))
 
 pub onto_is : (xs ys : List Rule) → onto xs ys ≡ reverse xs ++ ys
 onto_is [] ys = refl

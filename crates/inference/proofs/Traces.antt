@@ -44,9 +44,6 @@ module _ (params : List Ty) (columns : List ColumnSite) where
 
   -- ---- traces
 
-  traced_to : (step : Step) (steps : List Step) (s : Site) → step.to ≡ s → traced columns (step ∷ steps) s ≡ traced columns steps step.from
-  traced_to step steps s e = ap (λ b. cond b (traced columns steps step.from) (traced columns steps s)) ((site_eq-Decides step.to s).1 e)
-
   pub traced_fixed : (rules : List Rule) (steps : List Step) → IsTrace params columns rules steps → Agrees columns (traced columns steps)
   traced_fixed rules [] t s e f = ap (λ z. unwrap_or z Plain) f
   traced_fixed rules (step ∷ steps) t s e f = go (site_eq step.to s) refl (traced_fixed rules steps t.3 s e f)

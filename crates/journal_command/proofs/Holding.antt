@@ -1,10 +1,10 @@
 -- Frames of requests that are held.
-use Rattle.std.proofs.Common.{◌≡◌, ◌<◌, ◌-◌, ℕ, zero, suc, List, [], ◌∷◌, ◌++◌, length, map, get_or, set, take, Bool, true, false, Option, Some, None, refl, sym, ap, subst, ◌∙◌, append-nil, arith, length-append}
+use Rattle.std.proofs.Common.{◌≡◌, ◌<◌, ◌-◌, ℕ, zero, suc, List, [], ◌∷◌, ◌++◌, length, map, get_or, set, Bool, true, false, Option, Some, None, refl, sym, ap, subst, ◌∙◌, append-nil, arith, length-append}
 use Rattle.std.specs.Prelude.{nat_lt, ◌==◌, if◌then◌else◌, option_to_list, IfSome}
 use Rattle.std.specs.List.{All, concat}
 use Rattle.std.proofs.Math.Dec.{eqb-suc-zero}
 use Rattle.std.proofs.lemmas.Bool.{lt-ltb}
-use Rattle.std.proofs.lemmas.List.{flat_map_more, get_or-map, get_or-set_same, length-map, length-set, map-set, set-get_or, set-set, take-append-le, take_all}
+use Rattle.std.proofs.lemmas.List.{flat_map_more, get_or-map, get_or-set_same, length-map, length-set, map-set, set-set}
 use Rattle.std.proofs.lemmas.List.Elements.{All-nil, All-cons, All-head, All-tail, All-append}
 use Rattle.journal_core.specs.Records.{IsExecuteFrame, IsRecord}
 use Rattle.recording.specs.Recorded.{Kept, held_at, kept, kept_of, with_held}
@@ -14,10 +14,6 @@ use Rattle.wire_spelling.specs.Spelling.{asked_frame}
 use Rattle.journal_command.specs.Keeping.{Asked, HeldFrames, IsHeldRequest, IsKept, HasRoom, KeptFrames, RoomMade, entries_of, frames_in, frames_of, kept_frames, no_frames, with_frame}
 
 -- ---- one session
-
--- what was put behind is cut away
-pub given_back : (held frame : List ℕ) (before : ℕ) → before ≡ length held → take before (held ++ frame) ≡ held
-given_back held frame before e = ap (λ (n : ℕ). take n (held ++ frame)) e ∙ take-append-le (length held) held frame (omega arith) ∙ take_all (length held) held (omega arith)
 
 more_frames : (requests : List Asked) (r : Asked) → frames_in requests ++ asked_frame r ≡ frames_in (requests ++ r ∷ [])
 more_frames requests r = flat_map_more asked_frame [] requests r
@@ -128,10 +124,6 @@ module _ (held : List (List Asked)) (session : ℕ) where
   pub is_closed : (keeper new : List HeldFrames) (after : HeldFrames) → keeper ≡ map frames_of held → new ≡ set keeper place after → after ≡ no_frames → new ≡ map frames_of (with_held held session [])
   is_closed keeper new after e n a =
       n ∙ ap (λ (k : List HeldFrames). set k place after) e ∙ ap (set (map frames_of held) place) a ∙ sym (map-set frames_of held place [])
-
-  -- what is held again is held
-  pub held_again : with_held held session (held_at held session) ≡ held
-  held_again = set-get_or held place []
 
 -- ---- records
 

@@ -1,8 +1,8 @@
 -- Records that are served again: how far they were, and where one isn't.
-use Rattle.std.proofs.Common.{◌≡◌, ◌+◌, ◌<◌, ◌≤◌, ℕ, zero, suc, List, [], ◌∷◌, ◌++◌, length, get_or, take, drop, Bool, true, false, refl, sym, ap, subst, ◌∙◌, append-nil, append_assoc, length-append, take-append-drop, arith}
+use Rattle.std.proofs.Common.{◌≡◌, ◌+◌, ◌<◌, ℕ, List, [], ◌∷◌, ◌++◌, length, get_or, take, drop, Bool, true, false, refl, sym, ap, subst, ◌∙◌, append-nil, append_assoc, length-append, take-append-drop, arith}
 use Rattle.std.specs.List.{All}
 use Rattle.std.proofs.lemmas.List.{append_cancel_left, drop_more, flat_map_more, take_more}
-use Rattle.std.proofs.lemmas.List.Elements.{All-nil, All-push, All-head, All-tail}
+use Rattle.std.proofs.lemmas.List.Elements.{All-push, All-head, All-tail}
 use Rattle.journal_core.specs.Journals.{place_behind}
 use Rattle.recording.specs.Laws.{AreDone, AreServedAgain, IsIdle}
 use Rattle.recording.specs.Recorded.{is_done}
@@ -25,16 +25,6 @@ use Rattle.journal_command.proofs.Recording.{entries_append}
 both : (b : Bool) → b ≡ true → b ≡ false → ⊥
 both b t f = cc
 
-pub front_done : (asked : Asked) (replies : List Reply) (used : ℕ) (bytes : List ℕ) (old new : State) → (used ≤ length bytes) × SpellsRequest asked (take used bytes)
-    → (serve old asked.message ≡ record { replies = replies; after = new }) → is_done replies ≡ true → ServesFront used bytes old new
-front_done asked replies used bytes old new d s e = record {
-  asked = asked;
-  held = d.0;
-  spelled = d.1;
-  done = ap (λ (x : Served State). is_done x.replies) s ∙ e;
-  after = sym (ap (λ (x : Served State). x.after) s);
-}
-
 pub front_undone : (asked : Asked) (replies : List Reply) (used : ℕ) (bytes : List ℕ) (old new : State) → ReadsEach SpellsRequest (decoded.One asked used) bytes
     → (serve old asked.message ≡ record { replies = replies; after = new }) → is_done replies ≡ false → AnswersFront front.Refused bytes old new
 front_undone asked replies used bytes old new only s e = λ other first rest spelled whole done.
@@ -50,9 +40,6 @@ pub record HasServed (state : State) (entry rest : List ℕ) (now : State) : Typ
   pub whole : entry ≡ frames_in requests ++ rest
   pub done : AreDone state (messages_of requests)
   pub after : now ≡ state_after state requests
-
-pub none_served : (state : State) (entry : List ℕ) → HasServed state entry entry state
-none_served state entry = record { requests = []; proper = All-nil IsProper; whole = refl; done = tt; after = refl }
 
 after_more : (state : State) (requests : List Asked) (r : Asked) → state_after state (requests ++ r ∷ []) ≡ (serve (state_after state requests) r.message).after
 after_more state [] r = refl
@@ -83,13 +70,6 @@ more_served state entry rest now new used h f =
 
 frame_long : (r : Asked) → 0 < length (asked_frame r)
 frame_long r = omega arith
-
-pub used_some : (r : Asked) (used : ℕ) (bytes : List ℕ) → SpellsRequest r (take used bytes) → 0 < used
-used_some r used bytes s = positive used (omega (arith, frame_long r, ap length s.1))
-  where
-    positive : (n : ℕ) → 0 < length (take n bytes) → 0 < n
-    positive zero lt = absurd (omega (arith, lt))
-    positive (suc n) lt = omega arith
 
 -- the requests of the same bytes begin with those that were served
 pub record Goes (ones others : List Asked) (rest : List ℕ) : Type 0 where
@@ -122,21 +102,6 @@ refused_front law state entry rest now new h some refused requests s =
         let done = done_next state h.requests r more (subst (λ (l : List Asked). AreDone state (messages_of l)) is s.done) in
         refused r (asked_frame r) (frames_in more) (All-head IsProper r more proper, refl) left (ap (λ (x : State). is_done (serve x r.message).replies) h.after ∙ done)
 
-whole_entry : (state : State) (entry rest : List ℕ) (now : State) (h : HasServed state entry rest now) → length rest ≡ 0 → entry ≡ frames_in h.requests
-whole_entry state entry rest now h none = h.whole ∙ ap (λ (l : List ℕ). frames_in h.requests ++ l) (empty rest none) ∙ append-nil (frames_in h.requests)
-  where
-    empty : (l : List ℕ) → length l ≡ 0 → l ≡ []
-    empty [] e = refl
-    empty (x ∷ l) e = absurd (omega (arith, e))
-
-pub all_served : (state : State) (entry rest : List ℕ) (now : State) → HasServed state entry rest now → length rest ≡ 0 → IsIdle now
-    → (requests : List Asked) × IsServedRecord state requests entry × (now ≡ state_after state requests)
-all_served state entry rest now h none idle = (
-  h.requests,
-  record { proper = h.proper; whole = whole_entry state entry rest now h none; done = h.done; idle = subst IsIdle h.after idle },
-  h.after,
-)
-
 pub refused_open : HasOneReading SpellsRequest → (state : State) (entry rest : List ℕ) (now : State) → HasServed state entry rest now → length rest ≡ 0 → (IsIdle now → ⊥)
     → (requests : List Asked) → IsServedRecord state requests entry → ⊥
 refused_open law state entry rest now h none goes_on requests s =
@@ -153,9 +118,6 @@ pub record AreSoFar (state : State) (entries : List (List ℕ)) (now : State) : 
   pub records : List (List Asked)
   pub served : AreServedRecords state records entries
   pub after : now ≡ state_behind state records
-
-pub none_so_far : (state : State) → AreSoFar state [] state
-none_so_far state = record { records = []; served = record { proper = All-nil (All IsProper); whole = refl; served = tt }; after = refl }
 
 records_more : (state : State) (records : List (List Asked)) (requests : List Asked) → state_behind state (records ++ requests ∷ []) ≡ state_after (state_behind state records) requests
 records_more state [] requests = refl

@@ -1,6 +1,6 @@
 -- One request is served, and what is to be recorded of it is held or handed out.
-use Rattle.std.proofs.Common.{◌≡◌, ◌⊎◌, inl, inr, ◌-◌, ℕ, zero, suc, List, [], ◌∷◌, map, get_or, Bool, true, false, Option, None, refl, sym, ap, subst, ◌∙◌}
-use Rattle.std.specs.Prelude.{if◌then◌else◌, IfSome, ◌||◌}
+use Rattle.std.proofs.Common.{◌≡◌, ◌-◌, ℕ, zero, suc, List, [], ◌∷◌, map, get_or, Bool, true, false, Option, None, refl, sym, ap, subst, ◌∙◌}
+use Rattle.std.specs.Prelude.{if◌then◌else◌, IfSome}
 use Rattle.std.specs.List.{All}
 use Rattle.std.proofs.lemmas.List.Elements.{All-nil, All-set, All-head, All-tail, All-replicate}
 use Rattle.disk.specs.Moments.{Moments}
@@ -10,15 +10,14 @@ use Rattle.journal_core.specs.Records.{IsExecute, IsRecord}
 use Rattle.recording.specs.Recorded.{Kept, has_transaction, held_at, is_done, kept, kept_by, kept_of, kept_where, nothing_held, session_of, with_held}
 use Rattle.statement_analysis.specs.Sorts.{sort_of}
 use Rattle.statement_analysis.specs.declared.sorts.Sort.{Sort}
-use Rattle.statement_analysis.specs.declared.sorts.Sort.TheVariants as sorts
 use Rattle.server_core.specs.Serve.{State, serve}
 use Rattle.wire_messages.specs.Exchanges.{Served}
 use Rattle.wire_messages.specs.declared.replies.Reply.{Reply}
 use Rattle.wire_messages.specs.declared.requests.Request.{Request}
 use Rattle.wire_messages.specs.declared.requests.Request.TheVariants.{Describe, Execute}
-use Rattle.journal_command.specs.Durable.{DurableState, IsReadOf, IsSound, IsStatementOf, IsServed}
+use Rattle.journal_command.specs.Durable.{DurableState, IsSound, IsStatementOf, IsServed}
 use Rattle.journal_command.specs.Keeping.{Asked, HeldFrames, IsHeldRequest, IsHolding, IsKept, entries_of, frames_of, held_behind, keeping}
-use Rattle.journal_command.proofs.Holding.{AreProper, Empty, held_again, proper_entry, proper_kept}
+use Rattle.journal_command.proofs.Holding.{AreProper, Empty, proper_entry, proper_kept}
 
 -- ---- what is kept
 
@@ -49,23 +48,6 @@ keeps_open state session kind (Execute other version text params) asked a d held
     let r = Execute other version text params in (
       when_false (is_done (serve state r).replies) (kept_of (sort_of text) (held_at held other) asked) (kept_where (has_transaction (serve state r).after other) (held_at held other)) d
           ∙ ap (λ (s : ℕ). kept_where (has_transaction (serve state r).after s) (held_at held s)) (sym a.0),
-      sym a.0,
-    )
-
-open_by : (done goes_on : Bool) (kind : Sort) (held : List Asked) (r : Asked) → (kind ≡ sorts.Reads) ⊎ (kind ≡ sorts.NoStatement)
-    → (if done then kept_of kind held r else kept_where goes_on held) ≡ kept_where (done || goes_on) held
-open_by true goes_on kind held r (inl e) = ap (λ (k : Sort). kept_of k held r) e
-open_by true goes_on kind held r (inr e) = ap (λ (k : Sort). kept_of k held r) e
-open_by false goes_on kind held r e = refl
-
-pub keeps_read : (state : State) (session : ℕ) (request : Request) (asked : Asked) → IsReadOf session request → (held : List (List Asked))
-    → (kept_by request asked (serve state request) (held_at held (session_of request)) ≡ kept_where (is_done (serve state request).replies || has_transaction (serve state request).after session) (held_at held session)) × (session_of request ≡ session)
-keeps_read state session (Describe other text declarations) asked a held = absurd a
-keeps_read state session (Execute other version text params) asked a held =
-    let r = Execute other version text params in
-    let done = is_done (serve state r).replies in (
-      open_by done (has_transaction (serve state r).after other) (sort_of text) (held_at held other) asked a.1
-          ∙ ap (λ (s : ℕ). kept_where (done || has_transaction (serve state r).after s) (held_at held s)) (sym a.0),
       sym a.0,
     )
 
@@ -116,36 +98,6 @@ module _ (replies : List Reply) (asked : Asked) (session : ℕ) (old new : Durab
       (λ held.
       let kn = keeps_open old.state session kind asked.message asked a (ap is_done (sym replied) ∙ d) held in
       (kn.0 ∙ ap (λ (b : Bool). kept_where b (held_at held session)) (ap (λ (x : State). has_transaction x session) (sym led) ∙ sym o), kn.1)) k
-
-  pub served_read : (goes_on : Bool) → IsReadOf session asked.message → goes_on ≡ (is_done replies || has_transaction new.state session)
-      → ((held : List (List Asked)) → old.held ≡ map frames_of held → new.held ≡ map frames_of (with_held held session (kept_where goes_on (held_at held session)).held)) → IsServed replies None asked old new
-  served_read goes_on a o k =
-      served_open goes_on
-      (λ held.
-      let kn = keeps_read old.state session asked.message asked a held in (
-        kn.0 ∙ ap (λ (x : State). kept_where (is_done (serve old.state asked.message).replies || has_transaction x session) (held_at held session)) (sym led)
-            ∙ ap (λ (l : List Reply). kept_where (is_done l || has_transaction new.state session) (held_at held session)) (sym replied)
-            ∙ ap (λ (b : Bool). kept_where b (held_at held session)) (sym o),
-        kn.1,
-      )) k
-
--- a description changes nothing
-description_kept : (state : State) (request : Request) (asked : Asked) (held : List (List Asked)) → (IsExecute request → ⊥) → kept_by request asked (serve state request) (held_at held (session_of request)) ≡ kept [] (held_at held (session_of request))
-description_kept state (Describe session text declarations) asked held n = refl
-description_kept state (Execute session version text params) asked held n = absurd (n tt)
-
-pub served_description : (replies : List Reply) (session : ℕ) (asked : Asked) (old new : DurableState) → (serve old.state asked.message ≡ record { replies = replies; after = new.state }) → new.held ≡ old.held → (IsExecute asked.message → ⊥)
-    → IsServed replies None asked old new
-served_description replies session asked old new s e n = record {
-  replies = replied replies asked session old new s;
-  after = led replies asked session old new s;
-  kept = λ held h.
-      let k = description_kept old.state asked.message asked held n in
-      let at = session_of asked.message in (
-        ap (λ (x : Kept Asked). entries_of x.records) (sym k),
-        e ∙ h ∙ ap (map frames_of) (sym (held_again held at) ∙ ap (λ (x : Kept Asked). with_held held at x.held) (sym k)),
-      );
-}
 
 -- ---- what is held stays frames of requests to execute
 

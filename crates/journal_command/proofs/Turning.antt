@@ -1,19 +1,17 @@
 -- One request more is answered and recorded, and what stands where it isn't.
-use Rattle.std.proofs.Common.{◌≡◌, inl, inr, ◌<◌, ◌^◌, ℕ, List, [], ◌∷◌, ◌++◌, length, map, take, drop, Option, refl, sym, ap, subst, ◌∙◌, append-nil, arith}
+use Rattle.std.proofs.Common.{◌≡◌, inl, inr, ◌<◌, ◌^◌, ℕ, List, [], ◌∷◌, ◌++◌, length, map, drop, Option, refl, sym, ap, subst, ◌∙◌, append-nil, arith}
 use Rattle.ae_edge.specs.Devices.{AddsFront}
 use Rattle.ae_edge.proofs.Interface.{adds_then_front, front_of, front_same}
 use Rattle.frame_feed.specs.Feeding.{Feeding, behind, empty_feed, with_piece}
 use Rattle.frame_feed.specs.Steps.{Steps}
 use Rattle.frame_feed.specs.declared.feeds.Next.TheVariants as next
-use Rattle.frame_feed.specs.declared.messages.Message.{Message}
-use Rattle.frame_feed.specs.declared.messages.Message.TheVariants.{Asks, Tells}
 use Rattle.recording.specs.Recorded.{nothing_held}
 use Rattle.server_core.specs.Serve.{State}
 use Rattle.serve_command.specs.ServeAll.{answer_frames, reply_frames, state_after}
 use Rattle.serve_command.specs.Serving.{Begins, AnswersAll, AnswersFirst, BreaksOff}
 use Rattle.serve_command.specs.Turns as serving
 use Rattle.serve_command.specs.Turns.{IsNext}
-use Rattle.serve_command.proofs.Interface.{answers_all, answers_first, begins_more, breaks_off, frames_more, refused_so, spells_asked, stands_fed, stands_first, stands_more, waits_so}
+use Rattle.serve_command.proofs.Interface.{answers_all, answers_first, begins_more, breaks_off, frames_more, refused_so, stands_fed, stands_first, stands_more}
 use Rattle.wire_frames.specs.Frames.{Refused, IsNotYet, is_request_head}
 use Rattle.wire_frames.specs.declared.decoding.Way.TheVariants.{ToServer}
 use Rattle.journal_command.specs.Durable.{DurableState}
@@ -21,32 +19,14 @@ use Rattle.journal_command.specs.Keeping.{Asked, entries_of, frames_of, held_aft
 use Rattle.journal_command.specs.Records.{HaveRoom, HasNoRoom, TriesEntries}
 use Rattle.journal_command.specs.Running.{HasKept, HasNoRoomFor, HasRoomFor, KeepsBy, PutsOf}
 use Rattle.journal_command.specs.Stopping.{Outside, AreThere, MayBeThere}
-use Rattle.journal_command.specs.Turns.{Answers, AnswersNext, IsSoFar, StopsNext, Turns}
+use Rattle.journal_command.specs.Turns.{AnswersNext, IsSoFar, StopsNext, Turns}
 use Rattle.journal_command.specs.declared.endings.Stop.{Stop}
 use Rattle.journal_command.specs.declared.endings.Stop.TheVariants as stops
-use Rattle.journal_command.specs.declared.turns.Turn.{Turn}
 use Rattle.journal_command.specs.declared.turns.Turn.TheVariants as turn
 use Rattle.journal_command.proofs.Adding.{adds_more, adds_no_entry, added_tried, place_append, room_more, tries_more}
 use Rattle.journal_command.proofs.Recording.{entries_append, held_more, one_record, recorded_more}
 
 -- ---- what stands next
-
-pub turns_one : (t : Turn) (place used : ℕ) (message : Message) (feed new : Feeding) (held : List (List Asked)) (durable after : DurableState) (old now : Outside) → feed.way ≡ ToServer
-    → Steps (next.One place used message) feed new → Answers t used message held durable after old now → Turns t feed held durable after old now
-turns_one (turn.Answered count) place used (Asks asked) feed new held durable after old now e s a =
-    subst (λ (n : ℕ). AnswersNext feed n held durable after old now) (sym a.0)
-    (record { request = asked; next = record { header = s.2; held = s.3; spells = spells_asked feed.way asked (take used feed.held) e s.4 }; waits = s.0; answers = a.1 })
-turns_one (turn.Stopped stop) place used (Asks asked) feed new held durable after old now e s a =
-    inr (record { request = asked; used = used; next = record { header = s.2; held = s.3; spells = spells_asked feed.way asked (take used feed.held) e s.4 }; stops = a })
-turns_one turn.Waits place used (Asks asked) feed new held durable after old now e s a = absurd a
-turns_one (turn.Refused at) place used (Asks asked) feed new held durable after old now e s a = absurd a
-turns_one (turn.Answered count) place used (Tells payload) feed new held durable after old now e s a = absurd a
-turns_one (turn.Stopped stop) place used (Tells payload) feed new held durable after old now e s a = absurd a
-turns_one turn.Waits place used (Tells payload) feed new held durable after old now e s a = absurd a
-turns_one (turn.Refused at) place used (Tells payload) feed new held durable after old now e s a = absurd a
-
-pub turns_waits : (feed new : Feeding) (held : List (List Asked)) (durable : DurableState) (old : Outside) → feed.way ≡ ToServer → Steps next.NotYet feed new → Turns turn.Waits feed held durable durable old old
-turns_waits feed new held durable old e s = (waits_so feed.way feed.held e s.2, s.0, refl, refl)
 
 pub turns_refused : (place : ℕ) (feed new : Feeding) (held : List (List Asked)) (durable : DurableState) (old : Outside) → feed.way ≡ ToServer → Steps (next.Bad place) feed new
     → Turns (turn.Refused place) feed held durable durable old old

@@ -23,21 +23,6 @@ use Rattle.journal_command.specs.declared.endings.Ended.TheVariants as ended
 use Rattle.journal_command.proofs.Adding.{place_append}
 use Rattle.journal_command.proofs.Recording.{entries_append}
 
--- ---- the records weren't found
-
-module _ (source : Option (List ℕ)) (a b : Option Moments) (out : Option (List ℕ)) where
-  pub fault_unserved : WhereTold (Mounts mounted.DiskFault) a b → IsUnserved source source a b out out
-  fault_unserved w = record { untaken = refl; unput = refl; crashed = told_map (Mounts mounted.DiskFault) (λ old new. Leaves (IsSomeImage old.now) old new) (λ old new m. m) a b w }
-
-  pub memory_unserved : WhereTold (Mounts mounted.OutOfMemory) a b → IsUnserved source source a b out out
-  memory_unserved w = record { untaken = refl; unput = refl; crashed = told_map (Mounts mounted.OutOfMemory) (λ old new. Leaves (IsSomeImage old.now) old new) (λ old new m. m) a b w }
-
-  pub damaged_unserved : (place : ℕ) → WhereTold (Mounts (mounted.Damaged place)) a b → ServesJournal (ended.Damaged place) source source a b out out
-  damaged_unserved place w = (
-    record { untaken = refl; unput = refl; crashed = told_map (Mounts (mounted.Damaged place)) (λ old new. Leaves (IsSomeImage old.now) old new) (λ old new m. m.0) a b w },
-    told_map (Mounts (mounted.Damaged place)) (λ old new. IsImage old.now old.now.seen × IsBad place old.now.seen) (λ old new m. (m.2, inl m.1)) a b w,
-  )
-
 -- ---- they were
 
 module _ (journal : JournalState) (entries : List (List ℕ)) (a b : Option Moments) (w : WhereTold (Mounts (mounted.Ready journal entries)) a b) (sound : journal.gate ≡ place_behind entries) where

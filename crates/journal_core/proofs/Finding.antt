@@ -2,18 +2,18 @@
 use Rattle.std.proofs.Common.{◌≡◌, inl, inr, ℕ, List, [], ◌∷◌, ◌++◌, length, take, Option, Some, None, sym, ap, ◌∙◌, subst}
 use Rattle.std.specs.Prelude.{IfSome}
 use Rattle.ae_edge.specs.Devices.{WhereTold}
-use Rattle.disk.specs.Calls.{StaysSynced, Syncs}
+use Rattle.disk.specs.Calls.{Syncs}
 use Rattle.disk.specs.Crashes.{Stand, kept}
 use Rattle.disk.specs.Moments.{Moments, LeavesNow, Leaves}
-use Rattle.disk.specs.Durable.{IsKept, StaysKept, ReadsWhole}
+use Rattle.disk.specs.Durable.{StaysKept, ReadsWhole}
 use Rattle.disk.specs.declared.disks.Given.TheVariants as given
 use Rattle.disk.specs.declared.disks.Stored.TheVariants as stored
-use Rattle.disk.proofs.Interface.{leaves_none, leaves_pass, leaves_then, leaves_weaker, same_images}
+use Rattle.disk.proofs.Interface.{leaves_none, leaves_pass, leaves_then, leaves_weaker}
 use Rattle.ae_edge.proofs.Interface.{told_then}
 use Rattle.std.proofs.Common.{arith, length-append}
 use Rattle.journal_core.proofs.Readings.{length_framed}
 use Rattle.journal_core.specs.Journals.{framed, place_behind, Opens, Reading, Records, Damaged, ReadsAs, ReadsAlike}
-use Rattle.journal_core.specs.Mounts.{IsReady, IsSomeImage, Mounts}
+use Rattle.journal_core.specs.Mounts.{IsSomeImage, Mounts}
 use Rattle.journal_core.specs.Parsing.{IsParsed}
 use Rattle.journal_core.specs.Settling.{Repairs, Settled, Settles, SettlesFile}
 use Rattle.journal_core.specs.declared.mounting.Mounted.{Mounted}
@@ -103,28 +103,6 @@ read_settled mounted.OutOfMemory file a b c r w = subst (λ (f : List ℕ). Leav
 pub read_settled_told : (found : Mounted) (file : List ℕ) (a b c : Option Moments) → WhereTold (ReadsWhole (given.Bytes file)) a b → WhereTold (Settles found file) b c → WhereTold (SettlesFile found) a c
 read_settled_told found file = told_then (ReadsWhole (given.Bytes file)) (Settles found file) (SettlesFile found) (read_settled found file)
 
-unread : (a b : Moments) → StaysKept a b → Leaves (ReadsAlike a.now.seen) a b
-unread a b s = leaves_weaker (λ image. image ≡ a.now.seen) (ReadsAlike a.now.seen) a b (λ image e. subst (ReadsAlike a.now.seen) (sym e) (alike_same a.now.seen)) s.moments
-
-pub unread_failed_told : (a b : Option Moments) → WhereTold (ReadsWhole given.Failed) a b → WhereTold (SettlesFile mounted.DiskFault) a b
-unread_failed_told (Some a) (Some b) s = unread a b s
-unread_failed_told None None s = tt
-unread_failed_told (Some a) None s = absurd s
-unread_failed_told None (Some b) s = absurd s
-
-pub unread_unasked_told : (a b : Option Moments) → WhereTold (ReadsWhole given.OutOfMemory) a b → WhereTold (SettlesFile mounted.OutOfMemory) a b
-unread_unasked_told (Some a) (Some b) s = unread a b s
-unread_unasked_told None None s = tt
-unread_unasked_told (Some a) None s = absurd s
-unread_unasked_told None (Some b) s = absurd s
-
--- what was read is on the disk
-pub read_kept_told : (file : List ℕ) (a b : Option Moments) → IfSome a IsKept → WhereTold (ReadsWhole (given.Bytes file)) a b → IfSome b (λ d. d.now ≡ kept file)
-read_kept_told file (Some a) (Some b) k r = r.1.now ∙ k ∙ ap kept (sym r.0)
-read_kept_told file None None k r = tt
-read_kept_told file (Some a) None k r = absurd r
-read_kept_told file None (Some b) k r = absurd r
-
 -- ---- after the first sync
 
 image_now : (a : Stand) → LeavesNow (IsSomeImage a) a
@@ -157,37 +135,3 @@ mounted_read mounted.OutOfMemory a b c y w = seen_images a b c y w
 
 pub mounted_read_told : (found : Mounted) (a b c : Option Moments) → WhereTold (Syncs stored.Done) a b → WhereTold (SettlesFile found) b c → WhereTold (Mounts found) a c
 mounted_read_told found = told_then (Syncs stored.Done) (SettlesFile found) (Mounts found) (mounted_read found)
-
--- records can be added to what was found
-pub settled_ready_told : (found : Mounted) (a b : Option Moments) → WhereTold (SettlesFile found) a b → IsReady found b
-settled_ready_told (mounted.Ready journal entries) (Some a) (Some b) w = (entries, w.ends)
-settled_ready_told (mounted.Ready journal entries) None None w = tt
-settled_ready_told (mounted.Ready journal entries) (Some a) None w = absurd w
-settled_ready_told (mounted.Ready journal entries) None (Some b) w = absurd w
-settled_ready_told (mounted.Damaged place) a b w = tt
-settled_ready_told mounted.DiskFault a b w = tt
-settled_ready_told mounted.OutOfMemory a b w = tt
-
-unsynced : (a b : Moments) → Syncs stored.Failed a b → Leaves (IsSomeImage a.now) a b
-unsynced a b y =
-    leaves_pass (IsSomeImage a.now) StaysSynced a a b (leaves_none (IsSomeImage a.now) a (image_now a.now)) y
-    (λ image is. record { of = image; was = same_images a.now b.now image y.here.0 y.here.1 is; alike = alike_same image })
-
-pub unsynced_told : (a b : Option Moments) → WhereTold (Syncs stored.Failed) a b → WhereTold (Mounts mounted.DiskFault) a b
-unsynced_told (Some a) (Some b) y = unsynced a b y
-unsynced_told None None y = tt
-unsynced_told (Some a) None y = absurd y
-unsynced_told None (Some b) y = absurd y
-
-pub unmounted_told : (a b : Option Moments) → WhereTold (Syncs stored.OutOfMemory) a b → WhereTold (Mounts mounted.OutOfMemory) a b
-unmounted_told (Some a) (Some b) y = subst (λ (w : Moments). Leaves (IsSomeImage a.now) a w) (sym y) (leaves_none (IsSomeImage a.now) a (image_now a.now))
-unmounted_told None None y = tt
-unmounted_told (Some a) None y = absurd y
-unmounted_told None (Some b) y = absurd y
-
--- a disk that was synced is kept
-pub synced_kept_told : (a b : Option Moments) → WhereTold (Syncs stored.Done) a b → IfSome b IsKept
-synced_kept_told (Some a) (Some b) y = y.here ∙ ap (λ (s : Stand). kept s.seen) (sym y.here)
-synced_kept_told None None y = tt
-synced_kept_told (Some a) None y = absurd y
-synced_kept_told None (Some b) y = absurd y

@@ -1,5 +1,5 @@
 -- Frames of requests to execute a statement, one after another.
-use Rattle.std.proofs.Common.{◌≡◌, ◌≢◌, ℕ, zero, suc, ◌<◌, List, [], ◌∷◌, ◌++◌, length, take, drop, refl, sym, ap, ◌∙◌, subst, append_assoc, append-nil, arith, length-append, take-append-drop}
+use Rattle.std.proofs.Common.{◌≡◌, ◌≢◌, ℕ, ◌<◌, List, [], ◌∷◌, ◌++◌, length, take, drop, sym, ap, ◌∙◌, subst, append_assoc, append-nil, arith, length-append, take-append-drop}
 use Rattle.std.specs.List.{All, concat}
 use Rattle.std.proofs.lemmas.List.{append_cancel_left}
 use Rattle.std.proofs.lemmas.List.Elements.{All-nil, All-cons, All-append, All-head, All-tail}
@@ -22,10 +22,6 @@ other_read asked used bytes other only = λ frame rest f e. other (subst (λ (a 
 frame_long : (frame : List ℕ) → IsExecuteFrame frame → 0 < length frame
 frame_long frame f = omega (arith, ap length f.spelled.1)
 
-pub used_some : (bytes : List ℕ) (used : ℕ) → IsExecuteFrame (take used bytes) → 0 < used
-used_some bytes zero f = frame_long [] f
-used_some bytes (suc used) f = omega arith
-
 -- ---- frames in a row
 
 -- some frames were read, and the rest is left
@@ -33,9 +29,6 @@ pub record HasRead (bytes rest : List ℕ) : Type 0 where
   pub done : List (List ℕ)
   pub each : All IsExecuteFrame done
   pub whole : bytes ≡ concat done ++ rest
-
-pub none_read : (bytes : List ℕ) → HasRead bytes bytes
-none_read bytes = record { done = []; each = All-nil IsExecuteFrame; whole = refl }
 
 pub more_read : (bytes rest : List ℕ) (used : ℕ) → HasRead bytes rest → IsExecuteFrame (take used rest) → HasRead bytes (drop used rest)
 more_read bytes rest used h f =
@@ -51,23 +44,7 @@ more_read bytes rest used h f =
           ∙ ap (λ (w : List ℕ). w ++ drop used rest) (sym last);
     }
 
-pub all_read : (bytes rest : List ℕ) → HasRead bytes rest → rest ≡ [] → 0 < length bytes → IsRecord bytes
-all_read bytes rest h none some = record {
-  frames = h.done;
-  some = λ e. absurd (omega (arith, some, ap length (h.whole ∙ (λ i. concat (e i) ++ none i))));
-  each = h.each;
-  whole = h.whole ∙ ap (λ (w : List ℕ). concat h.done ++ w) none ∙ append-nil (concat h.done);
-}
-
 -- ---- no record
-
-pub none_empty : (bytes : List ℕ) → bytes ≡ [] → IsRecord bytes → ⊥
-none_empty bytes none r = first r.frames r.some r.each (sym none ∙ r.whole)
-  where
-    first : (frames : List (List ℕ)) → frames ≢ [] → All IsExecuteFrame frames → [] ≡ concat frames → ⊥
-    first [] some each e = some refl
-    first (f ∷ frames) some each e =
-        absurd (omega (arith, frame_long f (All-head IsExecuteFrame f frames each), ap length e, length-append f (concat frames)))
 
 -- what is left behind the frames that were read is the rest of the same frames
 same_front : HasOneReading SpellsRequest → (ones frames : List (List ℕ)) (rest : List ℕ) → All IsExecuteFrame ones → All IsExecuteFrame frames → concat ones ++ rest ≡ concat frames

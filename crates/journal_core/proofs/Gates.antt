@@ -1,10 +1,10 @@
 -- The record that stands first, and the records of a whole file.
-use Rattle.std.proofs.Common.{◌≡◌, ◌≢◌, inl, inr, ℕ, zero, suc, ◌+◌, ◌≤◌, ◌<◌, ◌^◌, List, [], ◌∷◌, ◌++◌, length, take, drop, get_or, refl, sym, ap, ◌∙◌, subst, append_assoc, arith, length-append, take-append-drop}
+use Rattle.std.proofs.Common.{◌≡◌, ◌≢◌, inr, ℕ, zero, suc, ◌+◌, ◌≤◌, ◌<◌, ◌^◌, List, [], ◌∷◌, ◌++◌, length, take, drop, get_or, refl, sym, ap, ◌∙◌, subst, append_assoc, arith, length-append, take-append-drop}
 use Rattle.std.specs.Int.{w64, to_be_bytes, from_be_bytes}
 use Rattle.std.proofs.lemmas.List.{take_at, drop_more, length-take-le}
 use Rattle.std.proofs.lemmas.Nat.{be_bytes_8, from_be_bytes-to_be_bytes_8}
 use Rattle.journal_core.specs.Records.{IsRecord}
-use Rattle.journal_core.specs.Journals.{framed, IsEntry, Opens, Damaged, HasRecord, ReadsAs}
+use Rattle.journal_core.specs.Journals.{framed, IsEntry, Opens, HasRecord}
 use Rattle.journal_core.specs.Parsing.{IsParsed}
 use Rattle.journal_core.proofs.Readings.{length_framed}
 use Rattle.journal_core.proofs.Crash.{opens_more}
@@ -51,9 +51,6 @@ pub record Reads (entries : List (List ℕ)) (gate : ℕ) (file : List ℕ) : Ty
   pub opens : Opens entries (take gate file)
   pub inside : gate < length file
 
-pub first_gate : (file : List ℕ) → 2 ≤ length file → Reads [] 0 file
-first_gate file long = record { opens = refl; inside = omega (arith, long) }
-
 front_is : (file : List ℕ) (gate : ℕ) → gate < length file → file ≡ take gate file ++ get_or file gate 0 ∷ drop (gate + 1) file
 front_is file gate inside = sym (take-append-drop gate file) ∙ ap (λ (w : List ℕ). take gate file ++ w) (drop_more file gate 0 inside)
 
@@ -78,25 +75,6 @@ closed_gate entries gate file r shut = record {
   gate_is = sym (length-take-le gate file (omega (arith, r.inside)));
   whole = inr (drop (gate + 1) file, front_is file gate r.inside ∙ ap (λ (g : ℕ). take gate file ++ g ∷ drop (gate + 1) file) shut);
 }
-
-pub broken_gate : (entries : List (List ℕ)) (gate : ℕ) (file : List ℕ) → 2 ≤ length file → Reads entries gate file → get_or file gate 0 ≢ 0 → (HasRecord (drop (gate + 1) file) → ⊥) → ReadsAs (Damaged gate) file
-broken_gate entries gate file long r is_open none = (
-  long,
-  record {
-    entries = entries;
-    front = take gate file;
-    gate = get_or file gate 0;
-    rest = drop (gate + 1) file;
-    opens = r.opens;
-    place_is = sym (length-take-le gate file (omega (arith, r.inside)));
-    is_open = is_open;
-    whole = front_is file gate r.inside;
-    none = none;
-  },
-)
-
-pub short_file : (file : List ℕ) → length file ≤ 1 → IsParsed [] 0 file
-short_file file short = record { front = []; opens = refl; gate_is = refl; whole = inl (short, refl) }
 
 -- a front of bytes is bytes
 pub takes_fit : (n : ℕ) (bytes : List ℕ) → ((i : ℕ) → get_or bytes i 0 < 256) → (i : ℕ) → get_or (take n bytes) i 0 < 256

@@ -5,4 +5,4 @@ pub use Rattle.journal_core.proofs.Readings.{one_reading}
 -- What a mounted journal is for a disk; at a disk whose file is on it a crash leaves what reads give.
 pub use Rattle.journal_core.proofs.Appending.{kept_leaves}
 -- The records behind open gates are read, whatever follows the closed one.
-pub use Rattle.journal_core.proofs.Crash.{closed_front, end_reads, opens_more}
+pub use Rattle.journal_core.proofs.Crash.{end_reads}

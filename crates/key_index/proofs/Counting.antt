@@ -1,5 +1,5 @@
 -- The places of keys in a list, in order.
-use Rattle.std.proofs.Common.{◌≡◌, ℕ, zero, suc, ◌+◌, ◌<◌, ◌≤◌, List, [], ◌∷◌, ◌++◌, length, length-append, get_or, take, drop, map, refl, ap, sym, ◌∙◌, subst, arith, append_assoc, Bool, true, false, cond, not, Some, None}
+use Rattle.std.proofs.Common.{◌≡◌, ℕ, zero, suc, ◌+◌, ◌<◌, ◌≤◌, List, [], ◌∷◌, ◌++◌, length, length-append, get_or, take, drop, map, refl, ap, sym, ◌∙◌, subst, arith, append_assoc, Bool, true, false, cond, not, Some}
 use Rattle.std.specs.Prelude.{◌||◌, ◌==◌, nat_lt, slice_set}
 use Rattle.std.specs.List.{All, list_any}
 use Rattle.std.proofs.lemmas.List.{append-nil, drop_all, take_all, take-append-drop, length-map}
@@ -13,9 +13,6 @@ use Rattle.key_index.specs.Lookups.{is_known, first_known, first_alike}
 use Rattle.operators.proofs.Interface.{alike_same}
 
 -- ---- places in a list
-
-from_here : (n m : ℕ) (b : Bool) → n ≡ m → cond b (n ∷ []) [] ≡ cond b (m ∷ []) []
-from_here n m b e = ap (λ k. cond b (k ∷ []) []) e
 
 pub from_append : (n : ℕ) (key : List Atom) (xs ys : List (List Atom)) → places_from n key (xs ++ ys) ≡ places_from n key xs ++ places_from (n + length xs) key ys
 from_append n key [] ys = let e : n ≡ n + 0 = omega arith in ap (λ m. places_from m key ys) e
@@ -116,16 +113,6 @@ indexed_more known ks old new from e i m = λ key.
 pub indexed_below : (known : List (List Atom)) (index : Keyed) (from : ℕ) → from ≡ length known → IndexesKeys known index → (key : List Atom) → All (λ p. p < from) (places_at index key)
 indexed_below known index from e i key = subst (All (λ p. p < from)) (sym (i key)) (from_below 0 from key known (omega (arith, e)))
 
--- the places before those of further keys
-pub front_of : (n : ℕ) (key : List Atom) (xs ys : List (List Atom)) → n ≡ length xs → before n (places_from 0 key (xs ++ ys)) ≡ places_from 0 key xs
-front_of n key xs ys e =
-    let m : 0 + length xs ≡ n = omega (arith, e) in
-    ap (before n) (from_append 0 key xs ys ∙ ap (λ k. places_from 0 key xs ++ places_from k key ys) m)
-    ∙ filter-append (λ p. nat_lt p n) (places_from 0 key xs) (places_from n key ys)
-    ∙ ap (λ l. l ++ before n (places_from n key ys)) (before_all n (places_from 0 key xs) (from_below 0 n key xs (omega (arith, e))))
-    ∙ ap (λ l. places_from 0 key xs ++ l) (before_none n (places_from n key ys) (from_least n key ys))
-    ∙ append-nil (places_from 0 key xs)
-
 -- a key has places where one of the list is alike to it
 not_zero : (n : ℕ) → (suc n == 0) ≡ false
 not_zero n = grind (arith, nat_tests)
@@ -147,9 +134,6 @@ pub record AreLookedUp (index : Keyed) (keys : List (List Atom)) (i : ℕ) (seen
   pub rest : first_alike index keys ≡ first_known i index seen (drop i keys)
   pub count : now ≡ old + i
 
-pub looked_start : (index : Keyed) (keys seen : List (List Atom)) (old : ℕ) → seen ≡ [] → AreLookedUp index keys 0 seen old old
-looked_start index keys seen old e = record { rest = ap (λ s. first_known 0 index s keys) (sym e); count = omega arith }
-
 module _ (index : Keyed) (keys : List (List Atom)) (i : ℕ) (key : List Atom) (seen : List (List Atom)) (old now : ℕ) (lt : i < length keys) (is : key ≡ get_or keys i key) (s : AreLookedUp index keys i seen old now) where
   next : (b : Bool) → (is_known index key || list_any (are_alike key) seen) ≡ b → first_alike index keys ≡ cond b (Some i) (first_known (i + 1) index (seen ++ key ∷ []) (drop (i + 1) keys))
   next b t = s.rest ∙ ap (first_known i index seen) (drop_there keys i key lt is) ∙ ap (λ b. cond b (Some i) (first_known (i + 1) index (seen ++ key ∷ []) (drop (i + 1) keys))) t
@@ -166,9 +150,6 @@ module _ (index : Keyed) (keys : List (List Atom)) (i : ℕ) (key : List Atom) (
 
   pub looked_more : (later : ℕ) → later ≡ now + 1 → is_known index key ≡ false → list_any (are_alike key) seen ≡ false → AreLookedUp index keys (i + 1) (seen ++ key ∷ []) old later
   looked_more later l t u = record { rest = next false (ap (λ b. b || list_any (are_alike key) seen) t ∙ u); count = omega (arith, l, s.count) }
-
-pub looked_all : (index : Keyed) (keys : List (List Atom)) (i : ℕ) (seen : List (List Atom)) (old now : ℕ) → AreLookedUp index keys i seen old now → length keys ≤ i → None ≡ first_alike index keys
-looked_all index keys i seen old now s le = sym (s.rest ∙ ap (first_known i index seen) (drop_all i keys le))
 
 -- ---- lists that were cut one after another
 
@@ -225,7 +206,3 @@ put_front old from keys left place now p known i n = λ key.
 
 pub front_same : (known : List (List Atom)) (index : Keyed) → IndexesKeys known index → IndexesFront known index
 front_same known index i = λ key. ap (before (length known)) (i key) ∙ before_all (length known) (places_from 0 key known) (from_below 0 (length known) key known (omega arith))
-
--- of a longer list it is the index of the front
-pub front_longer : (known more : List (List Atom)) (index : Keyed) → IndexesKeys (known ++ more) index → IndexesFront known index
-front_longer known more index i = λ key. ap (before (length known)) (i key) ∙ front_of (length known) key known more refl

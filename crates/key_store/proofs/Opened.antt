@@ -47,11 +47,6 @@ stays-with old_told new_told value key old new same kept of_vault opens = subst 
           subst (λ k. opened map from ≡ Some k) (sym second) (subst (λ f. opened map f ≡ Some key) (sym first) o)
     ]
 
-pub derived-tries : (told : Option KeyMap) (value : KeyValue) (key : List ℕ) (keys : Keys) → keys ≡ keys_of key
-    → IfSome told (λ map. opened map value ≡ Some key) → IfSome told (λ map. option_map keys_of (opened map value) ≡ Some keys)
-derived-tries None value key keys derived o = tt
-derived-tries (Some map) value key keys derived o = ap (option_map keys_of) o ∙ ap Some (sym derived)
-
 -- ---- what is opened
 
 in-rest : (map : KeyMap) (value : KeyValue) (values : List KeyValue) (o : Option (List ℕ)) (key : List ℕ) → opened map value ≡ o

@@ -1,6 +1,5 @@
 -- Lists of results that are made item by item, up to the first fault.
 use Rattle.std.proofs.Common.{◌≡◌, List, [], ◌∷◌, ◌++◌, Result, Ok, Err, IfOk, refl, ap, sym, ◌∙◌, append_assoc, subst}
-use Rattle.std.proofs.lemmas.List.{append-nil}
 use Rattle.ae_base.specs.Results.{◌>>=◌, Answers, AnswersAs, each}
 use Rattle.ae_base.specs.declared.refusals.Refusal.{Refusal}
 use Rattle.ae_base.specs.declared.refusals.Refusal.TheVariants.{Fault, OutOfMemory}
@@ -30,19 +29,6 @@ collected_more whole done one rest item w e = w ∙ ap (λ o. collected done (be
 pub collected_fault : {A E : Type 0} (whole : Result (List A) E) (done : List A) (one : Result A E) (rest : Result (List A) E) (fault : E)
     → whole ≡ collected done (before one rest) → one ≡ Err fault → whole ≡ Err fault
 collected_fault whole done one rest fault w e = w ∙ ap (λ o. collected done (before o rest)) e
-
-pub collected_all : {A E : Type 0} (whole : Result (List A) E) (done : List A) (rest : Result (List A) E) → whole ≡ collected done rest → rest ≡ Ok [] → whole ≡ Ok done
-collected_all whole done rest w e = w ∙ ap (collected done) e ∙ ap Ok (append-nil done)
-
--- a fault of a part is one of the whole; out of memory is no fault
-pub fault_passed : {A B E : Type 0} (e : Refusal E) (part : Result A E) (whole : Result B E) → Answers {A = A} (Err e) part → ((f : E) → part ≡ Err f → whole ≡ Err f) → Answers {A = B} (Err e) whole
-fault_passed (Fault f) part whole h pass = pass f h
-fault_passed OutOfMemory part whole h pass = tt
-
--- the same where the values are seen through views
-pub fault_seen : {A B C D E : Type 0} (v : A → B) (w : C → D) (e : Refusal E) (part : Result B E) (whole : Result D E) → AnswersAs v (Err e) part → ((f : E) → part ≡ Err f → whole ≡ Err f) → AnswersAs w (Err e) whole
-fault_seen v w (Fault f) part whole h pass = pass f h
-fault_seen v w OutOfMemory part whole h pass = tt
 
 pub fault_handed : {A B C E : Type 0} (v : A → B) (e : Refusal E) (part : Result B E) (whole : Result C E) → AnswersAs v (Err e) part → ((f : E) → part ≡ Err f → whole ≡ Err f) → Answers {A = C} (Err e) whole
 fault_handed v (Fault f) part whole h pass = pass f h

@@ -18,18 +18,12 @@ module _ {A T : Type 0} (now : A → T) (whole : List T) (rows : List A) (change
       w ∙ ap (written (map now rows)) (drop_more changes i change lt ∙ ap (λ c. c ∷ drop (i + 1) changes) (sym is))
       ∙ ap (λ rs. written rs (drop (i + 1) changes)) (sym (map_set now rows change.place item ∙ ap (slice_set (map now rows) change.place) e))
 
-pub lent_all : {T : Type 0} (whole rows : List T) (changes : List (Change T)) (i : ℕ) → length changes ≤ i → whole ≡ written rows (drop i changes) → rows ≡ whole
-lent_all whole rows changes i le w = sym (w ∙ ap (written rows) (drop_all i changes le))
-
 pub all_there : {A : Type 0} (P : A → Type 0) (xs : List A) (i : ℕ) (x : A) → All P xs → i < length xs → x ≡ get_or xs i x → P x
 all_there P [] i x h lt e = absurd (omega arith)
 all_there P (y ∷ xs) zero x h lt e = subst P (sym e) (All-head P y xs h)
 all_there P (y ∷ xs) (suc i) x h lt e = all_there P xs i x (All-tail P y xs h) (omega (arith, lt)) e
 
 -- ---- those that stay
-
-pub kept_start : {A T : Type 0} (now : A → T) (rows : List A) (hits : List Bool) → unhit (map now rows) hits ≡ map now [] ++ unhit (map now rows) hits
-kept_start now rows hits = refl
 
 module _ {A T : Type 0} (now : A → T) (whole : List T) (rows kept : List A) (hits : List Bool) (i : ℕ) (item : A) (lt : i < length rows) (lh : i < length hits) (is : item ≡ get_or rows i item) where
   rows_next : drop i (map now rows) ≡ now item ∷ drop (i + 1) (map now rows)

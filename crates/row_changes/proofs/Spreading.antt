@@ -1,9 +1,7 @@
 -- Changes with their places, and the rows that they stand for.
 use Rattle.std.proofs.Common.{◌≡◌, ℕ, zero, suc, ◌+◌, ◌<◌, ◌≤◌, List, [], ◌∷◌, ◌++◌, length, get_or, take, drop, slice_set, append_assoc, refl, ap, sym, ◌∙◌, subst, arith, Bool, true, false, cond, Option, Some, None, Result, Ok}
 use Rattle.std.specs.Prelude.{count_by, is_some, ◌==◌}
-use Rattle.std.specs.List.{All}
 use Rattle.std.proofs.lemmas.List.{append-nil, take_all, drop_all}
-use Rattle.std.proofs.lemmas.List.Elements.{All-cons, All-nil}
 use Rattle.std.proofs.lemmas.List.Sums.{sum_by-cons}
 use Rattle.std.proofs.lemmas.Bool.Decides.{nat_tests}
 use Rattle.ae_base.specs.Atoms.{Atom}
@@ -20,9 +18,6 @@ Changed = Change (List Atom)
 
 tested_same : (n m : ℕ) → (n == m) ≡ true → n ≡ m
 tested_same n m e = grind (arith, nat_tests)
-
-tested_other : (n m : ℕ) → (n == m) ≡ false → n ≤ m → m < n → ⊥
-tested_other n m e le lt = omega (arith, le, lt)
 
 same_test : (n : ℕ) → (n == n) ≡ true
 same_test n = grind (arith, nat_tests)
@@ -90,10 +85,6 @@ rising_more from to more (c ∷ cs) le r = (r.0, omega (arith, r.1, le), rising_
 pub rising_push : (from to : ℕ) (cs : List Changed) (new : Changed) → new.place ≡ to → from ≤ to → AreRising from to cs → AreRising from (to + 1) (cs ++ new ∷ [])
 rising_push from to [] new e le r = (omega (arith, e, le), omega (arith, e), tt)
 rising_push from to (c ∷ cs) new e le r = (r.0, omega (arith, r.1), rising_push (c.place + 1) to cs new e (omega (arith, r.1)) r.2)
-
-pub rising_within : (from to : ℕ) (cs : List Changed) → AreRising from to cs → All (λ c. c.place < to) cs
-rising_within from to [] r = All-nil (λ c. c.place < to)
-rising_within from to (c ∷ cs) r = All-cons (λ c. c.place < to) c cs r.1 (rising_within (c.place + 1) to cs r.2)
 
 -- ---- the rows so far, with those that are left
 

@@ -1,11 +1,10 @@
 -- The values of new rows, one by one.
-use Rattle.std.proofs.Common.{◌≡◌, ℕ, suc, ◌+◌, ◌<◌, ◌≤◌, List, [], ◌∷◌, ◌++◌, length, get_or, drop, map, length-append, refl, ap, sym, subst, ◌∙◌, arith, Result, Ok, Err, unwrap_or, Bool, true, false, cond}
+use Rattle.std.proofs.Common.{◌≡◌, ℕ, suc, ◌+◌, ◌<◌, ◌≤◌, List, [], ◌∷◌, ◌++◌, length, get_or, drop, map, length-append, refl, ap, sym, subst, ◌∙◌, arith, Result, Ok, Err, Bool, true, false, cond}
 use Rattle.std.specs.Prelude.{nat_le, if◌then◌else◌}
 use Rattle.std.specs.List.{All}
-use Rattle.std.proofs.lemmas.List.{drop_more, drop_all}
+use Rattle.std.proofs.lemmas.List.{drop_more}
 use Rattle.std.proofs.lemmas.List.Elements.{All-cons, All-nil}
 use Rattle.std.proofs.lemmas.Bool.Decides.{nat_tests}
-use Rattle.std.proofs.lemmas.Option.{slice_get_read}
 use Rattle.ae_base.specs.Atoms.{Atom}
 use Rattle.ae_base.specs.Results.{◌>>=◌}
 use Rattle.ae_base.specs.declared.faults.SqlFault.{SqlFault}
@@ -15,32 +14,18 @@ use Rattle.sql_tree.specs.Operands.{operand_of}
 use Rattle.sql_tree.specs.declared.operands.Operand as code
 use Rattle.sql_tree.specs.Bound.{BoundOperand, BoundRow}
 use Rattle.scalar.specs.Eval.{eval}
-use Rattle.scalar.specs.declared.faults.Overflow.{Overflow}
 use Rattle.operators.specs.Events.{or_overflow}
-use Rattle.row_changes.specs.Rows.{admitted, no_column, column_at, value_into, values_into, value_at, value_or_null, completed, new_row, new_rows}
-use Rattle.operators.proofs.Interface.{collected, before, collected_more, collected_fault, came, came_before}
-use Rattle.operators.proofs.Interface.{drop_there, map_there}
-
--- a column that was read is the one at its place
-pub column_read : (columns : List ColumnDef) (place : ℕ) (column : ColumnDef) → place < length columns → column ≡ get_or columns place column → column_at columns place ≡ column
-column_read columns place column lt e = ap (λ o. unwrap_or o no_column) (slice_get_read columns (length columns) place column refl lt e)
+use Rattle.row_changes.specs.Rows.{admitted, column_at, value_into, values_into, value_at, value_or_null, completed, new_row, new_rows}
+use Rattle.operators.proofs.Interface.{collected, before, collected_more, came, came_before}
+use Rattle.operators.proofs.Interface.{map_there}
 
 -- ---- one value
 
 module _ (columns : List ColumnDef) (row params : List Atom) (place : ℕ) (v : BoundOperand) where
-  pub value_overflows : (o : Overflow) → eval row params v ≡ Err o → value_into columns row params place v ≡ Err fault.Overflow
-  value_overflows o e = ap (λ r. or_overflow r >>= λ atom. admitted (column_at columns place) atom >>= λ kept. Ok (place, kept)) e
-
   value_is : (column : ColumnDef) (atom : Atom) → eval row params v ≡ Ok atom → column_at columns place ≡ column → value_into columns row params place v ≡ (admitted column atom >>= λ kept. Ok (place, kept))
   value_is column atom e c =
       ap (λ r. or_overflow r >>= λ atom. admitted (column_at columns place) atom >>= λ kept. Ok (place, kept)) e
       ∙ ap (λ x. admitted x atom >>= λ kept. Ok (place, kept)) c
-
-  pub value_kept : (column : ColumnDef) (atom kept : Atom) → eval row params v ≡ Ok atom → column_at columns place ≡ column → admitted column atom ≡ Ok kept → value_into columns row params place v ≡ Ok (place, kept)
-  value_kept column atom kept e c k = value_is column atom e c ∙ ap (λ r. r >>= λ kept. Ok (place, kept)) k
-
-  pub value_refused : (column : ColumnDef) (atom : Atom) (f : SqlFault) → eval row params v ≡ Ok atom → column_at columns place ≡ column → admitted column atom ≡ Err f → value_into columns row params place v ≡ Err f
-  value_refused column atom f e c k = value_is column atom e c ∙ ap (λ r. r >>= λ kept. Ok (place, kept)) k
 
 -- ---- the values of one row
 
@@ -57,31 +42,7 @@ module _ (columns : List ColumnDef) (row params : List Atom) (named : List ℕ) 
       → whole ≡ collected (given ++ kept ∷ []) (values_into columns row params (drop (i + 1) named) (map operand_of (drop (i + 1) values)))
   values_more kept w f = collected_more whole given _ _ kept (w ∙ ap (collected given) values_at) f
 
-  pub values_fault : (f : SqlFault) → whole ≡ collected given (values_into columns row params (drop i named) (map operand_of (drop i values)))
-      → value_into columns row params (get_or named i 0) (operand_of value) ≡ Err f → whole ≡ Err f
-  values_fault f w g = collected_fault whole given _ _ f (w ∙ ap (collected given) values_at) g
-
-values-nil : (columns : List ColumnDef) (row params : List Atom) (named : List ℕ) → values_into columns row params named [] ≡ Ok []
-values-nil columns row params [] = refl
-values-nil columns row params (p ∷ ps) = refl
-
-pub values_over : (columns : List ColumnDef) (row params : List Atom) (named : List ℕ) (values : List (code.Operand ℕ ℕ)) (i : ℕ) → length values ≤ i
-    → values_into columns row params (drop i named) (map operand_of (drop i values)) ≡ Ok []
-values_over columns row params named values i le =
-    ap (λ vs. values_into columns row params (drop i named) (map operand_of vs)) (drop_all i values le) ∙ values-nil columns row params (drop i named)
-
 -- ---- in table order
-
-pub completed_more : (given : List (ℕ × Atom)) (columns : List ColumnDef) (place : ℕ) (column : ColumnDef) (whole : Result (List Atom) SqlFault) (row : List Atom) (atom : Atom)
-    → place < length columns → column ≡ get_or columns place column → whole ≡ collected row (completed place given (drop place columns)) → value_or_null column (value_at given place) ≡ Ok atom
-    → whole ≡ collected (row ++ atom ∷ []) (completed (place + 1) given (drop (place + 1) columns))
-completed_more given columns place column whole row atom lt e w h =
-    collected_more whole row _ _ atom (w ∙ ap (λ cs. collected row (completed place given cs)) (drop_there columns place column lt e)) h
-
-pub completed_fault : (given : List (ℕ × Atom)) (columns : List ColumnDef) (place : ℕ) (column : ColumnDef) (whole : Result (List Atom) SqlFault) (row : List Atom) (f : SqlFault)
-    → place < length columns → column ≡ get_or columns place column → whole ≡ collected row (completed place given (drop place columns)) → value_or_null column (value_at given place) ≡ Err f → whole ≡ Err f
-completed_fault given columns place column whole row f lt e w h =
-    collected_fault whole row _ _ f (w ∙ ap (λ cs. collected row (completed place given cs)) (drop_there columns place column lt e)) h
 
 pub completed_width : (place : ℕ) (given : List (ℕ × Atom)) (columns : List ColumnDef) (row : List Atom) → completed place given columns ≡ Ok row → length row ≡ length columns
 completed_width place given [] row e = let f : [] ≡ row = cc in ap length (sym f)
@@ -97,9 +58,6 @@ room_left n lt = grind (arith, nat_tests)
 below : (n : ℕ) → nat_le 1000000 n ≡ false → n < 1000000
 below n e = grind (arith, nat_tests)
 
-pub no_room : (n : ℕ) → 1000000 ≤ n → nat_le 1000000 n ≡ true
-no_room n le = grind (arith, nat_tests)
-
 module _ {V : Type 0} (columns : List ColumnDef) (named : List ℕ) (params : List Atom) (row_of : V → BoundRow) (count : ℕ) (all : List V) (i : ℕ) (bound : V)
     (lt : i < length all) (e : bound ≡ get_or all i bound) (whole : Result (List (List Atom)) SqlFault) (rows : List (List Atom)) where
   rows_at : (b : Bool) → nat_le 1000000 (count + length rows) ≡ b → whole ≡ collected rows (new_rows columns named params (count + length rows) (map row_of (drop i all)))
@@ -114,14 +72,6 @@ module _ {V : Type 0} (columns : List ColumnDef) (named : List ℕ) (params : Li
   new_rows_more row room w h =
       let n : (count + length rows) + 1 ≡ count + length (rows ++ row ∷ []) = omega (arith, length-append rows (row ∷ [])) in
       collected_more whole rows _ _ row (rows_at false (room_left (count + length rows) room) w) h ∙ ap (λ m. collected (rows ++ row ∷ []) (new_rows columns named params m (map row_of (drop (i + 1) all)))) n
-
-  pub new_rows_fault : (f : SqlFault) → count + length rows < 1000000 → whole ≡ collected rows (new_rows columns named params (count + length rows) (map row_of (drop i all)))
-      → new_row columns named params (row_of bound).values ≡ Err f → whole ≡ Err f
-  new_rows_fault f room w h = collected_fault whole rows _ _ f (rows_at false (room_left (count + length rows) room) w) h
-
-  pub new_rows_full : 1000000 ≤ count + length rows → whole ≡ collected rows (new_rows columns named params (count + length rows) (map row_of (drop i all))) → whole ≡ Err fault.TableFull
-  new_rows_full le w =
-      collected_fault whole rows (Err fault.TableFull) (new_rows columns named params ((count + length rows) + 1) (map row_of (drop (i + 1) all))) fault.TableFull (rows_at true (no_room (count + length rows) le) w) refl
 
 pub record AreNewRows (columns : List ColumnDef) (count : ℕ) (rows : List (List Atom)) : Type 0 where
   pub wide : All (λ row. length row ≡ length columns) rows

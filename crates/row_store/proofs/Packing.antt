@@ -204,14 +204,6 @@ settled_length (suc page) pages =
     let b = (merged_length page (merged_at (suc page) pages)).less in
     omega (arith, a, b)
 
-pub settled_first : {T : Type 0} (page : ℕ) (pages : List (List T)) → page ≡ 0 → merged_at page pages ≡ compaction_at page pages
-settled_first zero pages e = refl
-settled_first (suc page) pages e = absurd cc
-
-pub settled_later : {T : Type 0} (page before : ℕ) (pages : List (List T)) → before + 1 ≡ page → merged_at before (merged_at page pages) ≡ compaction_at page pages
-settled_later zero before pages e = absurd (omega (arith, e))
-settled_later (suc page) before pages e = let same : before ≡ page = omega (arith, e) in ap (λ n. merged_at n (merged_at (suc page) pages)) same
-
 -- ---- pages stay dense
 
 dense_bigger : (n m : ℕ) (ns : List ℕ) → n ≤ m → IsDense (n ∷ ns) → IsDense (m ∷ ns)

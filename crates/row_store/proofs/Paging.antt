@@ -1,7 +1,7 @@
 -- Rows in pages.
 use Rattle.std.proofs.Common.{◌≡◌, ℕ, zero, suc, ◌+◌, ◌-◌, ◌*◌, ◌/◌, ◌<◌, ◌≤◌, List, [], ◌∷◌, ◌++◌, length, length-append, get_or, drop, slice_set, refl, ap, sym, ◌∙◌, subst, arith}
 use Rattle.std.specs.List.{All}
-use Rattle.std.proofs.lemmas.List.{get_or_append_left, get_or-append-add, drop_all}
+use Rattle.std.proofs.lemmas.List.{get_or_append_left, get_or-append-add}
 use Rattle.std.proofs.lemmas.List.Elements.{All-head, All-tail}
 use Rattle.row_store.specs.Paged.{flat, lengths, IsDense, IsPlace}
 
@@ -31,37 +31,12 @@ pages_dense (page ∷ next ∷ pages) d =
 
 -- ---- where a row lies
 
-pub record IsFoundSoFar {T : Type 0} (pages : List (List T)) (i page at : ℕ) : Type 0 where
-  pub ahead : (n k : ℕ) → IsPlace (drop page pages) at n k → IsPlace pages i (page + n) k
-  pub inside : at < length (flat (drop page pages))
-
-pub found_start : {T : Type 0} (pages : List (List T)) (i : ℕ) → i < length (flat pages) → IsFoundSoFar pages i 0 i
-found_start pages i lt = record { ahead = λ n k h. subst (λ m. IsPlace pages i m k) (omega arith) h; inside = lt }
-
 drop_next : {A : Type 0} (xs : List A) (i : ℕ) (x : A) → i < length xs → x ≡ get_or xs i x → drop i xs ≡ x ∷ drop (i + 1) xs
 drop_next [] i x lt e = absurd (omega arith)
 drop_next (y ∷ xs) zero x lt e = ap (λ z. z ∷ xs) (sym e)
 drop_next (y ∷ xs) (suc i) x lt e =
     let one : suc i + 1 ≡ suc (i + 1) = omega arith in
     drop_next xs i x (omega arith) e ∙ ap (λ n. x ∷ drop n (y ∷ xs)) (sym one)
-
-module _ {T : Type 0} (pages : List (List T)) (i page at : ℕ) (rows : List T) (lt : page < length pages) (is : rows ≡ get_or pages page rows) (s : IsFoundSoFar pages i page at) where
-  pub found_here : at < length rows → IsPlace pages i page at
-  found_here h = subst (λ n. IsPlace pages i n at) (omega arith) (s.ahead 0 at (subst (λ ps. IsPlace ps at 0 at) (sym (drop_next pages page rows lt is)) (refl, h)))
-
-  pub found_later : length rows ≤ at → IsFoundSoFar pages i (page + 1) (at - length rows)
-  found_later le = record {
-    ahead = λ n k h.
-        let e : at ≡ length rows + (at - length rows) = omega (arith, le) in
-        let m : page + suc n ≡ page + 1 + n = omega arith in
-        subst (λ p. IsPlace pages i p k) m (s.ahead (suc n) k (subst (λ ps. IsPlace ps at (suc n) k) (sym (drop_next pages page rows lt is)) (at - length rows, e, h)));
-    inside =
-        let whole : length (flat (drop page pages)) ≡ length rows + length (flat (drop (page + 1) pages)) = ap (λ ps. length (flat ps)) (drop_next pages page rows lt is) ∙ length-append rows (flat (drop (page + 1) pages)) in
-        omega (arith, s.inside, whole, le);
-  }
-
-pub found_never : {T : Type 0} (pages : List (List T)) (i page at : ℕ) → length pages ≤ page → IsFoundSoFar pages i page at → ⊥
-found_never pages i page at le s = let none : length (flat (drop page pages)) ≡ 0 = ap (λ ps. length (flat ps)) (drop_all page pages le) in omega (arith, s.inside, none)
 
 -- ---- the row at a place
 

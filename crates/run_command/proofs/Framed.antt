@@ -83,9 +83,6 @@ puts_so put.Whole bytes wanted a b n m e h c f = (subst (λ w. Adds w a b) e h, 
 puts_so put.WriteFault bytes wanted a b n m e h c f = (subst (λ w. AddsFront w a b) e h, c, f refl)
 puts_so put.OutOfMemory bytes wanted a b n m e h c f = (subst (λ w. AddsFront w a b) e h, c)
 
-pub puts_none : (bytes : List ℕ) (a : Option (List ℕ)) (n : ℕ) → PutsBytes put.OutOfMemory bytes a a n n
-puts_none bytes a n = (adds_front_none bytes a, omega arith)
-
 pub then_puts : (result : PutAll) (xs ys : List ℕ) (a b c : Option (List ℕ)) (n m k : ℕ) → Adds xs a b → n ≤ m → PutsBytes result ys b c m k → PutsBytes result (xs ++ ys) a c n k
 then_puts put.Whole xs ys a b c n m k p l h = let i = h.1 in (adds_then xs ys a b c p h.0, omega arith)
 then_puts put.WriteFault xs ys a b c n m k p l h = let i = h.1 in (adds_then_front xs ys a b c p h.0, omega arith, later_rose n m k l h.2)

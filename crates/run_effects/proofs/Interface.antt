@@ -13,4 +13,4 @@ pub use Rattle.run_effects.proofs.Going.{fails_then, goes_then, leads_then, puts
 pub use Rattle.run_effects.proofs.Going.{serves_then, silent_by, stay, wire_front, wire_read_then}
 pub use Rattle.run_effects.proofs.Going.{wire_still, wire_then, wire_unread}
 -- Replies that wait at a peer come and are taken as the conversation says.
-pub use Rattle.run_effects.proofs.Queueing.{messages_placed, queues_wait}
+pub use Rattle.run_effects.proofs.Queueing.{queues_wait}

@@ -31,13 +31,6 @@ sum_of_parts row params operand one first terms items sum e f g h =
     ∙ ap (λ x. x >>= λ a. eval_terms row params (number_or_null a) (terms_listed terms.items)) (ap (λ x. eval row params (operands.operand_of x)) (sym f) ∙ h)
     ∙ ap (λ x. eval_terms row params (number_or_null sum) (terms_listed x)) (sym g)
 
--- and the overflow of its first value, where that has one
-pub sum_of_fault : (row params : List (AtomOf (List ℕ))) (operand one : code.Operand ℕ ℕ) (first : Box (code.Operand ℕ ℕ) Global) (terms : Vec (code_term.Term ℕ ℕ) Global) (fault : Overflow)
-    → operand ≡ code.Sum first terms → one ≡ first.value → eval row params (operands.operand_of one) ≡ Err fault → eval row params (operands.operand_of operand) ≡ Err fault
-sum_of_fault row params operand one first terms fault e f h =
-    ap (eval row params) (ap operands.operand_of e ∙ operand_of-Sum first terms)
-    ∙ ap (λ x. x >>= λ a. eval_terms row params (number_or_null a) (terms_listed terms.items)) (ap (λ x. eval row params (operands.operand_of x)) (sym f) ∙ h)
-
 -- a term lies within the places where all do
 within_there : (width count : ℕ) (terms : List (code_term.Term ℕ ℕ)) (i : ℕ) (default : code_term.Term ℕ ℕ) → i < length terms
     → ArePlaced width count (terms_listed terms) → ArePlaced width count (operands.term_before (get_or terms i default) operands.NoMore)

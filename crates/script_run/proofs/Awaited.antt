@@ -16,7 +16,6 @@ use Rattle.conversation.specs.declared.answers.ReplyAnswer.TheVariants as answer
 use Rattle.conversation.specs.declared.faults.DriverFault.{DriverFault}
 use Rattle.conversation.specs.declared.faults.Halt.{Halt}
 use Rattle.conversation.specs.declared.outcomes.Listing.{Listing}
-use Rattle.conversation.specs.declared.outcomes.Outcome.TheVariants as outcome
 use Rattle.conversation.specs.declared.sessions.ColumnType.{ColumnType}
 use Rattle.conversation.specs.declared.sessions.Session.{Session}
 use Rattle.conversation.specs.declared.sessions.Session.TheVariants.{Idle, Begun, Pending, Sent, Reading, Skipping}
@@ -27,7 +26,7 @@ use Rattle.conversation.specs.Talk.{Hearing, More, Got, Missed, Said, hear, hear
 use Rattle.driver.specs.Calls.{SaysAs, ShowsAs, HaltsAs}
 use Rattle.script_run.specs.declared.around.RowHeard.{RowHeard}
 use Rattle.script_run.specs.declared.around.RowHeard.TheVariants as row
-use Rattle.script_run.specs.Heard.{IsOfFirst, HeardAs, is_reading}
+use Rattle.script_run.specs.Heard.{IsOfFirst, HeardAs}
 use Rattle.script_run.specs.Onward.{IsBegun, IsRows, IsDescribed, RowsStay}
 
 -- ---- a description
@@ -192,25 +191,3 @@ more_rows answer.Over after shown more w e = absurd (subst IsMore (sym e) tt)
 pub rows_stay : (heard : RowHeard) (x : ReplyAnswer) (after : Session) (shown more : Listing) → TellsRows (Tells x after) → HeardAs heard more after (heard_answer shown (Tells x after)) → RowsStay after heard
 rows_stay row.More x after shown more w e = more_rows x after shown more w e
 rows_stay (row.Said comes) x after shown more w e = tt
-
--- ---- what breaks off
-
-abbrev Yes : Bool → Type 0
-Yes true = Unit {0}
-Yes false = ⊥
-
-pub reading_broken : (session : Session) (shown : Listing) → is_reading session ≡ true → broken session shown ≡ Some (outcome.Broken shown None)
-reading_broken (Reading columns keys count) shown e = refl
-reading_broken Idle shown e = absurd (subst Yes (sym e) tt)
-reading_broken (Begun batch) shown e = absurd (subst Yes (sym e) tt)
-reading_broken (Pending pending) shown e = absurd (subst Yes (sym e) tt)
-reading_broken Sent shown e = absurd (subst Yes (sym e) tt)
-reading_broken (Skipping columns count) shown e = absurd (subst Yes (sym e) tt)
-
-pub others_broken : (session : Session) (shown : Listing) → is_reading session ≡ false → broken session shown ≡ None
-others_broken (Reading columns keys count) shown e = absurd (subst Yes e tt)
-others_broken Idle shown e = refl
-others_broken (Begun batch) shown e = refl
-others_broken (Pending pending) shown e = refl
-others_broken Sent shown e = refl
-others_broken (Skipping columns count) shown e = refl

@@ -266,9 +266,6 @@ first_rows (reply.Described d) a y after before now s e = absurd s
 
 -- ---- no device was touched
 
-pub after_same : (s : Stop) (t : Talk) (x y : Outside) (now : Devices) → now ≡ devices_of x.client → StopsBy s t (record x { client = with_devices x.client now }) y → StopsBy s t x y
-after_same s t x y now e f = subst (λ w. StopsBy s t (record x { client = with_devices x.client w }) y) e f
-
 pub sent_stray : (k : Session → Talk) (r : Reply) (x : Outside) (now : Devices) (place : ℕ) → replied Sent r ≡ Stray → now ≡ devices_of x.client → IsNextOn (Some r) x.wire → place ≡ place_of x.wire
     → StopsBy (stop.BadReply place) (Hears Sent nothing_shown (answered_on k)) x (record x { client = with_devices x.client now })
 sent_stray k r x now place s d e p =

@@ -14,13 +14,11 @@ use Rattle.wire_frames.specs.declared.decoding.Way.TheVariants.{ToServer}
 use Rattle.frame_feed.specs.Feeding.{Feeding, SpellsMessage, StandsWhole, behind, with_piece, empty_feed}
 use Rattle.frame_feed.specs.Steps.{Steps}
 use Rattle.frame_feed.specs.declared.feeds.Next.TheVariants as next
-use Rattle.frame_feed.specs.declared.messages.Message.{Message}
-use Rattle.frame_feed.specs.declared.messages.Message.TheVariants.{Asks, Tells}
+use Rattle.frame_feed.specs.declared.messages.Message.TheVariants.{Asks}
 use Rattle.server_core.specs.Serve.{State, serve}
 use Rattle.serve_command.specs.ServeAll.{answer_frames, reply_frames, state_after}
 use Rattle.serve_command.specs.Serving.{Begins, AnswersAll, AnswersFirst, AnswersOpen, BreaksOff, IsOpen}
-use Rattle.serve_command.specs.Turns.{IsAsked, IsNext, Answers, Turns, AnswersNext, BreaksNext, Stands}
-use Rattle.serve_command.specs.declared.turns.Turn.{Turn}
+use Rattle.serve_command.specs.Turns.{IsNext, Turns, AnswersNext, BreaksNext, Stands}
 use Rattle.serve_command.specs.declared.turns.Turn.TheVariants as turn
 use Rattle.serve_command.proofs.Replying.{state_more, frames_more}
 use Rattle.serve_command.proofs.Beginning.{begins_none, begins_more, begins_fed, requests_placed, reads_so}
@@ -33,52 +31,6 @@ stands_whole feed request used way next = record {
   held = next.held;
   spelled = subst (λ (w : Way). SpellsMessage w (Asks request) (take used feed.held)) (sym way) next.spells;
 }
-
--- a message to the server is a request
-pub is_asked : (way : Way) (message : Message) (bytes : List ℕ) → way ≡ ToServer → SpellsMessage way message bytes → IsAsked message
-is_asked way (Asks request) bytes e s = tt
-is_asked way (Tells payload) bytes e s = subst (λ (w : Way). SpellsMessage w (Tells payload) bytes) e s
-
-pub spells_asked : (way : Way) (request : Versioned Request) (bytes : List ℕ) → way ≡ ToServer → SpellsMessage way (Asks request) bytes → SpellsRequest request bytes
-spells_asked way request bytes e s = subst (λ (w : Way). SpellsMessage w (Asks request) bytes) e s
-
-pub turns_one : (t : Turn) (place used : ℕ) (message : Message) (feed new : Feeding) (state after : State) (old now : Option (List ℕ)) → feed.way ≡ ToServer
-    → Steps (next.One place used message) feed new → Answers t used message state after old now → Turns t feed state after old now
-turns_one (turn.Answered count) place used (Asks request) feed new state after old now e s a =
-    subst (λ (n : ℕ). AnswersNext feed n state after old now) (sym a.0)
-    (record {
-      request = request;
-      next = record { header = s.2; held = s.3; spells = spells_asked feed.way request (take used feed.held) e s.4 };
-      waits = s.0;
-      left = a.1;
-      put = a.2;
-    })
-turns_one turn.WriteFault place used (Asks request) feed new state after old now e s a = record {
-  request = request;
-  used = used;
-  next = record { header = s.2; held = s.3; spells = spells_asked feed.way request (take used feed.held) e s.4 };
-  put = a;
-}
-turns_one turn.OutOfMemory place used (Asks request) feed new state after old now e s a =
-    inr (record {
-      request = request;
-      used = used;
-      next = record { header = s.2; held = s.3; spells = spells_asked feed.way request (take used feed.held) e s.4 };
-      put = a;
-    })
-turns_one turn.Waits place used (Asks request) feed new state after old now e s a = absurd a
-turns_one (turn.Refused at) place used (Asks request) feed new state after old now e s a = absurd a
-turns_one (turn.Answered count) place used (Tells payload) feed new state after old now e s a = absurd a
-turns_one turn.WriteFault place used (Tells payload) feed new state after old now e s a = absurd a
-turns_one turn.OutOfMemory place used (Tells payload) feed new state after old now e s a = absurd a
-turns_one turn.Waits place used (Tells payload) feed new state after old now e s a = absurd a
-turns_one (turn.Refused at) place used (Tells payload) feed new state after old now e s a = absurd a
-
-pub waits_so : (way : Way) (held : List ℕ) → way ≡ ToServer → IsNotYet (has_head way) held → IsNotYet is_request_head held
-waits_so way held e h = subst (λ (w : Way). IsNotYet (has_head w) held) e h
-
-pub turns_waits : (feed new : Feeding) (state : State) (old : Option (List ℕ)) → feed.way ≡ ToServer → Steps next.NotYet feed new → Turns turn.Waits feed state state old old
-turns_waits feed new state old e s = (waits_so feed.way feed.held e s.2, s.0, refl, refl)
 
 pub refused_so : (way : Way) (held : List ℕ) → way ≡ ToServer → IsRefused (has_head way) (SpellsMessage way) held → IsRefused is_request_head SpellsRequest held
 refused_so way held e h =

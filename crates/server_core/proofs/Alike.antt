@@ -167,9 +167,6 @@ with_atom p a = record p { atom = a }
 abbrev tys_of : List SentParam → List Ty
 tys_of ps = map (λ (p : SentParam). p.ty) ps
 
-atom_ok : Atom → Result Atom SqlFault
-atom_ok a = Ok a
-
 module _ (R : Pairing) (cells : PairsCells R) where
   paired_like : (c : Class) (a b : Atom) → CellsPaired (R c) a b → IsLike a b
   paired_like c Null b h = inl h
@@ -302,9 +299,6 @@ module _ (R : Pairing) (r : IsOneToOne R) (cells : PairsCells R) (within : ArePa
   asks_alike : (meant : Meant) (atoms more : List Atom) → RowsCorrespond R (param_classes meant.bound.params meant.encs) atoms more → AsksCorrespond R (ask_of (meant, atoms)) (ask_of (meant, more))
   asks_alike meant atoms more pairs =
       asking.asks_alike R meant.bound.statement (execution meant.bound meant.encs atoms) (execution meant.bound meant.encs more) (record { bound = refl; encs = refl; params = pairs })
-
-  abbrev catalog_at : State → ℕ → Catalog
-  catalog_at state n = catalog_of state n
 
   ready_leaves : (state : State) (n : ℕ) (meant : Meant) (declarations : List ParamDecl) (atoms : List Atom) → IsState state → IsReady (catalog_of state n) declarations meant atoms
       → MayAsk is_short (world_of state n).world (ask_of (meant, atoms)) → IsState (transact state n (ask_of (meant, atoms))).after

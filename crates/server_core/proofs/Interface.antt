@@ -12,6 +12,6 @@ pub use Rattle.server_core.proofs.Suiting.{is_suited, suited_protected}
 -- What each text is made of that is understood.
 pub use Rattle.server_core.proofs.Understanding.{Parts, parts_of}
 -- The result of requests is what they ask of the state.
-pub use Rattle.server_core.proofs.Serial.{after_one, answered_after, described_after}
+pub use Rattle.server_core.proofs.Serial.{answered_after, described_after}
 -- The sort of a text is that of the statement that it means.
 pub use Rattle.server_core.proofs.Sorting.{prepared_sort, sort_bound}

@@ -10,7 +10,7 @@ use Rattle.sql_grammar.specs.Readers.{Terminal, Reading, next_among, many}
 use Rattle.sql_grammar.specs.Readers as terminal
 use Rattle.sql_grammar.specs.Shortening.{Shortens}
 use Rattle.sql_grammar.specs.Parse.{behind_comma, listed}
-use Rattle.sql_grammar.proofs.Interface.{Goes, goes_start, goes_more, goes_end, goes_nowhere, behind_comma_shortens}
+use Rattle.sql_grammar.proofs.Interface.{Goes, goes_more, goes_end, goes_nowhere, behind_comma_shortens}
 use Rattle.sql_expressions.specs.Reads.{Fails}
 
 abbrev comma : List Terminal
@@ -29,9 +29,6 @@ pub record Lists {A : Type 0} (item : Reading A) (tokens : List Token) (xs : Lis
   pub read : item tokens ≡ Some (first, mid)
   pub goes : Goes comma (behind_comma item) mid more rest
   pub all : xs ≡ first ∷ more
-
-pub lists_start : {A : Type 0} (item : Reading A) (tokens : List Token) (x : A) (mid : List Token) → item tokens ≡ Some (x, mid) → Lists item tokens (x ∷ []) mid
-lists_start item tokens x mid e = record { first = x; mid = mid; more = []; read = e; goes = goes_start comma (behind_comma item) mid; all = refl }
 
 pub lists_more : {A : Type 0} (item : Reading A) (tokens : List Token) (xs : List A) (rest after : List Token) (x : A) → Lists item tokens xs rest
     → next_among comma rest ≡ true → behind_comma item rest ≡ Some (x, after) → length after < length rest → Lists item tokens (xs ++ x ∷ []) after
@@ -71,9 +68,6 @@ pub goes_push : {X A : Type 0} (view : X → A) (set : List Terminal) (item : Re
     → Goes set item tokens (map view xs) rest → next_among set rest ≡ true → item rest ≡ Some (view x, after) → ys ≡ xs ++ x ∷ [] → Goes set item tokens (map view ys) after
 goes_push {A = A} view set item p tokens xs ys x rest after g here e f =
     subst (λ (items : List A). Goes set item tokens items after) (pushed view xs ys x f) (goes_more set item tokens (map view xs) rest after (view x) g here e (p.shorter rest (view x) after e))
-
-pub lists_begin : {X A : Type 0} (view : X → A) (item : Reading A) (tokens mid : List Token) (x : X) (xs : List X) → item tokens ≡ Some (view x, mid) → xs ≡ x ∷ [] → Lists item tokens (map view xs) mid
-lists_begin {A = A} view item tokens mid x xs e f = subst (λ (items : List A). Lists item tokens items mid) (ap (map view) (sym f)) (lists_start item tokens (view x) mid e)
 
 pub lists_push : {X A : Type 0} (view : X → A) (item : Reading A) → Shortens item → (tokens : List Token) (xs ys : List X) (x : X) (rest after : List Token)
     → Lists item tokens (map view xs) rest → next_among comma rest ≡ true → behind_comma item rest ≡ Some (view x, after) → ys ≡ xs ++ x ∷ [] → Lists item tokens (map view ys) after

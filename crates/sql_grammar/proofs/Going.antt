@@ -1,20 +1,18 @@
 -- A loop that reads things one after another.
-use Rattle.std.proofs.Common.{◌≡◌, ℕ, zero, suc, ◌≤◌, ◌<◌, Bool, true, false, cond, List, [], ◌∷◌, ◌++◌, length, Option, Some, None, refl, sym, ◌∙◌, ap, arith, append_assoc, length-append}
+use Rattle.std.proofs.Common.{◌≡◌, ℕ, zero, suc, ◌≤◌, ◌<◌, true, false, List, [], ◌∷◌, ◌++◌, length, Option, Some, None, refl, sym, ◌∙◌, ap, arith, append_assoc, length-append}
 use Rattle.std.specs.Option.{option_map}
 use Rattle.std.proofs.lemmas.List.{append-nil}
 use Rattle.ae_base.specs.Options.{◌>>=◌}
 use Rattle.sql_tree.specs.declared.lexemes.Symbol.{Symbol}
 use Rattle.sql_tree.specs.declared.lexemes.Symbol.TheVariants as symbol
-use Rattle.sql_tree.specs.declared.lexemes.Keyword.{Keyword}
 use Rattle.sql_tree.specs.declared.lexemes.Token.{Token}
-use Rattle.sql_grammar.specs.Readers.{Terminal, Reading, next_among, made, both, no_more, then_more, repeated, many}
-use Rattle.sql_grammar.specs.Readers as terminal
+use Rattle.sql_grammar.specs.Readers.{Terminal, Reading, next_among, made, both, repeated, many}
 use Rattle.sql_grammar.specs.Shortening.{Shortens}
 use Rattle.sql_grammar.specs.Spelling.{Spelling}
 use Rattle.sql_grammar.specs.Making as make
-use Rattle.sql_grammar.specs.Parse.{word, sign, behind_comma, listed}
+use Rattle.sql_grammar.specs.Parse.{sign, behind_comma}
 use Rattle.sql_grammar.proofs.Agreement.{Agrees, longer, bind_some, pairs}
-use Rattle.sql_grammar.proofs.Pieces.{word_agrees, sign_agrees}
+use Rattle.sql_grammar.proofs.Pieces.{sign_agrees}
 
 -- what agrees with a spelling leaves no more tokens than there were, and fewer if it is never nothing
 pub shortens : {A : Type 0} {a g : List Terminal} {r : Reading A} {S : Spelling A} → Agrees a false g r S → Shortens r
@@ -24,19 +22,12 @@ shortens {a = a} p = record {
       omega (arith, ap length f.same, length-append f.front rest, longer a f.front (p.starts x f.front f.holds));
 }
 
-pub word_shortens : (k : Keyword) → Shortens (word k)
-word_shortens k = shortens (word_agrees k)
-
 pub sign_shortens : (s : Symbol) → Shortens (sign s)
 sign_shortens s = shortens (sign_agrees s)
 
 -- things that are read so far, before others
 abbrev pub with_front : {A : Type 0} → List A → Option (List A × List Token) → Option (List A × List Token)
 with_front front read = option_map (λ r. (front ++ r.0, r.1)) read
-
-with_front-nil : {A : Type 0} (read : Option (List A × List Token)) → read ≡ with_front [] read
-with_front-nil None = refl
-with_front-nil (Some r) = refl
 
 with_front-push : {A : Type 0} (front : List A) (x : A) (read : Option (List A × List Token)) → with_front front (read >>= λ items. Some (x ∷ items.0, items.1)) ≡ with_front (front ++ x ∷ []) read
 with_front-push front x None = refl
@@ -47,9 +38,6 @@ pub record Goes {A : Type 0} (set : List Terminal) (item : Reading A) (tokens : 
   pub fuel : ℕ
   pub enough : length rest ≤ fuel
   pub ahead : many set item tokens ≡ with_front front (repeated set item fuel rest)
-
-pub goes_start : {A : Type 0} (set : List Terminal) (item : Reading A) (tokens : List Token) → Goes set item tokens [] tokens
-goes_start set item tokens = record { fuel = length tokens; enough = omega arith; ahead = with_front-nil (many set item tokens) }
 
 record Step {A : Type 0} (set : List Terminal) (item : Reading A) (fuel : ℕ) (rest after : List Token) (x : A) : Type 0 where
   less : ℕ
@@ -88,17 +76,6 @@ pub goes_nowhere : {A : Type 0} (set : List Terminal) (item : Reading A) (tokens
     → item rest ≡ None → many set item tokens ≡ None
 goes_nowhere set item tokens front rest g here e = g.ahead ∙ ap (with_front front) (failed set item g.fuel rest here e)
 
--- what stands behind a sign or a word, and is fewer tokens
-pub both_read : {A : Type 0} (r : Reading ℕ) (s : Reading A) (tokens mid rest : List Token) (at : ℕ) (x : A) → r tokens ≡ Some (at, mid) → s mid ≡ Some (x, rest)
-    → made make.behind (both r s) tokens ≡ Some (x, rest)
-both_read r s tokens mid rest at x e f = rw (e, f) refl
-
-pub first_failed : {A : Type 0} (r : Reading ℕ) (s : Reading A) (tokens : List Token) → r tokens ≡ None → made make.behind (both r s) tokens ≡ None
-first_failed r s tokens e = rw e refl
-
-pub second_failed : {A : Type 0} (r : Reading ℕ) (s : Reading A) (tokens mid : List Token) (at : ℕ) → r tokens ≡ Some (at, mid) → s mid ≡ None → made make.behind (both r s) tokens ≡ None
-second_failed r s tokens mid at e f = rw (e, f) refl
-
 both_shorter : {A B : Type 0} (r : Reading A) (s : Reading B) → Shortens r → Shortens s → Shortens (both r s)
 both_shorter r s p q = record {
   shorter = λ tokens x rest e.
@@ -116,42 +93,6 @@ made_shorter f r p = record {
       let end = pairs (made.value, read.value.1) (x, rest) made.after in
       omega (arith, p.shorter tokens read.value.0 read.value.1 read.read, ap length end.second);
 }
-
-none_shorter : {A : Type 0} (tokens : List Token) (xs : List A) (rest : List Token) → no_more tokens ≡ Some (xs, rest) → length rest ≤ length tokens
-none_shorter tokens xs rest e = let end = pairs ([], tokens) (xs, rest) e in omega (arith, ap length end.second)
-
-some_shorter : {A : Type 0} (item : Reading A) (more : Reading (List A)) → Shortens item → ((tokens : List Token) (xs : List A) (rest : List Token) → more tokens ≡ Some (xs, rest) → length rest ≤ length tokens)
-    → (b : Bool) (tokens : List Token) (xs : List A) (rest : List Token) → cond b (then_more item more tokens) (no_more tokens) ≡ Some (xs, rest) → length rest ≤ length tokens
-some_shorter item more p q true tokens xs rest e =
-    let first = bind_some (item tokens) _ (xs, rest) e in
-    let second = bind_some (more first.value.1) _ (xs, rest) first.after in
-    let end = pairs (first.value.0 ∷ second.value.0, second.value.1) (xs, rest) second.after in
-    omega (arith, p.shorter tokens first.value.0 first.value.1 first.read, q first.value.1 second.value.0 second.value.1 second.read, ap length end.second)
-some_shorter item more p q false tokens xs rest e = none_shorter tokens xs rest e
-
-stop_shorter : {A : Type 0} (b : Bool) (tokens : List Token) (xs : List A) (rest : List Token) → cond b None (no_more tokens) ≡ Some (xs, rest) → length rest ≤ length tokens
-stop_shorter true tokens xs rest e = absurd (cc)
-stop_shorter false tokens xs rest e = none_shorter tokens xs rest e
-
-repeated_shorter : {A : Type 0} (set : List Terminal) (item : Reading A) → Shortens item → (n : ℕ) (tokens : List Token) (xs : List A) (rest : List Token) → repeated set item n tokens ≡ Some (xs, rest)
-    → length rest ≤ length tokens
-repeated_shorter set item p zero tokens xs rest e = stop_shorter (next_among set tokens) tokens xs rest e
-repeated_shorter set item p (suc n) tokens xs rest e = some_shorter item (repeated set item n) p (repeated_shorter set item p n) (next_among set tokens) tokens xs rest e
-
-first_shorter : {A B : Type 0} (r : Reading A) (s : Reading B) → Shortens r → ((tokens : List Token) (x : B) (rest : List Token) → s tokens ≡ Some (x, rest) → length rest ≤ length tokens) → Shortens (both r s)
-first_shorter r s p q = record {
-  shorter = λ tokens x rest e.
-      let first = bind_some (r tokens) _ (x, rest) e in
-      let second = bind_some (s first.value.1) _ (x, rest) first.after in
-      let end = pairs ((first.value.0, second.value.0), second.value.1) (x, rest) second.after in
-      omega (arith, p.shorter tokens first.value.0 first.value.1 first.read, q first.value.1 second.value.0 second.value.1 second.read, ap length end.second);
-}
-
-pub listed_shortens : {A : Type 0} {r : Reading A} → Shortens r → Shortens (listed r)
-listed_shortens {r = r} p =
-    let item = made_shorter make.behind (both (sign symbol.Comma) r) (both_shorter (sign symbol.Comma) r (sign_shortens symbol.Comma) p) in
-    made_shorter make.list_of (both r (many (terminal.Sign symbol.Comma ∷ []) (behind_comma r))) (first_shorter r (many (terminal.Sign symbol.Comma ∷ []) (behind_comma r)) p
-    (λ tokens xs rest e. repeated_shorter (terminal.Sign symbol.Comma ∷ []) (behind_comma r) item (length tokens) tokens xs rest e))
 
 pub behind_comma_shortens : {A : Type 0} {r : Reading A} → Shortens r → Shortens (behind_comma r)
 behind_comma_shortens {r = r} p = made_shorter make.behind (both (sign symbol.Comma) r) (both_shorter (sign symbol.Comma) r (sign_shortens symbol.Comma) p)

@@ -9,7 +9,7 @@ pub use Rattle.sql_grammar.proofs.Definitions.{table_part_agrees, wrapped_settin
 pub use Rattle.sql_grammar.proofs.Depths.{and_shortens, or_shortens, signed_shortens}
 -- A loop that reads things one after another.
 pub use Rattle.sql_grammar.proofs.Going.{Goes, behind_comma_shortens, goes_end, goes_more}
-pub use Rattle.sql_grammar.proofs.Going.{goes_nowhere, goes_start, shortens}
+pub use Rattle.sql_grammar.proofs.Going.{goes_nowhere, shortens}
 -- Operands and tests: their readers are the grammar's.
 pub use Rattle.sql_grammar.proofs.Operands.{column_ref_agrees, operand_agrees}
 -- The smallest readers and spellings: one token, parentheses, lists.

@@ -11,7 +11,7 @@ use Rattle.sql_tree.specs.declared.lexemes.Lexeme.TheVariants as lexeme
 use Rattle.sql_tree.specs.declared.lexemes.Token.{Token}
 use Rattle.sql_tree.specs.declared.conditions.Comparison.{Comparison}
 use Rattle.sql_tree.specs.Statements.{Operand}
-use Rattle.sql_grammar.specs.Readers.{Terminal, matches, member, next_among, is_keyword, is_ident, is_number, is_text, is_binary, Reading, one, after, given}
+use Rattle.sql_grammar.specs.Readers.{Terminal, matches, member, is_keyword, is_text, Reading, one, after, given}
 use Rattle.sql_grammar.specs.Readers as terminal
 use Rattle.sql_grammar.specs.Spelling.{Spelling, One, After, Given}
 use Rattle.sql_grammar.specs.Making as make
@@ -20,10 +20,6 @@ use Rattle.sql_grammar.specs.Parse.{word, sign, reads, name, placed_name, number
 use Rattle.sql_grammar.specs.Parse as parse
 use Rattle.sql_grammar.proofs.Sets.{disjoint}
 use Rattle.sql_grammar.proofs.Agreement.{Agrees, Starts, Front, bind_some, at_rest, pairs, one_agrees, both_agrees, made_agrees, many_agrees, ends_before, ends_after, with_empty, begins_both, starts_both}
-
-pub disjoint-nil : (a : List Terminal) → disjoint a [] ≡ true
-disjoint-nil [] = refl
-disjoint-nil (t ∷ a) = disjoint-nil a
 
 -- ---- one token
 

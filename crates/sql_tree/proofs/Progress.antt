@@ -1,13 +1,12 @@
 -- How far the tokens of a text are read.
-use Rattle.std.proofs.Common.{◌≡◌, ℕ, zero, suc, ◌+◌, ◌-◌, ◌<◌, ◌≤◌, nat_lt, Bool, true, false, List, [], ◌∷◌, ◌++◌, length, get_or, drop, Option, Some, None, MatchOption, Ok, Err, if◌then◌else◌, refl, sym, ◌∙◌, ap, arith, add-zero, sub-one, append_assoc}
+use Rattle.std.proofs.Common.{◌≡◌, ℕ, zero, suc, ◌+◌, ◌-◌, ◌<◌, ◌≤◌, nat_lt, Bool, true, false, List, [], ◌∷◌, ◌++◌, length, get_or, drop, Option, Some, None, MatchOption, if◌then◌else◌, refl, sym, ◌∙◌, ap, arith, add-zero, sub-one, append_assoc}
 use Rattle.std.specs.Option.{option_map, option_or}
 use Rattle.std.proofs.lemmas.List.{drop_more, drop_all, drop-drop, append-nil}
 use Rattle.std.proofs.lemmas.Bool.{lt-ltb}
 use Rattle.sql_tree.specs.declared.lexemes.Lexeme.{Lexeme}
 use Rattle.sql_tree.specs.declared.lexemes.Lexeme.TheVariants as lexeme
 use Rattle.sql_tree.specs.declared.lexemes.Token.{Token}
-use Rattle.sql_tree.specs.declared.tokens.TokensFault.TheVariants.{NumberTooWide}
-use Rattle.sql_tree.specs.Reading.{IsToken, IsWide, Tokenizes}
+use Rattle.sql_tree.specs.Reading.{IsToken, IsWide}
 use Rattle.sql_tree.specs.Tokens.{front, passed_over, tokens_from, tokens_of, wide, first_wide}
 
 abbrev pub with_front : List Token → Option (List Token) → Option (List Token)
@@ -146,10 +145,3 @@ so_far_wide most bytes at list first len s within blank f =
 whole : (most : ℕ) (bytes : List ℕ) (at : ℕ) (list : List Token) (first : Option ℕ) (s : SoFar most bytes at list first) → length bytes ≤ at → tokens_of bytes ≡ Some s.tokens
 whole most bytes at list first s end =
     s.ahead ∙ ap (λ rest. with_front s.tokens (tokens_from at 0 rest)) (drop_all at bytes end) ∙ ap Some (append-nil s.tokens)
-
-pub all_narrow : (most : ℕ) (bytes : List ℕ) (at : ℕ) (list : List Token) → SoFar most bytes at list None → length bytes ≤ at → Tokenizes most bytes (Ok list)
-all_narrow most bytes at list s end =
-    (whole most bytes at list None s end ∙ ap Some s.kept, ap (first_wide most) (sym s.kept) ∙ s.first_wide)
-
-pub one_wide : (most : ℕ) (bytes : List ℕ) (at : ℕ) (list : List Token) (place : ℕ) → SoFar most bytes at list (Some place) → length bytes ≤ at → Tokenizes most bytes (Err (NumberTooWide place))
-one_wide most bytes at list place s end = (s.tokens, whole most bytes at list (Some place) s end, s.first_wide)

@@ -1,5 +1,5 @@
 -- How far what stands in quotes is read.
-use Rattle.std.proofs.Common.{◌≡◌, ◌==◌, ℕ, ◌+◌, ◌≤◌, Bool, true, false, List, [], ◌∷◌, ◌++◌, length, drop, Option, Some, None, refl, sym, ◌∙◌, ap, subst, arith, append_assoc, add_assoc, zero-add}
+use Rattle.std.proofs.Common.{◌≡◌, ◌==◌, ℕ, ◌+◌, ◌≤◌, Bool, true, false, List, [], ◌∷◌, ◌++◌, length, drop, Option, Some, None, refl, sym, ◌∙◌, ap, subst, arith, append_assoc, add_assoc}
 use Rattle.std.specs.Option.{option_map}
 use Rattle.std.specs.Str.{IsUtf8, is_utf8}
 use Rattle.std.proofs.lemmas.List.{drop-drop, append-nil}
@@ -15,17 +15,10 @@ pub record IsReadTo (quote : ℕ) (bytes text : List ℕ) (at : ℕ) : Type 0 wh
   pub ahead : quoted quote bytes ≡ behind text at (quoted quote (drop at bytes))
   pub within : at ≤ length bytes
 
-behind-nil : (read : Option (List ℕ × ℕ)) → read ≡ behind [] 0 read
-behind-nil None = refl
-behind-nil (Some r) = ap (λ n. Some (r.0, n)) (sym (zero-add r.1))
-
 behind-push : (text : List ℕ) (at b len : ℕ) (read : Option (List ℕ × ℕ)) → behind text at (with_byte b len read) ≡ behind (text ++ b ∷ []) (at + len) read
 behind-push text at b len None = refl
 behind-push text at b len (Some r) =
     ap (λ (t : List ℕ). Some (t, at + (len + r.1))) (sym (append_assoc text (b ∷ []) r.0)) ∙ ap (λ n. Some ((text ++ b ∷ []) ++ r.0, n)) (sym (add_assoc at len r.1))
-
-pub nothing_read : (quote : ℕ) (bytes : List ℕ) → IsReadTo quote bytes [] 0
-nothing_read quote bytes = record { ahead = behind-nil (quoted quote bytes); within = omega arith }
 
 -- the byte that is read first, by the two tests
 abbrev IsSpelled : ℕ → List ℕ → ℕ × ℕ → Type 0
@@ -85,9 +78,6 @@ pub all_read : (quote : ℕ) (bytes text : List ℕ) (at : ℕ) → IsReadTo quo
     → quoted quote bytes ≡ Some (text, at + 1)
 all_read quote bytes text at r h some =
     r.ahead ∙ ap (behind text at) (closed quote (drop at bytes) h some) ∙ ap (λ (t : List ℕ). Some (t, at + 1)) (append-nil text)
-
-pub never_closed : (quote : ℕ) (bytes text : List ℕ) (at : ℕ) → IsReadTo quote bytes text at → drop at bytes ≡ [] → quoted quote bytes ≡ None
-never_closed quote bytes text at r e = r.ahead ∙ ap (λ rest. behind text at (quoted quote rest)) e
 
 pub no_utf8 : (bytes : List ℕ) (test : Bool) → is_utf8 bytes ≡ test → (IsUtf8 bytes → false ≡ true) → is_utf8 bytes ≡ false
 no_utf8 bytes true e h = absurd (let wrong : false ≡ true = h (IsUtf8-from_is_utf8 bytes e) in cc)

@@ -16,7 +16,3 @@ module _ {X Y W E : Type 0} (view : X → Y) (first : Result Y E) (next : Y → 
   -- the same where the whole is answered as it is
   pub answers : (x : X) (w : W) → first ≡ Ok (view x) → next (view x) ≡ Ok w → Answers (Ok w) (first >>= next)
   answers x w e a = ap (λ (r : Result Y E). r >>= next) e ∙ a
-
-  pub answers_stay : (e : Refusal E) → AnswersAs {A = X} view (Err e) first → Answers {A = W} (Err e) (first >>= next)
-  answers_stay (Fault f) a = ap (λ (r : Result Y E). r >>= next) a
-  answers_stay OutOfMemory a = tt

@@ -1,8 +1,7 @@
 -- The parameters that are used: their order, their names and their number.
-use Rattle.std.proofs.Common.{◌≡◌, ℕ, ◌+◌, ◌<◌, ◌≤◌, Bool, true, false, not, List, [], ◌∷◌, length, map, drop, get_or, refl, arith, if◌then◌else◌}
+use Rattle.std.proofs.Common.{◌≡◌, ℕ, ◌+◌, ◌≤◌, Bool, true, false, not, List, [], ◌∷◌, length, map, refl, arith, if◌then◌else◌}
 use Rattle.std.specs.List.{All, list_any}
 use Rattle.std.specs.Str.{bytes_eq}
-use Rattle.std.proofs.lemmas.List.{drop_more}
 use Rattle.std.proofs.lemmas.List.Elements.{All-nil, All-cons, All-head, All-tail}
 use Rattle.std.proofs.lemmas.Bool.{and_parts, or_parts, not-true}
 use Rattle.ae_base.specs.Names.{all_differ}
@@ -12,12 +11,6 @@ use Rattle.sql_tree.specs.Bound.{Bound}
 use Rattle.sql_tree.specs.Uses.{uses}
 use Rattle.wire_messages.specs.declared.params.UsedParam.{UsedParam}
 use Rattle.statement_analysis.specs.Describing.{used_from}
-
-module _ (b : Bound) (ds : List ParamDecl) (es : List Enc) (place : ℕ) (d : ParamDecl) (e : Enc) (in_ds : place < length ds) (in_es : place < length es) where
-  pub used_here : used_from place b (drop place ds) (drop place es)
-      ≡ (if uses place b then record { name = (get_or ds place d).name; enc = get_or es place e } ∷ used_from (place + 1) b (drop (place + 1) ds) (drop (place + 1) es)
-      else used_from (place + 1) b (drop (place + 1) ds) (drop (place + 1) es))
-  used_here = let m = drop_more ds place d in_ds in let n = drop_more es place e in_es in rw (m, n) refl
 
 -- ---- names that differ still do
 

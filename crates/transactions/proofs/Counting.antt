@@ -1,35 +1,18 @@
 -- What is answered with counts, and which counts stand then.
-use Rattle.std.proofs.Common.{◌≡◌, ◌≤◌, ℕ, zero, suc, ◌+◌, List, [], ◌∷◌, length, refl, ap, sym, ◌∙◌, arith, Option, Some, None, unwrap_or, Result, Ok, Err, Bool, true, false}
-use Rattle.std.specs.Prelude.{slice_set, ◌==◌, if◌then◌else◌}
-use Rattle.std.specs.List.{All, slice_get, remove}
-use Rattle.std.specs.Option.{option_map}
+use Rattle.std.proofs.Common.{◌≡◌, ℕ, ◌+◌, List, length, refl, ap, sym, ◌∙◌, Option, Some, None, Result, Ok, Err, Bool, true, false}
+use Rattle.std.specs.Prelude.{if◌then◌else◌}
+use Rattle.std.specs.List.{All}
 use Rattle.ae_base.specs.declared.faults.SqlFault.{SqlFault}
 use Rattle.ae_base.specs.declared.faults.SqlFault.TheVariants as fault
 use Rattle.sql_tree.specs.Bound.{BoundStatement}
-use Rattle.sql_tree.specs.Bound as bound
-use Rattle.catalog.specs.Catalogs.{Catalog}
 use Rattle.engine.specs.Step.{Answer, Outcome}
 use Rattle.engine.specs.Worlds.{World, place_of}
 use Rattle.sql_tree.specs.Sorts.{is_definition, tables_of, target}
-use Rattle.transactions.specs.Counted.{Counted, CountedOutcome, Execution, count_of, changed_by, counts_behind, is_at_last_count, counted, step_of, counted_step, raised_at, alone}
-use Rattle.transactions.specs.Effects.{raised_place}
+use Rattle.transactions.specs.Counted.{Counted, CountedOutcome, Execution, count_of, changed_by, counts_behind, is_at_last_count, counted, step_of, counted_step, raised_at}
 use Rattle.transactions.proofs.Frame.{lies, counted_reads}
 use Rattle.transactions.proofs.Places.{set_length}
 use Rattle.transactions.proofs.Replay.{put_length}
 use Rattle.transactions.proofs.Since.{IsCounted, alone_kept}
-
--- ---- lists past their ends
-
-pub set_past : {A : Type 0} (xs : List A) (k : ℕ) (y : A) → length xs ≤ k → slice_set xs k y ≡ xs
-set_past [] k y le = refl
-set_past (x ∷ xs) zero y le = absurd (omega arith)
-set_past (x ∷ xs) (suc k) y le = ap (λ ys. x ∷ ys) (set_past xs k y (omega arith))
-
-pub remove_past : {A : Type 0} (xs : List A) (k : ℕ) → length xs ≤ k → remove xs k ≡ xs
-remove_past [] zero le = refl
-remove_past [] (suc k) le = refl
-remove_past (x ∷ xs) zero le = absurd (omega arith)
-remove_past (x ∷ xs) (suc k) le = ap (λ ys. x ∷ ys) (remove_past xs k (omega arith))
 
 -- ---- a step
 
@@ -50,14 +33,6 @@ not_last c s (Ok answer) w x h = by (is_at_last_count c (target s)) refl h
         → (let o : CountedOutcome = if b then record { answer = Err fault.Full; after = c } else record { answer = Ok answer; after = record { world = w; counts = counts_behind c s } } in o.answer) ≡ Ok x → is_at_last_count c (target s) ≡ false
     by true e h = absurd cc
     by false e h = e
-
-pub work_of : (s : BoundStatement) (name : List ℕ) → target s ≡ Some name → is_definition s ≡ false
-work_of (bound.Definition d) name e = absurd cc
-work_of (bound.Insert i) name e = refl
-work_of (bound.Update u) name e = refl
-work_of (bound.Delete d) name e = refl
-work_of (bound.Select q) name e = absurd cc
-work_of (bound.Control control) name e = absurd cc
 
 pub record IsSame (c after : Counted) : Type 0 where
   pub catalog : after.world.catalog ≡ c.world.catalog
@@ -80,52 +55,6 @@ work_same c e d =
 
 pub accepted_not_last : (c : Counted) (e : Execution) (x : Answer) → (counted_step c e).answer ≡ Ok x → is_at_last_count c (target e.bound.statement) ≡ false
 accepted_not_last c e x h = not_last c e.bound.statement (step_of c e).answer (step_of c e).world x h
-
--- ---- outside transactions
-
-pub record IsRaised (c : Counted) (e : Execution) (x : Answer) (after : Counted) (place : ℕ) : Type 0 where
-  pub further : (unwrap_or (slice_get after.counts place) 0 == 18446744073709551615) ≡ false
-  pub is : alone c e ≡ record { answer = Ok x; after = raised_place after place }
-
-same_outcome : (o : CountedOutcome) (x : Answer) (after : Counted) → o ≡ record { answer = Ok x; after = after } → (o.answer ≡ Ok x) × (o.after ≡ after)
-same_outcome o x after h = (ap (λ (p : CountedOutcome). p.answer) h, ap (λ (p : CountedOutcome). p.after) h)
-
-alone_by : (c : Counted) (e : Execution) (x : Answer) (after : Counted) → counted_step c e ≡ record { answer = Ok x; after = after } → alone c e ≡ record { answer = Ok x; after = raised_at after (target e.bound.statement) }
-alone_by c e x after h = ap (λ (o : CountedOutcome). let r : CountedOutcome = record { answer = o.answer; after = raised_at o.after (changed_by e.bound.statement o.answer) } in r) h
-
-pub alone_raises : (c : Counted) (e : Execution) (x : Answer) (after : Counted) (place : ℕ) → counted_step c e ≡ record { answer = Ok x; after = after } → option_map (place_of c.world) (target e.bound.statement) ≡ Some place
-    → IsRaised c e x after place
-alone_raises c e x after place h p = by (target e.bound.statement) refl p
-  where
-    by : (o : Option (List ℕ)) → target e.bound.statement ≡ o → option_map (place_of c.world) o ≡ Some place → IsRaised c e x after place
-    by None t p = absurd cc
-    by (Some name) t p =
-        let here : place_of c.world name ≡ place = cc in
-        let both = same_outcome (counted_step c e) x after h in
-        let s = work_same c e (work_of e.bound.statement name t) in
-        let counts : after.counts ≡ c.counts = ap (λ (z : Counted). z.counts) (sym both.1) ∙ s.counts in
-        let catalog : after.world.catalog ≡ c.world.catalog = ap (λ (z : Counted). z.world.catalog) (sym both.1) ∙ s.catalog in
-        let there : place_of after.world name ≡ place = ap (λ (k : Catalog). place_of (record { catalog = k; contents = [] }) name) catalog ∙ here in
-        let last = accepted_not_last c e x both.0 in
-        record {
-          further = ap (λ ns. unwrap_or (slice_get ns place) 0 == 18446744073709551615) counts
-              ∙ ap (λ k. unwrap_or (slice_get c.counts k) 0 == 18446744073709551615) (sym here) ∙ ap (is_at_last_count c) (sym t) ∙ last;
-          is = alone_by c e x after h
-              ∙ ap (λ o. let r : CountedOutcome = record { answer = Ok x; after = raised_at after o } in r) t
-              ∙ ap (λ k. let r : CountedOutcome = record { answer = Ok x; after = raised_place after k } in r) there;
-        }
-
-pub alone_stays : (c : Counted) (e : Execution) (x : Answer) (after : Counted) → counted_step c e ≡ record { answer = Ok x; after = after } → option_map (place_of c.world) (target e.bound.statement) ≡ None
-    → alone c e ≡ record { answer = Ok x; after = after }
-alone_stays c e x after h p = by (target e.bound.statement) refl p
-  where
-    by : (o : Option (List ℕ)) → target e.bound.statement ≡ o → option_map (place_of c.world) o ≡ None → alone c e ≡ record { answer = Ok x; after = after }
-    by None t p = alone_by c e x after h ∙ ap (λ o. let r : CountedOutcome = record { answer = Ok x; after = raised_at after o } in r) t
-    by (Some name) t p = absurd cc
-
--- a fault raises nothing
-pub alone_refused : (c : Counted) (e : Execution) (f : SqlFault) (after : Counted) → counted_step c e ≡ record { answer = Err f; after = after } → alone c e ≡ record { answer = Err f; after = after }
-alone_refused c e f after h = ap (λ (o : CountedOutcome). let r : CountedOutcome = record { answer = o.answer; after = raised_at o.after (changed_by e.bound.statement o.answer) } in r) h
 
 -- ---- what the code does for a step
 

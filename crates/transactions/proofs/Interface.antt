@@ -8,7 +8,7 @@ pub use Rattle.transactions.proofs.Asking.{same_execution}
 -- A change or a definition is not answered by rows.
 pub use Rattle.transactions.proofs.Forgetting.{changes_show_no_rows}
 -- What is kept of a call makes its shared world again.
-pub use Rattle.transactions.proofs.Journaling.{IsKeptSo, IsLoggedOn, committed_catalog, idle, length_nobody, logged_on, none_at, nothing_logged}
+pub use Rattle.transactions.proofs.Journaling.{IsKeptSo, committed_catalog, idle, length_nobody, logged_on, none_at, nothing_logged}
 pub use Rattle.transactions.proofs.Serializing.{AreLogged}
 -- A state that can stand stays one.
 pub use Rattle.transactions.proofs.Keeping.{all_at, all_set, transact_keeps}

@@ -69,9 +69,6 @@ length_nobody (suc n) = ap suc (length_nobody n)
 
 -- ---- what doesn't last changes nothing
 
-ok_of : Answer → Result Answer SqlFault
-ok_of answer = Ok answer
-
 fault_left : (c : Counted) (s : BoundStatement) (a : Result Answer SqlFault) (w : World) (f : SqlFault) → (counted c s a w).answer ≡ Err f → (counted c s a w).after ≡ c
 fault_left c s (Err g) w f e = refl
 fault_left c s (Ok answer) w f e = by (is_at_last_count c (target s)) e

@@ -211,9 +211,6 @@ begun_logged shared = record {
 
 -- ---- a statement in a transaction
 
-abbrev made_so : Catalog → List ℕ → List (List (List Atom)) → Counted
-made_so catalog counts contents = made catalog contents counts
-
 pub stepped_logged : (base shared : Counted) (t : Transaction) (log : List Deed) (e : Execution) → is_definition e.bound.statement ≡ false → IsLoggedFrom base shared t log
     → IsLoggedFrom base shared (stepped_in t e (counted_step t.own e)) (log ++ deed e (counted_step t.own e).answer ∷ [])
 stepped_logged base shared t log e d h =

@@ -13,7 +13,7 @@ use Rattle.transactions.specs.Answers.{GivesCounted, StepsIn, StepsWhere, Transa
 use Rattle.transactions.specs.Counted.{Counted, CountedOutcome, Execution, counted_step, alone}
 use Rattle.transactions.specs.Forgotten.{forgotten_in, forgotten}
 use Rattle.transactions.specs.Noted.{IsHeld}
-use Rattle.transactions.specs.Stores.{Transaction, Store, Transacted, Begins, Commits, RollsBack, Executes, refused, begun_over, transaction_at, with_transaction, stepped_in, why_not, with_tables, committed, executed_in, transacted, transact}
+use Rattle.transactions.specs.Stores.{Transaction, Store, Transacted, Begins, Commits, Executes, refused, begun_over, transaction_at, with_transaction, stepped_in, why_not, with_tables, committed, executed_in, transacted, transact}
 use Rattle.transactions.proofs.Padding.{set_twice}
 use Rattle.transactions.proofs.Seen.{set_back}
 
@@ -95,33 +95,12 @@ module _ (store : Store) (session : ℕ) where
       ap (λ o. transacted store session o Begins) is
       ∙ ap (λ xs. let x : Transacted = record { answer = Ok Defined; after = store_of store.shared xs } in x) (sym (s ∙ ap (λ x. set store.sessions k (Some x)) e))
 
-  pub begun_in : (t : Transaction) → transaction_at store session ≡ Some t → transact store session Begins ≡ record { answer = Err fault.InTransaction; after = store }
-  begun_in t is = ap (λ o. transacted store session o Begins) is
-
   pub commits : (t : Transaction) (shared : Counted) (sessions : List (Option Transaction)) → transaction_at store session ≡ Some t → sessions ≡ set store.sessions k None → why_not store.shared t ≡ None → shared ≡ with_tables store.shared t.own t.changed
       → transact store session Commits ≡ record { answer = Ok Defined; after = store_of shared sessions }
   commits t shared sessions is s w e =
       ap (λ o. transacted store session o Commits) is ∙ ap (committed store session t) w
       ∙ ap (λ c. let x : Transacted = record { answer = Ok Defined; after = store_of c (set store.sessions k None) } in x) (sym e)
       ∙ ap (λ xs. let x : Transacted = record { answer = Ok Defined; after = store_of shared xs } in x) (sym s)
-
-  pub refuses : (t : Transaction) (f : SqlFault) (sessions : List (Option Transaction)) → transaction_at store session ≡ Some t → sessions ≡ set store.sessions k None → why_not store.shared t ≡ Some f
-      → transact store session Commits ≡ record { answer = Err f; after = store_of store.shared sessions }
-  refuses t f sessions is s w =
-      ap (λ o. transacted store session o Commits) is ∙ ap (committed store session t) w ∙ ap (λ xs. let x : Transacted = record { answer = Err f; after = store_of store.shared xs } in x) (sym s)
-
-  pub no_commit : (sessions : List (Option Transaction)) → transaction_at store session ≡ None → sessions ≡ set store.sessions k None → transact store session Commits ≡ record { answer = Err fault.NoTransaction; after = store_of store.shared sessions }
-  no_commit sessions is s =
-      ap (λ o. transacted store session o Commits) is ∙ ap (λ xs. let x : Transacted = record { answer = Err fault.NoTransaction; after = store_of store.shared xs } in x) (sym (emptied sessions is s))
-
-  pub rolls_back : (t : Transaction) (sessions : List (Option Transaction)) → transaction_at store session ≡ Some t → sessions ≡ set store.sessions k None
-      → transact store session RollsBack ≡ record { answer = Ok Defined; after = store_of store.shared sessions }
-  rolls_back t sessions is s =
-      ap (λ o. transacted store session o RollsBack) is ∙ ap (λ xs. let x : Transacted = record { answer = Ok Defined; after = store_of store.shared xs } in x) (sym s)
-
-  pub no_rollback : (sessions : List (Option Transaction)) → transaction_at store session ≡ None → sessions ≡ set store.sessions k None → transact store session RollsBack ≡ record { answer = Err fault.NoTransaction; after = store_of store.shared sessions }
-  no_rollback sessions is s =
-      ap (λ o. transacted store session o RollsBack) is ∙ ap (λ xs. let x : Transacted = record { answer = Err fault.NoTransaction; after = store_of store.shared xs } in x) (sym (emptied sessions is s))
 
   -- ---- what is forgotten
 
@@ -130,6 +109,3 @@ module _ (store : Store) (session : ℕ) where
   forgets used t u sessions is e s =
       ap (store_of store.shared) (s ∙ set_twice store.sessions k None (Some u) ∙ ap (λ x. set store.sessions k (Some x)) e)
       ∙ ap (λ o. with_transaction store session (forgotten_in used o)) (sym is)
-
-  pub forgets_nothing : (used : ℕ) (sessions : List (Option Transaction)) → transaction_at store session ≡ None → sessions ≡ set store.sessions k None → store_of store.shared sessions ≡ forgotten store session used
-  forgets_nothing used sessions is s = ap (store_of store.shared) s ∙ ap (λ o. with_transaction store session (forgotten_in used o)) (sym is)

@@ -1,10 +1,10 @@
 -- What is true of the notes of transactions stays so.
-use Rattle.std.proofs.Common.{◌≡◌, ◌≢◌, ◌≤◌, ℕ, zero, suc, ◌-◌, List, [], ◌∷◌, ◌++◌, length, refl, ap, sym, subst, ◌∙◌, arith, Option, Some, None, unwrap_or, Result, Ok, Err, Bool, true, false}
-use Rattle.std.specs.Prelude.{◌==◌, ◌||◌, IsSome, if◌then◌else◌, replicate}
+use Rattle.std.proofs.Common.{◌≡◌, ◌≢◌, ◌≤◌, ℕ, ◌-◌, List, [], ◌∷◌, ◌++◌, length, refl, ap, sym, subst, ◌∙◌, arith, Option, Some, None, unwrap_or, Result, Ok, Err, Bool, true, false}
+use Rattle.std.specs.Prelude.{◌==◌, ◌||◌, IsSome, if◌then◌else◌}
 use Rattle.std.specs.List.{All, slice_get, list_any}
 use Rattle.std.specs.Str.{bytes_eq}
 use Rattle.std.proofs.lemmas.Bool.{or_parts}
-use Rattle.std.proofs.lemmas.List.Elements.{All-nil, All-cons, All-head, All-tail, All-push, All-weaker}
+use Rattle.std.proofs.lemmas.List.Elements.{All-nil, All-head, All-tail, All-push, All-weaker}
 use Rattle.std.proofs.lemmas.Slice.Eq.{bytes_eq-Decides}
 use Rattle.ae_base.specs.declared.faults.SqlFault.{SqlFault}
 use Rattle.ae_base.specs.declared.faults.SqlFault.TheVariants as fault
@@ -202,13 +202,6 @@ held_by store session (Some t) (Executes e) h k on = held_in store session t e h
 pub transact_held : (store : Store) (session : ℕ) (ask : Ask) → IsHeld store → IsOn (world_of store session).world.catalog ask → IsHeld (transact store session ask).after
 transact_held store session ask h on = held_by store session (transaction_at store session) ask h (noted_at store session h) on
 
-pub empty_held : (store : Store) → length store.shared.counts ≡ length store.shared.world.contents → (n : ℕ) → store.sessions ≡ replicate n None → IsHeld store
-empty_held store long n e = record { long = long; sessions = subst (All (IsNotedIn store.shared)) (sym e) (none n) }
-  where
-    none : (n : ℕ) → All (IsNotedIn store.shared) (replicate n None)
-    none zero = All-nil (IsNotedIn store.shared)
-    none (suc n) = All-cons (IsNotedIn store.shared) None (replicate n None) tt (none n)
-
 -- ---- COMMIT
 
 pub record IsFree (shared : Counted) (t : Transaction) : Type 0 where
@@ -222,15 +215,6 @@ free shared t e = by (shared.world.catalog.version == t.version) refl e
         → (if b then conflict shared t.used else Some (fault.Moved (record { seen = t.version; now = shared.world.catalog.version }))) ≡ None → IsFree shared t
     by true v g = record { version = is_there shared.world.catalog.version t.version v; unconflicted = g }
     by false v g = absurd cc
-
-pub seen_before : (shared : Counted) (t : Transaction) → IsNoted shared t → shared.world.catalog.version ≡ t.version → All (λ u. u.seen ≤ count_of shared u.table) t.used
-seen_before shared t h v =
-    let b = h.earlier v in
-    All-weaker (Seen t.own) (λ u. u.seen ≤ count_of shared u.table) (λ u k.
-    let place : place_of t.own.world u.table ≡ place_of shared.world u.table = ap (λ (c : Catalog). place_of (record { catalog = c; contents = [] }) u.table) b.catalog in
-    let m = b.counts (place_of t.own.world u.table) in
-    let n = ap (λ p. unwrap_or (slice_get shared.counts p) 0) place in
-    omega arith) t.used h.seen
 
 same_count : (shared own : Counted) (used : List Used) (name : List ℕ) → All (Seen shared) used → All (Seen own) used → is_used used name ≡ true → count_of shared name ≡ count_of own name
 same_count shared own [] name f g e = absurd cc
@@ -246,12 +230,3 @@ all_further shared t h e =
     let seen = unconflicted shared t.used f.unconflicted in
     All-weaker (IsChanged t) (λ name. is_at_last_count shared (Some name) ≡ false)
     (λ name k. ap (λ n. n == 18446744073709551615) (same_count shared t.own t.used name seen h.seen k.used) ∙ k.further) t.changed h.changed
-
-pub all_there : (shared : Counted) (t : Transaction) → IsNoted shared t → why_not shared t ≡ None → All (λ name. IsSome (table_among shared.world.catalog.tables name)) t.changed
-all_there shared t h e =
-    let f = free shared t e in
-    let b = h.earlier f.version in
-    All-weaker (IsChanged t) (λ name. IsSome (table_among shared.world.catalog.tables name)) (λ name k. subst (λ (c : Catalog). IsSome (table_among c.tables name)) b.catalog k.there) t.changed h.changed
-
-pub same_catalog : (shared : Counted) (t : Transaction) → IsNoted shared t → why_not shared t ≡ None → t.own.world.catalog ≡ shared.world.catalog
-same_catalog shared t h e = (h.earlier (free shared t e).version).catalog

@@ -1,21 +1,18 @@
 -- New rows that are put into the indexes of unique keys, one index after another.
-use Rattle.std.proofs.Common.{◌≡◌, ℕ, zero, suc, ◌+◌, ◌<◌, ◌≤◌, List, [], ◌∷◌, ◌++◌, length, get_or, take, drop, map, slice_set, refl, ap, sym, ◌∙◌, subst, arith, Bool, true, false, not, Some, None, Result, Ok, Err}
+use Rattle.std.proofs.Common.{◌≡◌, ℕ, zero, suc, ◌+◌, ◌<◌, ◌≤◌, List, [], ◌∷◌, ◌++◌, length, get_or, take, drop, map, slice_set, refl, ap, sym, ◌∙◌, subst, arith, true, false, Some, Result, Ok, Err}
 use Rattle.std.specs.List.{All}
-use Rattle.std.proofs.lemmas.List.{take_all, take_more, take_more_set, drop_more, drop_all, drop-set-lt, length-set, length-map, map-append}
+use Rattle.std.proofs.lemmas.List.{take_all, take_more, drop_all, drop-set-lt, length-map, map-append}
 use Rattle.std.proofs.lemmas.List.Elements.{All-cons, All-nil, All-head, All-tail}
 use Rattle.ae_base.specs.Atoms.{Atom}
-use Rattle.ae_base.specs.Results.{Answers}
 use Rattle.ae_base.specs.declared.faults.SqlFault.{SqlFault}
-use Rattle.ae_base.specs.declared.faults.SqlFault.TheVariants as fault
 use Rattle.ae_base.specs.declared.refusals.Refusal.{Refusal}
-use Rattle.ae_base.specs.declared.refusals.Refusal.TheVariants.{Fault, OutOfMemory}
 use Rattle.operators.specs.Alike.{key_of}
 use Rattle.std.specs.Prelude.{OnOk}
-use Rattle.key_index.specs.Places.{Keyed, IndexesKeys, IndexesFront, HasMore}
-use Rattle.key_index.proofs.Interface.{front_same, indexed_more, indexed_none}
+use Rattle.key_index.specs.Places.{Keyed, IndexesKeys, HasMore}
+use Rattle.key_index.proofs.Interface.{front_same, indexed_more}
 use Rattle.unique_keys.specs.Keys.{has_twins, first_twins, unless_twins}
-use Rattle.unique_keys.specs.Indexes.{Indexed, IndexesRows, IndexesFirst, AreDistinct, AreAdmitted, keys_of, standing_rows}
-use Rattle.unique_keys.specs.Admitting.{AreTried, HaveThem}
+use Rattle.unique_keys.specs.Indexes.{Indexed, IndexesRows, IndexesFirst, AreDistinct, AreAdmitted, keys_of}
+use Rattle.unique_keys.specs.Admitting.{AreTried}
 use Rattle.unique_keys.proofs.Twins.{first_next, first_found, first_over}
 
 -- ---- lists of indexes
@@ -123,9 +120,6 @@ tried_over old new i before now le s =
     }
 
 -- ---- what is taken out again
-
-pub admitted_all : (old new : List (List Atom)) (before after : List Indexed) → AreTried old new (Ok tt) before after → AreAdmitted old new (Ok tt) before after
-admitted_all old new before after t = record { keys = t.keys; answer = t.answer; indexed = t.indexed }
 
 pub admitted_none : (old new : List (List Atom)) (refusal : Refusal SqlFault) (before mid after : List Indexed) → AreTried old new (Err refusal) before mid → keys_of after ≡ keys_of mid → All (IndexesRows old) after → AreAdmitted old new (Err refusal) before after
 admitted_none old new refusal before mid after t k h = record { keys = k ∙ t.keys; answer = t.answer; indexed = h }

@@ -210,7 +210,3 @@ proper_more version replies done count old new front before after =
     let others = payloads_of version (drop count (drop done replies)) in
     let rest : All (HasFrame version) others = subst (λ (rs : List Reply). All (HasFrame version) (payloads_of version rs)) (sym (drop-drop count done replies)) after in
     before (subst (All (HasFrame version)) (sym front.front.first) (All-cons (HasFrame version) front.front.payload others front.front.spells.0 rest))
-
-pub proper_none : (version : FrameVersion) → All (HasFrame version) (payloads_of version [])
-proper_none V1 = All-nil (HasFrame V1)
-proper_none V2 = All-nil (HasFrame V2)

@@ -3,7 +3,7 @@ use Rattle.std.proofs.Common.{◌≡◌, ◌∙◌, ℕ, ◌+◌, ◌<◌, ◌�
 use Rattle.std.specs.List.{All, flat_map}
 use Rattle.std.proofs.lemmas.Bool.{and_parts, ltb-true, leb-true, eqb-true}
 use Rattle.std.proofs.lemmas.Grind.{flat_map-append}
-use Rattle.std.proofs.lemmas.List.{append-nil, map-append, take_more, drop_more, drop_all, length-map, length-take-le}
+use Rattle.std.proofs.lemmas.List.{append-nil, map-append, take_more, drop_more, length-map, length-take-le}
 use Rattle.std.proofs.lemmas.List.Elements.{All-nil, All-cons, All-head, All-tail, All-append}
 use Rattle.ae_base.specs.Limits.{most_frame_bytes, most_frame_rows}
 use Rattle.wire_messages.specs.declared.replies.Reply.{Reply}
@@ -131,15 +131,6 @@ pub record Taken (first : Atoms) (replies : List Reply) (count size : ℕ) : Typ
   pub sized : size ≡ length (rows_body (first ∷ rows_of (take count replies)))
   pub within : count ≤ length replies
 
-pub taken_none : (first : Atoms) (replies : List Reply) (size : ℕ) → size ≡ 4 + length (flat_map atom first) → Taken first replies 0 size
-taken_none first replies size e = record {
-  rows = refl;
-  ahead = refl;
-  batch = batch_one first;
-  sized = e ∙ sym (body_size (first ∷ []) ∙ ap (λ bytes. 4 + length bytes) (append-nil (flat_map atom first)));
-  within = omega arith;
-}
-
 how_many : (replies : List Reply) (count : ℕ) → map Row (rows_of (take count replies)) ≡ take count replies → count ≤ length replies → length (rows_of (take count replies)) ≡ count
 how_many replies count e w = sym (length-map (rows_of (take count replies)) Row) ∙ ap length e ∙ length-take-le count replies w
 
@@ -183,17 +174,3 @@ followed first replies count size t w e = record {
   frame = t.ahead ∙ e;
   within = t.within;
 }
-
-pub follow_stop : (first : Atoms) (replies : List Reply) (count size : ℕ) (reply : Reply) → Taken first replies count size → size ≤ most_body_bytes → count < length replies
-    → get_or replies count reply ≡ reply → next_size first replies count size reply ≡ None → Follow first replies count
-follow_stop first replies count size reply t w lt is e =
-    let rows = rows_of (take count replies) in
-    let others = drop (count + 1) replies in
-    let back : drop count replies ≡ reply ∷ others = drop_more replies count reply lt ∙ ap (λ r. r ∷ others) is in
-    let s = stop first rows reply others (sym (same_size first replies count size reply t) ∙ e) in
-    followed first replies count size t w (rw back s)
-
-pub follow_all : (first : Atoms) (replies : List Reply) (count size : ℕ) → Taken first replies count size → size ≤ most_body_bytes → length replies ≤ count → Follow first replies count
-follow_all first replies count size t w all =
-    let none : drop count replies ≡ [] = drop_all count replies all in
-    followed first replies count size t w (rw none refl)
