@@ -2,9 +2,9 @@
 
 // The state in four columns of 32 bits, and a round's transformations of it.
 
-ghost use Rattle.std.specs.Prelude.{◌≡◌, ◌<◌};
+ghost use Rattle.std.specs.Prelude.{◌≡◌, ◌<◌, ◌++◌};
 ghost use Rattle.aes_block.specs.Aes.{IsBlock, add_round_key, inv_shift_rows, inv_sub_bytes, mix_columns, shift_rows, sub_bytes};
-ghost use Rattle.aes_block.specs.Columns.{state_of, words_of};
+ghost use Rattle.aes_block.specs.Columns.{state_of, word_of, words_of};
 ghost use Rattle.aes_block.specs.Equivalent.{equivalent_round};
 
 use crate::columns::{
@@ -29,13 +29,19 @@ pub(crate) fn columns_of(block: &[u8; 16]) -> [u32; 4]
 pub(crate) fn block_of(columns: [u32; 4]) -> [u8; 16]
     ensures { result ≡ state_of columns }
 {
-    let [a0, a1, a2, a3] = columns[0].to_le_bytes();
-    let [b0, b1, b2, b3] = columns[1].to_le_bytes();
-    let [c0, c1, c2, c3] = columns[2].to_le_bytes();
-    let [d0, d1, d2, d3] = columns[3].to_le_bytes();
+    let [a0, a1, a2, a3, b0, b1, b2, b3] = bytes_of(columns[0], columns[1]);
+    let [c0, c1, c2, c3, d0, d1, d2, d3] = bytes_of(columns[2], columns[3]);
     [
         a0, a1, a2, a3, b0, b1, b2, b3, c0, c1, c2, c3, d0, d1, d2, d3,
     ]
+}
+
+/// The bytes of two columns, which are written as one number.
+#[tactic(auto, unfolding(crate::specs::Columns::word_of))]
+fn bytes_of(first: u32, second: u32) -> [u8; 8]
+    ensures { result ≡ word_of first ++ word_of second }
+{
+    (first as u64 + ((second as u64) << 32)).to_le_bytes()
 }
 
 /// SubBytes, ShiftRows, MixColumns and AddRoundKey (FIPS 197, sections 5.1.1 to 5.1.4).
