@@ -152,8 +152,22 @@ impl fmt::Display for SqlFault {
     ghost output = { λ f. Some (fault_line f) };
 
     fn fmt<W: fmt::Write>(&self, f: &mut fmt::Formatter<W>) -> fmt::Result {
-        write!(f, "error {} {}", self.code(), self.name())?;
-        match self {
+        write!(f, "error {} {}{}", self.code(), self.name(), Detail(self))
+    }
+}
+
+/// What stands behind the name of a fault in its line.
+#[derive(Drop)]
+struct Detail<'a>(&'a SqlFault);
+
+impl fmt::Display for Detail<'_> {
+    ghost use Rattle.std.specs.Prelude.{Some};
+    ghost use Rattle.ae_base.specs.Faults.{detail_of};
+
+    ghost output = { λ detail. Some (detail_of detail.0.now) };
+
+    fn fmt<W: fmt::Write>(&self, f: &mut fmt::Formatter<W>) -> fmt::Result {
+        match self.0 {
             SqlFault::Syntax
             | SqlFault::TooDeep
             | SqlFault::TooLong
