@@ -17,7 +17,7 @@ use Rattle.catalog.specs.declared.effects.Effect.{Effect}
 use Rattle.catalog.specs.declared.effects.Effect.TheVariants.{Stays, Adds, Removes}
 use Rattle.catalog.proofs.Interface.{All-remove, tables_follow}
 use Rattle.scalar.specs.Classes.{Pairing}
-use Rattle.row_changes.specs.Tables.{Held}
+use Rattle.indexed_tables.specs.Tables.{Held}
 use Rattle.engine.specs.Correspond.{ContentsCorrespond}
 use Rattle.engine.specs.Held.{contents_of, IsKeyed, AreHeld}
 use Rattle.engine.specs.Step as step

@@ -7,7 +7,7 @@ use Rattle.ae_base.specs.Atoms.{Atom}
 use Rattle.ae_base.specs.declared.tables.TableDef.{TableDef}
 use Rattle.sql_tree.specs.OnTables.{table_among}
 use Rattle.catalog.specs.Catalogs.{Catalog, table_place}
-use Rattle.row_changes.specs.Tables.{Held}
+use Rattle.indexed_tables.specs.Tables.{Held}
 use Rattle.engine.specs.Held.{contents_of, IsKeyed, AreHeld}
 use Rattle.engine.specs.Worlds.{World, HoldsRows, IsShaped, rows_of}
 use Rattle.engine.proofs.Contents.{zip_set, zip_long, zip_push, zip_remove}

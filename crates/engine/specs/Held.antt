@@ -8,7 +8,7 @@ use Rattle.ae_base.specs.declared.tables.TableDef.{TableDef}
 use Rattle.sql_tree.specs.Bound.{BoundInsert, BoundUpdate}
 use Rattle.catalog.specs.Catalogs.{Catalog}
 use Rattle.row_store.specs.declared.changes.Change.{Change}
-use Rattle.row_changes.specs.Tables.{Held}
+use Rattle.indexed_tables.specs.Tables.{Held}
 use Rattle.row_changes.specs.Rows.{new_rows}
 use Rattle.row_changes.specs.Changes.{Tested, row_to_update, all_changed, spread}
 use Rattle.engine.specs.Step.{columns_of}

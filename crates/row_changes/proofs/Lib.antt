@@ -1,6 +1,4 @@
 mod Changing
 pub mod Interface
-mod Keeping
-mod Lent
 mod Spreading
 mod Values

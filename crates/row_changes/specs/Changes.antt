@@ -1,6 +1,6 @@
 -- What UPDATE and DELETE make of the rows of a table, and how it is kept until they are written.
-use Rattle.std.specs.Prelude.{◌≡◌, ◌<◌, ◌≤◌, ℕ, zero, suc, ◌+◌, List, [], ◌∷◌, ◌++◌, map, filter, Option, Some, None, Result, Ok, Err, Bool, true, false, not, ◌==◌, if◌then◌else◌}
-use Rattle.std.specs.List.{All, AllZip, list_any, zip}
+use Rattle.std.specs.Prelude.{◌<◌, ◌≤◌, ℕ, zero, suc, ◌+◌, List, [], ◌∷◌, ◌++◌, map, filter, Option, Some, None, Result, Ok, Bool, true, false, not, ◌==◌, if◌then◌else◌}
+use Rattle.std.specs.List.{All, zip}
 use Rattle.ae_base.specs.Atoms.{Atom}
 use Rattle.ae_base.specs.Results.{◌>>=◌}
 use Rattle.ae_base.specs.declared.faults.SqlFault.{SqlFault}
@@ -9,8 +9,6 @@ use Rattle.sql_tree.specs.Bound.{BoundCondition, BoundAssignment, BoundUpdate}
 use Rattle.sql_tree.specs.Placed.{IsPlaced}
 use Rattle.operators.specs.Events.{asks}
 use Rattle.row_store.specs.declared.changes.Change.{Change}
-use Rattle.row_store.specs.Changes.{written}
-use Rattle.scalar.specs.Eval.{atom_at}
 use Rattle.row_changes.specs.Rows.{values_into, replaced}
 
 -- a row, and whether the filter was true of it
@@ -71,27 +69,6 @@ with_change changes place (Some row) = changes ++ record { place = place; row = 
 abbrev pub AreRising : (from to : ℕ) → List (Change (List Atom)) → Type 0
 AreRising from to [] = Unit {0}
 AreRising from to (change ∷ changes) = (from ≤ change.place) × (change.place < to) × AreRising (change.place + 1) to changes
-
--- the rows that stand after what was answered
-abbrev pub changed_rows : {A E : Type 0} → Result A E → List (List Atom) → List (Change (List Atom)) → List (List Atom)
-changed_rows (Ok x) rows changes = written rows changes
-changed_rows (Err error) rows changes = rows
-
--- what says only that it was done
-abbrev pub nothing_more : {A : Type 0} → A → Unit {0}
-nothing_more x = tt
-
--- an assignment sets the column of a place
-abbrev pub is_set : List (BoundAssignment) → ℕ → Bool
-is_set sets place = list_any (λ a. a.place == place) sets
-
--- and one sets a column of a key
-abbrev pub sets_a_key : List BoundAssignment → List (List ℕ) → Bool
-sets_a_key sets keys = list_any (λ key. list_any (is_set sets) key) keys
-
--- rows with others in their places have the same atoms in all columns that no assignment sets
-abbrev pub AreKept : List BoundAssignment → (old new : List (List Atom)) → Type 0
-AreKept sets old new = AllZip (λ row other. (place : ℕ) → is_set sets place ≡ false → atom_at other place ≡ atom_at row place) old new
 
 -- each row, and whether the filter was true of it
 abbrev pub all_tested : List (List Atom) → List Bool → List Tested

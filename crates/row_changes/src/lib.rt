@@ -1,10 +1,7 @@
-//! The rows of a table, and what INSERT, UPDATE and DELETE make of them.
+//! What INSERT, UPDATE and DELETE make of the rows of a table.
 #![tactic(auto)]
 
 pub mod deletes;
 mod filters;
 pub mod inserts;
-mod keys_set;
-pub mod lending;
-pub mod tables;
 pub mod updates;

@@ -8,7 +8,7 @@ use Rattle.sql_tree.specs.Conditions.{condition_of}
 use Rattle.sql_tree.specs.Placed.{IsPlacedFilter}
 use Rattle.row_changes.specs.Changes.{selects, tested_row, row_to_delete, all_tested}
 use Rattle.row_changes.proofs.Changing.{hits_more, hit_failed, read_mapped}
-use Rattle.row_changes.proofs.Lent.{all_there}
+use Rattle.operators.proofs.Interface.{all_there}
 use Rattle.row_changes.proofs.deletes.hits.Goals as goal
 
 pub selects-requires : goal.selects-requires

@@ -1,0 +1,85 @@
+-- Keys of which no column is set, and rows that stay distinct on them.
+use Rattle.std.proofs.Common.{◌≡◌, ℕ, ◌+◌, List, [], ◌∷◌, map, refl, ap, sym, ◌∙◌, subst, Bool, true, false, Option, None, Result, Ok, Err}
+use Rattle.std.specs.Prelude.{◌||◌, if◌then◌else◌}
+use Rattle.std.specs.List.{All, list_any}
+use Rattle.std.proofs.lemmas.List.Elements.{All-head, All-tail, All-cons, All-nil}
+use Rattle.ae_base.specs.Atoms.{Atom}
+use Rattle.ae_base.specs.Results.{AnswersAs}
+use Rattle.ae_base.specs.declared.faults.SqlFault.{SqlFault}
+use Rattle.ae_base.specs.declared.refusals.Refusal.{Refusal}
+use Rattle.ae_base.specs.declared.refusals.Refusal.TheVariants.{Fault, OutOfMemory}
+use Rattle.scalar.specs.Eval.{atom_at}
+use Rattle.sql_tree.specs.Bound.{BoundAssignment}
+use Rattle.operators.specs.Alike.{key_of}
+use Rattle.unique_keys.specs.Keys.{has_twins, first_twins, unless_twins}
+use Rattle.unique_keys.specs.Indexes.{Indexed, IndexesRows, AreDistinct, AreAdmitted, keys_of}
+use Rattle.unique_keys.proofs.Interface.{twins_same}
+use Rattle.key_index.specs.Places.{IndexesKeys}
+use Rattle.indexed_tables.specs.Updates.{is_set, sets_a_key, AreKept, nothing_more}
+
+or_left : (a b : Bool) → (a || b) ≡ false → a ≡ false
+or_left true b e = absurd cc
+or_left false b e = refl
+
+or_right : (a b : Bool) → (a || b) ≡ false → b ≡ false
+or_right true b e = absurd cc
+or_right false b e = e
+
+-- what the keys say of rows
+abbrev said : Option ℕ → Result (Unit {0}) SqlFault
+said o = unless_twins o tt
+
+abbrev tested : List (List ℕ) → List (List Atom) → Result (Unit {0}) SqlFault
+tested keys rows = said (first_twins 1 keys rows)
+
+abbrev done : Result (Unit {0}) SqlFault
+done = Ok tt
+
+module _ (sets : List BoundAssignment) where
+  key_kept : (key : List ℕ) (row other : List Atom) → list_any (is_set sets) key ≡ false → ((place : ℕ) → is_set sets place ≡ false → atom_at other place ≡ atom_at row place) → key_of key other ≡ key_of key row
+  key_kept [] row other e h = refl
+  key_kept (place ∷ key) row other e h =
+      ap (λ a. a ∷ key_of key other) (h place (or_left (is_set sets place) (list_any (is_set sets) key) e))
+      ∙ ap (λ l. atom_at row place ∷ l) (key_kept key row other (or_right (is_set sets place) (list_any (is_set sets) key) e) h)
+
+  pub keys_kept : (key : List ℕ) (old new : List (List Atom)) → list_any (is_set sets) key ≡ false → AreKept sets old new → map (key_of key) new ≡ map (key_of key) old
+  keys_kept key [] [] e h = refl
+  keys_kept key [] (n ∷ new) e h = absurd h
+  keys_kept key (o ∷ old) [] e h = absurd h
+  keys_kept key (o ∷ old) (n ∷ new) e h = ap (λ k. k ∷ map (key_of key) new) (key_kept key o n e h.0) ∙ ap (λ ks. key_of key o ∷ ks) (keys_kept key old new e h.1)
+
+  pub indexes_kept : (indexes : List Indexed) (old new : List (List Atom)) → sets_a_key sets (keys_of indexes) ≡ false → AreKept sets old new → All (IndexesRows old) indexes → All (IndexesRows new) indexes
+  indexes_kept [] old new e h i = All-nil (IndexesRows new)
+  indexes_kept (x ∷ indexes) old new e h i =
+      let one = or_left (list_any (is_set sets) x.places) (sets_a_key sets (keys_of indexes)) e in
+      All-cons (IndexesRows new) x indexes (subst (λ ks. IndexesKeys ks x.keyed) (sym (keys_kept x.places old new one h)) (All-head (IndexesRows old) x indexes i))
+      (indexes_kept indexes old new (or_right (list_any (is_set sets) x.places) (sets_a_key sets (keys_of indexes)) e) h (All-tail (IndexesRows old) x indexes i))
+
+  none_twins : (n : ℕ) (keys : List (List ℕ)) (old new : List (List Atom)) → sets_a_key sets keys ≡ false → AreKept sets old new → AreDistinct keys old → first_twins n keys new ≡ None
+  none_twins n [] old new e h d = refl
+  none_twins n (key ∷ keys) old new e h d =
+      let one = or_left (list_any (is_set sets) key) (sets_a_key sets keys) e in
+      let first : has_twins key new ≡ false = twins_same key new old (keys_kept key old new one h) ∙ All-head (λ k. has_twins k old ≡ false) key keys d in
+      ap (λ b. if b then Rattle.std.proofs.Common.Some n else first_twins (n + 1) keys new) first
+      ∙ none_twins (n + 1) keys old new (or_right (list_any (is_set sets) key) (sets_a_key sets keys) e) h (All-tail (λ k. has_twins k old ≡ false) key keys d)
+
+  pub answer_kept : (keys : List (List ℕ)) (old new : List (List Atom)) → sets_a_key sets keys ≡ false → AreKept sets old new → AreDistinct keys old → tested keys new ≡ done
+  answer_kept keys old new e h d = ap said (none_twins 1 keys old new e h d)
+
+-- no rows are distinct
+pub distinct_none : (keys : List (List ℕ)) → AreDistinct keys []
+distinct_none [] = All-nil (λ k. has_twins k [] ≡ false)
+distinct_none (key ∷ keys) = All-cons (λ k. has_twins k [] ≡ false) key keys refl (distinct_none keys)
+
+-- ---- indexes that are made anew
+
+abbrev admitted : Result (Unit {0}) (Refusal SqlFault)
+admitted = Ok tt
+
+pub renewed_answer : (keys : List (List ℕ)) (rows standing : List (List Atom)) (before after : List Indexed) → rows ≡ standing → keys_of before ≡ keys → AreAdmitted [] rows admitted before after → tested keys standing ≡ done
+renewed_answer keys rows standing before after e k a = ap (λ ks. tested ks standing) (sym k) ∙ ap (tested (keys_of before)) (sym e) ∙ a.answer
+
+pub renewed_failed : (A : Type 0) (keys : List (List ℕ)) (rows standing : List (List Atom)) (before after : List Indexed) → rows ≡ standing → keys_of before ≡ keys → (refusal : Refusal SqlFault) → AreAdmitted [] rows (Err refusal) before after
+    → AnswersAs (nothing_more {A = A}) (Err refusal) (tested keys standing)
+renewed_failed A keys rows standing before after e k (Fault f) a = ap (λ ks. tested ks standing) (sym k) ∙ ap (tested (keys_of before)) (sym e) ∙ a.answer
+renewed_failed A keys rows standing before after e k OutOfMemory a = tt

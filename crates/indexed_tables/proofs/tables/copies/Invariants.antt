@@ -1,0 +1,6 @@
+-- The copies so far.
+use Rattle.std.proofs.Common.{◌≡◌, take}
+use Rattle.indexed_tables.proofs.tables.copies.Given as goal
+
+abbrev pub invariant-loop-value : goal.invariant-loop-value
+invariant-loop-value g l = l.copies.items ≡ take l.value-index l.values

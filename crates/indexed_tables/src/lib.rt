@@ -1,0 +1,6 @@
+//! Tables: rows in pages, with an index for each unique key.
+#![tactic(auto)]
+
+mod keys_set;
+pub mod lending;
+pub mod tables;
