@@ -1,7 +1,8 @@
 #!/usr/bin/env python3
 """Proves and builds a program and every crate below it, side by side on all processors.
 
-Usage: build.py TOP PROGRAM LINK, where TOP/crates.txt lists the crates, and LINK names a link beside the program.
+Usage: build.py TOP PROGRAM LINK [WORD ..], where TOP/crates.txt lists the crates, and LINK names a link beside the program.
+With words, it shows meanwhile what an unproved trial run of the program on these words prints for standard input.
 The gate's command (`rt ci`) proves the crates. It keeps what is proved beside the kit, and gives what any checkout on this machine
 has proved. Where nothing can be kept there, each crate is built by `rt lib` as soon as those that it uses are built, the longest
 chain first, and kept in the checkout. So a build that was broken off goes on where it was.
@@ -21,12 +22,13 @@ import time
 SECONDS = {
     "ae_base": 141, "ae_cli": 200, "ae_edge": 91, "aes_block": 78, "catalog": 95, "cell_codec": 33, "check_command": 70,
     "command_words": 103, "conversation": 36, "disk": 63, "drive_command": 100, "driver": 198, "enc_types": 61, "engine": 169,
-    "expression_binding": 78, "frame_feed": 48, "inference": 58, "journal_command": 111, "journal_core": 40, "key_index": 92,
-    "key_store": 40, "keyed_joins": 121, "operators": 107, "outcome_text": 59, "plan_runs": 98, "planner": 76,
-    "query_results": 75, "resolve": 225, "row_changes": 120, "row_store": 68, "run_command": 80, "scalar": 99, "script_lang": 100,
-    "script_run": 127, "semantic_checks": 87, "serve_command": 62, "server_core": 121, "sql_ddl": 112, "sql_expressions": 152,
-    "sql_parse": 137, "sql_tree": 108, "statement_analysis": 93, "transactions": 203, "unique_keys": 61, "value_norm": 36,
-    "wire_bodies": 83, "wire_messages": 87, "wire_parts": 65, "wire_payloads": 33, "wire_reading": 89, "wire_spelling": 134,
+    "expression_binding": 78, "frame_feed": 48, "indexed_tables": 95, "inference": 58, "journal_command": 111,
+    "journal_core": 40, "key_index": 92, "key_store": 40, "keyed_joins": 121, "operators": 107, "outcome_text": 59,
+    "plan_runs": 98, "planner": 76, "query_results": 75, "resolve": 225, "row_changes": 120, "row_store": 68, "run_command": 80,
+    "scalar": 99, "script_lang": 100, "script_run": 127, "semantic_checks": 87, "serve_command": 62, "server_core": 121,
+    "sql_ddl": 112, "sql_expressions": 152, "sql_parse": 137, "sql_tree": 108, "statement_analysis": 93, "transactions": 203,
+    "unique_keys": 61, "value_norm": 36, "wire_bodies": 83, "wire_messages": 87, "wire_parts": 65, "wire_payloads": 33,
+    "wire_reading": 89, "wire_spelling": 134,
 }
 OTHER = 18
 MEMORY = 2 << 30  # bytes that a proof may take; few take more
@@ -49,11 +51,11 @@ class Crate:
 
 
 def start(verb, folder, path):
-    """Starts a command of `rt` in a folder, with what it says in a log."""
+    """Starts a command of `rt` in a folder, with what it says in a log, and behind other work: the preview comes first."""
     os.makedirs(os.path.dirname(path), exist_ok=True)
     with open(path, "wb") as log:
         return subprocess.Popen(
-            ["rt", *verb], cwd=folder, stdin=subprocess.DEVNULL, stdout=log, stderr=log, start_new_session=True
+            ["nice", "rt", *verb], cwd=folder, stdin=subprocess.DEVNULL, stdout=log, stderr=log, start_new_session=True
         )
 
 
@@ -102,11 +104,41 @@ def workers():
     return max(1, min(count, free // MEMORY))
 
 
+class Preview:
+    """An unproved trial run of the program, whose output is shown on standard error once it has ended."""
+
+    def __init__(self, top, words):
+        print("ae: preparing an unproved preview, which takes a minute or two", file=sys.stderr)
+        self.text, self.said = tempfile.TemporaryFile("w+"), tempfile.TemporaryFile("w+")
+        trial = [os.path.join(top, "ae"), "--unproved", *words]
+        self.run = subprocess.Popen(trial, stdout=self.text, stderr=self.said, start_new_session=True)
+
+    def is_ready(self):
+        return self.run is not None and self.run.poll() is not None
+
+    def show(self):
+        self.run = None
+        self.text.seek(0)
+        self.said.seek(0)
+        said = self.said.readlines()[1:]  # the first line is the launcher's
+        if not any(line.startswith("run=ended") for line in said):
+            print(f"ae: no preview, since the trial run gave no answer: {said[-1].strip() if said else ''}", file=sys.stderr)
+            return
+        print("ae: UNPROVED PREVIEW of the output:", file=sys.stderr)
+        for line in [*(it for it in said if it.startswith("ae: ")), *self.text]:
+            print(f"  | {line.rstrip()}", file=sys.stderr)
+
+    def end(self):
+        if self.run:
+            stop(self.run)
+
+
 class Progress:
     """What is said of a build on standard error."""
 
-    def __init__(self, crates):
+    def __init__(self, crates, preview):
         self.left, self.count, self.width = dict(crates), len(crates), workers()
+        self.preview = preview
         self.begin, self.is_terminal = time.monotonic(), sys.stderr.isatty()
         self.known = 0  # seconds, as listed, of the crates that were proved in this run
 
@@ -126,6 +158,9 @@ class Progress:
         return f"{said} ({', '.join(running)})" if running else said
 
     def show(self, running=()):
+        if self.preview and self.preview.is_ready():
+            print("\r\033[K" if self.is_terminal else "", end="", file=sys.stderr)
+            self.preview.show()
         if self.is_terminal:
             width = os.get_terminal_size(2).columns - 1
             print(f"\r\033[K{self.line(running)[:width]}", end="", file=sys.stderr, flush=True)
@@ -141,6 +176,8 @@ class Progress:
     def end(self):
         if self.is_terminal:
             print(file=sys.stderr)
+        if self.preview:
+            self.preview.end()
 
 
 def copy_crates(top, crates, room):
@@ -165,12 +202,12 @@ def is_kept():
     return os.access(os.path.dirname(os.path.dirname(page)), os.W_OK)
 
 
-def build_by_gate(top, crates, program):
+def build_by_gate(top, crates, program, preview):
     """Proves the crates by the gate's command, over a copy without wrong bodies. Raises Failed if that ends before the program."""
     log, made = crates[program].log, os.path.join(crates[program].folder, "out", program)
     room = tempfile.mkdtemp(prefix="ae-build-")
     copy_crates(top, crates, room)
-    run, progress = start(["ci"], room, log), Progress(crates)
+    run, progress = start(["ci"], room, log), Progress(crates, preview)
     try:
         # (the program's tests, which come behind it, aren't awaited)
         while program in progress.left:
@@ -197,9 +234,9 @@ def command(crate, program, jobs):
     return ["lib", "--jobs", str(jobs)]
 
 
-def build_each(crates, program):
+def build_each(crates, program, preview):
     """Builds all crates, and raises Failed at the first that cannot be built. What runs then is stopped."""
-    progress = Progress(crates)
+    progress = Progress(crates, preview)
     width, left, running = progress.width, dict(crates), {}
     try:
         while left:
@@ -234,7 +271,7 @@ def said_of_failure(log):
 
 
 def main():
-    top, program, name = sys.argv[1:]
+    top, program, name, *words = sys.argv[1:]
     for number in (signal.SIGHUP, signal.SIGTERM):
         if signal.getsignal(number) != signal.SIG_IGN:  # as under nohup
             signal.signal(number, signal.default_int_handler)
@@ -243,10 +280,11 @@ def main():
     version = subprocess.run(["rt", "version"], stdout=subprocess.PIPE, text=True, check=True).stdout
     print(f"ae: proving and building the program, {len(crates)} crates", file=sys.stderr)
     try:
+        preview = Preview(top, words) if words else None
         if is_kept():
-            build_by_gate(top, crates, program)
+            build_by_gate(top, crates, program, preview)
         else:
-            build_each(crates, program)
+            build_each(crates, program, preview)
     except Failed as failed:
         (log,) = failed.args
         sys.exit(f"ae: the program could not be built. The end of {log}:\n{said_of_failure(log)}")

@@ -3,7 +3,7 @@
 # characters and of 8,000 bytes. Beside them the same work by Python's `cryptography`, and what OpenSSL takes for the cipher and
 # the HMAC alone: with the processor's AES instructions, without them, by tables, and by tables with an HMAC that uses no vector
 # instructions either. Where `perf` can count, a line says what the cipher and the HMAC alone take in `ae drive`. All in processor
-# time, in one table.
+# time, in one table. All is done three times in turn, and each figure is the least.
 # Usage: bench/cells.sh [N], where the program is built (./ae). N is a measure of how long it takes.
 . "$(dirname "$0")/lib.sh"
 n=${1:-1}
@@ -37,9 +37,21 @@ seconds() {
 run() { "$top/ae" run <script; }
 drive() { "$top/ae" drive <script; }
 
-# Prints one line of the table: who, cells, bytes of a cell, seconds.
+# note NAME SECONDS: keeps the least of the seconds under this name.
+note() {
+    awk -v now="$2" -v least="$(cat "least.$1" 2>/dev/null)" 'BEGIN { print least == "" || now < least ? now : least }' >noted
+    mv noted "least.$1"
+}
+
+# line WHO NAME LESS CELLS BYTES: prints one line of the table: what took the seconds under a name, less those under another, if one
+# is given; how many cells, and the bytes of one. It tells where nothing was noted.
 line() {
-    awk -v who="$1" -v cells="$2" -v bytes="$3" -v took="$4" 'BEGIN {
+    if [ ! -f "least.$2" ]; then
+        printf '    %-44s %10s\n' "$1" "$skipped"
+        return
+    fi
+    awk -v who="$1" -v took="$(cat "least.$2")" -v less="$(cat "least.$3" 2>/dev/null)" -v cells="$4" -v bytes="$5" 'BEGIN {
+        took -= less
         if (took <= 0) took = 0.001
         printf "    %-44s %10.0f %10.1f\n", who, cells / took, cells * bytes / took / 1e6
     }'
@@ -50,9 +62,9 @@ speed() {
     openssl speed -seconds 1 "$@" 2>/dev/null | awk 'END { if (sub(/k$/, "", $NF)) print $NF }'
 }
 
-# OpenSSL's line of a cell with $4 bytes of ciphertext, without the processor's instructions that the mask $2 takes from AES and
-# the mask $3 from the HMAC.
-openssl_line() {
+# openssl_round NAME AES HMAC BYTES: notes the seconds of a cell with so many bytes of ciphertext, without the processor's
+# instructions that the mask AES takes from the cipher and the mask HMAC from the HMAC.
+openssl_round() {
     aes=$(
         if [ -n "$2" ]; then export OPENSSL_ia32cap="~$2"; fi
         speed -evp aes-256-cbc -decrypt -bytes "$4"
@@ -61,11 +73,9 @@ openssl_line() {
         if [ -n "$3" ]; then export OPENSSL_ia32cap="~$3"; fi
         speed -hmac sha256 -bytes $(($4 + 18))
     )
-    if [ -z "$aes" ] || [ -z "$hmac" ]; then
-        echo "    skipped: this openssl has no such speed"
-        return
+    if [ -n "$aes" ] && [ -n "$hmac" ]; then
+        note "$1" "$(awk -v aes="$aes" -v hmac="$hmac" -v bytes="$4" 'BEGIN { print (bytes / aes + (bytes + 18) / hmac) / 1000 }')"
     fi
-    line "$1" 1 $(($4 + 49)) "$(awk -v aes="$aes" -v hmac="$hmac" -v bytes="$4" 'BEGIN { print (bytes / aes + (bytes + 18) / hmac) / 1000 }')"
 }
 
 # The part of the processor time of `ae drive` that the crates of the cipher, the hash and the cells take; nothing where it can't
@@ -77,49 +87,63 @@ cipher_part() {
             END { if (sum > 0) print sum / 100 }'
 }
 
+# drive_round FOLDER: notes what `ae drive` takes for the script and the replies of a folder.
+drive_round() {
+    cd "$1"
+    took=$(seconds drive)
+    part=$(cipher_part)
+    cd ..
+    note "$1" "$took"
+    if [ -n "$part" ]; then note "$1-cipher" "$(awk -v took="$took" -v part="$part" 'BEGIN { print took * part }')"; fi
+}
+
+# recorded FOLDER KIND ROWS QUERIES: a folder with a script, the replies to it, and its keys.
+recorded() {
+    mkdir "$1"
+    cp -r keys "$1"
+    cells "$2" "$3" "$4" >"$1/script"
+    (cd "$1" && run >text && python3 "$top/bench/apart.py")
+}
+
 # One kind: its name, how many rows, how many queries, the bytes of its ciphertext.
 kind() {
     size=$(($4 + 49))
+    recorded once "$1" "$2" 1
+    recorded often "$1" "$2" "$3"
+    for _ in 1 2 3; do
+        cells "$1" "$2" 0 >script
+        note begun "$(seconds run)"
+        cells "$1" $((3 * $2)) 0 >script
+        note sealed "$(seconds run)"
+        drive_round once
+        drive_round often
+        if python3 -c 'import cryptography' 2>/dev/null; then
+            took=$(python3 "$top/bench/cells.py" "$1" $(($2 * 10)))
+            note python-sealed "${took% *}"
+            note python-opened "${took#* }"
+        fi
+        if command -v openssl >/dev/null; then
+            openssl_round openssl '' '' "$4"
+            openssl_round without 0x200000000000000 '' "$4"
+            openssl_round tables 0x200020000000000 '' "$4"
+            openssl_round scalar 0x200020000000000 0x200020000000000 "$4"
+        fi
+    done
     echo "$1, $size bytes a cell"
-    cells "$1" "$2" 0 >script
-    begun=$(seconds run)
-    cells "$1" $((3 * $2)) 0 >script
-    sealed=$(seconds run)
-    line 'sealed by ae run' $((2 * $2)) $size "$(awk -v a="$begun" -v b="$sealed" 'BEGIN { print b - a }')"
-
-    cells "$1" "$2" 1 >script
-    run >text
-    python3 "$top/bench/apart.py"
-    once=$(seconds drive)
-    part_once=$(cipher_part)
-    cells "$1" "$2" "$3" >script
-    run >text
-    python3 "$top/bench/apart.py"
-    often=$(seconds drive)
-    line 'opened by ae drive' $(($2 * ($3 - 1))) $size "$(awk -v a="$once" -v b="$often" 'BEGIN { print b - a }')"
-    part=$(cipher_part)
-    if [ -n "$part" ]; then
-        line '  its cipher and HMAC alone' $(($2 * ($3 - 1))) $size "$(awk -v a="$once" -v of_a="$part_once" -v b="$often" -v of_b="$part" \
-            'BEGIN { print b * of_b - a * of_a }')"
-    else
-        echo '    skipped: perf is not installed, or counts nothing here'
-    fi
-
-    if python3 -c 'import cryptography' 2>/dev/null; then
-        took=$(python3 "$top/bench/cells.py" "$1" $(($2 * 10)))
-        line 'sealed by Python' $(($2 * 10)) $size "${took% *}"
-        line 'opened by Python' $(($2 * 10)) $size "${took#* }"
-    else
-        echo '    skipped: cryptography of Python is not installed'
-    fi
-    if command -v openssl >/dev/null; then
-        openssl_line 'OpenSSL, the cipher and HMAC alone' '' '' "$4"
-        openssl_line 'OpenSSL, without AES instructions' 0x200000000000000 '' "$4"
-        openssl_line 'OpenSSL, by tables' 0x200020000000000 '' "$4"
-        openssl_line 'OpenSSL, by tables, HMAC without vectors' 0x200020000000000 0x200020000000000 "$4"
-    else
-        echo '    skipped: openssl is not installed'
-    fi
+    skipped='nothing noted'
+    line 'sealed by ae run' sealed begun $((2 * $2)) $size
+    line 'opened by ae drive' often once $(($2 * ($3 - 1))) $size
+    skipped='skipped: perf is not installed, or counts nothing here'
+    line '  its cipher and HMAC alone' often-cipher once-cipher $(($2 * ($3 - 1))) $size
+    skipped='skipped: cryptography of Python is not installed'
+    line 'sealed by Python' python-sealed '' $(($2 * 10)) $size
+    line 'opened by Python' python-opened '' $(($2 * 10)) $size
+    skipped='skipped: openssl is not installed, or has no such speed'
+    line 'OpenSSL, the cipher and HMAC alone' openssl '' 1 $size
+    line 'OpenSSL, without AES instructions' without '' 1 $size
+    line 'OpenSSL, by tables' tables '' 1 $size
+    line 'OpenSSL, by tables, HMAC without vectors' scalar '' 1 $size
+    rm -r once often least.*
 }
 
 printf '%-48s %10s %10s\n' '' 'cells/s' 'MB/s'
