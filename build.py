@@ -264,7 +264,7 @@ def build_each(crates, program, preview):
 def said_of_failure(log):
     """Returns the end of what a log says of the first thing that failed."""
     with open(log, encoding="utf-8", errors="replace") as file:
-        lines = file.readlines()
+        lines = [line for line in file if " is kept: " not in line]
     ends = [at for at, line in enumerate(lines) if "NOT PROVED" in line]
     last = ends[0] + 1 if ends else len(lines)
     return "".join(f"  | {line}" for line in lines[max(0, last - 12) : last])

@@ -3,7 +3,7 @@
 # characters and of 8,000 bytes. Beside them the same work by Python's `cryptography`, and what OpenSSL takes for the cipher and
 # the HMAC alone: with the processor's AES instructions, without them, by tables, and by tables with an HMAC that uses no vector
 # instructions either. Where `perf` can count, a line says what the cipher and the HMAC alone take in `ae drive`. All in processor
-# time, in one table. All is done three times in turn, and each figure is the least.
+# time, in one table. All is done five times in turn, and each figure is the least.
 # Usage: bench/cells.sh [N], where the program is built (./ae). N is a measure of how long it takes.
 . "$(dirname "$0")/lib.sh"
 n=${1:-1}
@@ -78,23 +78,24 @@ openssl_round() {
     fi
 }
 
-# The part of the processor time of `ae drive` that the crates of the cipher, the hash and the cells take; nothing where it can't
-# be counted. The compiler puts the decryption of eight blocks into the driver's `replied`, which does little else: it counts whole.
-cipher_part() {
-    perf record -q -o counted "$top/ae" drive <script >/dev/null 2>&1 || return 0
-    perf report -i counted --stdio -q --no-children -F overhead,symbol 2>/dev/null |
-        awk '/ (aes_block|cbc_mode|sha2|hmac_kdf|cell_codec)::| driver::client::Driver::replied/ { sub(/%/, "", $1); sum += $1 }
-            END { if (sum > 0) print sum / 100 }'
+# The processor seconds of `ae drive` in the crates of the cipher, the hash and the cells, by 4,000 samples a second; nothing where
+# there are no samples. The compiler puts the decryption of eight blocks into the driver's `replied`, which does little else: it
+# counts whole.
+cipher_seconds() {
+    perf record -q -e cpu-clock -c 250000 -o counted "$top/ae" drive <script >/dev/null 2>&1 || return 0
+    perf report -i counted --stdio -q --no-children -F sample,symbol 2>/dev/null |
+        awk '/ (aes_block|cbc_mode|sha2|hmac_kdf|cell_codec)::| driver::client::Driver::replied/ { sum += $1 }
+            END { if (sum > 0) print sum / 4000 }'
 }
 
 # drive_round FOLDER: notes what `ae drive` takes for the script and the replies of a folder.
 drive_round() {
     cd "$1"
     took=$(seconds drive)
-    part=$(cipher_part)
+    cipher=$(cipher_seconds)
     cd ..
     note "$1" "$took"
-    if [ -n "$part" ]; then note "$1-cipher" "$(awk -v took="$took" -v part="$part" 'BEGIN { print took * part }')"; fi
+    if [ -n "$cipher" ]; then note "$1-cipher" "$cipher"; fi
 }
 
 # recorded FOLDER KIND ROWS QUERIES: a folder with a script, the replies to it, and its keys.
@@ -107,10 +108,10 @@ recorded() {
 
 # One kind: its name, how many rows, how many queries, the bytes of its ciphertext.
 kind() {
-    size=$(($4 + 49))
+    size=$(($4 + 49)) opened=$(($2 * ($3 - 1))) python=$(($2 * $3 / 5))
     recorded once "$1" "$2" 1
     recorded often "$1" "$2" "$3"
-    for _ in 1 2 3; do
+    for _ in 1 2 3 4 5; do
         cells "$1" "$2" 0 >script
         note begun "$(seconds run)"
         cells "$1" $((3 * $2)) 0 >script
@@ -118,7 +119,7 @@ kind() {
         drive_round once
         drive_round often
         if python3 -c 'import cryptography' 2>/dev/null; then
-            took=$(python3 "$top/bench/cells.py" "$1" $(($2 * 10)))
+            took=$(python3 "$top/bench/cells.py" "$1" $python)
             note python-sealed "${took% *}"
             note python-opened "${took#* }"
         fi
@@ -132,12 +133,12 @@ kind() {
     echo "$1, $size bytes a cell"
     skipped='nothing noted'
     line 'sealed by ae run' sealed begun $((2 * $2)) $size
-    line 'opened by ae drive' often once $(($2 * ($3 - 1))) $size
+    line 'opened by ae drive' often once $opened $size
     skipped='skipped: perf is not installed, or counts nothing here'
-    line '  its cipher and HMAC alone' often-cipher once-cipher $(($2 * ($3 - 1))) $size
+    line '  its cipher and HMAC alone' often-cipher once-cipher $opened $size
     skipped='skipped: cryptography of Python is not installed'
-    line 'sealed by Python' python-sealed '' $(($2 * 10)) $size
-    line 'opened by Python' python-opened '' $(($2 * 10)) $size
+    line 'sealed by Python' python-sealed '' $python $size
+    line 'opened by Python' python-opened '' $python $size
     skipped='skipped: openssl is not installed, or has no such speed'
     line 'OpenSSL, the cipher and HMAC alone' openssl '' 1 $size
     line 'OpenSSL, without AES instructions' without '' 1 $size
@@ -147,6 +148,6 @@ kind() {
 }
 
 printf '%-48s %10s %10s\n' '' 'cells/s' 'MB/s'
-kind int $((2000 * n)) 20 16
-kind text $((1000 * n)) 20 416
-kind bytes $((200 * n)) 20 8016
+kind int $((2000 * n)) 200 16
+kind text $((1000 * n)) 200 416
+kind bytes $((200 * n)) 80 8016
