@@ -3,7 +3,8 @@
 # characters and of 8,000 bytes. Beside them the same work by Python's `cryptography`, and what OpenSSL takes for the cipher and
 # the HMAC alone: with the processor's AES instructions, without them, by tables, and by tables with an HMAC that uses no vector
 # instructions either. Where `perf` can count, a line says what the cipher and the HMAC alone take in `ae drive`. All in processor
-# time, in one table. All is done five times in turn, and each figure is the least.
+# time, in one table. All is done five times in turn, and each figure is the least. Then the cipher and HMAC for 8,000 bytes are
+# compared in forty short rounds.
 # Usage: bench/cells.sh [N], where the program is built (./ae). N is a measure of how long it takes.
 . "$(dirname "$0")/lib.sh"
 n=${1:-1}
@@ -147,7 +148,26 @@ kind() {
     rm -r once often least.*
 }
 
+# in_turn ROUNDS: the cipher and HMAC of `ae drive` and those of OpenSSL's library in turn, by tables and without vectors, over 4,000
+# cells of 8,000 bytes. The rounds are short, since a processor is slower while another one that shares its core is busy.
+in_turn() {
+    recorded short bytes 200 20
+    for _ in $(seq "$1"); do
+        ours=$(cd short && cipher_seconds)
+        theirs=$(OPENSSL_ia32cap='~0x200020000000000' python3 "$top/bench/openssl.py" 4000 8016 2>/dev/null) || theirs=
+        if [ -z "$ours" ] || [ -z "$theirs" ]; then
+            echo 'in turn: skipped, since perf or the library of OpenSSL is not there'
+            return
+        fi
+        echo "$ours $theirs"
+    done | awk '{ print $2 / $1 }' | sort -g | awk '{ part[NR] = $1; if ($1 < 1) below++ }
+        END { printf "in turn: %.2f to %.2f times as fast as OpenSSL by tables without vectors, %.2f in the middle\n",
+            part[1], part[NR], part[int((NR + 1) / 2)]; printf "         slower in %d of %d rounds\n", below, NR }'
+}
+
 printf '%-48s %10s %10s\n' '' 'cells/s' 'MB/s'
 kind int $((2000 * n)) 200 16
 kind text $((1000 * n)) 200 416
 kind bytes $((200 * n)) 80 8016
+echo
+in_turn 40
