@@ -5,7 +5,7 @@ Usage: build.py TOP PROGRAM LINK [WORD ..], where TOP/crates.txt lists the crate
 With words, it shows meanwhile what an unproved trial run of the program on these words prints for standard input.
 The gate's command (`rt ci`) proves the crates. It keeps what is proved beside the kit, and gives what any checkout on this machine
 has proved. Where nothing can be kept there, each crate is built by `rt lib` as soon as those that it uses are built, the longest
-chain first, and kept in the checkout. So a build that was broken off goes on where it was.
+chain first, and kept in the checkout. So an interrupted build resumes where it stopped.
 On a terminal one line tells how far it is; in a log there is a line for each crate.
 """
 import os
@@ -289,7 +289,7 @@ def main():
         (log,) = failed.args
         sys.exit(f"ae: the program could not be built. The end of {log}:\n{said_of_failure(log)}")
     except KeyboardInterrupt:
-        sys.exit("ae: the build was broken off; the next one goes on from here")
+        sys.exit("ae: the build was interrupted; the next one resumes here")
     out = os.path.join(crates[program].folder, "out")
     link = os.path.join(out, name)
     if not os.path.lexists(link):

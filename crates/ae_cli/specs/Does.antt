@@ -31,7 +31,7 @@ use Rattle.ae_cli.specs.Seen.{Device, Seen, drive_devices, run_devices, wrap_dev
 
 -- ---- what a command did, by how it ended
 
--- It read a script: there are bytes, the script's where it tells them, of which it did this; and so much of them was taken.
+-- It read a script and did this with some bytes: the script's, if it exposes them. So much of them was taken.
 pub record DidScript {How : Type 0} (status_by : How → Status) (Did : How → List ℕ → Type 0) (Takes : How → List ℕ → List ℕ → Type 0) (end : Status) (old new : Seen) : Type 0 where
   pub how : How
   pub ends : end ≡ status_by how
@@ -40,13 +40,13 @@ pub record DidScript {How : Type 0} (status_by : How → Status) (Did : How → 
   pub did : Did how bytes
   pub taken : WhereTold (Takes how) old.script.content new.script.content
 
--- It ran a script. Over a peer that serves from the empty state no reply stopped it, whatever the devices tell.
+-- It ran a script. Over a peer that serves from the empty state no reply stopped it, whatever the devices expose.
 pub record DidRun (Did : Ran → List ℕ → Type 0) (end : Status) (old new : Seen) : Type 0 where
   pub run : DidScript status_of Did (λ ran. TakesScript (runs.read_by ran)) end old new
   pub awaited : old.peer.state ≡ Some empty_state → (place : ℕ) → end ≢ status.BadReply place
 
--- It served requests: what was taken of the script, and what was put for it; and that transactions took effect one after another. Where
--- the script tells its bytes: by how those within the limit end, and the frames of the replies to their requests.
+-- It served requests: what was taken of the script, and what was written for it; and that transactions took effect one after another. If
+-- the script exposes its bytes: by how those within the limit end, and the frames of the replies to their requests.
 pub record DidServe (end : Status) (old new : Seen) : Type 0 where
   pub how : Served
   pub ends : end ≡ status_of_serving how

@@ -9,7 +9,7 @@ use Rattle.run_command.specs.Ends.{RunDevices}
 use Rattle.drive_command.specs.Ends.{DriveDevices}
 use Rattle.wrap_command.specs.Wrapping.{WrapDevices}
 
--- of a device: its content, where it tells that, and how many of its calls have failed
+-- of a device: its content, if it exposes that, and how many of its calls have failed
 pub record Device (A : Type 0) : Type 0 where
   pub content : Option A
   pub faults : ℕ
@@ -17,7 +17,7 @@ pub record Device (A : Type 0) : Type 0 where
 abbrev pub seen : {D A : Type 0} → (D → Option A) → (D → ℕ) → D → Device A
 seen content faults device = record { content = content device; faults = faults device }
 
--- of the peer: what it was asked and answered, and the state that it serves by, where it tells them
+-- of the peer: what it was asked and answered, and the state from which it serves, if it exposes them
 pub record PeerSeen : Type 0 where
   pub log : Option (List Exchange)
   pub state : Option State
@@ -32,7 +32,7 @@ pub record Seen : Type 0 where
   pub peer : PeerSeen
   pub disk : Device Moments
 
--- ---- what a command is told of it, and of the version of the frames
+-- ---- what a command's definitions see of it, and of the version of the frames
 
 abbrev pub run_devices : FrameVersion → Seen → RunDevices
 run_devices version s = record {

@@ -62,7 +62,7 @@ pub fn ae_main<S: Source, V: Vault, E: Entropy, L: Source, W: Sink, T: Sink, P: 
     peer: &mut P,
     disk: &mut D,
 ) -> Status
-    // By the command that the words are: how it ended and why, and what each device has of it, from
+    // By the command that the words are: how it ended and why, and its effect on each device, from
     // what is seen of them before to what is seen of them after.
     ensures does { Does words.now result
         (record {
@@ -85,7 +85,7 @@ pub fn ae_main<S: Source, V: Vault, E: Entropy, L: Source, W: Sink, T: Sink, P: 
           peer = record { log = P.log peer.new; state = P.state peer.new };
           disk = seen D.told D.faults disk.new;
         }) }
-    // A device that the command doesn't use is as it was, whatever it tells.
+    // A device that the command doesn't use is as it was, whatever it exposes.
     ensures script { (uses (command_in words.now)).script ≡ false → script.new ≡ script.old }
     ensures vault { (uses (command_in words.now)).vault ≡ false → vault.new ≡ vault.old }
     ensures entropy { (uses (command_in words.now)).entropy ≡ false → entropy.new ≡ entropy.old }

@@ -71,7 +71,7 @@ IsCut replies behind d end = IsByReplies d.end
 
 -- ---- what is put
 
--- what is told of the text, the tap and the random bytes to come
+-- the text, the tap and the random bytes to come, if they are exposed
 pub record Told : Type 0 where
   pub out : Option (List ℕ)
   pub tap : Option (List ℕ)

@@ -17,8 +17,8 @@ use Rattle.plain_meaning.specs.Steps.{talk}
 use Rattle.script_run.specs.declared.runs.Ran.{Ran}
 use Rattle.script_run.specs.declared.runs.Ran.TheVariants as ran
 
--- the version of the frames, and what is told of all that driving is lent: text and tap, the random bytes to come, the keys, the replies
--- that are left, and the counts of faults
+-- the version of the frames, and what all that driving is lent exposes: text and tap, the random bytes to come, the keys, the replies that
+-- are left, and the counts of faults
 pub record DriveDevices : Type 0 where
   pub version : FrameVersion
   pub out : Option (List ℕ)

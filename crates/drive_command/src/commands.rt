@@ -109,15 +109,14 @@ pub fn drive<S: Source, V: Vault, E: Entropy, L: Source, W: Sink, T: Sink>(
     tap: &mut T,
     version: FrameVersion,
 ) -> Ran
-    // There are bytes, the script's where it tells them, of which this is the result of driving.
-    // Over any replies: how far its conversation was followed, what stands at the text, at the tap
-    // and at the other devices of it, how the replies were read, and why no further (`content`).
-    // Over replies that tell their bytes, with keys that are told: the text and the tap are those
-    // of what is driven over the replies that these bytes spell, with the random bytes that were
-    // drawn. It goes to the end, with every reply taken and no byte left; or to a bad reply, whose
-    // place is that of its frame, or where none comes or bytes are left. Where the replies can't be
-    // read or are past their limit, it is so over those that were taken; where a device fails or
-    // memory ends, fronts stand (`exact`).
+    // This is the driving of some bytes: the script's, if it exposes them. Over any replies: how
+    // much of the exchange took place, its effect on each device, how the replies were read, and
+    // why it stopped (`content`). Over replies that expose their bytes, with exposed keys: the text
+    // and the tap are those of driving over the replies that these bytes spell, with the random
+    // bytes that were drawn. It goes to the end, with every reply taken and no byte left; or to a
+    // bad reply, at the place of its frame, or to where none comes or bytes are left. If the
+    // replies can't be read or are past their limit, this holds over those that were taken. If a
+    // device fails or memory runs out, the beginnings were written (`exact`).
     ensures drive { (bytes : List ℕ) × IfSome (S.left script.old) (λ left. bytes ≡ left)
         × IsDriveOf result bytes
         (record {

@@ -23,8 +23,8 @@ use Rattle.run_command.specs.declared.runs.Count.{Count}
 use Rattle.script_run.specs.declared.runs.Ran.{Ran}
 use Rattle.script_run.specs.declared.runs.Ran.TheVariants as ran
 
--- the version of the frames, and what is told of all that a run is lent: text and tap, the random bytes to come, the keys, what the peer was
--- asked and answered and the state that it serves by, and the counts of faults
+-- the version of the frames, and what all that a run is lent exposes: text and tap, the random bytes to come, the keys, what the peer was
+-- asked and answered and the state from which it serves, and the counts of faults
 pub record RunDevices : Type 0 where
   pub version : FrameVersion
   pub out : Option (List ℕ)

@@ -1,4 +1,4 @@
--- What is said of a run of some bytes.
+-- What is stated about a run of some bytes.
 use Rattle.std.specs.Prelude.{◌≡◌, ℕ, List, Some}
 use Rattle.ae_edge.specs.Vaults.{KeyMap}
 use Rattle.server_core.specs.Serve.{empty_state}
@@ -12,22 +12,22 @@ use Rattle.run_command.specs.Plain.{PrintsPlain, IsDoneOrFault}
 use Rattle.run_command.specs.Serially.{IsServedSerially}
 use Rattle.run_command.specs.Transcript.{TapsTranscript}
 
--- over a peer that serves from the empty state P holds of the steps by which the bytes are a script
+-- over a peer that serves from the empty state P holds of the steps of the script that the bytes are
 abbrev pub WhereServed : RunDevices → List ℕ → (List Step → Type 0) → Type 0
 WhereServed old bytes P = old.state ≡ Some empty_state → (steps : List Step) → IsScript bytes steps → P steps
 
--- and of the keys, where they are told
+-- and of the keys, if they are exposed
 abbrev pub WhereOpened : RunDevices → List ℕ → (KeyMap → List Step → Type 0) → Type 0
 WhereOpened old bytes P = WhereServed old bytes (λ steps. (keys : KeyMap) → old.keys ≡ Some keys → P keys steps)
 
--- and of keys to which all values of a column key open alike
+-- and of keys under which all values of each column key open to one key
 abbrev pub WhereAlike : RunDevices → List ℕ → (KeyMap → List Step → Type 0) → Type 0
 WhereAlike old bytes P = WhereOpened old bytes (λ keys steps. Alike keys steps → P keys steps)
 
--- Over any peer: how far the conversation was followed, what was counted, what each device has of it, and why it was followed no further. Over one that serves
--- from the empty state: a good script is run to its end, unless memory or a device fails; its requests are served there one after another,
--- and transactions take effect one after another, each whole at its COMMIT; with keys that are told, the tap has the frames of the
--- conversation over that server, with the cells sealed under the random bytes that were drawn; and where all values of a column key open to
+-- Over any peer: how much of the exchange took place, what was counted, its effect on each device, and why it stopped. Over a peer that
+-- serves from the empty state: a valid script is run to its end, unless memory or a device fails. Its requests are served there one after
+-- another, and transactions take effect one after another, each whole at its COMMIT. If the keys are exposed, the tap has the frames of the
+-- exchange over that server, with the cells sealed under the random bytes that were drawn. If all values of each column key also open to
 -- one key, the text is plain SQL's over the same values, whatever columns are protected.
 pub record IsRunOf (r : Ran) (bytes : List ℕ) (old new : RunDevices) : Type 0 where
   pub count : Count

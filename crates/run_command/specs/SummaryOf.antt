@@ -49,8 +49,8 @@ IfEnded ran.Refusals P = P
 IfEnded (ran.Stopped why) P = Unit {0}
 IfEnded (ran.Unread why) P = Unit {0}
 
--- It is a run whose text goes nowhere; where that reached its end, its summary was put. Over a peer that serves from the empty state, with
--- keys that are told, the summary counts the requests of the conversation over that server; and where all values of a column key open to one
+-- It is a run whose text is dropped; if that reached its end, its summary was written. Over a peer that serves from the empty state, and
+-- with exposed keys, the summary counts the requests of the exchange over that server. If all values of each column key also open to one
 -- key, it counts the refusals and rows of plain SQL over the same values.
 pub record IsSummaryOf (r : Ran) (bytes : List ℕ) (old new : RunDevices) : Type 0 where
   pub ran : Ran

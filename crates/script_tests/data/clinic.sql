@@ -1,5 +1,5 @@
--- A clinic keeps from whoever runs its database who its patients are and what ails them.
--- The master key is in keys/main.key; what ENCRYPTED_VALUE says is a column key wrapped under it.
+-- A clinic keeps its patients' numbers, years of birth and findings as cells, so that whoever runs its database isn't sent them in
+-- the open. The master key is in keys/main.key; ENCRYPTED_VALUE is a column key wrapped under it.
 CREATE COLUMN MASTER KEY clinic WITH (KEY_STORE_PROVIDER_NAME = N'KEYFILE', KEY_PATH = N'main')
 GO
 CREATE COLUMN ENCRYPTION KEY patients_key WITH VALUES (
