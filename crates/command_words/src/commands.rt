@@ -145,8 +145,8 @@ fn wrap_in(alloc: Global, matches: &ArgMatches<'_>) -> Result<Command, Refusal<T
     }
 }
 
-/// `clap` took the text of the number, so that `u32` reads it. That is not proved: the arm for a
-/// text that it doesn't read answers as without memory, of which nothing is claimed.
+/// `clap` has tested the number, so the second arm isn't reached. The contract of `clap` doesn't say
+/// so, and that arm answers out of memory.
 fn gen_in(matches: &ArgMatches<'_>) -> Result<Command, Refusal<Txt>>
     ensures { FindsSize (rows_of (found_of matches.now)) result }
 {
