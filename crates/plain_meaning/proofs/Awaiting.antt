@@ -1,7 +1,7 @@
 -- Over the server from the empty state each reply is awaited: whatever is asked, the server's replies are of their kinds, and its rows of their columns.
 -- And where the keys are a vault's, and the scripts proper, no refusal is of a parameter as it is sent: each suits what was described.
 use Rattle.std.proofs.Common.{◌≡◌, ℕ, zero, suc, ◌+◌, ◌-◌, List, [], ◌∷◌, ◌++◌, map, length, Option, Some, None, Result, Ok, Err, Bool, true, false, cond, refl, sym, ap, ◌∙◌, subst, arith, eq-eqb}
-use Rattle.std.specs.Prelude.{◌==◌, replicate}
+use Rattle.std.specs.Prelude.{IfErr, ◌==◌, replicate}
 use Rattle.std.specs.List.{All, AllZip}
 use Rattle.std.proofs.lemmas.Bool.{eqb-true}
 use Rattle.std.proofs.lemmas.List.{length-map}
@@ -66,7 +66,7 @@ use Rattle.plain_meaning.specs.Steps.{number_of, turn, talk}
 use Rattle.plain_meaning.specs.Reference.{declarations_of, nothing_held, held_at, with_held}
 use Rattle.plain_meaning.proofs.Agreement.{whole_count}
 use Rattle.plain_meaning.proofs.Between.{Always, HoldsBatch, HoldsIn, AllHold, Goes, stays_so, goes_by, all_go, all_held, hold_place, resting, all_resting, at_resting, set_resting}
-use Rattle.plain_meaning.proofs.Causes.{Blames, understood_blames, transact_blames}
+use Rattle.plain_meaning.proofs.Causes.{understood_plain, transact_plain}
 use Rattle.plain_meaning.proofs.ItsOwn.{any_cell, are_own, IsOwnState}
 use Rattle.plain_meaning.proofs.Saying.{Says, awaits_all, says_all}
 use Rattle.plain_meaning.proofs.Sending.{told_among}
@@ -165,7 +165,7 @@ module _ (laws : LawsBelow) (keys : KeyMap) (Proper : Type 0) where
           (λ os none opened. read columns (length rows) IsAnswer Fine (λ comes p is. p) now k onward os rows t c (record { titles = titles_of (header here columns); rows = [] }) 0 (whole_count rows))
           (λ f some. (λ is. tt, skipped columns (length rows) (λ heard left. Goes_on (over_on k heard) now left) rows t c nothing_shown 0 (whole_count rows) onward))
 
-      answer_awaits : (x : Result Answer SqlFault) → Blames x → IsAnswerOf any_cell x → BothAnswer (AnswersCorrespond (Related own_cell)) x x
+      answer_awaits : (x : Result Answer SqlFault) → IfErr x IsPlainFault → IsAnswerOf any_cell x → BothAnswer (AnswersCorrespond (Related own_cell)) x x
           → let s = answered here x now in Goes_on (Hears session.Sent nothing_shown (answered_on k)) s.after s.replies
       answer_awaits (Ok (Rows columns rows)) b t c = rows_await columns rows t c.1
       answer_awaits (Ok (Changed count)) b t c = (λ is. tt, onward)
@@ -203,7 +203,7 @@ module _ (laws : LawsBelow) (keys : KeyMap) (Proper : Type 0) where
         let kept = laws.keeps_stores any_cell state n (ask_of e) own.typed may in
         let sim = laws.simulates any_cell own_cell state state n (ask_of e) (ask_of e) own_is_one_to_one own_is_within own.typed own.paired alike_asked may in
         let done = transact state n (ask_of e) in
-        answer_awaits done.after (go None done.after (record { typed = kept.0; paired = sim.stores }) (goes_by Proper state n e)) done.answer (transact_blames state n (ask_of e)) kept.1 sim.answers
+        answer_awaits done.after (go None done.after (record { typed = kept.0; paired = sim.stores }) (goes_by Proper state n e)) done.answer (transact_plain state n (ask_of e)) kept.1 sim.answers
 
     -- what is sent suits what it means
     record IsSuited (text : List ℕ) (sent : List SentParam) : Type 0 where
@@ -224,7 +224,7 @@ module _ (laws : LawsBelow) (keys : KeyMap) (Proper : Type 0) where
             let j : Err e ≡ Ok x.atoms = sym s ∙ ap (λ (m : Meant). suited m.encs sent) m ∙ x.suits in
             absurd cc
 
-    means_await : (text : List ℕ) (sent : List SentParam) → (Proper → IsSuited text sent) → (r : Result Meant SqlFault) → Blames r → understood here text (map declaration_of sent) ≡ r
+    means_await : (text : List ℕ) (sent : List SentParam) → (Proper → IsSuited text sent) → (r : Result Meant SqlFault) → IfErr r IsPlainFault → understood here text (map declaration_of sent) ≡ r
         → let s = executed state n (r >>= λ meant. suited meant.encs sent >>= λ atoms. Ok (meant, atoms)) in Goes_on (Hears session.Sent nothing_shown (answered_on k)) s.after s.replies
     means_await text sent f (Ok meant) b u = suits_await text sent meant f u (suited meant.encs sent) refl
     means_await text sent f (Err e) b u = prints (outcome.Refused e) b None tt
@@ -239,7 +239,7 @@ module _ (laws : LawsBelow) (keys : KeyMap) (Proper : Type 0) where
         let d = h.same (eqb-true p.version here.version e) in
         let s = suits laws keys here p (h.sendable is) d sent (sealed is) in
         record { meant = record { bound = alone d.meant.bound; encs = encs_alone d.meant }; means = s.understood; atoms = atoms_in sent; suits = s.suited })
-        (understood here p.batch.text (map declaration_of sent)) (understood_blames here p.batch.text (map declaration_of sent)) refl
+        (understood here p.batch.text (map declaration_of sent)) (understood_plain here p.batch.text (map declaration_of sent)) refl
     asked_awaits p h sent sealed false e = prints (outcome.Refused (Moved (record { seen = p.version; now = here.version }))) tt None tt
 
     pending_awaits : (p : Pending) → HoldsBatch Proper here p → Goes_on (executing n (session.Pending p) k) state []
@@ -258,7 +258,7 @@ module _ (laws : LawsBelow) (keys : KeyMap) (Proper : Type 0) where
     -- ---- a batch is described
 
     module _ (batch : Batch) (params : HasParams batch) (proper : Proper → HasProperParams batch) (ready : Pending → Talk) (ready_awaits : (p : Pending) → HoldsBatch Proper here p → Goes_on (ready p) state []) where
-      described_awaits : why_unfit batch ≡ None → (r : Result Meant SqlFault) → Blames r → understood here batch.text (declarations_of batch) ≡ r
+      described_awaits : why_unfit batch ≡ None → (r : Result Meant SqlFault) → IfErr r IsPlainFault → understood here batch.text (declarations_of batch) ≡ r
           → let s = described state (r >>= λ meant. Ok (description here (declarations_of batch) meant)) in
           Goes_on (Hears (session.Begun batch) nothing_shown (described_on ready k)) s.after s.replies
       described_awaits fit (Ok meant) b e =
@@ -271,7 +271,7 @@ module _ (laws : LawsBelow) (keys : KeyMap) (Proper : Type 0) where
       begun_awaits : (o : Option DriverFault) → why_unfit batch ≡ o
           → let t = begun n (unless o batch) in Goes_on (asked (λ after. Hears after nothing_shown (described_on ready k)) k t.answer t.after) state []
       begun_awaits (Some f) e = prints (outcome.Failed f) tt None tt
-      begun_awaits None e = described_awaits e (understood here batch.text (declarations_of batch)) (understood_blames here batch.text (declarations_of batch)) refl
+      begun_awaits None e = described_awaits e (understood here batch.text (declarations_of batch)) (understood_plain here batch.text (declarations_of batch)) refl
 
       describing_awaits : (before : Option Pending) → HoldsIn Proper state.shared (transaction_at state n) before → Goes_on (describing n batch (resting before) ready k) state []
       describing_awaits None h = begun_awaits (why_unfit batch) refl

@@ -1,0 +1,114 @@
+-- A step is refused with EncryptionClash exactly where the statement of its batch has no typing.
+use Rattle.std.specs.Prelude.{IsErr, IfSome}
+use Rattle.std.proofs.Common.{◌≡◌, ℕ, List, Option, Some, None, Result, Ok, Err, refl, sym, ap, subst, ◌∙◌, eq-eqb}
+use Rattle.ae_base.specs.Results.{◌>>=◌}
+use Rattle.ae_base.specs.declared.batches.Batch.{Batch}
+use Rattle.ae_base.specs.declared.batches.ParamDecl.{ParamDecl}
+use Rattle.ae_base.specs.declared.faults.SqlFault.{SqlFault}
+use Rattle.ae_base.specs.declared.faults.SqlFault.TheVariants as fault
+use Rattle.ae_base.specs.declared.types.Enc.{Enc}
+use Rattle.ae_edge.specs.Vaults.{KeyMap}
+use Rattle.sql_tree.specs.Bound.{Bound}
+use Rattle.catalog.specs.Catalogs.{Catalog}
+use Rattle.enc_types.specs.Least.{inferred_encs}
+use Rattle.inference.specs.Laws.{InferredExactly, RefusedAtFirst}
+use Rattle.statement_analysis.specs.Describing.{Meant, binding_of, typed, with_encs, understood}
+use Rattle.server_core.specs.Serve.{State, catalog_of}
+use Rattle.conversation.specs.Batches.{why_unfit}
+use Rattle.conversation.specs.Pending.{Pending}
+use Rattle.conversation.specs.declared.outcomes.Outcome.{Outcome}
+use Rattle.conversation.specs.declared.outcomes.Outcome.TheVariants as outcome
+use Rattle.script_lang.specs.declared.steps.Step.{Step}
+use Rattle.script_lang.specs.declared.steps.Step.TheVariants.{Whole, Half, Execute}
+use Rattle.plain_meaning.specs.Clashes.{IsClash, IsReached, IsTyped, IsUntypedAt, batch_of}
+use Rattle.plain_meaning.specs.Laws.{ClashesExactly}
+use Rattle.plain_meaning.specs.Reference.{Came, begun, declarations_of, execution_of, means, waits}
+use Rattle.plain_meaning.specs.Steps.{number_of}
+use Rattle.plain_meaning.proofs.Causes.{IsOrdinaryFault, understood_within}
+use Rattle.plain_meaning.proofs.Refusals.{IsWithin, means_within}
+
+-- ---- only there
+
+-- if a fault is a clash, it is at such a place
+abbrev ClashesAt : (ℕ → Type 0) → SqlFault → Type 0
+ClashesAt At (fault.EncryptionClash at) = At at
+ClashesAt At other = Unit {0}
+
+ordinary_clashes : (At : ℕ → Type 0) (f : SqlFault) → IsOrdinaryFault f → ClashesAt At f
+ordinary_clashes At (fault.EncryptionClash at) h = absurd h
+ordinary_clashes At other h = tt
+
+-- the statement of a step's batch is bound, and has no typing
+abbrev IsUntypedStep : Step → Option Pending → State → ℕ → Type 0
+IsUntypedStep step held state at = (batch : Batch) × (batch_of step held ≡ Some batch) × IsUntypedAt state (number_of step) batch at
+
+module _ (exact : InferredExactly) (first : RefusedAtFirst) where
+  only_there : (keys : KeyMap) (step : Step) (held : Option Pending) (state : State) (at : ℕ)
+      → (means keys step held state).comes ≡ outcome.Refused (fault.EncryptionClash at) → IsUntypedStep step held state at
+  only_there keys step held state at e =
+      let At = IsUntypedStep step held state in
+      subst (IsWithin (ClashesAt At)) e
+      (means_within (ClashesAt At) (ordinary_clashes At) keys step held state (λ batch its.
+      understood_within (ClashesAt At) (ordinary_clashes At) (catalog_of state (number_of step)) batch.text (declarations_of batch) (λ bound at is_bound clash.
+      (batch, its, record { bound = bound; is_bound = is_bound; untyped = (exact bound).refused.0 (rw clash refl); place = first bound at clash }))))
+
+-- ---- always there
+
+understood_is : (catalog : Catalog) (text : List ℕ) (declarations : List ParamDecl) (bound : Bound) → binding_of catalog text declarations ≡ Ok bound
+    → understood catalog text declarations ≡ typed bound
+unfolding understood
+understood_is catalog text declarations bound e = ap (λ r. r >>= typed) e
+
+abbrev IsClashFault : Result Meant SqlFault → Type 0
+IsClashFault r = (at : ℕ) × (r ≡ Err (fault.EncryptionClash at))
+
+refused_typing : (bound : Bound) (r : Result (List Enc) ℕ) → IsErr r → IsClashFault (with_encs bound r)
+refused_typing bound (Ok encs) is = absurd cc
+refused_typing bound (Err at) is = (at, refl)
+
+-- what is understood of a batch is refused so
+abbrev IsRefused : State → ℕ → Batch → Type 0
+IsRefused state number batch = IsClashFault (understood (catalog_of state number) batch.text (declarations_of batch))
+
+begun_clashes : (state : State) (number : ℕ) (batch : Batch) (ready : Pending → Came) → why_unfit batch ≡ None → IsRefused state number batch
+    → IsClash (begun state number batch ready (why_unfit batch)).comes
+begun_clashes state number batch ready fit (at, e) = rw (fit, e) tt
+
+execution_clashes : (keys : KeyMap) (state : State) (p : Pending) (number : ℕ) → IsReached keys state (Execute number) (Some p) → IsRefused state number p.batch
+    → IsClash (execution_of keys state number p).comes
+execution_clashes keys state p number (opened, same) (at, e) =
+    let current = eq-eqb p.version (catalog_of state number).version same in
+    rw (opened, current, e) tt
+
+reached_clashes : (keys : KeyMap) (step : Step) (held : Option Pending) (state : State) → IsReached keys state step held
+    → IfSome (batch_of step held) (IsRefused state (number_of step)) → IsClash (means keys step held state).comes
+reached_clashes keys (Whole number batch) None state fit h = begun_clashes state number batch (execution_of keys state number) fit h
+reached_clashes keys (Whole number batch) (Some p) state fit h = absurd fit
+reached_clashes keys (Half number batch) None state fit h = begun_clashes state number batch (waits state) fit h
+reached_clashes keys (Half number batch) (Some p) state fit h = absurd fit
+reached_clashes keys (Execute number) (Some p) state reached h = execution_clashes keys state p number reached h
+reached_clashes keys (Execute number) None state reached h = absurd reached
+
+-- ---- exactly
+
+clash_place : (comes : Outcome) → IsClash comes → (at : ℕ) × (comes ≡ outcome.Refused (fault.EncryptionClash at))
+clash_place (outcome.Refused (fault.EncryptionClash at)) is = (at, refl)
+clash_place other is = absurd is
+
+pub clashes_exactly : InferredExactly → RefusedAtFirst → ClashesExactly
+clashes_exactly exact first = record {
+  only = only_there exact first;
+  exactly = λ keys step held state batch bound reached its is_bound. (
+    λ is.
+        let clash = clash_place (means keys step held state).comes is in
+        let there = only_there exact first keys step held state clash.0 clash.1 in
+        let other = there.2.is_bound in
+        let same : there.2.bound ≡ bound = let one : Some there.0 ≡ Some batch = sym there.1 ∙ its in cc in
+        subst (λ b. ¬ (IsTyped b)) same there.2.untyped,
+    λ untyped.
+        let refused = refused_typing bound (inferred_encs bound) ((exact bound).refused.1 untyped) in
+        let understood_so = understood_is (catalog_of state (number_of step)) batch.text (declarations_of batch) bound is_bound in
+        reached_clashes keys step held state reached
+        (subst (λ o. IfSome o (IsRefused state (number_of step))) (sym its) (refused.0, understood_so ∙ refused.1)),
+  );
+}

@@ -1,0 +1,53 @@
+-- Where the plaintext meaning refuses a step with EncryptionClash.
+use Rattle.std.specs.Prelude.{◌≡◌, ℕ, map, Option, Some, None, Ok}
+use Rattle.ae_base.specs.declared.batches.Batch.{Batch}
+use Rattle.ae_base.specs.declared.faults.SqlFault.TheVariants.{EncryptionClash}
+use Rattle.ae_edge.specs.Vaults.{KeyMap}
+use Rattle.sql_tree.specs.Bound.{Bound}
+use Rattle.enc_types.specs.Rules.{rules}
+use Rattle.enc_types.specs.Typing.{HasTyping}
+use Rattle.inference.specs.Laws.{IsClashAt}
+use Rattle.statement_analysis.specs.Describing.{binding_of}
+use Rattle.server_core.specs.Serve.{State, catalog_of}
+use Rattle.conversation.specs.Batches.{why_unfit}
+use Rattle.conversation.specs.Pending.{Pending, uses_of}
+use Rattle.conversation.specs.declared.outcomes.Outcome.{Outcome}
+use Rattle.conversation.specs.declared.outcomes.Outcome.TheVariants.{Refused}
+use Rattle.script_lang.specs.declared.steps.Step.{Step}
+use Rattle.script_lang.specs.declared.steps.Step.TheVariants.{Whole, Half, Execute}
+use Rattle.plain_meaning.specs.Reference.{declarations_of, why_unopened}
+
+-- the batch that a step describes or executes: its own, or the one that its session holds
+abbrev pub batch_of : Step → Option Pending → Option Batch
+batch_of (Whole number batch) held = Some batch
+batch_of (Half number batch) held = Some batch
+batch_of (Execute number) None = None
+batch_of (Execute number) (Some p) = Some p.batch
+
+-- Nothing stops a step before its batch's statement is parsed, bound and typed: a batch of its own may be sent, and the session holds none; of
+-- a held batch the keys are opened, and the catalog has the version of its description.
+abbrev pub IsReached : KeyMap → State → Step → Option Pending → Type 0
+IsReached keys state (Whole number batch) None = why_unfit batch ≡ None
+IsReached keys state (Half number batch) None = why_unfit batch ≡ None
+IsReached keys state (Execute number) (Some p) = (why_unopened keys p.keys (map (λ u. u.enc) (uses_of p)) ≡ None) × (p.version ≡ (catalog_of state number).version)
+IsReached keys state step held = ⊥
+
+-- a batch's statement is bound so, in the catalog that a session sees
+abbrev pub IsBoundAs : State → ℕ → Batch → Bound → Type 0
+IsBoundAs state number batch bound = binding_of (catalog_of state number) batch.text (declarations_of batch) ≡ Ok bound
+
+-- an encryption typing exists
+abbrev pub IsTyped : Bound → Type 0
+IsTyped bound = HasTyping bound.params bound.columns (rules bound)
+
+-- a batch's statement is bound and has no typing; the place is that of the first rule such that the rules up to and with it have none
+pub record IsUntypedAt (state : State) (number : ℕ) (batch : Batch) (at : ℕ) : Type 0 where
+  pub bound : Bound
+  pub is_bound : IsBoundAs state number batch bound
+  pub untyped : ¬ (IsTyped bound)
+  pub place : IsClashAt bound at
+
+-- a refusal with EncryptionClash
+abbrev pub IsClash : Outcome → Type 0
+IsClash (Refused (EncryptionClash at)) = Unit {0}
+IsClash other = ⊥
