@@ -1,5 +1,5 @@
 -- Keys of which no column is set, and rows that stay distinct on them.
-use Rattle.std.proofs.Common.{◌≡◌, ℕ, ◌+◌, List, [], ◌∷◌, map, refl, ap, sym, ◌∙◌, subst, Bool, true, false, Option, None, Result, Ok, Err}
+use Rattle.std.proofs.Common.{◌≡◌, ℕ, ◌+◌, List, [], ◌∷◌, map, refl, ap, sym, ◌∙◌, subst, Bool, true, false, Option, Some, None, Result, Ok, Err}
 use Rattle.std.specs.Prelude.{◌||◌, if◌then◌else◌}
 use Rattle.std.specs.List.{All, list_any}
 use Rattle.std.proofs.lemmas.List.Elements.{All-head, All-tail, All-cons, All-nil}
@@ -35,6 +35,16 @@ tested keys rows = said (first_twins 1 keys rows)
 abbrev done : Result (Unit {0}) SqlFault
 done = Ok tt
 
+-- rows that are distinct on each key have no twins
+no_twins : (n : ℕ) (keys : List (List ℕ)) (rows : List (List Atom)) → AreDistinct keys rows → first_twins n keys rows ≡ None
+no_twins n [] rows d = refl
+no_twins n (key ∷ keys) rows d =
+    ap (λ b. if b then Some n else first_twins (n + 1) keys rows) (All-head (λ k. has_twins k rows ≡ false) key keys d)
+    ∙ no_twins (n + 1) keys rows (All-tail (λ k. has_twins k rows ≡ false) key keys d)
+
+pub distinct_done : (keys : List (List ℕ)) (rows : List (List Atom)) → AreDistinct keys rows → tested keys rows ≡ done
+distinct_done keys rows d = ap said (no_twins 1 keys rows d)
+
 module _ (sets : List BoundAssignment) where
   key_kept : (key : List ℕ) (row other : List Atom) → list_any (is_set sets) key ≡ false → ((place : ℕ) → is_set sets place ≡ false → atom_at other place ≡ atom_at row place) → key_of key other ≡ key_of key row
   key_kept [] row other e h = refl
@@ -55,16 +65,15 @@ module _ (sets : List BoundAssignment) where
       All-cons (IndexesRows new) x indexes (subst (λ ks. IndexesKeys ks x.keyed) (sym (keys_kept x.places old new one h)) (All-head (IndexesRows old) x indexes i))
       (indexes_kept indexes old new (or_right (list_any (is_set sets) x.places) (sets_a_key sets (keys_of indexes)) e) h (All-tail (IndexesRows old) x indexes i))
 
-  none_twins : (n : ℕ) (keys : List (List ℕ)) (old new : List (List Atom)) → sets_a_key sets keys ≡ false → AreKept sets old new → AreDistinct keys old → first_twins n keys new ≡ None
-  none_twins n [] old new e h d = refl
-  none_twins n (key ∷ keys) old new e h d =
+  distinct_kept : (keys : List (List ℕ)) (old new : List (List Atom)) → sets_a_key sets keys ≡ false → AreKept sets old new → AreDistinct keys old → AreDistinct keys new
+  distinct_kept [] old new e h d = All-nil (λ k. has_twins k new ≡ false)
+  distinct_kept (key ∷ keys) old new e h d =
       let one = or_left (list_any (is_set sets) key) (sets_a_key sets keys) e in
-      let first : has_twins key new ≡ false = twins_same key new old (keys_kept key old new one h) ∙ All-head (λ k. has_twins k old ≡ false) key keys d in
-      ap (λ b. if b then Rattle.std.proofs.Common.Some n else first_twins (n + 1) keys new) first
-      ∙ none_twins (n + 1) keys old new (or_right (list_any (is_set sets) key) (sets_a_key sets keys) e) h (All-tail (λ k. has_twins k old ≡ false) key keys d)
+      All-cons (λ k. has_twins k new ≡ false) key keys (twins_same key new old (keys_kept key old new one h) ∙ All-head (λ k. has_twins k old ≡ false) key keys d)
+      (distinct_kept keys old new (or_right (list_any (is_set sets) key) (sets_a_key sets keys) e) h (All-tail (λ k. has_twins k old ≡ false) key keys d))
 
   pub answer_kept : (keys : List (List ℕ)) (old new : List (List Atom)) → sets_a_key sets keys ≡ false → AreKept sets old new → AreDistinct keys old → tested keys new ≡ done
-  answer_kept keys old new e h d = ap said (none_twins 1 keys old new e h d)
+  answer_kept keys old new e h d = distinct_done keys new (distinct_kept keys old new e h d)
 
 -- no rows are distinct
 pub distinct_none : (keys : List (List ℕ)) → AreDistinct keys []

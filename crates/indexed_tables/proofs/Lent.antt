@@ -1,6 +1,10 @@
 -- Rows that are lent, as they stand, as they will stand, and those that stay.
 use Rattle.std.proofs.Common.{◌≡◌, ℕ, zero, suc, ◌+◌, ◌<◌, ◌≤◌, List, [], ◌∷◌, ◌++◌, length, get_or, drop, map, slice_set, append_assoc, refl, ap, sym, ◌∙◌, arith, Bool, true, false}
+use Rattle.std.specs.Prelude.{◌==◌}
+use Rattle.std.specs.List.{list_any}
+use Rattle.std.proofs.lemmas.Bool.{eqb-true}
 use Rattle.std.proofs.lemmas.List.{append-nil, drop_more, drop_all}
+use mathlib.Core.Bool.{beq}
 use Rattle.row_store.specs.declared.changes.Change.{Change}
 use Rattle.row_store.specs.Changes.{written, unhit}
 
@@ -41,3 +45,15 @@ module _ {A T : Type 0} (now : A → T) (whole : List T) (rows kept : List A) (h
 
 pub kept_all : {A T : Type 0} (now : A → T) (whole rows : List T) (kept : List A) (hits : List Bool) (i : ℕ) → length rows ≤ i → whole ≡ map now kept ++ unhit (drop i rows) (drop i hits) → map now kept ≡ whole
 kept_all now whole rows kept hits i le w = sym (w ∙ ap (λ rs. map now kept ++ unhit rs (drop i hits)) (drop_all i rows le) ∙ append-nil (map now kept))
+
+-- where no row is hit, all stay
+pub none_hit : {T : Type 0} (rows : List T) (hits : List Bool) → list_any (λ hit. beq hit true) hits ≡ false → unhit rows hits ≡ rows
+none_hit [] hits e = refl
+none_hit (row ∷ rows) [] e = refl
+none_hit (row ∷ rows) (true ∷ hits) e = absurd cc
+none_hit (row ∷ rows) (false ∷ hits) e = ap (λ l. row ∷ l) (none_hit rows hits e)
+
+-- where no row changes, all stay
+pub none_written : {T : Type 0} (rows : List T) (changes : List (Change T)) → (length changes == 0) ≡ true → rows ≡ written rows changes
+none_written rows [] e = refl
+none_written rows (change ∷ changes) e = let none = eqb-true (length (change ∷ changes)) 0 e in absurd (omega arith)

@@ -106,7 +106,7 @@ impl<K: Same> Table<K> {
 
     /// Puts the new rows of an UPDATE with these assignments in the places of the old ones, all of
     /// them or, where two rows would be alike on a unique key or there is no memory, none. Where no
-    /// column of a key is set, the indexes stay.
+    /// row changes or no column of a key is set, the indexes stay.
     pub fn update(
         &mut self,
         alloc: Global,
@@ -123,6 +123,9 @@ impl<K: Same> Table<K> {
         ensures keys { self.new.keys ≡ self.old.keys }
         ensures rows { self.new.rows ≡ changed_rows result self.old.rows changes }
     {
+        if changes.is_empty() {
+            return Ok(());
+        }
         if !sets_a_key(self.indexes.as_slice(), assignments) {
             self.rows.replace_all(changes);
             return Ok(());
@@ -140,13 +143,17 @@ impl<K: Same> Table<K> {
         }
     }
 
-    /// Drops the rows that were hit, or without memory none; those behind them move up.
+    /// Drops the rows that were hit, or without memory none; those behind them move up. Where no row
+    /// was hit, it takes no memory.
     pub fn drop_hit(&mut self, alloc: Global, hits: &[bool]) -> Result<(), AllocError>
         requires { length hits.now ≡ length self.old.rows }
         ensures ok { OnOk result
             (self.new ≡ record { keys = self.old.keys; rows = unhit self.old.rows hits.now }) }
         ensures err { OnErr result (self.new ≡ self.old) }
     {
+        if !hits.contains(&true) {
+            return Ok(());
+        }
         self.indexes = thinned(alloc, &self.indexes, self.rows.rows(), hits)?;
         self.rows.drop_hit(hits);
         Ok(())
@@ -276,6 +283,9 @@ fn thinned<K: Same>(
     ensures indexed { IfOk result
         (λ new. All (IndexesRows (unhit (flat pages.now) hits.now)) new.items) }
 {
+    if indexes.is_empty() {
+        return Ok(Vec::new(alloc));
+    }
     let rows = lent_unhit(alloc, pages, hits)?;
     fresh(alloc, indexes, rows.as_slice())
 }
