@@ -8,8 +8,9 @@ use Rattle.sql_tree.specs.Bound.{BoundQuery}
 use Rattle.sql_tree.specs.declared.bound.BoundOrderKey.{BoundOrderKey}
 use Rattle.scalar.specs.Classes.{Class, Pairing, IsOneToOne, RowsCorrespond}
 use Rattle.scalar.specs.Typed.{IsNotRandomized}
-use Rattle.operators.specs.Found.{Found, found_by, keys_cmp, in_order, top_of}
+use Rattle.operators.specs.Found.{Found, found_by, keys_cmp, put, in_order, top_of}
 use Rattle.operators.specs.declared.found.Found as code
+use Rattle.query_results.specs.Adds.{most_of, most_shown}
 use Rattle.query_results.specs.Results.{distinct_if, answer_rows}
 use Rattle.operators.proofs.Interface.{all_mapped}
 use Rattle.operators.proofs.Interface.{map-push}
@@ -81,3 +82,24 @@ pub answered_so : {K : Type 0} (q : BoundQuery) (keys : List BoundOrderKey) (giv
 answered_so {K} q keys given kept sorted top rows same d o t r =
     let order : map (found_by {K = K} q.order_by) sorted ≡ in_order q.order_by (map (found_by q.order_by) kept) = subst (λ ks. map (found_by {K = K} ks) sorted ≡ in_order ks (map (found_by ks) kept)) same o in
     r ∙ ap (map shown_of) t ∙ shown-seen q.order_by (top_of q.top sorted) ∙ ap (map (λ (f : Found). f.shown)) (topped-map (found_by {K = K} q.order_by) q.top sorted ∙ ap (top_of q.top) (order ∙ ap (in_order q.order_by) d))
+
+-- ---- rows that are shown as they come
+
+unsorted : (fs : List Found) → in_order [] fs ≡ fs
+unsorted [] = refl
+unsorted (f ∷ fs) = ap (put (λ (a b : Found). keys_cmp [] a.keys b.keys) f) (unsorted fs) ∙ put_first fs
+  where
+    put_first : (fs : List Found) → put (λ (a b : Found). keys_cmp [] a.keys b.keys) f fs ≡ f ∷ fs
+    put_first [] = refl
+    put_first (g ∷ fs) = refl
+
+-- as many as an answer shows make it
+pub answered_first : (q : BoundQuery) (fs gs : List Found) → top_of (most_shown q) fs ≡ top_of (most_shown q) gs → answer_rows q fs ≡ answer_rows q gs
+answered_first q fs gs e = by_parts q.distinct q.order_by q.top e
+  where
+    by_parts : (distinct : Option ℕ) (keys : List BoundOrderKey) (top : Option ℕ) → top_of (most_of distinct keys top) fs ≡ top_of (most_of distinct keys top) gs
+        → map (λ (f : Found). f.shown) (top_of top (in_order keys (distinct_if distinct fs))) ≡ map (λ (f : Found). f.shown) (top_of top (in_order keys (distinct_if distinct gs)))
+    by_parts None [] top e =
+        ap (λ fs. map (λ (f : Found). f.shown) (top_of top fs)) (unsorted fs) ∙ ap (map (λ (f : Found). f.shown)) e ∙ ap (λ fs. map (λ (f : Found). f.shown) (top_of top fs)) (sym (unsorted gs))
+    by_parts None (key ∷ keys) top e = ap (λ fs. map (λ (f : Found). f.shown) (top_of top (in_order (key ∷ keys) fs))) e
+    by_parts (Some at) keys top e = ap (λ fs. map (λ (f : Found). f.shown) (top_of top (in_order keys (distinct_if (Some at) fs)))) e
