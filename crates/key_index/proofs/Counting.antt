@@ -72,6 +72,22 @@ before_looked n key (k ∷ keys) (list ∷ lists) = by_test (are_alike key k) (b
     by_test true e = refl
     by_test false e = e
 
+-- keys at the end have no places where their lists are empty
+looked_empty : (key : List Atom) (keys : List (List Atom)) (lists : List (List ℕ)) → All (λ list. list ≡ []) lists → [] ≡ looked key keys lists
+looked_empty key [] lists h = refl
+looked_empty key (k ∷ keys) [] h = refl
+looked_empty key (k ∷ keys) (list ∷ lists) h = by_test (are_alike key k) (looked_empty key keys lists (All-tail (λ list. list ≡ []) list lists h))
+  where
+    by_test : (b : Bool) → [] ≡ looked key keys lists → [] ≡ cond b list (looked key keys lists)
+    by_test true e = sym (All-head (λ list. list ≡ []) list lists h)
+    by_test false e = e
+
+pub looked_taken : (n : ℕ) (key : List Atom) (keys : List (List Atom)) (lists : List (List ℕ)) → All (λ list. list ≡ []) (drop n lists) → looked key (take n keys) (take n lists) ≡ looked key keys lists
+looked_taken zero key keys lists h = looked_empty key keys lists h
+looked_taken (suc n) key [] lists h = refl
+looked_taken (suc n) key (k ∷ keys) [] h = refl
+looked_taken (suc n) key (k ∷ keys) (list ∷ lists) h = ap (λ rest. cond (are_alike key k) list rest) (looked_taken n key keys lists h)
+
 -- ---- further keys
 
 pub more_none : (old : Keyed) (from : ℕ) → HasMore old from [] old

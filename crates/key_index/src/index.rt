@@ -1,9 +1,8 @@
 //! An index: the places of the rows with a key, in order.
 
-ghost use Rattle.std.specs.Prelude.{◌≡◌, ◌++◌, ◌∷◌, [], List, length, map, not, false, filter, ◌==◌, nat_lt, OnOk, OnErr};
-ghost use Rattle.std.specs.List.{list_any};
+ghost use Rattle.std.specs.Prelude.{◌≡◌, ◌++◌, ◌∷◌, [], List, length, map, drop, not, filter, ◌==◌, nat_lt, OnOk, OnErr};
+ghost use Rattle.std.specs.List.{All};
 ghost use Rattle.ae_base.specs.Atoms.{Atom};
-ghost use Rattle.operators.specs.Alike.{are_alike};
 ghost use Rattle.key_index.specs.Places.{nothing, places_at, HasPlaces, HasMore, IndexesKeys, IndexesFront};
 
 use crate::keys::{Kept, Key};
@@ -71,12 +70,16 @@ impl<K: Same> KeyIndex<K> {
         }
     }
 
-    /// Takes out all places from this one on, of every key. It takes no memory.
+    /// Takes out all places from this one on, of every key, and with them the newest keys that have
+    /// no others. It takes no memory.
     pub fn forget_from(&mut self, place: usize)
         ensures { (key : List Atom)
             → places_at self.new key ≡ filter (λ p. nat_lt p place) (places_at self.old key) }
     {
         keep_before(&mut self.lists, place);
+        let used = used_len(self.lists.as_slice());
+        self.lists.truncate(used);
+        self.keys.truncate(used);
     }
 
     /// Puts in a place behind the others of a key. Without memory all keys have the places that
@@ -86,15 +89,16 @@ impl<K: Same> KeyIndex<K> {
             (HasPlaces self.old self.new key (places_at self.old key ++ place ∷ [])) }
         ensures err { OnErr result (self.new ≡ self.old) }
     {
-        match self.keys.get_index_of(&key.atoms) {
-            Some(at) => {
-                match self.lists[at].push(place) {
-                    Ok(()) => Ok(()),
-                    Err(_) => Err(AllocError),
-                }
-            }
-            None => self.insert_new(alloc, key, place),
+        let list = vec![in alloc; place]?;
+        self.lists.reserve(1)?;
+        let Key { atoms } = key;
+        let (at, added) = self.keys.insert_full(atoms)?;
+        if added {
+            self.lists.push_reserved(list);
+            return Ok(());
         }
+        self.lists[at].push(place)?;
+        Ok(())
     }
 
     /// Puts in these keys, at one place after another from this one on. Without memory some of them
@@ -123,21 +127,6 @@ impl<K: Same> KeyIndex<K> {
         }
         Ok(())
     }
-
-    fn insert_new(&mut self, alloc: Global, key: Key<K>, place: usize) -> Result<(), AllocError>
-        requires { list_any (are_alike key) self.old.keys ≡ false }
-        ensures ok { OnOk result (HasPlaces self.old self.new key (place ∷ [])) }
-        ensures err { OnErr result (self.new ≡ self.old) }
-    {
-        let list = vec![in alloc; place]?;
-        self.lists.reserve(1)?;
-        let Key { atoms } = key;
-        let added = self.keys.insert(atoms)?;
-        if added {
-            self.lists.push_reserved(list);
-        }
-        Ok(())
-    }
 }
 
 /// Keeps those of each list that come before a place.
@@ -147,6 +136,17 @@ fn keep_before(lists: &mut Vec<Vec<usize>>, place: usize)
     ensures len { length lists.new.items ≡ length lists.old.items }
 {
     cut_each(lists, place);
+}
+
+/// How many lists there are up to the last one that has a place.
+fn used_len(lists: &[Vec<usize>]) -> usize
+    ensures { All (λ list. list.items ≡ []) (drop result lists.now) }
+{
+    let mut len = lists.len();
+    while len > 0 && lists[len - 1].is_empty() {
+        len -= 1;
+    }
+    len
 }
 
 fn cut_each(lists: &mut [Vec<usize>], place: usize)

@@ -1,19 +1,23 @@
 -- New rows that are put into the indexes of unique keys, one index after another.
-use Rattle.std.proofs.Common.{◌≡◌, ℕ, zero, suc, ◌+◌, ◌<◌, ◌≤◌, List, [], ◌∷◌, ◌++◌, length, get_or, take, drop, map, slice_set, refl, ap, sym, ◌∙◌, subst, arith, true, false, Some, Result, Ok, Err}
+use Rattle.std.proofs.Common.{◌≡◌, ℕ, zero, suc, ◌+◌, ◌<◌, ◌≤◌, List, [], ◌∷◌, ◌++◌, length, get_or, take, drop, map, slice_set, refl, ap, sym, ◌∙◌, subst, arith, length-drop, true, false, Option, Some, None, Result, Ok, Err}
 use Rattle.std.specs.List.{All}
-use Rattle.std.proofs.lemmas.List.{take_all, take_more, drop_all, drop-set-lt, length-map, map-append}
+use Rattle.std.proofs.lemmas.List.{take_all, take_more, drop_all, drop-map, drop-set-lt, length-map, map-append}
 use Rattle.std.proofs.lemmas.List.Elements.{All-cons, All-nil, All-head, All-tail}
 use Rattle.ae_base.specs.Atoms.{Atom}
 use Rattle.ae_base.specs.declared.faults.SqlFault.{SqlFault}
+use Rattle.ae_base.specs.declared.faults.SqlFault.TheVariants as fault
 use Rattle.ae_base.specs.declared.refusals.Refusal.{Refusal}
+use Rattle.ae_base.specs.declared.refusals.Refusal.TheVariants as code
+use Rattle.ae_base.specs.Results.{Answers}
+use Rattle.operators.proofs.Interface.{drop_there}
 use Rattle.operators.specs.Alike.{key_of}
 use Rattle.std.specs.Prelude.{OnOk}
 use Rattle.key_index.specs.Places.{Keyed, IndexesKeys, HasMore}
 use Rattle.key_index.proofs.Interface.{front_same, indexed_more}
 use Rattle.unique_keys.specs.Keys.{has_twins, first_twins, unless_twins}
 use Rattle.unique_keys.specs.Indexes.{Indexed, IndexesRows, IndexesFirst, AreDistinct, AreAdmitted, keys_of}
-use Rattle.unique_keys.specs.Admitting.{AreTried}
-use Rattle.unique_keys.proofs.Twins.{first_next, first_found, first_over}
+use Rattle.unique_keys.specs.Admitting.{keys_for}
+use Rattle.unique_keys.proofs.Twins.{first_next, first_found}
 
 -- ---- lists of indexes
 
@@ -53,15 +57,19 @@ all_first rows (x ∷ indexes) h = All-cons (IndexesFirst rows) x indexes (first
 
 -- ---- one index after another
 
-pub record AreTrying (old new : List (List Atom)) (i : ℕ) (before now : List Indexed) : Type 0 where
+-- none of the first so many refuses the rows
+abbrev pub NoneRefuses : (indexes : List Indexed) (rows : List (List Atom)) (i : ℕ) → Type 0
+NoneRefuses indexes rows i = first_twins 1 (keys_of indexes) rows ≡ first_twins (i + 1) (drop i (keys_of indexes)) rows
+
+-- the first so many have the new rows
+pub record ArePut (from : ℕ) (all : List (List (List Atom))) (i : ℕ) (before now : List Indexed) : Type 0 where
   pub keys : keys_of now ≡ keys_of before
   pub rest : drop i now ≡ drop i before
-  pub done : All (IndexesRows (old ++ new)) (take i now)
-  pub front : All (IndexesFirst old) now
-  pub so_far : first_twins 1 (keys_of before) (old ++ new) ≡ first_twins (i + 1) (drop i (keys_of before)) (old ++ new)
+  pub front : (old : List (List Atom)) → All (IndexesRows old) before → length old ≡ from → All (IndexesFirst old) now
+  pub done : (old new : List (List Atom)) → All (IndexesRows old) before → length old ≡ from → all ≡ keys_for (keys_of before) new → All (IndexesRows (old ++ new)) (take i now)
 
-pub trying_start : (old new : List (List Atom)) (before : List Indexed) → All (IndexesRows old) before → AreTrying old new 0 before before
-trying_start old new before h = record { keys = refl; rest = refl; done = All-nil (IndexesRows (old ++ new)); front = all_first old before h; so_far = refl }
+pub put_start : (from : ℕ) (all : List (List (List Atom))) (before : List Indexed) → ArePut from all 0 before before
+put_start from all before = record { keys = refl; rest = refl; front = λ old h n. all_first old before h; done = λ old new h n e. All-nil (IndexesRows (old ++ new)) }
 
 keys_long : (indexes : List Indexed) → length (keys_of indexes) ≡ length indexes
 keys_long indexes = length-map indexes (λ (x : Indexed). x.places)
@@ -79,50 +87,98 @@ drop_one xs zero = refl
 drop_one [] (suc i) = sym (drop_all (suc i + 1) [] (omega arith))
 drop_one (x ∷ xs) (suc i) = let one : suc i + 1 ≡ suc (i + 1) = omega arith in drop_one xs i ∙ ap (λ n. drop n (x ∷ xs)) (sym one)
 
-module _ (old new : List (List Atom)) (i : ℕ) (before now : List Indexed) (index after : Indexed) (lt : i < length now) (is : index ≡ get_or now i index) (h : All (IndexesRows old) before) (d : AreDistinct (keys_of before) old) (s : AreTrying old new i before now) where
-  key_is : index.places ≡ get_or (keys_of before) i index.places
-  key_is = key_read now i index lt is ∙ ap (λ ks. get_or ks i index.places) s.keys
+module _ (rows : List (List Atom)) (indexes : List Indexed) (i : ℕ) (index : Indexed) (lt : i < length indexes) (is : index ≡ get_or indexes i index) where
+  key_is : index.places ≡ get_or (keys_of indexes) i index.places
+  key_is = key_read indexes i index lt is
 
-  pub trying_within : i < length (keys_of before)
-  trying_within = omega (arith, lt, keys_long now, ap length s.keys)
+  key_within : i < length (keys_of indexes)
+  key_within = omega (arith, lt, keys_long indexes)
 
-  pub trying_index : IndexesRows old index
-  trying_index = all_read (IndexesRows old) before i index h (omega (arith, trying_within, keys_long before)) (is ∙ same_read now before i index s.rest)
+  pub one_indexed : All (IndexesRows rows) indexes → IndexesRows rows index
+  one_indexed h = all_read (IndexesRows rows) indexes i index h lt is
 
-  pub trying_distinct : has_twins index.places old ≡ false
-  trying_distinct = all_read (λ key. has_twins key old ≡ false) (keys_of before) i index.places d trying_within key_is
+  pub one_distinct : AreDistinct (keys_of indexes) rows → has_twins index.places rows ≡ false
+  one_distinct d = all_read (λ key. has_twins key rows ≡ false) (keys_of indexes) i index.places d key_within key_is
 
-  pub trying_keys : after.places ≡ index.places → keys_of (slice_set now i after) ≡ keys_of before
-  trying_keys p = keys_set now i index after is p ∙ s.keys
+  pub one_refuses : NoneRefuses indexes rows i → has_twins index.places rows ≡ true → first_twins 1 (keys_of indexes) rows ≡ Some (i + 1)
+  one_refuses s t = first_found rows (keys_of indexes) i index.places key_within key_is (first_twins 1 (keys_of indexes) rows) s t
 
-  pub trying_front : IndexesFirst old after → All (IndexesFirst old) (slice_set now i after)
-  trying_front f = all_set (IndexesFirst old) now i after s.front f
+  pub none_more : NoneRefuses indexes rows i → has_twins index.places rows ≡ false → NoneRefuses indexes rows (i + 1)
+  none_more s t = first_next rows (keys_of indexes) i index.places key_within key_is (first_twins 1 (keys_of indexes) rows) s t
 
-  pub trying_found : has_twins index.places (old ++ new) ≡ true → first_twins 1 (keys_of before) (old ++ new) ≡ Some (i + 1)
-  trying_found t = first_found (old ++ new) (keys_of before) i index.places trying_within key_is (first_twins 1 (keys_of before) (old ++ new)) s.so_far t
+  pub keys_more : (all : List (List (List Atom))) (new keys : List (List Atom)) → all ≡ keys_for (take i (keys_of indexes)) new → keys ≡ map (key_of index.places) new → all ++ keys ∷ [] ≡ keys_for (take (i + 1) (keys_of indexes)) new
+  keys_more all new keys a e =
+      let ks = keys_of indexes in
+      ap (λ l. l ++ keys ∷ []) a ∙ ap (λ k. keys_for (take i ks) new ++ k ∷ []) e ∙ sym (map-append (λ key. map (key_of key) new) (take i ks) (index.places ∷ []))
+      ∙ ap (λ ps. keys_for ps new) (sym (take_more ks i index.places key_within ∙ ap (λ p. take i ks ++ p ∷ []) (sym key_is)))
 
-  pub trying_more : after.places ≡ index.places → IndexesFirst old after → has_twins index.places (old ++ new) ≡ false → IndexesRows (old ++ new) after → AreTrying old new (i + 1) before (slice_set now i after)
-  trying_more p f t r = record {
-    keys = trying_keys p;
+module _ (from : ℕ) (all left : List (List (List Atom))) (i : ℕ) (before now : List Indexed) (index after : Indexed) (keys : List (List Atom)) (long : length all ≡ length before) (is : index ≡ get_or now i index) (first : keys ∷ left ≡ drop i all) (s : ArePut from all i before now) where
+  before_within : i < length before
+  before_within = omega (arith, long, ap length first, length-drop i all)
+
+  now_within : i < length now
+  now_within = omega (arith, before_within, keys_long now, ap length s.keys, keys_long before)
+
+  same_index : index ≡ get_or before i index
+  same_index = is ∙ same_read now before i index s.rest
+
+  its_keys : (new : List (List Atom)) → all ≡ keys_for (keys_of before) new → keys ≡ map (key_of index.places) new
+  its_keys new e =
+      let mine : List ℕ → List (List Atom) = λ key. map (key_of key) new in
+      let there = drop_there (keys_of before) i index.places (key_within [] before i index before_within same_index) (key_is [] before i index before_within same_index) in
+      ap (λ l. get_or l 0 keys) (first ∙ ap (drop i) e ∙ drop-map mine i (keys_of before) ∙ ap (map mine) there)
+
+  pub put_keys : after.places ≡ index.places → keys_of (slice_set now i after) ≡ keys_of before
+  put_keys p = keys_set now i index after is p ∙ s.keys
+
+  pub put_front : ((old : List (List Atom)) → IndexesRows old index → length old ≡ from → IndexesFirst old after) → (old : List (List Atom)) → All (IndexesRows old) before → length old ≡ from → All (IndexesFirst old) (slice_set now i after)
+  put_front f old h n = all_set (IndexesFirst old) now i after (s.front old h n) (f old (one_indexed old before i index before_within same_index h) n)
+
+  pub put_more : after.places ≡ index.places → ((old : List (List Atom)) → IndexesRows old index → length old ≡ from → IndexesFirst old after)
+      → ((old new : List (List Atom)) → IndexesRows old index → length old ≡ from → keys ≡ map (key_of index.places) new → IndexesRows (old ++ new) after) → ArePut from all (i + 1) before (slice_set now i after)
+  put_more p f r = record {
+    keys = put_keys p;
     rest = drop-set-lt (i + 1) now i after (omega arith) ∙ sym (drop_one now i) ∙ ap (drop 1) s.rest ∙ drop_one before i;
-    done = all_taken (IndexesRows (old ++ new)) now i after lt s.done r;
-    front = trying_front f;
-    so_far = first_next (old ++ new) (keys_of before) i index.places trying_within key_is (first_twins 1 (keys_of before) (old ++ new)) s.so_far t;
+    front = put_front f;
+    done = λ old new h n e. all_taken (IndexesRows (old ++ new)) now i after now_within (s.done old new h n e) (r old new (one_indexed old before i index before_within same_index h) n (its_keys new e));
   }
 
-pub tried_over : (old new : List (List Atom)) (i : ℕ) (before now : List Indexed) → length now ≤ i → AreTrying old new i before now → AreTried old new (Ok tt) before now
-tried_over old new i before now le s =
-    let none = first_over (old ++ new) (keys_of before) i (first_twins 1 (keys_of before) (old ++ new)) (omega (arith, le, keys_long now, ap length s.keys)) s.so_far in
-    record {
-      keys = s.keys;
-      answer = ap (λ o. unless_twins o tt) none;
-      indexed = subst (All (IndexesRows (old ++ new))) (take_all i now le) s.done;
-    }
+  pub left_over : left ≡ drop (i + 1) all
+  left_over = ap (drop 1) first ∙ drop_one all i
+
+pub put_over : (from : ℕ) (all left : List (List (List Atom))) (i : ℕ) (before now : List Indexed) → length all ≡ length before → left ≡ drop i all → length left ≡ 0 → ArePut from all i before now
+    → (old new : List (List Atom)) → All (IndexesRows old) before → length old ≡ from → all ≡ keys_for (keys_of before) new → All (IndexesRows (old ++ new)) now
+put_over from all left i before now long e none s old new h n k =
+    let le : length now ≤ i = omega (arith, long, ap length e, none, length-drop i all, keys_long now, ap length s.keys, keys_long before) in
+    subst (All (IndexesRows (old ++ new))) (take_all i now le) (s.done old new h n k)
+
+-- ---- the answer
+
+pub found_one : {A : Type 0} (o : Option ℕ) (n m : ℕ) (x : A) → o ≡ Some n → m ≡ n → unless_twins o x ≡ Err (fault.DuplicateKey m)
+found_one o n m x e f = ap (λ p. unless_twins p x) e ∙ ap (λ k. Err (fault.DuplicateKey k)) (sym f)
+
+found_none : {A : Type 0} (o : Option ℕ) (x y : A) → unless_twins o x ≡ Ok y → (o ≡ None) × (y ≡ x)
+found_none None x y e = (refl, cc)
+found_none (Some n) x y e = absurd cc
+
+refused : {A : Type 0} (o : Option ℕ) (x : A) (refusal : Refusal SqlFault) → Answers (Err refusal) (unless_twins o x) → Answers (Err refusal) (unless_twins {A = Unit {0}} o tt)
+refused None x (code.Fault e) a = absurd cc
+refused (Some n) x (code.Fault e) a = cc
+refused o x code.OutOfMemory a = tt
+
+pub admitted_none : {A : Type 0} (old new : List (List Atom)) (result : Result (Unit {0}) (Refusal SqlFault)) (refusal : Refusal SqlFault) (x : A) (before : List Indexed) → result ≡ Err refusal
+    → Answers (Err refusal) (unless_twins (first_twins 1 (keys_of before) (old ++ new)) x) → All (IndexesRows old) before → AreAdmitted old new result before before
+admitted_none old new result refusal x before e a h =
+    subst (λ r. AreAdmitted old new r before before) (sym e)
+    (record { keys = refl; answer = refused (first_twins 1 (keys_of before) (old ++ new)) x refusal a; indexed = h })
+
+pub admitted_all : (old new : List (List Atom)) (keys : List (List (List Atom))) (before after : List Indexed) → unless_twins (first_twins 1 (keys_of before) (old ++ new)) (keys_for (keys_of before) new) ≡ Ok keys → keys_of after ≡ keys_of before
+    → (keys ≡ keys_for (keys_of before) new → All (IndexesRows (old ++ new)) after) → AreAdmitted old new (Ok tt) before after
+admitted_all old new keys before after a k h =
+    let found = found_none (first_twins 1 (keys_of before) (old ++ new)) (keys_for (keys_of before) new) keys a in
+    record { keys = k; answer = ap (λ o. unless_twins o tt) found.0; indexed = h found.1 }
 
 -- ---- what is taken out again
-
-pub admitted_none : (old new : List (List Atom)) (refusal : Refusal SqlFault) (before mid after : List Indexed) → AreTried old new (Err refusal) before mid → keys_of after ≡ keys_of mid → All (IndexesRows old) after → AreAdmitted old new (Err refusal) before after
-admitted_none old new refusal before mid after t k h = record { keys = k ∙ t.keys; answer = t.answer; indexed = h }
 
 pub record AreForgetting (rows : List (List Atom)) (i : ℕ) (now : List Indexed) : Type 0 where
   pub done : All (IndexesRows rows) (take i now)
@@ -134,9 +190,6 @@ module _ (rows : List (List Atom)) (i : ℕ) (now : List Indexed) (index after :
 
   pub forget_more : IndexesRows rows after → AreForgetting rows (i + 1) (slice_set now i after)
   forget_more r = record { done = all_taken (IndexesRows rows) now i after lt s.done r; front = all_set (IndexesFirst rows) now i after s.front (first_of rows after r) }
-
-pub forgot_all : (rows : List (List Atom)) (i : ℕ) (now : List Indexed) → length now ≤ i → AreForgetting rows i now → All (IndexesRows rows) now
-forgot_all rows i now le s = subst (All (IndexesRows rows)) (take_all i now le) s.done
 
 pub forget_keys : (now : List Indexed) (i : ℕ) (index after : Indexed) → index ≡ get_or now i index → after.places ≡ index.places → keys_of (slice_set now i after) ≡ keys_of now
 forget_keys now i index after e p = keys_set now i index after e p

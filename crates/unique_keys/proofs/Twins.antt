@@ -1,8 +1,7 @@
 -- Rows that are alike on a unique key.
-use Rattle.std.proofs.Common.{◌≡◌, ℕ, zero, suc, ◌+◌, ◌<◌, ◌≤◌, List, [], ◌∷◌, ◌++◌, length, get_or, drop, map, append_assoc, refl, ap, sym, ◌∙◌, arith, Bool, true, false, cond, not, Option, Some, None}
-use Rattle.std.specs.Prelude.{◌||◌, ◌&&◌, if◌then◌else◌, IfSome, IsSome, is_some}
+use Rattle.std.proofs.Common.{◌≡◌, ℕ, ◌+◌, ◌<◌, List, [], ◌∷◌, ◌++◌, length, get_or, drop, map, append_assoc, refl, ap, sym, ◌∙◌, Bool, true, false, cond, Option, Some, None}
+use Rattle.std.specs.Prelude.{◌||◌, if◌then◌else◌, is_some}
 use Rattle.std.specs.List.{All, list_any}
-use Rattle.std.proofs.lemmas.List.{drop_all}
 use Rattle.std.proofs.lemmas.List.Elements.{All-cons, All-nil}
 use Rattle.std.proofs.lemmas.List.Folds.{list_any-append}
 use Rattle.ae_base.specs.Atoms.{Atom}
@@ -115,9 +114,6 @@ module _ (rows : List (List Atom)) (keys : List (List ℕ)) (i : ℕ) (key : Lis
   pub first_found : whole ≡ first_twins (i + 1) (drop i keys) rows → has_twins key rows ≡ true → whole ≡ Some (i + 1)
   first_found w t = first_at w ∙ ap (λ b. if b then Some (i + 1) else first_twins ((i + 1) + 1) (drop (i + 1) keys) rows) t
 
-pub first_over : (rows : List (List Atom)) (keys : List (List ℕ)) (i : ℕ) (whole : Option ℕ) → length keys ≤ i → whole ≡ first_twins (i + 1) (drop i keys) rows → whole ≡ None
-first_over rows keys i whole le w = w ∙ ap (λ ks. first_twins (i + 1) ks rows) (drop_all i keys le)
-
 -- rows that no key refuses differ on each
 pub all_differ : (n : ℕ) (keys : List (List ℕ)) (rows : List (List Atom)) → first_twins n keys rows ≡ None → All (λ key. has_twins key rows ≡ false) keys
 all_differ n [] rows e = All-nil (λ key. has_twins key rows ≡ false)
@@ -127,8 +123,3 @@ all_differ n (key ∷ keys) rows e = by_test (has_twins key rows) refl e (λ f. 
         → All (λ key. has_twins key rows ≡ false) (key ∷ keys)
     by_test true t e rest = absurd cc
     by_test false t e rest = All-cons (λ key. has_twins key rows ≡ false) key keys t (rest e)
-
--- a number that is one of a key, and what says whether there is one
-pub numbered : (o : Option ℕ) (n : ℕ) → IfSome o (λ k. k ≡ n) → IsSome o → o ≡ Some n
-numbered (Some k) n h there = ap (λ x. Some x) h
-numbered None n h there = absurd cc

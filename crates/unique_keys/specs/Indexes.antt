@@ -1,5 +1,5 @@
 -- The index of a unique key: the places of rows by what they have in its columns.
-use Rattle.std.specs.Prelude.{◌≡◌, ℕ, List, ◌++◌, length, map, false, Result, Ok, Err}
+use Rattle.std.specs.Prelude.{◌≡◌, ℕ, List, ◌++◌, map, false, Result, Ok, Err}
 use Rattle.std.specs.List.{All}
 use Rattle.ae_base.specs.Atoms.{Atom}
 use Rattle.ae_base.specs.Results.{Answers}

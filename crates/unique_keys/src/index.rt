@@ -1,6 +1,6 @@
 //! The index of one unique key.
 
-ghost use Rattle.std.specs.Prelude.{◌≡◌, ◌++◌, List, Ok, length, map, not, true, false, IfOk, OnOk};
+ghost use Rattle.std.specs.Prelude.{◌≡◌, ◌++◌, List, length, map, not, false, is_some, IfSome, IfOk, OnOk};
 ghost use Rattle.ae_base.specs.Atoms.{Atom};
 ghost use Rattle.operators.specs.Alike.{key_of};
 ghost use Rattle.key_index.specs.Places.{nothing};
@@ -85,35 +85,47 @@ impl<K: Same> UniqueIndex<K> {
             → IndexesFirst old self.new }
     {
         let keys = keys_of(alloc, self.places.as_slice(), rows)?;
-        self.index.put_all(alloc, from, keys)
+        self.put_keys(alloc, from, keys)
     }
 
-    /// Puts in rows, if none is alike to another of them or to one that is there, and answers
-    /// whether it did. Without memory some of them may be there, behind those that were there.
-    pub fn admit(
+    /// Puts in the keys of rows at one place after another from this one on. Without memory some of
+    /// them may be there, behind those that were there.
+    pub(crate) fn put_keys(
         &mut self,
         alloc: Global,
         from: usize,
-        rows: &[&Row<K>],
-    ) -> Result<bool, AllocError>
+        keys: Seq<Key<K>>,
+    ) -> Result<(), AllocError>
         ensures places { self.new.places ≡ self.old.places }
-        ensures admitted { (old : List (List Atom)) → IndexesRows old self.old
-            → has_twins self.old.places old ≡ false
-            → IfOk result (λ admitted.
-            has_twins self.old.places (old ++ map (λ row. row.now) rows.now)
-            ≡ not admitted) }
-        ensures ok { (old : List (List Atom)) → IndexesRows old self.old → length old ≡ from
-            → result ≡ Ok true → IndexesRows (old ++ map (λ row. row.now) rows.now) self.new }
+        ensures ok { (old new : List (List Atom)) → IndexesRows old self.old → length old ≡ from
+            → keys ≡ map (key_of self.old.places) new
+            → OnOk result (IndexesRows (old ++ new) self.new) }
         ensures front { (old : List (List Atom)) → IndexesRows old self.old → length old ≡ from
             → IndexesFirst old self.new }
+    {
+        self.index.put_all(alloc, from, keys)
+    }
+
+    /// The keys of new rows, if none is alike to another of them or to one that is there.
+    pub(crate) fn new_keys(
+        &self,
+        alloc: Global,
+        rows: &[&Row<K>],
+    ) -> Result<Option<Seq<Key<K>>>, AllocError>
+        ensures keys { IfOk result (λ found. IfSome found (λ keys.
+            keys ≡ map (key_of self.now.places) (map (λ row. row.now) rows.now))) }
+        ensures new { (old : List (List Atom)) → IndexesRows old self.now
+            → has_twins self.now.places old ≡ false
+            → IfOk result (λ found.
+            has_twins self.now.places (old ++ map (λ row. row.now) rows.now)
+            ≡ not (is_some found)) }
     {
         let keys = keys_of(alloc, self.places.as_slice(), rows)?;
         if first_uncounted(alloc, &self.index, keys.as_slice())?.is_some() {
             drop(keys);
-            return Ok(false);
+            return Ok(None);
         }
-        self.index.put_all(alloc, from, keys)?;
-        Ok(true)
+        Ok(Some(keys))
     }
 }
 

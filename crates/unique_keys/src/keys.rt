@@ -1,17 +1,21 @@
 //! New rows beside the unique keys of a table.
 
-ghost use Rattle.std.specs.Prelude.{◌≡◌, ◌<◌, ◌≤◌, ◌+◌, ◌++◌, List, length, map, suc, IfOk};
+ghost use Rattle.std.specs.Prelude.{◌≡◌, ◌<◌, ◌≤◌, ◌+◌, ◌++◌, List, length, map, suc, IfOk, OnOk};
 ghost use Rattle.std.specs.List.{All};
 ghost use Rattle.ae_base.specs.Atoms.{Atom};
+ghost use Rattle.ae_base.specs.Results.{Answers};
 ghost use Rattle.unique_keys.specs.Indexes.{AreAdmitted, AreDistinct, IndexesRows, IndexesFirst, keys_of};
-ghost use Rattle.unique_keys.specs.Admitting.{AreTried};
+ghost use Rattle.unique_keys.specs.Keys.{first_twins, unless_twins};
+ghost use Rattle.unique_keys.specs.Admitting.{keys_for};
 
 use crate::index::UniqueIndex;
 use ae_base::atoms::Row;
 use ae_base::faults::SqlFault;
+use ae_base::lists::Seq;
 use ae_base::refusals::Refusal;
 use ae_base::sameness::Same;
 use ae_base::uniques::UniqueNumber;
+use key_index::keys::Key;
 use std::alloc::{AllocError, Global};
 
 /// The number of the unique key of a place, from 0.
@@ -37,34 +41,63 @@ pub fn admit<K: Same>(
         → AreAdmitted old (map (λ row. row.now) rows.now) result
         indexes.old.items indexes.new.items }
 {
-    match admit_each(alloc, indexes, from, rows) {
+    let keys = new_keys(alloc, indexes.as_slice(), rows)?;
+    match put_each(alloc, indexes, from, keys) {
         Ok(()) => Ok(()),
-        Err(refusal) => {
+        Err(_) => {
             forget_each(indexes, from);
-            Err(refusal)
+            Err(Refusal::OutOfMemory)
         }
     }
 }
 
-/// Puts rows into the indexes, up to the first that refuses them.
-fn admit_each<K: Same>(
+/// The keys of new rows for each index, or the first unique key on which two are alike: two of the
+/// new ones, or one of them and one that is there.
+fn new_keys<K: Same>(
+    alloc: Global,
+    indexes: &[UniqueIndex<K>],
+    rows: &[&Row<K>],
+) -> Result<Seq<Seq<Key<K>>>, Refusal>
+    requires { length indexes.now ≤ 8 }
+    ensures len { IfOk result (λ keys. length keys ≡ length indexes.now) }
+    ensures answer { (old : List (List Atom)) → All (IndexesRows old) indexes.now
+        → AreDistinct (keys_of indexes.now) old
+        → Answers result
+        (unless_twins (first_twins 1 (keys_of indexes.now) (old ++ map (λ row. row.now) rows.now))
+        (keys_for (keys_of indexes.now) (map (λ row. row.now) rows.now))) }
+{
+    let mut all = Seq::new(alloc);
+    for (i, index) in indexes.iter().enumerate() {
+        match index.new_keys(alloc, rows)? {
+            Some(keys) => all.push(keys)?,
+            None => return Err(Refusal::Fault(SqlFault::DuplicateKey(numbered(i)))),
+        }
+    }
+    Ok(all)
+}
+
+/// Puts the keys of new rows into each index, at one place after another from this one on. Without
+/// memory some of them may be there, behind those that were there.
+fn put_each<K: Same>(
     alloc: Global,
     indexes: &mut Vec<UniqueIndex<K>>,
     from: usize,
-    rows: &[&Row<K>],
-) -> Result<(), Refusal>
-    requires { length indexes.old.items ≤ 8 }
-    ensures { (old : List (List Atom)) → All (IndexesRows old) indexes.old.items → length old ≡ from
-        → AreDistinct (keys_of indexes.old.items) old
-        → AreTried old (map (λ row. row.now) rows.now) result
-        indexes.old.items indexes.new.items }
+    keys: Seq<Seq<Key<K>>>,
+) -> Result<(), AllocError>
+    requires { length keys ≡ length indexes.old.items }
+    ensures keys { keys_of indexes.new.items ≡ keys_of indexes.old.items }
+    ensures ok { (old new : List (List Atom)) → All (IndexesRows old) indexes.old.items
+        → length old ≡ from
+        → keys ≡ keys_for (keys_of indexes.old.items) new
+        → OnOk result (All (IndexesRows (old ++ new)) indexes.new.items) }
+    ensures front { (old : List (List Atom)) → All (IndexesRows old) indexes.old.items
+        → length old ≡ from
+        → All (IndexesFirst old) indexes.new.items }
 {
-    for i in 0..indexes.len() {
-        match indexes[i].admit(alloc, from, rows) {
-            Ok(true) => {}
-            Ok(false) => return Err(Refusal::Fault(SqlFault::DuplicateKey(numbered(i)))),
-            Err(_) => return Err(Refusal::OutOfMemory),
-        }
+    let mut i = 0;
+    for keys in keys.into_vec() {
+        indexes[i].put_keys(alloc, from, keys)?;
+        i += 1;
     }
     Ok(())
 }

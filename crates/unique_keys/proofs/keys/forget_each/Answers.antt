@@ -1,7 +1,7 @@
 -- One index more.
-use Rattle.std.proofs.Common.{◌≡◌, ◌<◌, length, arith, ◌∙◌, sym, ap}
+use Rattle.std.proofs.Common.{◌<◌, length, arith, ◌∙◌}
 use Rattle.std.proofs.lemmas.List.{length-set}
-use Rattle.unique_keys.proofs.Admission.{AreForgetting, forget_index, forget_more, forgot_all, forget_keys}
+use Rattle.unique_keys.proofs.Admission.{forget_index, forget_more, forget_keys}
 use Rattle.unique_keys.proofs.keys.forget_each.Goals as goal
 
 pub loop-i-preserved : goal.loop-i-preserved

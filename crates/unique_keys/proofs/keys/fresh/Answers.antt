@@ -1,5 +1,5 @@
 -- One index more.
-use Rattle.std.proofs.Common.{◌≡◌, [], map, ap, sym, ◌∙◌, refl}
+use Rattle.std.proofs.Common.{[], map, ap, ◌∙◌, refl}
 use Rattle.unique_keys.specs.Indexes.{Indexed, IndexesRows}
 use Rattle.key_index.proofs.Interface.{indexed_none}
 use Rattle.unique_keys.proofs.Admission.{fresh_keys, all_push}
