@@ -3,7 +3,7 @@ use Rattle.std.proofs.Common.{ℕ, zero, suc, List, [], ◌∷◌, ◌++◌, sym
 use Rattle.std.specs.List.{All}
 use Rattle.std.proofs.lemmas.List.Elements.{All-nil, All-cons, All-append, All-weaker}
 use Rattle.disk.specs.Crashes.{Stand}
-use Rattle.disk.specs.Moments.{Moments, Passes, LeavesNow, Leaves}
+use Rattle.disk.specs.Moments.{Moments, Passes, LeavesNow, Leaves, StaysOrSyncs, OnlySyncs, NoCall, OneMore}
 
 -- no call
 pub leaves_none : (P : List ℕ → Type 0) (disk : Moments) → LeavesNow P disk.now → Leaves P disk disk
@@ -47,3 +47,14 @@ leaves_last P a b p = last p.since b.now p.each
     last : (xs : List Stand) (x : Stand) → All (LeavesNow P) (xs ++ x ∷ []) → LeavesNow P x
     last [] x all = all zero x (omega arith)
     last (y ∷ xs) x all = last xs x (λ k d less. all (suc k) d (omega arith))
+
+-- ---- a file that is left as it is
+
+-- a call that is known to be a read or a sync
+pub syncs_pass : (Q : Stand → Stand → Type 0) (a b c : Moments) → OnlySyncs a b → Passes Q b c → StaysOrSyncs b.now c.now → OnlySyncs a c
+syncs_pass Q a b c p q here = OneMore b c p (record { past = q.past; here = here; was_image = q.was_image; is_image = q.is_image })
+
+-- one stretch of such calls, and another
+pub syncs_then : (a b c : Moments) → OnlySyncs a b → OnlySyncs b c → OnlySyncs a c
+syncs_then a b _ p NoCall = p
+syncs_then a b _ p (OneMore between c q last) = OneMore between c (syncs_then a b between p q) last

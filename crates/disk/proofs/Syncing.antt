@@ -1,10 +1,10 @@
 -- A write or a cut that is synced at once, and reads of a file that is on the disk.
-use Rattle.std.proofs.Common.{◌≡◌, ℕ, ◌≤◌, List, [], ◌∷◌, ◌++◌, length, take, Option, Some, None, refl, sym, ap, ◌∙◌, subst, arith, ◌<◌, drop, length-append}
+use Rattle.std.proofs.Common.{◌≡◌, inl, ℕ, ◌≤◌, List, [], ◌∷◌, ◌++◌, length, take, Option, Some, None, refl, sym, ap, ◌∙◌, subst, arith, ◌<◌, drop, length-append}
 use Rattle.std.specs.Prelude.{IfSome}
 use Rattle.ae_edge.specs.Devices.{WhereTold}
 use Rattle.disk.specs.Calls.{StaysSynced, WasAsked, with_bytes, with_length, Writes, Cuts, Syncs, IsPart, Gives}
 use Rattle.disk.specs.Crashes.{Asked, Range, Length, Stand, IsImage, kept}
-use Rattle.disk.specs.Moments.{Moments, Passes, LeavesNow, Leaves}
+use Rattle.disk.specs.Moments.{Moments, Passes, LeavesNow, Leaves, NoCall}
 use Rattle.disk.specs.Durable.{IsKept, Torn, WritesThrough, CutsThrough, StaysKept}
 use Rattle.disk.specs.declared.disks.Given.TheVariants as given
 use Rattle.disk.specs.declared.disks.Stored.{Stored}
@@ -15,7 +15,7 @@ use Rattle.disk.specs.Durable.{ReadsWhole}
 use Rattle.ae_edge.proofs.Interface.{told_then}
 use Rattle.disk.proofs.Told.{told_from, told_from_then}
 use Rattle.disk.proofs.Images.{kept_only, torn_same}
-use Rattle.disk.proofs.Moments.{leaves_none, leaves_pass}
+use Rattle.disk.proofs.Moments.{leaves_none, leaves_pass, syncs_pass}
 
 -- images don't depend on what reads give
 pub same_images : (a b : Stand) (image : List ℕ) → b.synced ≡ a.synced → b.asked ≡ a.asked → IsImage b image → IsImage a image
@@ -131,11 +131,12 @@ pub record HasRead (bytes : List ℕ) (old now : Moments) : Type 0 where
   pub stays : StaysKept old now
 
 stays_same : (a : Moments) → IsKept a → StaysKept a a
-stays_same a k = record { moments = leaves_none (λ image. image ≡ a.now.seen) a (kept_leaves (λ image. image ≡ a.now.seen) a.now.seen a.now k refl); now = refl }
+stays_same a k = record { moments = leaves_none (λ image. image ≡ a.now.seen) a (kept_leaves (λ image. image ≡ a.now.seen) a.now.seen a.now k refl); calls = NoCall; now = refl }
 
 stays_pass : (Q : Stand → Stand → Type 0) (a b c : Moments) → IsKept a → StaysKept a b → Passes Q b c → c.now ≡ b.now → StaysKept a c
 stays_pass Q a b c k p q e = record {
   moments = leaves_pass (λ image. image ≡ a.now.seen) Q a b c p.moments q (kept_leaves (λ image. image ≡ a.now.seen) a.now.seen c.now (e ∙ p.now ∙ k) refl);
+  calls = syncs_pass Q a b c p.calls q (inl e);
   now = e ∙ p.now;
 }
 

@@ -2,7 +2,7 @@
 use Rattle.std.specs.Prelude.{◌≡◌, ℕ, List, [], ◌∷◌, length, take}
 use Rattle.disk.specs.Calls.{written}
 use Rattle.disk.specs.Crashes.{Asked, Range, Length, IsImage, kept}
-use Rattle.disk.specs.Moments.{Moments, Leaves}
+use Rattle.disk.specs.Moments.{Moments, Leaves, OnlySyncs}
 use Rattle.disk.specs.declared.disks.Given.{Given}
 use Rattle.disk.specs.declared.disks.Given.TheVariants as given
 use Rattle.disk.specs.declared.disks.Stored.{Stored}
@@ -31,9 +31,10 @@ CutsThrough stored.Done len old new = WasDone (Length len) (take len old.now.see
 CutsThrough stored.Failed len old new = Leaves (Torn old.now.seen (Length len)) old new
 CutsThrough stored.OutOfMemory len old new = Leaves (Torn old.now.seen (Length len)) old new
 
--- each crash since then leaves what reads gave, and it stands as it stood
+-- each crash since then leaves what reads gave, no write and no cut was asked for, and it stands as it stood
 pub record StaysKept (old new : Moments) : Type 0 where
   pub moments : Leaves (λ image. image ≡ old.now.seen) old new
+  pub calls : OnlySyncs old new
   pub now : new.now ≡ old.now
 
 abbrev pub ReadsWhole : Given → Moments → Moments → Type 0

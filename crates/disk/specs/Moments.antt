@@ -1,7 +1,7 @@
 -- The moments of a disk, one after another, and what a crash leaves at each of them.
-use Rattle.std.specs.Prelude.{◌≡◌, ℕ, List, [], ◌∷◌, ◌++◌}
+use Rattle.std.specs.Prelude.{◌≡◌, ◌⊎◌, ℕ, List, [], ◌∷◌, ◌++◌}
 use Rattle.std.specs.List.{All}
-use Rattle.disk.specs.Crashes.{Stand, IsImage}
+use Rattle.disk.specs.Crashes.{Stand, IsImage, kept}
 
 -- all moments so far: how the disk stood, the first of them first, and how it stands now
 pub record Moments : Type 0 where
@@ -25,3 +25,14 @@ pub record Leaves (P : List ℕ → Type 0) (old new : Moments) : Type 0 where
   pub since : List Stand
   pub grew : new.past ≡ old.past ++ since
   pub each : All (LeavesNow P) (since ++ new.now ∷ [])
+
+-- ---- a file that is left as it is
+
+-- as a read that succeeded leaves a disk, or a sync: reads give what they gave, and no write and no cut was asked for
+abbrev pub StaysOrSyncs : Stand → Stand → Type 0
+StaysOrSyncs before after = (after ≡ before) ⊎ (after ≡ kept before.seen)
+
+-- there were only such calls
+pub data OnlySyncs (old : Moments) : Moments → Type 0 where
+  NoCall : OnlySyncs old old
+  OneMore : (between new : Moments) → OnlySyncs old between → Passes StaysOrSyncs between new → OnlySyncs old new

@@ -190,19 +190,19 @@ module _ (reading : HasOneReading SpellsRequest) where
       tails : frames_in r ∷ entries_of records ≡ frames_in b ∷ entries_of before ++ entry ∷ others → entries_of records ≡ entries_of before ++ entry ∷ others
       tails h = cc
 
-  not_bad : (place : ℕ) (file : List ℕ) → IsServable file → IsBad place file → ⊥
-  not_bad place file good bad =
+  not_bad : (place : ℕ) (old new : Moments) → IsServable old.now.seen → IsBad place old new → ⊥
+  not_bad place old new good bad =
       elim bad [
-        | inl damaged ↦ no_damage file (entries_of good.records) place good.reads damaged
+        | inl damaged ↦ no_damage old.now.seen (entries_of good.records) place good.reads damaged.0
         | inr other ↦
-            let r = other.2 in
-            refused_not empty_state r.before good.records r.entry r.others r.served.proper good.served.proper (same_records file (entries_of good.records) other.0 good.reads other.1 ∙ r.whole) good.served.served r.refused
+            let r = other.refuses in
+            refused_not empty_state r.before good.records r.entry r.others r.served.proper good.served.proper (same_records old.now.seen (entries_of good.records) other.entries good.reads other.read ∙ r.whole) good.served.served r.refused
       ]
 
   pub isnt_damaged : (how : Ended) (source left out out_after : Option (List ℕ)) (a c : Option Moments) → ServesJournal how source left a c out out_after → IsntDamaged how a c
   isnt_damaged (ended.Damaged place) source left out out_after a c s =
-      told_map (λ old new. IsImage old.now old.now.seen × IsBad place old.now.seen) (λ old new. LeavesNow IsServable old.now → ⊥)
-      (λ old new m. λ all. not_bad place old.now.seen (all old.now.seen m.0) m.1) a c s.1
+      told_map (λ old new. IsImage old.now old.now.seen × IsBad place old new) (λ old new. LeavesNow IsServable old.now → ⊥)
+      (λ old new m. λ all. not_bad place old new (all old.now.seen m.0) m.1) a c s.1
   isnt_damaged ended.Done source left out out_after a c s = tt
   isnt_damaged ended.ReadFault source left out out_after a c s = tt
   isnt_damaged ended.WriteFault source left out out_after a c s = tt

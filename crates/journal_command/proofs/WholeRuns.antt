@@ -1,18 +1,18 @@
 -- A whole run: the journal is found, its records are served again, and then the input.
-use Rattle.std.proofs.Common.{◌≡◌, ◌⊎◌, inl, inr, ℕ, List, ◌++◌, Option, Bool, true, false, refl, sym, ap, subst, ◌∙◌, arith}
+use Rattle.std.proofs.Common.{◌≡◌, ◌⊎◌, inl, inr, ℕ, List, [], ◌∷◌, ◌++◌, take, Option, Bool, true, false, refl, sym, ap, subst, ◌∙◌, arith}
 use Rattle.ae_edge.specs.Devices.{WhereTold}
 use Rattle.ae_edge.proofs.Interface.{told_map, told_then}
-use Rattle.disk.specs.Crashes.{IsImage}
+use Rattle.disk.specs.Crashes.{IsImage, Stand, kept}
 use Rattle.disk.specs.Moments.{Moments, LeavesNow, Leaves}
 use Rattle.disk.proofs.Interface.{leaves_then, leaves_weaker}
 use Rattle.journal_core.specs.Appends.{EndsAt}
 use Rattle.journal_core.specs.Journals.{Records, ReadsAs, place_behind}
-use Rattle.journal_core.specs.Mounts.{IsSomeImage, Mounts}
+use Rattle.journal_core.specs.Mounts.{Finds, IsSomeImage, Mounts}
 use Rattle.journal_core.specs.States.{JournalState}
 use Rattle.journal_core.specs.declared.mounting.Mounted.TheVariants as mounted
 use Rattle.recording.specs.Recorded.{nothing_held}
 use Rattle.server_core.specs.Serve.{State, empty_state}
-use Rattle.journal_command.specs.Journaling.{IsBad, IsDurable, IsFull, IsntFull, IsUnserved, KeepsRecords, Runs, ServesFound, ServesFrom, ServesJournal}
+use Rattle.journal_command.specs.Journaling.{IsBad, IsDurable, IsFull, IsntFull, IsRefused, IsUnserved, KeepsRecords, Runs, ServesFound, ServesFrom, ServesJournal}
 use Rattle.journal_command.specs.Keeping.{Asked, entries_of, records_of}
 use Rattle.journal_command.specs.Records.{AreTried, HasFront, HasLeast, HaveRoom, IsOfRun}
 use Rattle.journal_command.specs.Restarts.{AreServedRecords, RefusesAt, state_behind}
@@ -37,11 +37,18 @@ module _ (journal : JournalState) (entries : List (List ℕ)) (a b : Option Mome
 
   found_refused : (place : ℕ) (source left out out_after : Option (List ℕ)) (c : Option Moments) → left ≡ source → c ≡ b → out_after ≡ out → RefusesAt empty_state entries place
       → ServesJournal (ended.Damaged place) source left a c out out_after
-  found_refused place source left out out_after c l d o refuses = (
-    found_unserved source left out out_after c l d o,
-    subst (λ (x : Option Moments). WhereTold (λ old new. IsImage old.now old.now.seen × IsBad place old.now.seen) a x) (sym d)
-        (told_map (Mounts (mounted.Ready journal entries)) (λ old new. IsImage old.now old.now.seen × IsBad place old.now.seen) (λ old new m. (m.1.was_image, inr (entries, m.1.read, refuses))) a b w),
-  )
+  found_refused place source left out out_after c l d o refuses =
+      let refused_at : (old new : Moments) → Finds entries journal old new → IsRefused place old new = λ old new f.
+      record {
+        entries = entries;
+        read = f.read;
+        refuses = refuses;
+        now = f.ends.now ∙ ap kept (sym (ap (λ (s : Stand). s.seen) f.ends.now)) ∙ ap kept (f.file ∙ ap (λ (n : ℕ). take n old.now.seen ++ 0 ∷ []) sound);
+      } in (
+        found_unserved source left out out_after c l d o,
+        subst (λ (x : Option Moments). WhereTold (λ old new. IsImage old.now old.now.seen × IsBad place old new) a x) (sym d)
+            (told_map (Mounts (mounted.Ready journal entries)) (λ old new. IsImage old.now old.now.seen × IsBad place old new) (λ old new m. (m.1.was_image, inr (refused_at old new m.1))) a b w),
+      )
 
   -- and served again
   module _ (records : List (List Asked)) (served : AreServedRecords empty_state records entries) (source left out out_after : Option (List ℕ)) (c : Option Moments) (gate : ℕ) where
@@ -63,9 +70,9 @@ module _ (journal : JournalState) (entries : List (List ℕ)) (a b : Option Mome
     crashed answered all q =
         told_then (Mounts (mounted.Ready journal entries)) (Tried answered all) (λ old new. Leaves (IsOfRun (entries_of records) (entries_of (records_of start nothing_held all)) old.now) old new) (moments answered all) a b c w q
 
-    kept : (answered all : List Asked) → WhereTold (Tried answered all) b c
+    least : (answered all : List Asked) → WhereTold (Tried answered all) b c
         → WhereTold (λ old new. LeavesNow (HasLeast (entries_of records) (entries_of (records_of start nothing_held answered)) (entries_of (records_of start nothing_held all))) new.now) a c
-    kept answered all q =
+    least answered all q =
         let least = entries_of (records_of start nothing_held answered) in
         let more = entries_of (records_of start nothing_held all) in
         told_then (Mounts (mounted.Ready journal entries)) (Tried answered all) (λ old new. LeavesNow (HasLeast (entries_of records) least more) new.now)
@@ -88,7 +95,7 @@ module _ (journal : JournalState) (entries : List (List ℕ)) (a b : Option Mome
       begins = k.begins;
       put = k.put;
       crashed = crashed k.answered (k.answered ++ k.tried) k.kept;
-      kept = kept k.answered (k.answered ++ k.tried) k.kept;
+      kept = least k.answered (k.answered ++ k.tried) k.kept;
       room = room k.answered k.room;
     }
 

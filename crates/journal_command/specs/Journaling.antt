@@ -1,11 +1,11 @@
 -- The command `serve --journal`: what is put of what was taken of the input, and what a crash leaves, by how it ended.
-use Rattle.std.specs.Prelude.{◌≡◌, ◌⊎◌, ℕ, ◌+◌, ◌<◌, ◌≤◌, List, [], ◌∷◌, ◌++◌, length, Option}
+use Rattle.std.specs.Prelude.{◌≡◌, ◌⊎◌, ℕ, ◌+◌, ◌<◌, ◌≤◌, List, [], ◌∷◌, ◌++◌, length, take, Option}
 use Rattle.ae_edge.specs.Devices.{WhereTold, AddsFront, Removes}
-use Rattle.disk.specs.Crashes.{IsImage}
+use Rattle.disk.specs.Crashes.{IsImage, kept}
 use Rattle.disk.specs.Moments.{Moments, LeavesNow, Leaves}
 use Rattle.journal_core.specs.Appends.{most_bytes}
 use Rattle.journal_core.specs.Journals.{Records, Damaged, ReadsAs, place_behind}
-use Rattle.journal_core.specs.Mounts.{IsSomeImage}
+use Rattle.journal_core.specs.Mounts.{IsLeft, IsSomeImage}
 use Rattle.server_core.specs.Serve.{State, empty_state}
 use Rattle.recording.specs.Recorded.{nothing_held}
 use Rattle.serve_command.specs.ServeAll.{reply_frames}
@@ -67,9 +67,17 @@ pub record Runs (how : Ended) (source left : Option (List ℕ)) (disk disk_after
 
 -- ---- or they weren't
 
--- the file is damaged at a place; or its first record that isn't served again stands behind the gate there
-abbrev pub IsBad : ℕ → List ℕ → Type 0
-IsBad place file = ReadsAs (Damaged place) file ⊎ ((entries : List (List ℕ)) × ReadsAs (Records entries) file × RefusesAt empty_state entries place)
+-- The first record that isn't served again stands behind the gate at a place. The records of the file and their closed gate stay,
+-- and what followed is cut off.
+pub record IsRefused (place : ℕ) (old new : Moments) : Type 0 where
+  pub entries : List (List ℕ)
+  pub read : ReadsAs (Records entries) old.now.seen
+  pub refuses : RefusesAt empty_state entries place
+  pub now : new.now ≡ kept (take (place_behind entries) old.now.seen ++ 0 ∷ [])
+
+-- the file is damaged at a place, and is left as it is; or a record there isn't served again
+abbrev pub IsBad : ℕ → Moments → Moments → Type 0
+IsBad place old new = (ReadsAs (Damaged place) old.now.seen × IsLeft old new) ⊎ IsRefused place old new
 
 -- nothing was taken, and nothing put; at every moment a crash leaves the records of an image that the disk had at the start
 pub record IsUnserved (source left : Option (List ℕ)) (disk disk_after : Option Moments) (out out_after : Option (List ℕ)) : Type 0 where
@@ -79,7 +87,7 @@ pub record IsUnserved (source left : Option (List ℕ)) (disk disk_after : Optio
 
 abbrev pub ServesJournal : Ended → Option (List ℕ) → Option (List ℕ) → Option Moments → Option Moments → Option (List ℕ) → Option (List ℕ) → Type 0
 ServesJournal (ended.Damaged place) source left disk disk_after out out_after =
-    IsUnserved source left disk disk_after out out_after × WhereTold (λ old new. IsImage old.now old.now.seen × IsBad place old.now.seen) disk disk_after
+    IsUnserved source left disk disk_after out out_after × WhereTold (λ old new. IsImage old.now old.now.seen × IsBad place old new) disk disk_after
 ServesJournal ended.DiskFault source left disk disk_after out out_after =
     IsUnserved source left disk disk_after out out_after ⊎ Runs ended.DiskFault source left disk disk_after out out_after
 ServesJournal ended.OutOfMemory source left disk disk_after out out_after =

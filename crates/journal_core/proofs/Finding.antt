@@ -4,16 +4,16 @@ use Rattle.std.specs.Prelude.{IfSome}
 use Rattle.ae_edge.specs.Devices.{WhereTold}
 use Rattle.disk.specs.Calls.{Syncs}
 use Rattle.disk.specs.Crashes.{Stand, kept}
-use Rattle.disk.specs.Moments.{Moments, LeavesNow, Leaves}
+use Rattle.disk.specs.Moments.{Moments, LeavesNow, Leaves, OnlySyncs, NoCall}
 use Rattle.disk.specs.Durable.{StaysKept, ReadsWhole}
 use Rattle.disk.specs.declared.disks.Given.TheVariants as given
 use Rattle.disk.specs.declared.disks.Stored.TheVariants as stored
-use Rattle.disk.proofs.Interface.{leaves_none, leaves_pass, leaves_then, leaves_weaker}
+use Rattle.disk.proofs.Interface.{leaves_none, leaves_pass, leaves_then, leaves_weaker, syncs_pass, syncs_then}
 use Rattle.ae_edge.proofs.Interface.{told_then}
 use Rattle.std.proofs.Common.{arith, length-append}
 use Rattle.journal_core.proofs.Readings.{length_framed}
 use Rattle.journal_core.specs.Journals.{framed, place_behind, Opens, Reading, Records, Damaged, ReadsAs, ReadsAlike}
-use Rattle.journal_core.specs.Mounts.{IsSomeImage, Mounts}
+use Rattle.journal_core.specs.Mounts.{IsLeft, IsSomeImage, Mounts}
 use Rattle.journal_core.specs.Parsing.{IsParsed}
 use Rattle.journal_core.specs.Settling.{Repairs, Settled, Settles, SettlesFile}
 use Rattle.journal_core.specs.declared.mounting.Mounted.{Mounted}
@@ -81,11 +81,15 @@ pub unsettled_told : (file : List ℕ) (a : Option Moments) → IfSome a (λ d. 
 unsettled_told file (Some a) k = unsettled file a k
 unsettled_told file None k = tt
 
-pub damaged_told : (place : ℕ) (file : List ℕ) (a : Option Moments) → ReadsAs (Damaged place) file → IfSome a (λ d. d.now ≡ kept file) → WhereTold (λ old new. Leaves (ReadsAlike file) old new × ReadsAs (Damaged place) file) a a
-damaged_told place file (Some a) d k = (unsettled file a k, d)
+pub damaged_told : (place : ℕ) (file : List ℕ) (a : Option Moments) → ReadsAs (Damaged place) file → IfSome a (λ d. d.now ≡ kept file) → WhereTold (Settles (mounted.Damaged place) file) a a
+damaged_told place file (Some a) d k = (unsettled file a k, d, record { calls = NoCall; now = k ∙ ap (λ (s : Stand). kept s.seen) (sym k) })
 damaged_told place file None d k = tt
 
 -- ---- after the file was read
+
+-- reads and syncs before those that left the file as it is
+left_then : (a b c : Moments) → OnlySyncs a b → b.now.seen ≡ a.now.seen → IsLeft b c → IsLeft a c
+left_then a b c calls seen left = record { calls = syncs_then a b c calls left.calls; now = left.now ∙ ap kept seen }
 
 -- moments at which the disk stood as it stands, before those that follow
 seen_alike : (file : List ℕ) (a b c : Moments) → a.now.seen ≡ file → StaysKept a b → Leaves (ReadsAlike file) b c → Leaves (ReadsAlike file) a c
@@ -96,7 +100,7 @@ read_settled : (found : Mounted) (file : List ℕ) (a b c : Moments) → ReadsWh
 read_settled (mounted.Ready journal entries) file a b c r w =
     subst (λ (f : List ℕ). Settled entries journal.gate f a c) r.0 (record { moments = seen_alike file a b c (sym r.0) r.1 w.moments; read = w.read; ends = w.ends; left = w.left })
 read_settled (mounted.Damaged place) file a b c r w =
-    subst (λ (f : List ℕ). Leaves (ReadsAlike f) a c × ReadsAs (Damaged place) f) r.0 (seen_alike file a b c (sym r.0) r.1 w.0, w.1)
+    subst (λ (f : List ℕ). Leaves (ReadsAlike f) a c × ReadsAs (Damaged place) f × IsLeft a c) r.0 (seen_alike file a b c (sym r.0) r.1 w.0, w.1, left_then a b c r.1.calls (ap (λ (s : Stand). s.seen) r.1.now) w.2)
 read_settled mounted.DiskFault file a b c r w = subst (λ (f : List ℕ). Leaves (ReadsAlike f) a c) r.0 (seen_alike file a b c (sym r.0) r.1 w)
 read_settled mounted.OutOfMemory file a b c r w = subst (λ (f : List ℕ). Leaves (ReadsAlike f) a c) r.0 (seen_alike file a b c (sym r.0) r.1 w)
 
@@ -129,7 +133,7 @@ mounted_read (mounted.Ready journal entries) a b c y w =
         file = w.left ∙ ap (λ (f : List ℕ). take journal.gate f ++ 0 ∷ []) seen;
       },
     )
-mounted_read (mounted.Damaged place) a b c y w = (seen_images a b c y w.0, subst (ReadsAs (Damaged place)) (ap (λ (s : Stand). s.seen) y.here) w.1, y.was_image)
+mounted_read (mounted.Damaged place) a b c y w = (seen_images a b c y w.0, subst (ReadsAs (Damaged place)) (ap (λ (s : Stand). s.seen) y.here) w.1, y.was_image, left_then a b c (syncs_pass (λ before after. after ≡ kept before.seen) a a b NoCall y (inr y.here)) (ap (λ (s : Stand). s.seen) y.here) w.2)
 mounted_read mounted.DiskFault a b c y w = seen_images a b c y w
 mounted_read mounted.OutOfMemory a b c y w = seen_images a b c y w
 

@@ -1,8 +1,8 @@
 -- A journal is found on a disk.
 use Rattle.std.specs.Prelude.{◌≡◌, ℕ, ◌<◌, ◌^◌, List, [], ◌∷◌, ◌++◌, take, false, Option, IfSome}
 use Rattle.ae_edge.specs.Devices.{Rose}
-use Rattle.disk.specs.Crashes.{Stand, IsImage}
-use Rattle.disk.specs.Moments.{Moments, LeavesNow, Leaves}
+use Rattle.disk.specs.Crashes.{Stand, IsImage, kept}
+use Rattle.disk.specs.Moments.{Moments, LeavesNow, Leaves, OnlySyncs}
 use Rattle.journal_core.specs.Appends.{EndsAt, IsMounted}
 use Rattle.journal_core.specs.Journals.{Records, Damaged, ReadsAs, ReadsAlike, place_behind}
 use Rattle.journal_core.specs.States.{JournalState}
@@ -24,10 +24,16 @@ pub record Finds (entries : List (List ℕ)) (journal : JournalState) (old new :
   pub from_now : LeavesNow (ReadsAs (Records entries)) new.now
   pub file : new.now.seen ≡ take journal.gate old.now.seen ++ 0 ∷ []
 
+-- The file is left as it is: it was read and synced, no write and no cut was asked for, and what reads gave is on the disk.
+pub record IsLeft (old new : Moments) : Type 0 where
+  pub calls : OnlySyncs old new
+  pub now : new.now ≡ kept old.now.seen
+
 -- each crash since then leaves the records of an image that a crash could leave before
 abbrev pub Mounts : Mounted → Moments → Moments → Type 0
 Mounts (mounted.Ready journal entries) old new = Leaves (IsSomeImage old.now) old new × Finds entries journal old new
-Mounts (mounted.Damaged place) old new = Leaves (IsSomeImage old.now) old new × ReadsAs (Damaged place) old.now.seen × IsImage old.now old.now.seen
+Mounts (mounted.Damaged place) old new =
+    Leaves (IsSomeImage old.now) old new × ReadsAs (Damaged place) old.now.seen × IsImage old.now old.now.seen × IsLeft old new
 Mounts mounted.DiskFault old new = Leaves (IsSomeImage old.now) old new
 Mounts mounted.OutOfMemory old new = Leaves (IsSomeImage old.now) old new
 

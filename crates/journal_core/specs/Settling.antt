@@ -5,6 +5,7 @@ use Rattle.disk.specs.declared.disks.Stored.{Stored}
 use Rattle.disk.specs.declared.disks.Stored.TheVariants as stored
 use Rattle.journal_core.specs.Appends.{EndsAt}
 use Rattle.journal_core.specs.Journals.{Records, Damaged, ReadsAs, ReadsAlike}
+use Rattle.journal_core.specs.Mounts.{IsLeft}
 use Rattle.journal_core.specs.Parsing.{IsParsed}
 use Rattle.journal_core.specs.declared.mounting.Mounted.{Mounted}
 use Rattle.journal_core.specs.declared.mounting.Mounted.TheVariants as mounted
@@ -29,7 +30,7 @@ pub record Settled (entries : List (List ℕ)) (gate : ℕ) (file : List ℕ) (o
 
 abbrev pub Settles : Mounted → List ℕ → Moments → Moments → Type 0
 Settles (mounted.Ready journal entries) file old new = Settled entries journal.gate file old new
-Settles (mounted.Damaged place) file old new = Leaves (ReadsAlike file) old new × ReadsAs (Damaged place) file
+Settles (mounted.Damaged place) file old new = Leaves (ReadsAlike file) old new × ReadsAs (Damaged place) file × IsLeft old new
 Settles mounted.DiskFault file old new = Leaves (ReadsAlike file) old new
 Settles mounted.OutOfMemory file old new = Leaves (ReadsAlike file) old new
 
