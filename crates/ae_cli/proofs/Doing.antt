@@ -33,6 +33,7 @@ use Rattle.serve_command.specs.declared.commands.Served.TheVariants as served
 use Rattle.wrap_command.specs.Wrapping.{Takes, Wraps}
 use Rattle.wrap_command.specs.declared.commands.Wrapped.{Wrapped}
 use Rattle.wrap_command.specs.declared.commands.Wrapped.TheVariants as wrapped
+use Rattle.journal_command.specs.Exact.{ServesExactly}
 use Rattle.journal_command.specs.Journaling.{ServesJournal}
 use Rattle.journal_command.specs.Servable.{IsntDamaged, StaysServable}
 use Rattle.journal_command.specs.declared.endings.Ended.{Ended}
@@ -131,10 +132,10 @@ module _ (words : List (List ℕ)) (end : Status) (old new : Seen) where
 
   pub did_journal : command_in words ≡ Some (command.Serve true) → (e : Ended) → end ≡ status_of_journaling e
       → ServesJournal e old.script.content new.script.content old.disk.content new.disk.content old.out.content new.out.content
-      → WhereTold StaysServable old.disk.content new.disk.content → IsntDamaged e old.disk.content new.disk.content
+      → ServesExactly e old.script.content old.disk.content old.out.content new.out.content → WhereTold StaysServable old.disk.content new.disk.content → IsntDamaged e old.disk.content new.disk.content
       → (e ≡ ended.ReadFault → ReadRose) → (e ≡ ended.WriteFault → WriteRose) → (e ≡ ended.DiskFault → Rose old.disk.faults new.disk.faults) → Does words end old new
-  did_journal is e s h v u r w d =
-      did_asked (command.Serve true) is (status_of_journaling e) s (record { how = e; ends = s; serves = h; servable = v; undamaged = u }) (journal_caused old new e r w d)
+  did_journal is e s h x v u r w d =
+      did_asked (command.Serve true) is (status_of_journaling e) s (record { how = e; ends = s; serves = h; exact = x; servable = v; undamaged = u }) (journal_caused old new e r w d)
 
   pub did_gen : (size : ℕ) → command_in words ≡ Some (command.Gen size) → (r : Generated) → end ≡ status_of_generating r → PutsScript r size old.out.content new.out.content → (r ≡ generated.WriteFault → WriteRose) → Does words end old new
   did_gen size is r e h w = did_asked (command.Gen size) is (status_of_generating r) e (record { how = r; ends = e; puts = h }) (gen_caused old new size r w)

@@ -21,6 +21,7 @@ use Rattle.serve_command.specs.Serving.{IsServed, ServesStream, most_stream_byte
 use Rattle.serve_command.specs.declared.commands.Served.{Served}
 use Rattle.wrap_command.specs.Wrapping as wraps
 use Rattle.wrap_command.specs.Wrapping.{Wraps}
+use Rattle.journal_command.specs.Exact.{ServesExactly}
 use Rattle.journal_command.specs.Journaling.{ServesJournal}
 use Rattle.journal_command.specs.Servable.{IsntDamaged, StaysServable}
 use Rattle.journal_command.specs.declared.endings.Ended.{Ended}
@@ -55,11 +56,13 @@ pub record DidServe (end : Status) (old new : Seen) : Type 0 where
       → IsServed how bytes stream_end frames old.out.content new.out.content
 
 -- It served requests with a server whose changes are kept on the disk: what was taken of the script, what was put for it, and what a crash
--- leaves of the disk at each moment. A file that it left, or one without a record, isn't found damaged.
+-- leaves of the disk at each moment. If the script exposes its bytes and the disk its file: by how those within the limit end, and the
+-- frames of the replies to their requests. A file that it left, or one without a record, isn't found damaged.
 pub record DidServeJournal (end : Status) (old new : Seen) : Type 0 where
   pub how : Ended
   pub ends : end ≡ status_of_journaling how
   pub serves : ServesJournal how old.script.content new.script.content old.disk.content new.disk.content old.out.content new.out.content
+  pub exact : ServesExactly how old.script.content old.disk.content old.out.content new.out.content
   pub servable : WhereTold StaysServable old.disk.content new.disk.content
   pub undamaged : IsntDamaged how old.disk.content new.disk.content
 

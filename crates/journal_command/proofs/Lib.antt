@@ -1,5 +1,6 @@
 mod Adding
 mod Appending
+mod Exactly
 mod Holding
 mod Pieces
 mod Recording

@@ -154,14 +154,14 @@ module _ (law : FrontsAreAccepted) where
 
 -- ---- what is served again isn't refused
 
-same_records : (file : List ℕ) (xs ys : List (List ℕ)) → ReadsAs (Records xs) file → ReadsAs (Records ys) file → xs ≡ ys
+pub same_records : (file : List ℕ) (xs ys : List (List ℕ)) → ReadsAs (Records xs) file → ReadsAs (Records ys) file → xs ≡ ys
 same_records file xs ys p q = let e = one_reading (Records xs) (Records ys) file p q in cc
 
 no_damage : (file : List ℕ) (xs : List (List ℕ)) (place : ℕ) → ReadsAs (Records xs) file → ReadsAs (Damaged place) file → ⊥
 no_damage file xs place p q = let e = one_reading (Records xs) (Damaged place) file p q in cc
 
 module _ (reading : HasOneReading SpellsRequest) where
-  same_requests : (xs ys : List Asked) → All IsProper xs → All IsProper ys → frames_in xs ≡ frames_in ys → xs ≡ ys
+  pub same_requests : (xs ys : List Asked) → All IsProper xs → All IsProper ys → frames_in xs ≡ frames_in ys → xs ≡ ys
   same_requests xs ys p q e =
       let g = goes reading xs ys [] p q (append-nil (frames_in xs) ∙ e) in
       sym (append-nil xs) ∙ ap (λ (l : List Asked). xs ++ l) (sym (none g.more g.left)) ∙ sym g.is
@@ -190,7 +190,7 @@ module _ (reading : HasOneReading SpellsRequest) where
       tails : frames_in r ∷ entries_of records ≡ frames_in b ∷ entries_of before ++ entry ∷ others → entries_of records ≡ entries_of before ++ entry ∷ others
       tails h = cc
 
-  not_bad : (place : ℕ) (old new : Moments) → IsServable old.now.seen → IsBad place old new → ⊥
+  pub not_bad : (place : ℕ) (old new : Moments) → IsServable old.now.seen → IsBad place old new → ⊥
   not_bad place old new good bad =
       elim bad [
         | inl damaged ↦ no_damage old.now.seen (entries_of good.records) place good.reads damaged.0

@@ -1,5 +1,6 @@
 pub mod Durable
 pub mod Endings
+pub mod Exact
 pub mod Journaling
 pub mod Keeping
 pub mod Records

@@ -8,6 +8,7 @@ ghost use Rattle.recording.specs.Recorded.{nothing_held};
 ghost use Rattle.server_core.specs.Serve.{State};
 ghost use Rattle.wire_frames.specs.declared.decoding.Way.TheVariants.{ToServer};
 ghost use Rattle.journal_command.specs.Durable.{IsSound};
+ghost use Rattle.journal_command.specs.Exact.{ServesExactly};
 ghost use Rattle.journal_command.specs.Journaling.{ServesFound, ServesFrom, ServesJournal};
 ghost use Rattle.journal_command.specs.Keeping.{frames_of};
 ghost use Rattle.journal_command.specs.Running.{ServesPieces};
@@ -30,7 +31,7 @@ use journal_core::mounting::Mounted;
 use recording::laws::fronts_are_accepted;
 use server_core::server::Server;
 use std::alloc::Global;
-use wire_frames::{Way, one_reading};
+use wire_frames::{Way, frames_are_read_back, one_reading, streams_are_read_once};
 
 /// The most bytes that one call asks the input for.
 const MOST_PIECE_BYTES: usize = 65_536;
@@ -206,6 +207,12 @@ pub fn serve_journal<S: Source, W: Sink, D: Disk>(
     // how it ended; or why the file's records weren't served again.
     ensures content { ServesJournal result (S.left input.old) (S.left input.new)
         (D.told disk.old) (D.told disk.new) (W.held out.old) (W.held out.new) }
+    // Where the input and the disk expose what they hold: by how the bytes within the limit end,
+    // and the frames of their replies, from the state that the file's records lead to. So whole
+    // frames within the limit end with `Done` and all frames, unless memory runs out, a device
+    // fails or the file is full. `Damaged` comes only where a record isn't served again.
+    ensures exact { ServesExactly result (S.left input.old) (D.told disk.old) (W.held out.old)
+        (W.held out.new) }
     // A file whose records are served again stays one, and isn't found damaged.
     ensures servable { WhereTold StaysServable (D.told disk.old) (D.told disk.new) }
     ensures undamaged { IsntDamaged result (D.told disk.old) (D.told disk.new) }
@@ -216,6 +223,8 @@ pub fn serve_journal<S: Source, W: Sink, D: Disk>(
     ensures stored { result ≡ Ended.DiskFault → Rose (D.faults disk.old) (D.faults disk.new) }
 {
     one_reading();
+    streams_are_read_once();
+    frames_are_read_back();
     fronts_are_accepted();
     serve_mounted(alloc, input, out, disk)
 }

@@ -12,3 +12,5 @@ unfoldable pub use Rattle.serve_command.proofs.Turning.{stands_fed, stands_first
 -- What a call on the input takes.
 pub use Rattle.serve_command.proofs.Pieces.{at_end, removes_end, removes_failed, removes_piece}
 pub use Rattle.serve_command.proofs.Pieces.{removes_unheld}
+-- Of an input that is told, what was put is of its frames within the limit.
+pub use Rattle.serve_command.proofs.Exactly.{exactly_from}

@@ -34,7 +34,7 @@ returns-in-Ok-Serve-false-clause-does g c =
 pub returns-in-Ok-Serve-true-clause-does : goal.returns-in-Ok-Serve-true-clause-does
 returns-in-Ok-Serve-true-clause-does g c =
     let e = c.serve_journal.ensures in
-    did_journal c.args.words.now _ _ _ (c.in-Ok-Serve-true.ensures ∙ ap Some (c.in-Ok-Serve-true.field-0-is ∙ ap command.Serve c.in-Ok-Serve-true.field-0-0-test)) _ c.of_journaling.ensures e.content e.servable e.undamaged e.read e.write e.stored
+    did_journal c.args.words.now _ _ _ (c.in-Ok-Serve-true.ensures ∙ ap Some (c.in-Ok-Serve-true.field-0-is ∙ ap command.Serve c.in-Ok-Serve-true.field-0-0-test)) _ c.of_journaling.ensures e.content e.exact e.servable e.undamaged e.read e.write e.stored
 
 pub returns-in-Ok-Wrap-clause-does : goal.returns-in-Ok-Wrap-clause-does
 returns-in-Ok-Wrap-clause-does g c = let e = c.wrap-wrapped.ensures in did_wrap c.args.words.now _ _ _ _ (c.in-Ok-Wrap.ensures ∙ ap Some c.in-Ok-Wrap.field-0-is) _ c.of_wrapping.ensures e.content e.taken e.read e.vault e.write

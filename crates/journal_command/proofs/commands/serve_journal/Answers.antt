@@ -1,6 +1,11 @@
--- Files that such runs leave.
+-- Files that such runs leave, and what was put of a whole input.
+use Rattle.journal_command.proofs.Exactly.{serves_exactly}
 use Rattle.journal_command.proofs.Servable.{isnt_damaged, stays_servable}
 use Rattle.journal_command.proofs.commands.serve_journal.Goals as goal
+
+pub returns-clause-exact : goal.returns-clause-exact
+returns-clause-exact g c =
+    serves_exactly c.one_reading.ensures.requests c.streams_are_read_once.ensures.requests c.frames_are_read_back.ensures.requests c.serve_mounted.result (g.S.Source.left c.args.input.now) (g.S.Source.left c.serve_mounted.new.input) (g.W.Sink.held c.args.out.now) (g.W.Sink.held c.serve_mounted.new.out) _ _ c.serve_mounted.ensures.content
 
 pub returns-clause-servable : goal.returns-clause-servable
 returns-clause-servable g c =
