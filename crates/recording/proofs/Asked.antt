@@ -40,7 +40,7 @@ module _ (s : State) (session : ℕ) (request : Request) (held : List Request) (
     pub catalog : (t : Transaction) → o ≡ Some t → why_not s.shared t ≡ None → t.own.world.catalog ≡ s.shared.world.catalog
 
   abbrev pub Goal : Sort → Option Transaction → Ask → Type 0
-  Goal q o ask = IsStep s session (x o ask) (serial.recorded o ask (x o ask).answer log).log (kept_so q held request (seen_by s.shared o).world.catalog session (x o ask))
+  Goal q o ask = IsStep s session (x o ask) (serial.recorded o ask (x o ask).answer log).log (kept_so q held request (seen_by s.shared o).world.catalog session (x o ask)) (journal.kept_of o session ask (x o ask).answer log)
 
   begin_step : (o : Option Transaction) → IsAsked o Begins → Goal sort.Begins o Begins
   begin_step None h = begins s session request held h.asks
@@ -55,7 +55,7 @@ module _ (s : State) (session : ℕ) (request : Request) (held : List Request) (
   commit_step (Some t) h = by (why_not s.shared t) refl h.kept
     where
       by : (f : Option SqlFault) → why_not s.shared t ≡ f → IsKeptSo s.shared (committed s session t f).after.shared (journal.kept_of (Some t) session Commits (committed s session t f).answer log)
-          → IsStep s session (committed s session t f) (serial.recorded (Some t) Commits (committed s session t f).answer log).log (kept_so sort.Commits held request t.own.world.catalog session (committed s session t f))
+          → IsStep s session (committed s session t f) (serial.recorded (Some t) Commits (committed s session t f).answer log).log (kept_so sort.Commits held request t.own.world.catalog session (committed s session t f)) (journal.kept_of (Some t) session Commits (committed s session t f).answer log)
       by None free w =
           commits s session request held t log (committed s session t None).after (subst (λ n. session - 1 < n) h.long (there_within s.sessions (session - 1) t h.is)) refl (h.catalog t refl free) h.holds h.asks w
       by (Some f) free w = ends_refused s session request held f []
@@ -69,7 +69,7 @@ module _ (s : State) (session : ℕ) (request : Request) (held : List Request) (
   In q t b =
       let o = counted_step t.own e in
       let y : Transacted = if b then refused s fault.InTransaction else record { answer = o.answer; after = with_transaction s session (Some (stepped_in t e o)) } in
-      IsStep s session y (if b then log else log ++ deed e y.answer ∷ []) (kept_so q held request t.own.world.catalog session y)
+      IsStep s session y (if b then log else log ++ deed e y.answer ∷ []) (kept_so q held request t.own.world.catalog session y) []
 
   defines_step : (o : Option Transaction) → IsAsked o (Executes e) → is_definition e.bound.statement ≡ true → Goal sort.Defines o (Executes e)
   defines_step None h d =

@@ -1,5 +1,5 @@
 -- Requests that make some calls are done where the calls are accepted.
-use Rattle.std.proofs.Common.{◌≡◌, ◌<◌, ℕ, ◌-◌, List, [], ◌∷◌, ◌++◌, refl, ap, sym, subst, ◌∙◌, Option, Some, None, Result, Ok, Err, Bool, true, false}
+use Rattle.std.proofs.Common.{◌≡◌, ◌<◌, ℕ, ◌-◌, List, [], ◌∷◌, ◌++◌, map, refl, ap, sym, subst, ◌∙◌, Option, Some, None, Result, Ok, Err, Bool, true, false}
 use Rattle.std.specs.Prelude.{slice_set, slice_index_or, IsOk, is_some, ◌||◌, if◌then◌else◌}
 use Rattle.std.specs.List.{AllZip}
 use Rattle.ae_base.specs.Atoms.{Atom}
@@ -18,10 +18,10 @@ use Rattle.wire_messages.specs.Exchanges.{Served}
 use Rattle.wire_messages.specs.declared.requests.Request.{Request}
 use Rattle.wire_messages.specs.declared.requests.Request.TheVariants.{Describe, Execute}
 use Rattle.statement_analysis.specs.Describing.{Meant}
-use Rattle.server_core.specs.Serve.{State, answered, prepared, ask_of, catalog_of, executed, serve, asked, called}
+use Rattle.server_core.specs.Serve.{State, answered, prepared, ask_of, catalog_of, executed, serve, asked, called, calls_of}
 use Rattle.server_core.proofs.Interface.{answered_after}
 use Rattle.recording.specs.Recorded.{is_done, session_of, after_requests, after_records}
-use Rattle.recording.specs.Laws.{AreDone, AreServedAgain}
+use Rattle.recording.specs.Laws.{AreDone, AreServedAgain, by_place, calls_of_records}
 use Rattle.recording.proofs.Held.{AsksSo, IsChange, called_at, called_is}
 use Rattle.recording.proofs.Slots.{set_there, set_within}
 
@@ -141,18 +141,35 @@ makes_done (request ∷ requests) (c ∷ cs) s m a =
     let more = makes_done requests cs (transact s c.session c.ask).after m.1 a.1 in
     ((d.0, subst (λ x. AreDone x requests) (sym d.1) more.0), ap (λ x. after_requests x requests) d.1 ∙ more.1)
 
--- from one shared world the records lead to the other
-pub record Goes (shared now : Counted) (records : List (List Request)) : Type 0 where
+-- by the places of their sessions, they are the calls that the requests make of the state
+makes_calls : (requests : List Request) (cs : List Call) (s : State) → Makes s requests cs → AreAccepted s cs → map by_place (calls_of s requests) ≡ map by_place cs
+makes_calls [] [] s m a = refl
+makes_calls [] (c ∷ cs) s m a = absurd m
+makes_calls (request ∷ requests) [] s m a = absurd m
+makes_calls (request ∷ requests) (c ∷ cs) s m a =
+    let d = asks_done s c request m.0 a.0 in
+    ap (λ (xs : List Call). map by_place (xs ++ calls_of (serve s request).after requests)) m.0.asks
+    ∙ ap (λ (x : State). (session_of request - 1, c.ask) ∷ map by_place (calls_of x requests)) d.1
+    ∙ ap (λ (n : ℕ). (n, c.ask) ∷ map by_place (calls_of (transact s c.session c.ask).after requests)) m.0.lies
+    ∙ ap (λ (xs : List (ℕ × Ask)). by_place c ∷ xs) (makes_calls requests cs (transact s c.session c.ask).after m.1 a.1)
+
+-- from one shared world the records lead to the other, and make the calls of a journal
+pub record Goes (shared now : Counted) (records : List (List Request)) (journal : List (List Call)) : Type 0 where
   pub served : AreServedAgain (idle shared) records
   pub after : after_records (idle shared) records ≡ idle now
+  pub calls : map (map by_place) (calls_of_records (idle shared) records) ≡ map (map by_place) journal
 
-pub record_goes : (shared now : Counted) (requests : List Request) (cs : List Call) → Makes (idle shared) requests cs → IsKeptSo shared now (cs ∷ []) → Goes shared now (requests ∷ [])
+pub record_goes : (shared now : Counted) (requests : List Request) (cs : List Call) → Makes (idle shared) requests cs → IsKeptSo shared now (cs ∷ []) → Goes shared now (requests ∷ []) (cs ∷ [])
 record_goes shared now requests cs m kept =
     let d = makes_done requests cs (idle shared) m kept.replayed.0 in
-    record { served = (d.0, ap (λ (x : State). x.sessions) d.1 ∙ kept.replayed.1, tt); after = d.1 ∙ kept.after }
+    record {
+      served = (d.0, ap (λ (x : State). x.sessions) d.1 ∙ kept.replayed.1, tt);
+      after = d.1 ∙ kept.after;
+      calls = ap (λ (xs : List (ℕ × Ask)). xs ∷ []) (makes_calls requests cs (idle shared) m kept.replayed.0);
+    }
 
-pub nothing_goes : (shared now : Counted) → IsKeptSo shared now [] → Goes shared now []
-nothing_goes shared now kept = record { served = tt; after = kept.after }
+pub nothing_goes : (shared now : Counted) → IsKeptSo shared now [] → Goes shared now [] []
+nothing_goes shared now kept = record { served = tt; after = kept.after; calls = refl }
 
 -- ---- a statement outside transactions, and a transaction
 

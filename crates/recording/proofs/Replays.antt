@@ -1,12 +1,13 @@
 -- What is recorded of requests makes their shared world again.
-use Rattle.std.proofs.Common.{◌≡◌, ℕ, ◌-◌, List, [], ◌∷◌, ◌++◌, length, refl, ap, sym, subst, ◌∙◌, Option, Some, None, Result, Ok, Err}
+use Rattle.std.proofs.Common.{◌≡◌, ℕ, ◌-◌, List, [], ◌∷◌, ◌++◌, length, map, refl, ap, sym, subst, ◌∙◌, Option, Some, None, Result, Ok, Err}
 use Rattle.std.specs.Prelude.{slice_index_or, is_some, if◌then◌else◌}
 use Rattle.ae_base.specs.Atoms.{Atom}
 use Rattle.ae_base.specs.declared.faults.SqlFault.{SqlFault}
 use Rattle.ae_edge.specs.Devices.{IsFront}
 use Rattle.transactions.specs.Counted.{Counted, execution}
-use Rattle.transactions.specs.Journal.{call_of}
-use Rattle.transactions.specs.Serial.{Deed, no_logs, log_at, with_log, record_of}
+use Rattle.transactions.specs.Journal.{call_of, journal}
+use Rattle.transactions.specs.Journal.{kept_of as kept_in}
+use Rattle.transactions.specs.Serial.{Call, Deed, no_logs, log_at, with_log, record_of}
 use Rattle.transactions.specs.Stores.{Ask, Transaction, Store, transaction_at, transact}
 use Rattle.transactions.specs.WellKept.{HasNoTransactions}
 use Rattle.transactions.proofs.Interface.{AreLogged, committed_catalog, idle, length_nobody, logged_on, none_at, nothing_logged, set_back}
@@ -15,11 +16,12 @@ use Rattle.wire_messages.specs.declared.requests.Request.{Request}
 use Rattle.wire_messages.specs.declared.requests.Request.TheVariants.{Describe, Execute}
 use Rattle.statement_analysis.specs.Describing.{Meant, describe}
 use Rattle.statement_analysis.specs.Sorts.{sort_of}
-use Rattle.server_core.specs.Serve.{State, answered, prepared, ask_of, catalog_of, executed, serve, asked}
+use Rattle.server_core.specs.Serve.{State, answered, prepared, ask_of, catalog_of, executed, serve, asked, called, calls_of}
 use Rattle.server_core.proofs.Interface.{answered_after, described_after, prepared_sort, sort_bound}
 use Rattle.recording.specs.Recorded.{Kept, kept, is_done, kept_of, kept_where, kept_by, has_transaction, nothing_held, held_at, with_held, session_of, requests_recorded, after_requests, after_records}
-use Rattle.recording.specs.Laws.{AreServedAgain, IsReplayed}
+use Rattle.recording.specs.Laws.{AreServedAgain, IsReplayed, by_place, calls_of_records}
 use Rattle.recording.proofs.Asked.{asked_step}
+use Rattle.recording.proofs.Forgetting.{map_append}
 use Rattle.recording.proofs.Held.{Holds}
 use Rattle.recording.proofs.Made.{Goes}
 use Rattle.recording.proofs.Slots.{AllAt, set_all, set_long, nothing_long, nothing_at}
@@ -33,30 +35,41 @@ pub record IsHeldOf (s : State) (logs : List (List Deed)) (held : List (List Req
   pub held_long : length held ≡ 64
   pub slots : AllAt Holds None [] [] s.sessions logs held
 
--- a request with what is kept of it leads on
-pub record Went (s : State) (session : ℕ) (held : List (List Request)) (after : State) (k : Kept Request) : Type 0 where
+-- a request that makes these calls, with what is kept of it, leads on, and so does the journal
+pub record Went (s : State) (before : List (List Deed)) (session : ℕ) (held : List (List Request)) (calls : List Call) (after : State) (k : Kept Request) : Type 0 where
   pub logs : List (List Deed)
+  pub kept : List (List Call)
+  pub first : (others : List Call) → journal s before (calls ++ others) ≡ kept ++ journal after logs others
   pub so : IsHeldOf after logs (with_held held session k.held)
-  pub goes : Goes s.shared after.shared k.records
+  pub goes : Goes s.shared after.shared k.records kept
 
 module _ (s : State) (logs : List (List Deed)) (held : List (List Request)) (h : IsHeldOf s logs held) where
-  unchanged : (session : ℕ) → Went s session held s (kept [] (held_at held session))
-  unchanged session = record { logs = logs; so = subst (λ hs. IsHeldOf s logs hs) (set_back held (session - 1) []) h; goes = record { served = tt; after = refl } }
+  unchanged : (session : ℕ) → Went s logs session held [] s (kept [] (held_at held session))
+  unchanged session = record {
+    logs = logs;
+    kept = [];
+    first = λ others. refl;
+    so = subst (λ hs. IsHeldOf s logs hs) (set_back held (session - 1) []) h;
+    goes = record { served = tt; after = refl; calls = refl };
+  }
 
   -- of a request that is refused before it is executed
-  refused_so : (session : ℕ) → Went s session held s (kept_where (has_transaction s session) (held_at held session))
-  refused_so session = subst (Went s session held s) (by (transaction_at s session) (h.slots (session - 1))) (unchanged session)
+  refused_so : (session : ℕ) → Went s logs session held [] s (kept_where (has_transaction s session) (held_at held session))
+  refused_so session = subst (Went s logs session held [] s) (by (transaction_at s session) (h.slots (session - 1))) (unchanged session)
     where
       by : (o : Option Transaction) → Holds (session - 1) o (log_at logs session) (held_at held session) → kept [] (held_at held session) ≡ kept_where (is_some o) (held_at held session)
       by None e = ap (kept []) e
       by (Some t) e = refl
 
-  stepped_so : (session : ℕ) (ask : Ask) (k : Kept Request) → IsStep s session (transact s session ask) (record_of s (call_of session ask) logs).log k → Went s session held (transact s session ask).after k
+  stepped_so : (session : ℕ) (ask : Ask) (k : Kept Request) → IsStep s session (transact s session ask) (record_of s (call_of session ask) logs).log k (kept_in (transaction_at s session) session ask (transact s session ask).answer (log_at logs session))
+      → Went s logs session held (call_of session ask ∷ []) (transact s session ask).after k
   stepped_so session ask k step =
       let on = logged_on s logs session ask h.long h.logged in
       let log = (record_of s (call_of session ask) logs).log in
       record {
         logs = with_log logs session log;
+        kept = kept_in (transaction_at s session) session ask (transact s session ask).answer (log_at logs session);
+        first = λ others. refl;
         so = record {
           logged = on.logged;
           long = on.long;
@@ -82,7 +95,7 @@ module _ (s : State) (logs : List (List Deed)) (held : List (List Request)) (h :
         ap (λ q. if is_done served.replies then kept_of q (held_at held session) request else kept_where (has_transaction t.after session) (held_at held session)) (sym (prepared_sort (catalog_of s session) version text params ready e))
         ∙ ap (λ (x : State). if is_done served.replies then kept_of (sort_of text) (held_at held session) request else kept_where (has_transaction x session) (held_at held session)) (sym (answered_after (catalog_of s session) t.answer t.after))
 
-    ready_went : (ready : Meant × List Atom) → prepared (catalog_of s session) version text params ≡ Ok ready → Went s session held (executed s session (Ok ready)).after (kept_by request request (executed s session (Ok ready)) (held_at held session))
+    ready_went : (ready : Meant × List Atom) → prepared (catalog_of s session) version text params ≡ Ok ready → Went s logs session held (asked session (Ok ready)) (executed s session (Ok ready)).after (kept_by request request (executed s session (Ok ready)) (held_at held session))
     ready_went ready e =
         let x = execution ready.0.bound ready.0.encs ready.1 in
         let t = transact s session (ask_of ready) in
@@ -95,16 +108,16 @@ module _ (s : State) (logs : List (List Deed)) (held : List (List Request)) (h :
           kept = on.kept;
           catalog = λ t is free. committed_catalog s logs session t h.logged is free;
         }) in
-        subst (λ (after : State). Went s session held after (kept_by request request (executed s session (Ok ready)) (held_at held session))) (sym (answered_after (catalog_of s session) t.answer t.after))
-        (subst (Went s session held t.after) (ready_kept ready e) (stepped_so session (ask_of ready) (kept_so (sort_bound ready.0.bound.statement) (held_at held session) request (catalog_of s session) session t) step))
+        subst (λ (after : State). Went s logs session held (asked session (Ok ready)) after (kept_by request request (executed s session (Ok ready)) (held_at held session))) (sym (answered_after (catalog_of s session) t.answer t.after))
+        (subst (Went s logs session held (asked session (Ok ready)) t.after) (ready_kept ready e) (stepped_so session (ask_of ready) (kept_so (sort_bound ready.0.bound.statement) (held_at held session) request (catalog_of s session) session t) step))
 
-    execute_went : (p : Result (Meant × List Atom) SqlFault) → prepared (catalog_of s session) version text params ≡ p → Went s session held (executed s session p).after (kept_by request request (executed s session p) (held_at held session))
+    execute_went : (p : Result (Meant × List Atom) SqlFault) → prepared (catalog_of s session) version text params ≡ p → Went s logs session held (asked session p) (executed s session p).after (kept_by request request (executed s session p) (held_at held session))
     execute_went (Ok ready) e = ready_went ready e
     execute_went (Err f) e = refused_so session
 
-  pub went : (request : Request) → Went s (session_of request) held (serve s request).after (kept_by request request (serve s request) (held_at held (session_of request)))
+  pub went : (request : Request) → Went s logs (session_of request) held (called s request) (serve s request).after (kept_by request request (serve s request) (held_at held (session_of request)))
   went (Describe session text declarations) =
-      subst (λ (after : State). Went s session held after (kept [] (held_at held session))) (sym (described_after s (describe (catalog_of s session) text declarations))) (unchanged session)
+      subst (λ (after : State). Went s logs session held [] after (kept [] (held_at held session))) (sym (described_after s (describe (catalog_of s session) text declarations))) (unchanged session)
   went (Execute session version text params) = execute_went session version text params (prepared (catalog_of s session) version text params) refl
 
 -- ---- records one after another
@@ -121,22 +134,29 @@ after_append : (s : State) (xs ys : List (List Request)) → after_records s (xs
 after_append s [] ys = refl
 after_append s (x ∷ xs) ys = after_append (after_requests s x) xs ys
 
-goes_append : (a b c : Counted) (xs ys : List (List Request)) → Goes a b xs → Goes b c ys → Goes a c (xs ++ ys)
-goes_append a b c xs ys f g = record {
+calls_append : (s : State) (xs ys : List (List Request)) → calls_of_records s (xs ++ ys) ≡ calls_of_records s xs ++ calls_of_records (after_records s xs) ys
+calls_append s [] ys = refl
+calls_append s (x ∷ xs) ys = ap (λ cs. calls_of s x ∷ cs) (calls_append (after_requests s x) xs ys)
+
+goes_append : (a b c : Counted) (xs ys : List (List Request)) (js ks : List (List Call)) → Goes a b xs js → Goes b c ys ks → Goes a c (xs ++ ys) (js ++ ks)
+goes_append a b c xs ys js ks f g = record {
   served = served_append (idle a) xs ys f.served (subst (λ x. AreServedAgain x ys) (sym f.after) g.served);
   after = after_append (idle a) xs ys ∙ ap (λ x. after_records x ys) f.after ∙ g.after;
+  calls =
+      ap (map (map by_place)) (calls_append (idle a) xs ys ∙ ap (λ x. calls_of_records (idle a) xs ++ calls_of_records x ys) f.after)
+      ∙ map_append (map by_place) (calls_of_records (idle a) xs) (calls_of_records (idle b) ys) ∙ (λ i. f.calls i ++ g.calls i) ∙ sym (map_append (map by_place) js ks);
 }
 
 -- ---- requests one after another
 
-pub record AllWent (s : State) (held : List (List Request)) (requests : List Request) : Type 0 where
+pub record AllWent (s : State) (before : List (List Deed)) (held : List (List Request)) (requests : List Request) : Type 0 where
   pub logs : List (List Deed)
   pub left : List (List Request)
   pub so : IsHeldOf (after_requests s requests) logs left
-  pub goes : Goes s.shared (after_requests s requests).shared (requests_recorded s held requests)
+  pub goes : Goes s.shared (after_requests s requests).shared (requests_recorded s held requests) (journal s before (calls_of s requests))
 
-all_went : (requests : List Request) (s : State) (logs : List (List Deed)) (held : List (List Request)) → IsHeldOf s logs held → AllWent s held requests
-all_went [] s logs held h = record { logs = logs; left = held; so = h; goes = record { served = tt; after = refl } }
+all_went : (requests : List Request) (s : State) (logs : List (List Deed)) (held : List (List Request)) → IsHeldOf s logs held → AllWent s logs held requests
+all_went [] s logs held h = record { logs = logs; left = held; so = h; goes = record { served = tt; after = refl; calls = refl } }
 all_went (request ∷ requests) s logs held h =
     let one = kept_by request request (serve s request) (held_at held (session_of request)) in
     let w = went s logs held h request in
@@ -146,7 +166,8 @@ all_went (request ∷ requests) s logs held h =
       logs = more.logs;
       left = more.left;
       so = more.so;
-      goes = goes_append s.shared after.shared (after_requests after requests).shared one.records (requests_recorded after (with_held held (session_of request) one.held) requests) w.goes more.goes;
+      goes = subst (Goes s.shared (after_requests after requests).shared (requests_recorded s held (request ∷ requests))) (sym (w.first (calls_of after requests)))
+          (goes_append s.shared after.shared (after_requests after requests).shared one.records (requests_recorded after (with_held held (session_of request) one.held) requests) w.kept (journal after w.logs (calls_of after requests)) w.goes more.goes);
     }
 
 -- nothing is held at first
@@ -167,6 +188,13 @@ replayed s requests none =
       served = subst (λ x. AreServedAgain x (requests_recorded s nothing_held requests)) is w.goes.served;
       shared = ap (λ x. (after_records x (requests_recorded s nothing_held requests)).shared) (sym is) ∙ ap (λ (x : Store). x.shared) w.goes.after;
     }
+
+-- the records make the calls of the journal
+pub are_journals : (s : State) (requests : List Request) → HasNoTransactions s
+    → map (map by_place) (calls_of_records s (requests_recorded s nothing_held requests)) ≡ map (map by_place) (journal s no_logs (calls_of s requests))
+are_journals s requests none =
+    let is : idle s.shared ≡ s = ap (λ ss. let x : Store = record { shared = s.shared; sessions = ss } in x) (sym none.none) in
+    ap (λ x. map (map by_place) (calls_of_records x (requests_recorded s nothing_held requests))) (sym is) ∙ (all_went requests s no_logs nothing_held (nothing_so s none)).goes.calls
 
 -- behind records that are served again there is no transaction
 none_behind : (records : List (List Request)) (s : State) → HasNoTransactions s → AreServedAgain s records → HasNoTransactions (after_records s records)

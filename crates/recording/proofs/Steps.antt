@@ -27,25 +27,25 @@ use Rattle.recording.proofs.Slots.{set_none, set_there}
 abbrev pub kept_so : Sort → List Request → Request → Catalog → ℕ → Transacted → Kept Request
 kept_so sort held request catalog session x = if is_done (answered catalog x.answer x.after).replies then kept_of sort held request else kept_where (has_transaction x.after session) held
 
--- the session's slot after it holds what the log has, and the records lead on
-pub record IsStep (s : State) (session : ℕ) (x : Transacted) (log : List Deed) (k : Kept Request) : Type 0 where
+-- the session's slot after it holds what the log has, and the records lead on and make the calls of the journal
+pub record IsStep (s : State) (session : ℕ) (x : Transacted) (log : List Deed) (k : Kept Request) (journal : List (List serial.Call)) : Type 0 where
   pub slot : Option Transaction
   pub sessions : x.after.sessions ≡ slice_set s.sessions (session - 1) slot
   pub holds : Holds (session - 1) slot log k.held
-  pub goes : Goes s.shared x.after.shared k.records
+  pub goes : Goes s.shared x.after.shared k.records journal
 
 module _ (s : State) (session : ℕ) (request : Request) (held : List Request) where
   abbrev place : ℕ
   place = session - 1
 
-  stays : Goes s.shared s.shared []
-  stays = record { served = tt; after = refl }
+  stays : Goes s.shared s.shared [] []
+  stays = record { served = tt; after = refl; calls = refl }
 
   -- the state is as before
-  pub left_as_before : (f : SqlFault) (o : Option Transaction) (log : List Deed) → transaction_at s session ≡ o → Holds place o log held → IsStep s session (refused s f) log (kept_where (has_transaction s session) held)
-  left_as_before f o log is h = subst (λ x. IsStep s session (refused s f) log (kept_where (is_some x) held)) (sym is) (by o is h)
+  pub left_as_before : (f : SqlFault) (o : Option Transaction) (log : List Deed) → transaction_at s session ≡ o → Holds place o log held → IsStep s session (refused s f) log (kept_where (has_transaction s session) held) []
+  left_as_before f o log is h = subst (λ x. IsStep s session (refused s f) log (kept_where (is_some x) held) []) (sym is) (by o is h)
     where
-      by : (o : Option Transaction) → transaction_at s session ≡ o → Holds place o log held → IsStep s session (refused s f) log (kept_where (is_some o) held)
+      by : (o : Option Transaction) → transaction_at s session ≡ o → Holds place o log held → IsStep s session (refused s f) log (kept_where (is_some o) held) []
       by None is h = record { slot = None; sessions = set_back s.sessions place None ∙ ap (slice_set s.sessions place) is; holds = refl; goes = stays }
       by (Some t) is h = record { slot = Some t; sessions = set_back s.sessions place None ∙ ap (slice_set s.sessions place) is; holds = h; goes = stays }
 
@@ -53,28 +53,28 @@ module _ (s : State) (session : ℕ) (request : Request) (held : List Request) w
   abbrev dropped : State
   dropped = with_transaction s session None
 
-  pub ends_refused : (f : SqlFault) (log : List Deed) → IsStep s session (record { answer = Err f; after = dropped }) log (kept_where (has_transaction dropped session) held)
+  pub ends_refused : (f : SqlFault) (log : List Deed) → IsStep s session (record { answer = Err f; after = dropped }) log (kept_where (has_transaction dropped session) held) []
   ends_refused f log =
-      subst (λ x. IsStep s session (record { answer = Err f; after = dropped }) log (kept_where (is_some x) held)) (sym (set_none s.sessions place))
+      subst (λ x. IsStep s session (record { answer = Err f; after = dropped }) log (kept_where (is_some x) held) []) (sym (set_none s.sessions place))
       (record { slot = None; sessions = refl; holds = refl; goes = stays })
 
-  pub rolled_back : (log : List Deed) → IsStep s session (record { answer = Ok Defined; after = dropped }) log (kept [] [])
+  pub rolled_back : (log : List Deed) → IsStep s session (record { answer = Ok Defined; after = dropped }) log (kept [] []) []
   rolled_back log = record { slot = None; sessions = refl; holds = refl; goes = stays }
 
-  pub begins : AsksSo s.shared.world.catalog place Begins request → IsStep s session (record { answer = Ok Defined; after = with_transaction s session (Some (begun_over s.shared)) }) [] (kept [] (request ∷ []))
+  pub begins : AsksSo s.shared.world.catalog place Begins request → IsStep s session (record { answer = Ok Defined; after = with_transaction s session (Some (begun_over s.shared)) }) [] (kept [] (request ∷ [])) []
   begins h = record { slot = Some (begun_over s.shared); sessions = refl; holds = record { begin = request; rest = []; is = refl; begins = h; each = tt }; goes = stays }
 
   -- ---- a COMMIT that is accepted
 
   pub commits : (t : Transaction) (log : List Deed) (now : State) → session - 1 < 64 → now.sessions ≡ slice_set s.sessions place None → t.own.world.catalog ≡ s.shared.world.catalog → IsHeld t.own.world.catalog place log held
       → AsksSo t.own.world.catalog place Commits request → IsKeptSo s.shared now.shared (whole session (lasting log))
-      → IsStep s session (record { answer = Ok Defined; after = now }) [] (kept_of sort.Commits held request)
+      → IsStep s session (record { answer = Ok Defined; after = now }) [] (kept_of sort.Commits held request) (whole session (lasting log))
   commits t log now lt is same h k w =
-      subst (λ rs. IsStep s session (record { answer = Ok Defined; after = now }) [] (kept_of sort.Commits rs request)) (sym h.is)
+      subst (λ rs. IsStep s session (record { answer = Ok Defined; after = now }) [] (kept_of sort.Commits rs request) (whole session (lasting log))) (sym h.is)
       (by h.rest (lasting log) (subst (λ c. AllZip (IsChange c place) h.rest (lasting log)) same h.each) w)
     where
       by : (rest : List Request) (deeds : List Deed) → AllZip (IsChange s.shared.world.catalog place) rest deeds → IsKeptSo s.shared now.shared (whole session deeds)
-          → IsStep s session (record { answer = Ok Defined; after = now }) [] (kept_of sort.Commits (h.begin ∷ rest) request)
+          → IsStep s session (record { answer = Ok Defined; after = now }) [] (kept_of sort.Commits (h.begin ∷ rest) request) (whole session deeds)
       by [] [] e w = record { slot = None; sessions = is; holds = refl; goes = nothing_goes s.shared now.shared w }
       by [] (d ∷ deeds) e w = absurd e
       by (r ∷ rest) [] e w = absurd e
@@ -98,36 +98,38 @@ module _ (s : State) (session : ℕ) (request : Request) (held : List Request) w
 
     pub alone_lasts : (q : Sort) (a : Result Answer SqlFault) → kept_of q [] request ≡ kept ((request ∷ []) ∷ []) [] → transaction_at s session ≡ None → held ≡ [] → AsksSo s.shared.world.catalog place (Executes e) request
         → (is_definition e.bound.statement || is_some (target e.bound.statement)) ≡ true → ((columns : List ResultColumn) (rows : List (List Atom)) → a ≡ Ok (Rows columns rows) → ⊥)
-        → IsKeptSo s.shared now (entries (is_lasting e.bound.statement a)) → IsStep s session (answers a) [] (kept_so q held request s.shared.world.catalog session (answers a))
-    alone_lasts q a one is empty h changes rowless w = subst (λ rs. IsStep s session (answers a) [] (kept_so q rs request s.shared.world.catalog session (answers a))) (sym empty) (by a rowless w)
+        → IsKeptSo s.shared now (entries (is_lasting e.bound.statement a)) → IsStep s session (answers a) [] (kept_so q held request s.shared.world.catalog session (answers a)) (entries (is_lasting e.bound.statement a))
+    alone_lasts q a one is empty h changes rowless w = subst (λ rs. IsStep s session (answers a) [] (kept_so q rs request s.shared.world.catalog session (answers a)) (entries (is_lasting e.bound.statement a))) (sym empty) (by a rowless w)
       where
         same : s.sessions ≡ slice_set s.sessions place None
         same = set_back s.sessions place None ∙ ap (slice_set s.sessions place) is
 
-        accepted : (answer : Answer) → IsKeptSo s.shared now (entries (is_definition e.bound.statement || is_some (target e.bound.statement))) → IsStep s session (answers (Ok answer)) [] (kept_of q [] request)
+        accepted : (answer : Answer) → IsKeptSo s.shared now (entries (is_definition e.bound.statement || is_some (target e.bound.statement))) → IsStep s session (answers (Ok answer)) [] (kept_of q [] request) (entries (is_definition e.bound.statement || is_some (target e.bound.statement)))
         accepted answer w =
-            subst (IsStep s session (answers (Ok answer)) []) (sym one) (record {
+            subst (λ k. IsStep s session (answers (Ok answer)) [] k (entries (is_definition e.bound.statement || is_some (target e.bound.statement)))) (sym one)
+            (subst (λ b. IsStep s session (answers (Ok answer)) [] (kept ((request ∷ []) ∷ []) []) (entries b)) (sym changes) (record {
               slot = None;
               sessions = same;
               holds = refl;
               goes = record_goes s.shared now (request ∷ []) (call_of session (Executes e) ∷ []) (one_makes s.shared session (Executes e) request h changes) (subst (λ b. IsKeptSo s.shared now (entries b)) changes w);
-            })
+            }))
 
         by : (a : Result Answer SqlFault) → ((columns : List ResultColumn) (rows : List (List Atom)) → a ≡ Ok (Rows columns rows) → ⊥) → IsKeptSo s.shared now (entries (is_lasting e.bound.statement a))
-            → IsStep s session (answers a) [] (kept_so q [] request s.shared.world.catalog session (answers a))
+            → IsStep s session (answers a) [] (kept_so q [] request s.shared.world.catalog session (answers a)) (entries (is_lasting e.bound.statement a))
         by (Ok (Rows columns rows)) rowless w = absurd (rowless columns rows refl)
         by (Ok (Changed count)) rowless w = accepted (Changed count) w
         by (Ok Defined) rowless w = accepted Defined w
         by (Err f) rowless w =
-            subst (λ o. IsStep s session (answers (Err f)) [] (kept_where (is_some o) [])) (sym is)
+            subst (λ o. IsStep s session (answers (Err f)) [] (kept_where (is_some o) []) []) (sym is)
             (record { slot = None; sessions = same; holds = refl; goes = nothing_goes s.shared now w })
 
     pub alone_reads : (a : Result Answer SqlFault) → transaction_at s session ≡ None → held ≡ [] → is_lasting e.bound.statement a ≡ false → IsKeptSo s.shared now (entries (is_lasting e.bound.statement a))
-        → IsStep s session (answers a) [] (kept_so sort.Reads held request s.shared.world.catalog session (answers a))
+        → IsStep s session (answers a) [] (kept_so sort.Reads held request s.shared.world.catalog session (answers a)) (entries (is_lasting e.bound.statement a))
     alone_reads a is empty passes w =
-        subst (λ rs. IsStep s session (answers a) [] (kept_so sort.Reads rs request s.shared.world.catalog session (answers a))) (sym empty) (by (is_done (answered s.shared.world.catalog a (record s { shared = now })).replies))
+        subst (λ b. IsStep s session (answers a) [] (kept_so sort.Reads held request s.shared.world.catalog session (answers a)) (entries b)) (sym passes)
+        (subst (λ rs. IsStep s session (answers a) [] (kept_so sort.Reads rs request s.shared.world.catalog session (answers a)) []) (sym empty) (by (is_done (answered s.shared.world.catalog a (record s { shared = now })).replies)))
       where
-        step : IsStep s session (answers a) [] (kept [] [])
+        step : IsStep s session (answers a) [] (kept [] []) []
         step = record {
           slot = None;
           sessions = set_back s.sessions place None ∙ ap (slice_set s.sessions place) is;
@@ -135,9 +137,9 @@ module _ (s : State) (session : ℕ) (request : Request) (held : List Request) w
           goes = nothing_goes s.shared now (subst (λ b. IsKeptSo s.shared now (entries b)) passes w);
         }
 
-        by : (b : Bool) → IsStep s session (answers a) [] (if b then kept [] [] else kept_where (is_some (transaction_at s session)) [])
+        by : (b : Bool) → IsStep s session (answers a) [] (if b then kept [] [] else kept_where (is_some (transaction_at s session)) []) []
         by true = step
-        by false = subst (λ o. IsStep s session (answers a) [] (kept_where (is_some o) [])) (sym is) step
+        by false = subst (λ o. IsStep s session (answers a) [] (kept_where (is_some o) []) []) (sym is) step
 
   -- ---- a statement in a transaction
 
@@ -158,26 +160,26 @@ module _ (s : State) (session : ℕ) (request : Request) (held : List Request) w
     same_own = work_catalog t.own e work
 
     -- what isn't an accepted change holds no more
-    still : (a : Result Answer SqlFault) → is_lasting e.bound.statement a ≡ false → IsStep s session (tells a) (log ++ deed e a ∷ []) (kept [] held)
+    still : (a : Result Answer SqlFault) → is_lasting e.bound.statement a ≡ false → IsStep s session (tells a) (log ++ deed e a ∷ []) (kept [] held) []
     still a passes = record { slot = Some next; sessions = refl; holds = held_still t.own.world.catalog next.own.world.catalog place log held (deed e a) same_own passes h; goes = stays }
 
-    still_open : (a : Result Answer SqlFault) → is_lasting e.bound.statement a ≡ false → IsStep s session (tells a) (log ++ deed e a ∷ []) (kept_where (has_transaction goes_to session) held)
-    still_open a passes = subst (λ o. IsStep s session (tells a) (log ++ deed e a ∷ []) (kept_where (is_some o) held)) (sym there) (still a passes)
+    still_open : (a : Result Answer SqlFault) → is_lasting e.bound.statement a ≡ false → IsStep s session (tells a) (log ++ deed e a ∷ []) (kept_where (has_transaction goes_to session) held) []
+    still_open a passes = subst (λ o. IsStep s session (tells a) (log ++ deed e a ∷ []) (kept_where (is_some o) held) []) (sym there) (still a passes)
 
-    pub reads_in : (a : Result Answer SqlFault) → is_lasting e.bound.statement a ≡ false → IsStep s session (tells a) (log ++ deed e a ∷ []) (kept_so sort.Reads held request t.own.world.catalog session (tells a))
+    pub reads_in : (a : Result Answer SqlFault) → is_lasting e.bound.statement a ≡ false → IsStep s session (tells a) (log ++ deed e a ∷ []) (kept_so sort.Reads held request t.own.world.catalog session (tells a)) []
     reads_in a passes = by (is_done (answered t.own.world.catalog a goes_to).replies)
       where
-        by : (b : Bool) → IsStep s session (tells a) (log ++ deed e a ∷ []) (if b then kept [] held else kept_where (has_transaction goes_to session) held)
+        by : (b : Bool) → IsStep s session (tells a) (log ++ deed e a ∷ []) (if b then kept [] held else kept_where (has_transaction goes_to session) held) []
         by true = still a passes
         by false = still_open a passes
 
     pub changes_in : (a : Result Answer SqlFault) → AsksSo t.own.world.catalog place (Executes e) request → (is_definition e.bound.statement || is_some (target e.bound.statement)) ≡ true
-        → ((columns : List ResultColumn) (rows : List (List Atom)) → a ≡ Ok (Rows columns rows) → ⊥) → IsStep s session (tells a) (log ++ deed e a ∷ []) (kept_so sort.Changes held request t.own.world.catalog session (tells a))
+        → ((columns : List ResultColumn) (rows : List (List Atom)) → a ≡ Ok (Rows columns rows) → ⊥) → IsStep s session (tells a) (log ++ deed e a ∷ []) (kept_so sort.Changes held request t.own.world.catalog session (tells a)) []
     changes_in a k changes rowless = by a rowless
       where
-        accepted : (answer : Answer) → IsStep s session (tells (Ok answer)) (log ++ deed e (Ok answer) ∷ []) (kept_of sort.Changes held request)
+        accepted : (answer : Answer) → IsStep s session (tells (Ok answer)) (log ++ deed e (Ok answer) ∷ []) (kept_of sort.Changes held request) []
         accepted answer =
-            subst (λ rs. IsStep s session (tells (Ok answer)) (log ++ deed e (Ok answer) ∷ []) (kept_of sort.Changes rs request)) (sym h.is) (record {
+            subst (λ rs. IsStep s session (tells (Ok answer)) (log ++ deed e (Ok answer) ∷ []) (kept_of sort.Changes rs request) []) (sym h.is) (record {
               slot = Some next;
               sessions = refl;
               holds = held_more t.own.world.catalog next.own.world.catalog place log h.begin h.rest request (deed e (Ok answer)) same_own changes h.begins h.each (record { so = k; work = work; changes = changes });
@@ -185,7 +187,7 @@ module _ (s : State) (session : ℕ) (request : Request) (held : List Request) w
             })
 
         by : (a : Result Answer SqlFault) → ((columns : List ResultColumn) (rows : List (List Atom)) → a ≡ Ok (Rows columns rows) → ⊥)
-            → IsStep s session (tells a) (log ++ deed e a ∷ []) (kept_so sort.Changes held request t.own.world.catalog session (tells a))
+            → IsStep s session (tells a) (log ++ deed e a ∷ []) (kept_so sort.Changes held request t.own.world.catalog session (tells a)) []
         by (Ok (Rows columns rows)) rowless = absurd (rowless columns rows refl)
         by (Ok (Changed count)) rowless = accepted (Changed count)
         by (Ok Defined) rowless = accepted Defined

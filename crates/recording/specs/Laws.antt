@@ -1,9 +1,12 @@
 -- What is recorded makes the same shared world when it is served again.
-use Rattle.std.specs.Prelude.{◌≡◌, List, [], ◌∷◌, ◌++◌, None, true, replicate}
+use Rattle.std.specs.Prelude.{◌≡◌, ℕ, ◌-◌, List, [], ◌∷◌, ◌++◌, map, None, true, replicate}
 use Rattle.ae_edge.specs.Devices.{IsFront}
+use Rattle.transactions.specs.Journal.{journal}
+use Rattle.transactions.specs.Serial.{Call, no_logs}
+use Rattle.transactions.specs.Stores.{Ask}
 use Rattle.transactions.specs.WellKept.{HasNoTransactions}
 use Rattle.wire_messages.specs.declared.requests.Request.{Request}
-use Rattle.server_core.specs.Serve.{State, serve}
+use Rattle.server_core.specs.Serve.{State, calls_of, serve}
 use Rattle.recording.specs.Recorded.{is_done, nothing_held, requests_recorded, after_requests, after_records}
 
 -- no session has a transaction
@@ -28,6 +31,24 @@ pub record IsReplayed (state : State) (requests : List Request) : Type 0 where
 -- so it is from every state without transactions
 abbrev pub ReplayLaw : Type 0
 ReplayLaw = (state : State) (requests : List Request) → HasNoTransactions state → IsReplayed state requests
+
+-- ---- what the records ask
+
+-- the calls that the requests of each record make of the state, where the records are served one after another
+abbrev pub calls_of_records : State → List (List Request) → List (List Call)
+calls_of_records state [] = []
+calls_of_records state (requests ∷ records) = calls_of state requests ∷ calls_of_records (after_requests state requests) records
+
+-- a call by the place of its session: sessions are numbered from 1, and 0 would have the place of 1
+abbrev pub by_place : Call → ℕ × Ask
+by_place call = (call.session - 1, call.ask)
+
+-- served again, the records of some requests make the calls that the journal of the requests' calls holds
+abbrev pub RecordsAreJournals : Type 0
+RecordsAreJournals = (state : State) (requests : List Request) → HasNoTransactions state
+    → map (map by_place) (calls_of_records state (requests_recorded state nothing_held requests)) ≡ map (map by_place) (journal state no_logs (calls_of state requests))
+
+-- ---- fronts
 
 -- behind records that are served again, each front of what is recorded from the state that they lead to is served again too
 abbrev pub FrontsAreAccepted : Type 0

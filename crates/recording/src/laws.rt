@@ -1,6 +1,6 @@
 //! Laws of what is recorded: functions that do nothing, whose contracts are the laws.
 
-ghost use Rattle.recording.specs.Laws.{FrontsAreAccepted, ReplayLaw};
+ghost use Rattle.recording.specs.Laws.{FrontsAreAccepted, RecordsAreJournals, ReplayLaw};
 
 /// From a state without transactions, the records of some requests are served again one after
 /// another: each of their requests is done, no transaction is open behind a record, and they lead
@@ -13,4 +13,10 @@ pub fn replay_law()
 /// too.
 pub fn fronts_are_accepted()
     ensures { FrontsAreAccepted }
+{}
+
+/// From a state without transactions, the requests of the records make, when they are served again,
+/// the calls that the journal of the requests' calls holds: record by record, and call by call.
+pub fn records_are_journals()
+    ensures { RecordsAreJournals }
 {}
