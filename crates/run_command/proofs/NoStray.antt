@@ -23,8 +23,8 @@ use Rattle.script_source.specs.declared.Unread.TheVariants as unread
 use Rattle.script_source.specs.Scripts.{IsScript}
 use Rattle.run_command.specs.Ends.{RunDevices, outside, RunsScript}
 use Rattle.run_command.specs.Plain.{IsDoneOrFault}
-use Rattle.run_command.proofs.Plainly.{served}
 use Rattle.run_command.proofs.Queued.{waits_from, stuck_queue}
+use Rattle.run_command.proofs.Reaching.{served_so}
 
 heard_first : (P : Heard → List Reply → Type 0) (queue rest : List Reply) (reply : Reply) (session : Session) (shown : Listing) → queue ≡ reply ∷ rest → IsHeard P queue session shown
     → IsHeardBy (λ after more. IsHeard P rest after more) (λ heard. P heard rest) (hear session shown reply)
@@ -73,10 +73,10 @@ none_bad : (steps : List Step) → Awaits serve (talk steps nobody) empty_state 
     → StopsBy (stop.BadReply place) (talk steps nobody) old new → ⊥
 none_bad steps a place old new w q n h =
     let g = h.goes in
-    let v = served g.events old.wire.state new.wire.state empty_state w g.put.wire.state in
+    let v = served_so g.events old.wire.state new.wire.state empty_state w g.put.wire.state in
     let waits = waits_from (talk steps nobody) h.rest old new n q g in
     let left = messages_of new.wire.waiting in
-    awaits_on h.rest v.0 left (path_awaits (talk steps nobody) h.rest g.events g.follows [] left waits empty_state v.0 v.1 a) (stuck_queue (talk steps nobody) h.rest old new n g h.place.0)
+    awaits_on h.rest v.0 left (path_awaits (talk steps nobody) h.rest g.events g.follows [] left waits empty_state v.0 v.2 a) (stuck_queue (talk steps nobody) h.rest old new n g h.place.0)
 
 pub runs_awaited : (law : RepliesAreAwaited) (place : ℕ) (count : Count) (bytes : List ℕ) (old new : RunDevices) → old.state ≡ Some empty_state → RunsScript (ran.Stopped (stop.BadReply place)) count bytes old new → ⊥
 runs_awaited law place count bytes old new w h =

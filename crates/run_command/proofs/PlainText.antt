@@ -29,9 +29,8 @@ front_by (ran.Unread why) keys steps old new h = rw h (none_front (print (meanin
 
 pub runs_print_plain_text : CellsNeverFail → RunsPrintPlainText
 runs_print_plain_text law = record {
-  refusals = λ r bytes old new run state steps script keys told. refusals_plain law run.count bytes old new state keys told r run.content;
+  refusals = λ r bytes old new run state steps script keys told. refusals_plain law run.count keys bytes old new state told r run.content steps script;
   outcomes = λ r bytes old new run state steps script keys told alike. record {
-    outcomes = meaning keys steps;
     are = law.meaning keys steps nothing_held empty_state;
     text = front_by r keys steps old.out new.out (run.plain state steps script keys told alike);
   };

@@ -21,7 +21,7 @@ use Rattle.script_run.specs.declared.runs.Ran.{Ran}
 use Rattle.script_run.specs.declared.runs.Ran.TheVariants as ran
 use Rattle.run_command.specs.Ends.{RunDevices, RunsTo, RunsScript}
 use Rattle.run_command.specs.Serially.{IsServedSerially, requests_of}
-use Rattle.run_command.proofs.Tapping.{served_so}
+use Rattle.run_command.proofs.Reaching.{served_so}
 
 -- ---- what passed
 

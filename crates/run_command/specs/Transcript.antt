@@ -6,8 +6,8 @@ use Rattle.ae_edge.specs.Vaults.{KeyMap}
 use Rattle.wire_messages.specs.Exchanges.{Exchange}
 use Rattle.wire_spelling.specs.Packing.{packed}
 use Rattle.wire_spelling.specs.Spelling.{request_frame}
-use Rattle.server_core.specs.Serve.{empty_state, serve}
-use Rattle.conversation.specs.Drive.{over}
+use Rattle.server_core.specs.Serve.{State, empty_state, serve}
+use Rattle.conversation.specs.Drive.{Passed, over}
 use Rattle.conversation.specs.Sessions.{nobody}
 use Rattle.script_lang.specs.declared.steps.Step.{Step}
 use Rattle.plain_meaning.specs.Steps.{talk}
@@ -19,11 +19,15 @@ use Rattle.script_run.specs.declared.runs.Ran.TheVariants as ran
 abbrev pub exchange_frames : FrameVersion → Exchange → List ℕ
 exchange_frames version e = request_frame version e.request ++ packed version e.replies
 
--- what is asked and answered over a server that serves from the empty state, where these random bytes come
-abbrev pub exchanges : KeyMap → List Step → List ℕ → List Exchange
-exchanges keys steps entropy = (over serve keys (talk steps nobody) 0 entropy empty_state []).exchanges
+-- what passes over a server that serves from the empty state, where these random bytes come
+abbrev pub passed : KeyMap → List Step → List ℕ → Passed State
+passed keys steps entropy = over serve keys (talk steps nobody) 0 entropy empty_state []
 
--- what passes there
+-- what is asked and answered there
+abbrev pub exchanges : KeyMap → List Step → List ℕ → List Exchange
+exchanges keys steps entropy = (passed keys steps entropy).exchanges
+
+-- its frames
 abbrev pub transcript : FrameVersion → KeyMap → List Step → List ℕ → List ℕ
 transcript version keys steps entropy = flat_map (exchange_frames version) (exchanges keys steps entropy)
 
