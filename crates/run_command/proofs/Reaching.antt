@@ -23,8 +23,9 @@ use Rattle.run_effects.specs.declared.stops.Stop.{Stop}
 use Rattle.run_effects.specs.declared.stops.Stop.TheVariants as stop
 use Rattle.script_run.specs.Draws as draws
 use Rattle.run_command.specs.Ends.{RunDevices, outside, CameTo}
+use Rattle.run_command.specs.Events.{stop_events}
 use Rattle.run_command.specs.Transcript.{passed}
-use Rattle.run_command.proofs.Leaving.{HasLeft, left_whole, stop_events, stops_left}
+use Rattle.run_command.proofs.Leaving.{HasLeft, left_whole, stops_left}
 use Rattle.run_command.proofs.Passing.{ahead, path_passes}
 use Rattle.run_command.proofs.Queued.{waits_from, lacks_after, breaks_follow, never_unread, never_long}
 
