@@ -8,14 +8,14 @@ use Rattle.ae_edge.specs.Vaults.{KeyMap}
 use Rattle.ae_edge.proofs.Interface.{adds_front_then}
 use Rattle.server_core.specs.Serve.{State, empty_state}
 use Rattle.conversation.specs.declared.sessions.Session.{Session}
-use Rattle.conversation.specs.Drive.{Passed}
+use Rattle.conversation.specs.Drive.{Passed, end_at}
 use Rattle.conversation.specs.Paths.{Event, Asked, Took, Strayed, Drew, Opened, Printed, drawn_in}
 use Rattle.conversation.specs.Sessions.{nobody}
 use Rattle.conversation.specs.Talk.{Ends}
 use Rattle.script_lang.specs.declared.steps.Step.{Step}
 use Rattle.plain_meaning.specs.Steps.{talk}
 use Rattle.outcome_text.specs.Counting.{nothing, counted}
-use Rattle.run_effects.specs.Shares.{Outside, frames_of, exchanges_of}
+use Rattle.run_effects.specs.Shares.{Outside, frames_of, exchanges_of, messages_of}
 use Rattle.run_effects.specs.Ways.{Proceeds}
 use Rattle.outcome_text.specs.declared.tallies.Tally.{Tally}
 use Rattle.run_effects.proofs.Interface.{requests_are}
@@ -24,10 +24,10 @@ use Rattle.script_run.specs.declared.runs.Ran.{Ran}
 use Rattle.script_run.specs.declared.runs.Ran.TheVariants as ran
 use Rattle.script_source.specs.Scripts.{IsScript}
 use Rattle.run_command.specs.Ends.{RunDevices, CameTo, RunsTo, RunsSteps, RunsScript}
-use Rattle.run_command.specs.Transcript.{exchange_frames, exchanges, transcript, TapsWhole, TapsFront, TapsTranscript}
+use Rattle.run_command.specs.Transcript.{IsDone, Suffice, exchange_frames, exchanges, passed, transcript, TapsWhole, TapsFront, TapsTranscript}
 use Rattle.script_run.specs.Draws as draws
 use Rattle.script_run.proofs.Interface.{one_script}
-use Rattle.run_command.proofs.Reaching.{Starts, Went, first, goes_begin, last, starts, went}
+use Rattle.run_command.proofs.Reaching.{Starts, Went, first, goes_begin, last, reached, starts, went}
 
 frames_are : (version : FrameVersion) (events : List Event) → flat_map (frames_of version) events ≡ flat_map (exchange_frames version) (flat_map exchanges_of events)
 frames_are version [] = refl
@@ -40,26 +40,38 @@ frames_are version (Printed comes ∷ events) = frames_are version events
 
 module _ (keys : KeyMap) (steps : List Step) where
   module _ (old new : Outside) (st : Starts keys old) where
-    done_exchanges : (sessions : List Session) (g : Proceeds (talk steps nobody) (Ends sessions) old new) → exchanges keys steps (flat_map drawn_in g.events) ≡ flat_map exchanges_of g.events
-    done_exchanges sessions g =
-        let b = goes_begin keys steps (Ends sessions) old new st g in
-        let a : exchanges keys steps (flat_map drawn_in g.events ++ []) ≡ flat_map exchanges_of g.events ++ [] = ap (λ (x : Passed State). x.exchanges) (b.is []) in
-        ap (exchanges keys steps) (sym (append-nil (flat_map drawn_in g.events))) ∙ a ∙ append-nil (flat_map exchanges_of g.events)
+    module _ (sessions : List Session) (g : Proceeds (talk steps nobody) (Ends sessions) old new) where
+      abbrev drawn : List ℕ
+      drawn = flat_map drawn_in g.events
 
-    done_taps : (sessions : List Session) → Proceeds (talk steps nobody) (Ends sessions) old new → TapsWhole old.wire.version keys steps old.client.entropy new.client.entropy old.wire.tap new.wire.tap
-    done_taps sessions g = record {
-      drawn = flat_map drawn_in g.events;
-      share = g.put.client.entropy;
-      tap = subst (λ xs. Adds xs old.wire.tap new.wire.tap) (frames_are old.wire.version g.events ∙ sym (ap (flat_map (exchange_frames old.wire.version)) (done_exchanges sessions g))) g.put.wire.tap;
-    }
+      done_exchanges : exchanges keys steps drawn ≡ flat_map exchanges_of g.events
+      done_exchanges =
+          let b = goes_begin keys steps (Ends sessions) old new st g in
+          let a : exchanges keys steps (drawn ++ []) ≡ flat_map exchanges_of g.events ++ [] = ap (λ (x : Passed State). x.exchanges) (b.is []) in
+          ap (exchanges keys steps) (sym (append-nil drawn)) ∙ a ∙ append-nil (flat_map exchanges_of g.events)
 
-    done_asks : (sessions : List Session) → Proceeds (talk steps nobody) (Ends sessions) old new → old.client.tally ≡ nothing
-        → (drawn : List ℕ) × draws.Drew drawn old.client.entropy new.client.entropy × (new.client.tally.requests ≡ length (exchanges keys steps drawn))
-    done_asks sessions g n = (
-      flat_map drawn_in g.events,
-      g.put.client.entropy,
-      ap (λ (t : Tally). t.requests) (g.read.tally ∙ ap (counted g.events) n) ∙ requests_are g.events ∙ ap length (sym (done_exchanges sessions g)),
-    )
+      done_suffices : new.wire.waiting ≡ [] → Suffice keys steps drawn
+      done_suffices e =
+          let r = reached keys steps (Ends sessions) old new st g in
+          let a : (passed keys steps (drawn ++ [])).end ≡ end_at sessions r.taken (messages_of new.wire.waiting) = ap (λ (x : Passed State). x.end) (r.is []) in
+          subst IsDone (sym (ap (λ w. (passed keys steps w).end) (sym (append-nil drawn)) ∙ a ∙ ap (λ w. end_at sessions r.taken (messages_of w)) e)) tt
+
+      done_taps : new.wire.waiting ≡ [] → TapsWhole old.wire.version keys steps old.client.entropy new.client.entropy old.wire.tap new.wire.tap
+      done_taps e = record {
+        drawn = drawn;
+        share = g.put.client.entropy;
+        suffice = done_suffices e;
+        tap = subst (λ xs. Adds xs old.wire.tap new.wire.tap) (frames_are old.wire.version g.events ∙ sym (ap (flat_map (exchange_frames old.wire.version)) done_exchanges)) g.put.wire.tap;
+      }
+
+      done_asks : new.wire.waiting ≡ [] → old.client.tally ≡ nothing
+          → (drawn : List ℕ) × draws.Drew drawn old.client.entropy new.client.entropy × Suffice keys steps drawn × (new.client.tally.requests ≡ length (exchanges keys steps drawn))
+      done_asks e n = (
+        drawn,
+        g.put.client.entropy,
+        done_suffices e,
+        ap (λ (t : Tally). t.requests) (g.read.tally ∙ ap (counted g.events) n) ∙ requests_are g.events ∙ ap length (sym done_exchanges),
+      )
 
   -- ---- to its end, or not
 
@@ -85,10 +97,10 @@ module _ (keys : KeyMap) (steps : List Step) where
 
 module _ (keys : KeyMap) (steps : List Step) (old new : RunDevices) (state : old.state ≡ Some empty_state) (told : old.keys ≡ Some keys) where
   ends : (tally : Tally) → CameTo (Ok tt) tally steps old new → TapsWhole old.version keys steps old.entropy new.entropy old.tap new.tap
-  ends tally c = done_taps keys steps (first keys steps old new state told (Ok tt) tally c) (last keys steps old new state told (Ok tt) tally c) (starts keys steps old new state told (Ok tt) tally c) c.sessions c.leads
+  ends tally c = done_taps keys steps (first keys steps old new state told (Ok tt) tally c) (last keys steps old new state told (Ok tt) tally c) (starts keys steps old new state told (Ok tt) tally c) c.sessions c.leads c.read
 
-  pub asks : (tally : Tally) → CameTo (Ok tt) tally steps old new → (drawn : List ℕ) × draws.Drew drawn old.entropy new.entropy × (tally.requests ≡ length (exchanges keys steps drawn))
-  asks tally c = done_asks keys steps (first keys steps old new state told (Ok tt) tally c) (last keys steps old new state told (Ok tt) tally c) (starts keys steps old new state told (Ok tt) tally c) c.sessions c.leads refl
+  pub asks : (tally : Tally) → CameTo (Ok tt) tally steps old new → (drawn : List ℕ) × draws.Drew drawn old.entropy new.entropy × Suffice keys steps drawn × (tally.requests ≡ length (exchanges keys steps drawn))
+  asks tally c = done_asks keys steps (first keys steps old new state told (Ok tt) tally c) (last keys steps old new state told (Ok tt) tally c) (starts keys steps old new state told (Ok tt) tally c) c.sessions c.leads c.read refl
 
   steps_tap : (r : Ran) (tally : Tally) → RunsTo r tally steps old new → TapsTranscript old.version r keys steps old.entropy new.entropy old.tap new.tap
   steps_tap ran.Done tally c = ends tally c.0

@@ -12,7 +12,7 @@ use Rattle.run_command.specs.Ends.{RunDevices}
 use Rattle.run_command.specs.Plain.{meaning}
 use Rattle.run_command.specs.RunOf.{IsRunOf, WhereAlike, WhereOpened}
 use Rattle.script_run.specs.Draws.{Drew}
-use Rattle.run_command.specs.Transcript.{exchanges}
+use Rattle.run_command.specs.Transcript.{Suffice, exchanges}
 
 -- with an output that tells nothing and doesn't fail
 abbrev pub silent : RunDevices → RunDevices
@@ -30,11 +30,13 @@ Sums ran.Refusals r text old new before now = PutsText ran.Refusals r text old n
 Sums (ran.Stopped why) r text old new before now = (r ≡ ran.Stopped why) × (new ≡ old)
 Sums (ran.Unread why) r text old new before now = (r ≡ ran.Unread why) × (new ≡ old)
 
--- the steps, and the requests of their conversation over a server that serves from the empty state, where these random bytes were drawn
+-- the steps, and the requests of their conversation over a server that serves from the empty state, where these random bytes were drawn,
+-- which suffice
 pub record CountsAsked (count : Count) (keys : KeyMap) (steps : List Step) (before after : Option (List ℕ)) : Type 0 where
   pub step_count : count.steps ≡ length steps
   pub drawn : List ℕ
   pub share : Drew drawn before after
+  pub suffice : Suffice keys steps drawn
   pub request_count : count.tally.requests ≡ length (exchanges keys steps drawn)
 
 -- the refusals and rows of what the steps mean over plain values

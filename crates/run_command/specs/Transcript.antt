@@ -7,7 +7,7 @@ use Rattle.wire_messages.specs.Exchanges.{Exchange}
 use Rattle.wire_spelling.specs.Packing.{packed}
 use Rattle.wire_spelling.specs.Spelling.{request_frame}
 use Rattle.server_core.specs.Serve.{State, empty_state, serve}
-use Rattle.conversation.specs.Drive.{Passed, over}
+use Rattle.conversation.specs.Drive.{End, Done, Dry, BadReply, Passed, over}
 use Rattle.conversation.specs.Sessions.{nobody}
 use Rattle.script_lang.specs.declared.steps.Step.{Step}
 use Rattle.plain_meaning.specs.Steps.{talk}
@@ -23,6 +23,16 @@ exchange_frames version e = request_frame version e.request ++ packed version e.
 abbrev pub passed : KeyMap → List Step → List ℕ → Passed State
 passed keys steps entropy = over serve keys (talk steps nobody) 0 entropy empty_state []
 
+-- a conversation came to its end
+abbrev pub IsDone : End → Type 0
+IsDone (Done sessions) = Unit {0}
+IsDone Dry = ⊥
+IsDone (BadReply taken) = ⊥
+
+-- with these random bytes it comes to its end there
+abbrev pub Suffice : KeyMap → List Step → List ℕ → Type 0
+Suffice keys steps entropy = IsDone (passed keys steps entropy).end
+
 -- what is asked and answered there
 abbrev pub exchanges : KeyMap → List Step → List ℕ → List Exchange
 exchanges keys steps entropy = (passed keys steps entropy).exchanges
@@ -31,10 +41,11 @@ exchanges keys steps entropy = (passed keys steps entropy).exchanges
 abbrev pub transcript : FrameVersion → KeyMap → List Step → List ℕ → List ℕ
 transcript version keys steps entropy = flat_map (exchange_frames version) (exchanges keys steps entropy)
 
--- random bytes were drawn, and the tap has the transcript
+-- random bytes were drawn, which suffice, and the tap has the transcript
 pub record TapsWhole (version : FrameVersion) (keys : KeyMap) (steps : List Step) (before after old new : Option (List ℕ)) : Type 0 where
   pub drawn : List ℕ
   pub share : Drew drawn before after
+  pub suffice : Suffice keys steps drawn
   pub tap : Adds (transcript version keys steps drawn) old new
 
 -- random bytes were drawn, and whatever more come, the tap has a front of the transcript
