@@ -6,8 +6,9 @@
 # time, in one table. All is done five times in turn, and each figure is the least. Then the cipher and HMAC for 8,000 bytes are
 # compared in forty short rounds.
 # Usage: bench/cells.sh [N], where the program is built (./ae). N is a measure of how long it takes.
+#        bench/cells.sh in-turn [ROUNDS], for that comparison alone.
 . "$(dirname "$0")/lib.sh"
-n=${1:-1}
+case ${1-} in in-turn) n=1 ;; *) n=${1:-1} ;; esac
 cp -r "$top/examples/payroll/keys" keys
 
 # The script of a table of $2 values of the kind $1 in a randomized column, of which $3 queries read all.
@@ -165,6 +166,10 @@ in_turn() {
             part[1], part[NR], part[int((NR + 1) / 2)]; printf "         slower in %d of %d rounds\n", below, NR }'
 }
 
+if [ "${1-}" = in-turn ]; then
+    in_turn "${2:-40}"
+    exit
+fi
 printf '%-48s %10s %10s\n' '' 'cells/s' 'MB/s'
 kind int $((2000 * n)) 200 16
 kind text $((1000 * n)) 200 416
