@@ -1,5 +1,5 @@
 -- What driving a script leaves, over replies that tell their bytes.
-use Rattle.std.proofs.Common.{◌≡◌, ℕ, ◌+◌, ◌≤◌, List, [], ◌∷◌, ◌++◌, Option, Some, None, Result, Ok, Err, length, refl, sym, ◌∙◌, ap, subst, append-nil, append_assoc, length-append, arith}
+use Rattle.std.proofs.Common.{◌≡◌, ℕ, ◌+◌, ◌≤◌, List, [], ◌∷◌, ◌++◌, Option, Some, Result, Ok, Err, length, refl, sym, ◌∙◌, ap, subst, append-nil, append_assoc, length-append, arith}
 use Rattle.ae_base.specs.declared.frames.FrameVersion.{FrameVersion}
 use Rattle.ae_edge.specs.Devices.{Removes}
 use Rattle.ae_edge.specs.Vaults.{KeyMap}
@@ -7,11 +7,11 @@ use Rattle.wire_spelling.specs.Packing.{SpellsPayload}
 use Rattle.wire_frames.specs.Frames.{is_reply_head}
 use Rattle.wire_frames.specs.Laws.{HasOneReading, IsReadOnce}
 use Rattle.conversation.specs.Laws.{PathIsDriven}
-use Rattle.conversation.specs.Talk.{Talk, Ends}
+use Rattle.conversation.specs.Talk.{Talk, Ends, Stops, Asks, Hears, Draws, Opens, Prints}
 use Rattle.script_lang.specs.declared.steps.Step.{Step}
 use Rattle.outcome_text.specs.Counting.{nothing, has_errors}
-use Rattle.run_effects.specs.Shares.{Comes, IsNext, Outside, Standing, coming_behind, queue_of}
-use Rattle.run_effects.specs.Ways.{Proceeds, Lacks, LacksReply, IsPast, CantBeRead, StaysWithin, most_stream_bytes, off, printed_off}
+use Rattle.run_effects.specs.Shares.{Comes, Outside, Standing, coming_behind, queue_of}
+use Rattle.run_effects.specs.Ways.{Proceeds, Lacks, LacksAt, IsPast, CantBeRead, StaysWithin, most_stream_bytes, off, printed_off}
 use Rattle.run_effects.specs.declared.stops.Stop.{Stop}
 use Rattle.run_effects.specs.declared.stops.Stop.TheVariants as stop
 use Rattle.outcome_text.specs.declared.tallies.Tally.{Tally}
@@ -20,7 +20,7 @@ use Rattle.script_run.specs.declared.runs.Ran.TheVariants as ran
 use Rattle.script_source.specs.Scripts.{IsScript}
 use Rattle.script_run.proofs.Interface.{one_script}
 use Rattle.drive_command.specs.DriveOf.{IsDriveOf, told_of}
-use Rattle.drive_command.specs.Drives.{DrivesWhole, DrivesTaken, DrivesPast, DrivesBytes, TakesWithin, IsDone}
+use Rattle.drive_command.specs.Drives.{DrivesWhole, DrivesTaken, DrivesPast, DrivesBytes, TakesWithin, IsCut, IsDone}
 use Rattle.drive_command.specs.Ends.{DriveDevices, outside, CameTo, DrivesTo, DrivesSteps, DrivesScript}
 use Rattle.drive_command.proofs.Cutting.{Cut, Gone, gone_so, off_still}
 use Rattle.drive_command.proofs.Driving.{Came, came_to, told_at}
@@ -30,8 +30,14 @@ use Rattle.drive_command.proofs.DrivesAre.{Starts, start, none_to_come, came, cu
 coming_first : (bytes : List ℕ) (left : Option (List ℕ)) → left ≡ Some bytes → coming_behind [] left ≡ Some bytes
 coming_first bytes left e = subst (λ l. coming_behind [] l ≡ Some bytes) (sym e) refl
 
-none_first : (version other : FrameVersion) (skipped : ℕ) (bytes : List ℕ) → other ≡ version → LacksReply other skipped bytes → IsNext version None 0 bytes
-none_first version other skipped bytes v h = subst (λ w. IsNext w None 0 bytes) v (subst (λ n. IsNext other None n bytes) h.0 h.1)
+fresh_lacking : (version : FrameVersion) (u : Talk) (skipped : ℕ) (held : List ℕ) → LacksAt version u skipped held → skipped ≡ 0
+fresh_lacking version (Hears session shown f) skipped held h = h.0
+fresh_lacking version (Ends sessions) skipped held h = h.0
+fresh_lacking version (Stops comes) skipped held h = absurd h
+fresh_lacking version (Asks request t) skipped held h = absurd h
+fresh_lacking version (Draws f) skipped held h = absurd h
+fresh_lacking version (Opens meta f) skipped held h = absurd h
+fresh_lacking version (Prints comes t) skipped held h = absurd h
 
 module _ (path : PathIsDriven) (one : (version : FrameVersion) → HasOneReading (SpellsPayload version)) (once : (version : FrameVersion) → IsReadOnce (is_reply_head version) (SpellsPayload version)) where
   module _ (keys : KeyMap) (steps : List Step) (bytes : List ℕ) (old new : DriveDevices) (opens : old.keys ≡ Some keys) (left : old.replies ≡ Some bytes) where
@@ -131,35 +137,38 @@ module _ (path : PathIsDriven) (one : (version : FrameVersion) → HasOneReading
         long : (part : List ℕ) → length (cut_at part).parts.gone ≡ c.at
         long part = let a = (cut_at part).parts.at in let b = ap (λ (x : Standing). x.at) same in omega (arith, a, b)
 
-      lacks_taken : CantBeRead (After (Err why) tally c).wire.version (Before (Err why) tally c).wire.stream (After (Err why) tally c).wire.stream
-          → StaysWithin (Before (Err why) tally c).wire (After (Err why) tally c).wire → DrivesTaken version keys steps bytes new.replies (told_of old) (told_of new)
-      lacks_taken h w = record {
-        taken = (cut_at h.1.0 c.held).parts.gone ++ c.held;
-        gone = gone_to h.1.0 c.held;
-        limit =
-            let a = long h.1.0 c.held in
-            let n = length-append (cut_at h.1.0 c.held).parts.gone c.held in
-            let q : c.at + length c.held ≤ most_stream_bytes = w (omega arith) in
-            omega (arith, a, n, q);
-        drives =
-            cut_drives path version (one version) (once version) keys steps bytes l.between (Before (Err why) tally c) l.mid (After (Err why) tally c) (starts (Err why) tally c) l.goes l.awaits (fresh h.1.0) c.held l.put
-            (none_first version c.version c.skipped c.held version_last h.1);
-      }
+        short_drives : (part : List ℕ) → LacksAt c.version l.between c.skipped part → DrivesWhole version IsCut keys steps ((cut_at part).parts.gone ++ part) (told_of old) (told_of new)
+        short_drives part h =
+            cut_drives path version (one version) (once version) keys steps bytes l.between (Before (Err why) tally c) l.mid (After (Err why) tally c) (starts (Err why) tally c) l.goes l.awaits fresh part l.put
+            (subst (λ v. LacksAt v l.between 0 part) version_last (subst (λ k. LacksAt c.version l.between k part) z h))
 
-      lacks_past : IsPast (After (Err why) tally c).wire.version c.at c.skipped c.held → DrivesPast version keys steps bytes new.replies (told_of old) (told_of new)
+      lacks_taken : CantBeRead (LacksAt c.version l.between) (Before (Err why) tally c).wire.stream (After (Err why) tally c).wire.stream
+          → StaysWithin (Before (Err why) tally c).wire (After (Err why) tally c).wire → DrivesTaken version keys steps bytes new.replies (told_of old) (told_of new)
+      lacks_taken h w =
+          let z = fresh_lacking c.version l.between c.skipped c.held h.1 in record {
+            taken = (cut_at z c.held).parts.gone ++ c.held;
+            gone = gone_to z c.held;
+            limit =
+                let a = long z c.held in
+                let n = length-append (cut_at z c.held).parts.gone c.held in
+                let q : c.at + length c.held ≤ most_stream_bytes = w (omega arith) in
+                omega (arith, a, n, q);
+            drives = short_drives z c.held h.1;
+          }
+
+      lacks_past : IsPast (LacksAt c.version l.between) c.at c.skipped c.held → DrivesPast version keys steps bytes new.replies (told_of old) (told_of new)
       lacks_past p =
-          let frames = (cut_at p.none.0 p.within).parts.gone in record {
+          let z = fresh_lacking c.version l.between c.skipped p.within p.none in
+          let frames = (cut_at z p.within).parts.gone in record {
             taken = frames ++ p.within;
             byte = p.byte;
-            gone = subst (λ w. Removes w (Some bytes) new.replies) (ap (λ w. frames ++ w) p.is ∙ sym (append_assoc frames p.within (p.byte ∷ []))) (gone_to p.none.0 p.within);
+            gone = subst (λ w. Removes w (Some bytes) new.replies) (ap (λ w. frames ++ w) p.is ∙ sym (append_assoc frames p.within (p.byte ∷ []))) (gone_to z p.within);
             limit =
-                let a = long p.none.0 p.within in
+                let a = long z p.within in
                 let n = length-append frames p.within in
                 let q = p.limit in
                 omega (arith, a, n, q);
-            drives =
-                cut_drives path version (one version) (once version) keys steps bytes l.between (Before (Err why) tally c) l.mid (After (Err why) tally c) (starts (Err why) tally c) l.goes l.awaits (fresh p.none.0) p.within l.put
-                (none_first version c.version c.skipped p.within version_last p.none);
+            drives = short_drives z p.within p.none;
           }
 
     -- ---- by how it stopped

@@ -1,7 +1,8 @@
 -- The result of a script over the bytes of replies is its result over the replies that their frames carry.
-use Rattle.std.proofs.Common.{◌≡◌, ℕ, List, [], ◌++◌, Option, Some, None, length, refl, sym, ◌∙◌, ap, subst, append-nil, append_assoc, inl, inr}
+use Rattle.std.proofs.Common.{◌≡◌, ℕ, List, [], ◌++◌, Option, Some, None, length, refl, sym, ◌∙◌, ap, subst, append-nil, append_assoc, length-append, arith, inl, inr}
 use Rattle.std.specs.Prelude.{IfSome, flat_map}
 use Rattle.std.proofs.Math.Seq.{drop-nil}
+use Rattle.std.proofs.lemmas.List.{length-map}
 use Rattle.ae_base.specs.declared.frames.FrameVersion.{FrameVersion}
 use Rattle.ae_edge.specs.Devices.{Adds, AddsFront, IsFront}
 use Rattle.ae_edge.specs.Vaults.{KeyMap}
@@ -23,14 +24,14 @@ use Rattle.plain_meaning.specs.Steps.{talk}
 use Rattle.outcome_text.specs.Counting.{nothing, has_errors, counted}
 use Rattle.outcome_text.specs.Printing.{print, has_refusal}
 use Rattle.run_effects.specs.Shares.{Comes, HasPut, IsNext, Outside, Standing, Stream, Streams, coming_behind, frames_of, messages_of, queue_of, text_of}
-use Rattle.run_effects.specs.Ways.{Proceeds, Breaks, GoesOn, IsAtFrame, IsAtReply, IsSilent, IsStuck, off, printed_off}
+use Rattle.run_effects.specs.Ways.{Proceeds, Breaks, GoesOn, IsAtFrame, IsAtReply, IsSilent, IsStuck, LacksAt, off, printed_off}
 use Rattle.run_effects.proofs.Interface.{has_errors_where}
 use Rattle.script_run.specs.Draws.{Drew}
-use Rattle.drive_command.specs.Drives.{Told, DrivesWhole, DrivesFront, DrivesPart, IsDone, IsBadAt, IsCut, IsWhole, IsAt, IsByReplies, driven, place_behind}
-use Rattle.drive_command.proofs.Cutting.{Cut, Gone, cut_by, gone_by, lost, off_drawn, off_frames, one_front, straight, stuck}
+use Rattle.drive_command.specs.Drives.{Told, DrivesWhole, DrivesFront, DrivesPart, IsDone, IsBadAt, IsCut, IsWhole, IsAt, IsShort, driven, place_behind}
+use Rattle.drive_command.proofs.Cutting.{Cut, Gone, cut_by, falls_short, gone_by, lost, none_lacking, off_drawn, off_frames, one_front, straight, stuck}
 use Rattle.drive_command.proofs.Driving.{Came, Reached, StandsAt, bytes_end, came_to, no_replies, off_text, place_last, place_so, reached, taps_front, taps_whole, texts_front, texts_whole, told_at}
 use Rattle.drive_command.proofs.Fetching.{none_in_none}
-use Rattle.drive_command.proofs.Taken.{ReadsReplies, left_of, none_left, none_read}
+use Rattle.drive_command.proofs.Taken.{ReadsReplies, left_of, none_left, none_placed, none_read}
 
 abbrev pub told : Outside → Told
 told o = record { out = o.client.out; tap = o.wire.tap; entropy = o.client.entropy }
@@ -184,13 +185,37 @@ module _ (path : PathIsDriven) (version : FrameVersion) (one : HasOneReading (Sp
         → Reached version keys (start steps) u g.events (told_at (came u old mid st g).now.at 0 part) placed end
     at_cut placed end reads = over u old mid st g (cut.parts.gone ++ part) (told_at (came u old mid st g).now.at 0 part) (cut.again part) placed end reads
 
-    cut_is : IsNext version None 0 part → (placed : List (Placed Payload)) (end : End) → ReadsReplies version 0 (cut.parts.gone ++ part) placed end → (more : List ℕ)
-        → driven keys steps (flat_map drawn_in g.events ++ more) placed ≡ behind g.events (drive keys u (length (flat_map taken_in g.events)) more [])
-    cut_is n placed end reads more =
-        let r = at_cut placed end reads in
-        let same = same_some part r.bytes r.to_come in
-        let e = none_left version one once (came u old mid st g).now.at 0 r.bytes r.left end r.reads r.within (subst (IsNext version None 0) same n) in
-        r.is more ∙ ap (λ (l : List (Placed Reply)). behind g.events (drive keys u (length (flat_map taken_in g.events)) more (messages_of l))) e
+    -- where no frame stands first behind them
+    module _ (n : IsNext version None 0 part) (placed : List (Placed Payload)) (end : End) (reads : ReadsReplies version 0 (cut.parts.gone ++ part) placed end) where
+      cut_same : part ≡ (at_cut placed end reads).bytes
+      cut_same = let r = at_cut placed end reads in same_some part r.bytes r.to_come
+
+      cut_left : left_of 0 (at_cut placed end reads).left ≡ []
+      cut_left =
+          let r = at_cut placed end reads in
+          none_left version one once (came u old mid st g).now.at 0 r.bytes r.left end r.reads r.within (subst (IsNext version None 0) cut_same n)
+
+      cut_is : (more : List ℕ) → driven keys steps (flat_map drawn_in g.events ++ more) placed ≡ behind g.events (drive keys u (length (flat_map taken_in g.events)) more [])
+      cut_is more =
+          (at_cut placed end reads).is more ∙ ap (λ (l : List (Placed Reply)). behind g.events (drive keys u (length (flat_map taken_in g.events)) more (messages_of l))) cut_left
+
+      -- every reply was taken
+      cut_counts : length (flat_map taken_in g.events) ≡ length (spread placed)
+      cut_counts =
+          let r = at_cut placed end reads in
+          let a = ap length r.all in
+          let b = length-append r.taken (left_of 0 r.left) in
+          let c = ap length cut_left in
+          let d = length-map r.taken (λ p. p.message) in
+          let e = ap length r.are in
+          omega (arith, a, b, c, d, e)
+
+      cut_reads : ReadsReplies version (came u old mid st g).now.at part [] end
+      cut_reads =
+          let r = at_cut placed end reads in
+          let at = (came u old mid st g).now.at in
+          subst (λ (w : List ℕ). ReadsReplies version at w [] end) (sym cut_same)
+          (subst (λ (ms : List (Placed Payload)). ReadsReplies version at r.bytes ms end) (none_placed version one once at 0 r.bytes r.left end r.reads r.within cut_left) r.reads)
 
     module _ (put : HasPut Adds (printed_off (off u)) mid new) where
       cut_tap : Adds (flat_map (frames_of version) g.events) old.wire.tap new.wire.tap
@@ -203,19 +228,21 @@ module _ (path : PathIsDriven) (version : FrameVersion) (one : HasOneReading (Sp
           subst (λ xs. Drew xs old.client.entropy new.client.entropy) (ap (λ xs. flat_map drawn_in g.events ++ xs) (off_drawn (off u)) ∙ append-nil (flat_map drawn_in g.events))
           (removes_then (flat_map drawn_in g.events) (flat_map drawn_in (printed_off (off u))) old.client.entropy mid.client.entropy new.client.entropy g.put.client.entropy put.client.entropy)
 
-      pub cut_drives : IsNext version None 0 part → DrivesWhole version IsCut keys steps (cut.parts.gone ++ part) (told old) (told new)
-      cut_drives n = record {
+      pub cut_drives : LacksAt version u 0 part → DrivesWhole version IsCut keys steps (cut.parts.gone ++ part) (told old) (told new)
+      cut_drives h = record {
         drawn = flat_map drawn_in g.events;
         share = cut_drew;
         whole = λ placed end reads more.
             let d = driven keys steps (flat_map drawn_in g.events ++ more) placed in
             let e = drive keys u (length (flat_map taken_in g.events)) more [] in
+            let n = none_lacking version one once u part h in
             let i = cut_is n placed end reads more in
             let k = lost keys u w (length (flat_map taken_in g.events)) more in (
               taps_whole version d e g.events i old.wire.tap new.wire.tap (came u old mid st g).silent k.requests cut_tap,
               texts_whole version d e g.events i (flat_map text_of (printed_off (off u))) old.client.out mid.client.out new.client.out (ap print k.outcomes ∙ sym (off_text (off u))) g.put.client.out put.client.out,
               ap (λ (x : Driven). x.entropy) i ∙ k.entropy,
-              subst (λ (x : Driven). IsByReplies x.end) (sym i) k.end,
+              subst (λ (x : Driven). IsShort (spread placed) x.end end) (sym i)
+                  (falls_short version one once keys u part h (length (flat_map taken_in g.events)) more (spread placed) (came u old mid st g).now.at end (cut_counts n placed end reads) (cut_reads n placed end reads)),
             );
       }
 

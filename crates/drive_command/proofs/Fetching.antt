@@ -54,10 +54,10 @@ pub none_in_none : (version : FrameVersion) (skipped : ℕ) → IsNext version N
 none_in_none version skipped = λ r b. let e = ap length b.is in let l = length-append (payload_frame version b.payload) b.rest in omega (arith, e, l)
 
 -- one byte past the limit
-pub is_past : (b c : Holding) (byte : ℕ) (l m : Option (List ℕ)) → Moves (byte ∷ []) b c l m → came b ≡ most_stream_bytes → LacksReply b.version b.skipped b.held → IsPast c.version c.at c.skipped c.held
+pub is_past : (b c : Holding) (byte : ℕ) (l m : Option (List ℕ)) → Moves (byte ∷ []) b c l m → came b ≡ most_stream_bytes → LacksReply b.version b.skipped b.held → IsPast (LacksReply c.version) c.at c.skipped c.held
 is_past b c byte l m q e n =
     let i = q.held in
-    subst (λ h. IsPast h.version h.at h.skipped h.held) (sym i) (record { within = b.held; byte = byte; is = refl; limit = e; none = n })
+    subst (λ h. IsPast (LacksReply h.version) h.at h.skipped h.held) (sym i) (record { within = b.held; byte = byte; is = refl; limit = e; none = n })
 
 -- ---- a piece
 
@@ -83,12 +83,12 @@ lacks fault.ReadFault a b c l m n x y z once p i w g s h =
       omega (arith, i, j),
       within_still a b c m n w h.2,
       omega (arith, i, r),
-      subst (λ (v : Holding). LacksReply v.version v.skipped v.held) (sym (none_more b c m n h.2)) (among_none b g k, k),
+      subst (λ (v : Holding). LacksReply v.version v.skipped v.held) (sym (none_more b c m n h.2)) (among_none b g k, s),
     )
 lacks fault.TooLong a b c l m n x y z once p i w g s h =
     let j = h.0 in
     let k = none_yet b.version once b.skipped b.held s in
-    (moved_more a b c (h.2.0 ∷ []) l m n p h.2.1, omega (arith, i, j), is_past b c h.2.0 m n h.2.1 h.1 (among_none b g k, k))
+    (moved_more a b c (h.2.0 ∷ []) l m n p h.2.1, omega (arith, i, j), is_past b c h.2.0 m n h.2.1 h.1 (among_none b g k, s))
 lacks fault.OutOfMemory a b c l m n x y z once p i w g s h = h ∙ p.version
 
 pub fetch_lacks : (why : ReplyFault) (a b k c : Holding) (l m n : Option (List ℕ)) (x y z : ℕ) → k ≡ b → IsReadOnce (is_reply_head b.version) (SpellsPayload b.version) → Moved a b l m → x ≤ y → HoldsWithin a b

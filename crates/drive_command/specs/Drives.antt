@@ -1,5 +1,5 @@
 -- A script driven against the bytes of replies.
-use Rattle.std.specs.Prelude.{◌≡◌, ℕ, zero, suc, ◌≤◌, List, [], ◌∷◌, ◌++◌, length, map, flat_map, Option, Some, Bool, true, false}
+use Rattle.std.specs.Prelude.{◌≡◌, ◌≢◌, ℕ, zero, suc, ◌≤◌, List, [], ◌∷◌, ◌++◌, length, map, flat_map, Option, Some, Bool, true, false}
 use Rattle.ae_base.specs.declared.frames.FrameVersion.{FrameVersion}
 use Rattle.ae_edge.specs.Devices.{Adds, AddsFront, IsFront, Removes}
 use Rattle.ae_edge.specs.Vaults.{KeyMap}
@@ -7,7 +7,7 @@ use Rattle.wire_messages.specs.declared.replies.Reply.{Reply}
 use Rattle.wire_payloads.specs.declared.payloads.Payload.{Payload}
 use Rattle.wire_spelling.specs.Packing.{payload_frame}
 use Rattle.wire_spelling.specs.Spelling.{request_frame}
-use Rattle.wire_frames.specs.Frames.{End, Whole, Placed, ReplyFrames, spread}
+use Rattle.wire_frames.specs.Frames.{End, Whole, Refused, Placed, ReplyFrames, spread}
 use Rattle.conversation.specs.Drive.{Driven, drive}
 use Rattle.conversation.specs.Drive as drives
 use Rattle.conversation.specs.Sessions.{nobody}
@@ -60,14 +60,14 @@ IsAt place replies behind drives.Dry end = ⊥
 abbrev pub IsBadAt : ℕ → Ending
 IsBadAt place replies behind d end = IsAt place replies behind d.end end
 
--- the replies ended it, and not the random bytes
-abbrev pub IsByReplies : drives.End → Type 0
-IsByReplies (drives.Done sessions) = Unit {0}
-IsByReplies (drives.BadReply n) = Unit {0}
-IsByReplies drives.Dry = ⊥
+-- every reply was taken, one more is awaited, and no frame is refused; or every step was driven, and no byte is left
+abbrev pub IsShort : List (Placed Reply) → drives.End → End → Type 0
+IsShort replies (drives.BadReply n) end = (n ≡ length replies) × ((place : ℕ) → end ≢ Refused place)
+IsShort replies (drives.Done sessions) end = end ≡ Whole
+IsShort replies drives.Dry end = ⊥
 
 abbrev pub IsCut : Ending
-IsCut replies behind d end = IsByReplies d.end
+IsCut replies behind d end = IsShort replies d.end end
 
 -- ---- what is put
 

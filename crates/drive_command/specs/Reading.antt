@@ -4,7 +4,7 @@ use Rattle.ae_edge.specs.Devices.{Rose, Removes, WhereTold}
 use Rattle.std.specs.Borrow.{GName}
 use Rattle.wire_messages.specs.declared.replies.Reply.{Reply}
 use Rattle.run_effects.specs.Shares.{IsNext, Wire, coming_behind}
-use Rattle.run_effects.specs.Ways.{IsLeft, IsPast, LacksReply, most_stream_bytes}
+use Rattle.run_effects.specs.Ways.{HoldsNothing, IsLeft, IsPast, LacksReply, most_stream_bytes}
 use Rattle.script_run.specs.declared.connection.ReplyFault.{ReplyFault}
 use Rattle.script_run.specs.declared.connection.ReplyFault.TheVariants as fault
 use Rattle.drive_command.specs.Holding.{Holding, IsFirstIn, came, held_more}
@@ -45,15 +45,15 @@ abbrev pub FetchesReply : Result (Unit {0}) ReplyFault → Holding → Holding �
 FetchesReply (Ok o) old new left after before now = Moved old new left after × (before ≤ now) × HoldsWithin old new × ((reply : Reply) × IsFirstIn reply new)
 FetchesReply (Err fault.BadReply) old new left after before now = Moved old new left after × (before ≤ now) × HoldsWithin old new × IfSome (coming_behind new.held after) (IsNext new.version None new.skipped)
 FetchesReply (Err fault.ReadFault) old new left after before now = Moved old new left after × (before ≤ now) × HoldsWithin old new × Rose before now × LacksReply new.version new.skipped new.held
-FetchesReply (Err fault.TooLong) old new left after before now = Moved old new left after × (before ≤ now) × IsPast new.version new.at new.skipped new.held
+FetchesReply (Err fault.TooLong) old new left after before now = Moved old new left after × (before ≤ now) × IsPast (LacksReply new.version) new.at new.skipped new.held
 FetchesReply (Err fault.OutOfMemory) old new left after before now = new.version ≡ old.version
 
 -- nothing is left, or something is, or that can't be known
 abbrev pub FinishesReplies : Result (Unit {0}) ReplyFault → Holding → Holding → (left after : Option (List ℕ)) → (before now : ℕ) → Type 0
 FinishesReplies (Ok o) old new left after before now = Moved old new left after × (before ≤ now) × HoldsWithin old new × (new.held ≡ []) × IfSome after (λ bytes. bytes ≡ [])
 FinishesReplies (Err fault.BadReply) old new left after before now = Moved old new left after × (before ≤ now) × HoldsWithin old new × IsLeft new.held
-FinishesReplies (Err fault.ReadFault) old new left after before now = Moved old new left after × (before ≤ now) × HoldsWithin old new × Rose before now × LacksReply new.version new.skipped new.held
-FinishesReplies (Err fault.TooLong) old new left after before now = Moved old new left after × (before ≤ now) × IsPast new.version new.at new.skipped new.held
+FinishesReplies (Err fault.ReadFault) old new left after before now = Moved old new left after × (before ≤ now) × HoldsWithin old new × Rose before now × HoldsNothing new.skipped new.held
+FinishesReplies (Err fault.TooLong) old new left after before now = Moved old new left after × (before ≤ now) × IsPast HoldsNothing new.at new.skipped new.held
 FinishesReplies (Err fault.OutOfMemory) old new left after before now = new.version ≡ old.version
 
 -- ---- the wire

@@ -12,7 +12,7 @@ use Rattle.conversation.specs.Talk.{Talk}
 use Rattle.conversation.proofs.Interface.{follows_then, opens_then}
 use Rattle.outcome_text.specs.Counting.{count, counted}
 use Rattle.run_effects.specs.Shares.{ClientSide, Wire, Outside, AreServed, Queue, Queues, queue_of, with_answer, Stream, Standing, Streams, standing_of, Comes, ClientPut, WirePut, HasPut, WireRead, HasRead, text_of, frames_of, exchanges_of}
-use Rattle.run_effects.specs.Ways.{Proceeds, HaltsAt, Lacks, Breaks, StopsBy, Advances, CantBeRead, IsSilent}
+use Rattle.run_effects.specs.Ways.{Proceeds, HaltsAt, Lacks, Breaks, StopsBy, Advances, CantBeRead, IsSilent, Lacking, LacksAt}
 use Rattle.run_effects.specs.declared.stops.Stop.{Stop}
 use Rattle.run_effects.specs.declared.stops.Stop.TheVariants as stop
 use Rattle.outcome_text.specs.declared.tallies.Tally.{Tally}
@@ -243,19 +243,20 @@ either_rose a b c x y z p q (inr r) = inr (rose_before x y z q r)
 lacks_then : (t u : Talk) (a b c : Outside) → Proceeds t u a b → Lacks u b c → Lacks t a c
 lacks_then t u a b c p l = record { between = l.between; mid = l.mid; goes = goes_then t u l.between a b l.mid p l.goes; awaits = l.awaits; put = l.put; read = l.read }
 
-unread_then : (version last : FrameVersion) (xs : List Event) (r s t : Option Stream) (a b : Queue) → Comes version xs r s a b → CantBeRead last s t → CantBeRead last r t
-unread_then version last xs (Some r) (Some s) (Some t) a b p q = (rose_before r.faults s.faults t.faults p.2 q.0, q.1)
-unread_then version last xs (Some r) (Some s) None a b p q = absurd q
-unread_then version last xs (Some r) None t a b p q = absurd p
-unread_then version last xs None (Some s) t a b p q = absurd p
-unread_then version last xs None None (Some t) a b p q = absurd q
-unread_then version last xs None None None a b p q = absurd q
+unread_then : (version : FrameVersion) (lacks : Lacking) (xs : List Event) (r s t : Option Stream) (a b : Queue) → Comes version xs r s a b → CantBeRead lacks s t → CantBeRead lacks r t
+unread_then version lacks xs (Some r) (Some s) (Some t) a b p q = (rose_before r.faults s.faults t.faults p.2 q.0, q.1)
+unread_then version lacks xs (Some r) (Some s) None a b p q = absurd q
+unread_then version lacks xs (Some r) None t a b p q = absurd p
+unread_then version lacks xs None (Some s) t a b p q = absurd p
+unread_then version lacks xs None None (Some t) a b p q = absurd q
+unread_then version lacks xs None None None a b p q = absurd q
 
 pub fails_then : (s : Stop) (t u : Talk) (a b c : Outside) → Proceeds t u a b → StopsBy s u b c → StopsBy s t a c
+unfolding lacks_then
 fails_then (stop.BadReply place) t u a b c p f = halts_then _ t u a b c p f
 fails_then stop.ReadFault t u a b c p f = (
   lacks_then t u a b c p f.0,
-  unread_then a.wire.version c.wire.version p.events a.wire.stream b.wire.stream c.wire.stream (queue_of a.wire) (queue_of b.wire) p.read.wire.comes f.1,
+  unread_then a.wire.version (LacksAt c.wire.version f.0.between) p.events a.wire.stream b.wire.stream c.wire.stream (queue_of a.wire) (queue_of b.wire) p.read.wire.comes f.1,
   λ h. f.2 (p.limit h),
 )
 fails_then stop.TooLong t u a b c p f = (lacks_then t u a b c p f.0, f.1)

@@ -4,7 +4,7 @@ use Rattle.ae_base.specs.declared.frames.FrameVersion.{FrameVersion}
 use Rattle.ae_edge.specs.Devices.{Rose, Adds, AddsFront}
 use Rattle.wire_messages.specs.declared.replies.Reply.{Reply}
 use Rattle.wire_messages.specs.declared.requests.Request.{Request}
-use Rattle.wire_frames.specs.Frames.{Placed}
+use Rattle.wire_frames.specs.Frames.{Placed, IsNotYet, is_reply_head}
 use Rattle.conversation.specs.Devices.{IsAtDraw, IsAtKey}
 use Rattle.conversation.specs.Drive.{outcomes_in}
 use Rattle.conversation.specs.Paths.{Event, Asked, Took, Printed, Follows, next_of, replies_to}
@@ -108,34 +108,48 @@ abbrev pub IsStuckOn : Talk → Option Stream → List (Placed Reply) → Type 0
 IsStuckOn t None waiting = IsStuck t waiting
 IsStuckOn t (Some s) waiting = IsStuck t s.held
 
--- no frame with a reply stands first, nor is a reply left of one of which some were taken
-abbrev pub LacksReply : FrameVersion → ℕ → List ℕ → Type 0
-LacksReply version skipped bytes = (skipped ≡ 0) × IsNext version None skipped bytes
+-- what a stream holds where it can't be read further, by how many replies were taken of the frame that stands first, and the bytes from there on
+abbrev pub Lacking : Type 1
+Lacking = (skipped : ℕ) → (held : List ℕ) → Type 0
 
--- the stream couldn't be read, and what is held has no reply
-abbrev pub CantBeRead : FrameVersion → Option Stream → Option Stream → Type 0
-CantBeRead version (Some s) (Some t) = Rose s.faults t.faults × LacksReply version t.skipped t.held
-CantBeRead version (Some s) None = ⊥
-CantBeRead version None (Some t) = ⊥
-CantBeRead version None None = ⊥
+-- less than a frame is held, which isn't refused, and no reply is left of one of which some were taken
+abbrev pub LacksReply : FrameVersion → Lacking
+LacksReply version skipped held = (skipped ≡ 0) × IsNotYet (is_reply_head version) held
 
--- one byte past the limit came, and what is held before it has no reply
-pub record IsPast (version : FrameVersion) (at skipped : ℕ) (held : List ℕ) : Type 0 where
+-- nothing is held
+abbrev pub HoldsNothing : Lacking
+HoldsNothing skipped held = (skipped ≡ 0) × (held ≡ [])
+
+-- where a reply is awaited, less than a frame is held; after the last step, nothing
+abbrev pub LacksAt : FrameVersion → Talk → Lacking
+LacksAt version (Hears session shown f) skipped held = LacksReply version skipped held
+LacksAt version (Ends sessions) skipped held = HoldsNothing skipped held
+LacksAt version other skipped held = ⊥
+
+-- the stream couldn't be read, and holds this
+abbrev pub CantBeRead : Lacking → Option Stream → Option Stream → Type 0
+CantBeRead lacks (Some s) (Some t) = Rose s.faults t.faults × lacks t.skipped t.held
+CantBeRead lacks (Some s) None = ⊥
+CantBeRead lacks None (Some t) = ⊥
+CantBeRead lacks None None = ⊥
+
+-- one byte past the limit came, and this is held before it
+pub record IsPast (lacks : Lacking) (at skipped : ℕ) (held : List ℕ) : Type 0 where
   pub within : List ℕ
   pub byte : ℕ
   pub is : held ≡ within ++ byte ∷ []
   pub limit : at + length within ≡ most_stream_bytes
-  pub none : LacksReply version skipped within
+  pub none : lacks skipped within
 
-abbrev pub IsTooLong : FrameVersion → Option Stream → Type 0
-IsTooLong version (Some s) = IsPast version s.at s.skipped s.held
-IsTooLong version None = ⊥
+abbrev pub IsTooLong : Lacking → Option Stream → Type 0
+IsTooLong lacks (Some s) = IsPast lacks s.at s.skipped s.held
+IsTooLong lacks None = ⊥
 
 -- each way to stop, with its cause
 abbrev pub StopsBy : Stop → Talk → Outside → Outside → Type 0
 StopsBy (stop.BadReply place) t old new = HaltsAt (λ rest now. IsStuckOn rest now.wire.stream now.wire.waiting × (place_of now.wire ≡ place)) t old new
-StopsBy stop.ReadFault t old new = Lacks t old new × CantBeRead new.wire.version old.wire.stream new.wire.stream × StaysWithin old.wire new.wire
-StopsBy stop.TooLong t old new = Lacks t old new × IsTooLong new.wire.version new.wire.stream
+StopsBy stop.ReadFault t old new = (l : Lacks t old new) × CantBeRead (LacksAt new.wire.version l.between) old.wire.stream new.wire.stream × StaysWithin old.wire new.wire
+StopsBy stop.TooLong t old new = (l : Lacks t old new) × IsTooLong (LacksAt new.wire.version l.between) new.wire.stream
 StopsBy stop.EntropyFault t old new = HaltsAt (λ rest now. IsAtDraw rest) t old new × Rose old.client.entropy_faults new.client.entropy_faults
 StopsBy stop.VaultFault t old new = HaltsAt (λ rest now. IsAtKey rest) t old new × Rose old.client.vault_faults new.client.vault_faults
 StopsBy stop.WriteFault t old new = Breaks t old new × (Rose old.client.out_faults new.client.out_faults ⊎ Rose old.wire.faults new.wire.faults)

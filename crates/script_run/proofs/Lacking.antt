@@ -16,7 +16,7 @@ use Rattle.conversation.specs.Talk.{Talk, Ends, Stops, Hears, Heard, broken}
 use Rattle.outcome_text.specs.Counting.{printed}
 use Rattle.outcome_text.specs.Printing.{printed_listing}
 use Rattle.run_effects.specs.Shares.{ClientSide, Queue, queue_of, Standing, Stream, Wire, Outside, Comes, ClientPut, WirePut, WireRead, HasPut, place_of}
-use Rattle.run_effects.specs.Ways.{Proceeds, Lacks, Breaks, StopsBy, CantBeRead, IsTooLong, IsAtFrame, IsStuck, IsStuckOn, IsFirst, IsLeft, IsLeftOn, IsNextOn, StaysWithin, printed_off}
+use Rattle.run_effects.specs.Ways.{Proceeds, Lacks, Breaks, StopsBy, CantBeRead, IsTooLong, IsAtFrame, IsStuck, IsStuckOn, LacksReply, IsFirst, IsLeft, IsLeftOn, IsNextOn, StaysWithin, printed_off}
 use Rattle.run_effects.specs.declared.stops.Stop.{Stop}
 use Rattle.run_effects.specs.declared.stops.Stop.TheVariants as stop
 use Rattle.outcome_text.specs.declared.tallies.Tally.{Tally}
@@ -57,7 +57,7 @@ cut_by t x z result b (inl h) = subst (λ s. StopsBy s t x z) (sym h.0) (b, inl 
 cut_by t x z result b (inr e) = subst (λ s. StopsBy s t x z) (sym e) b
 
 -- where the replies can't be read further, none is left of a frame
-frame_read : (version : FrameVersion) (s t : Option Stream) → CantBeRead version s t → IsAtFrame t
+frame_read : (version : FrameVersion) (s t : Option Stream) → CantBeRead (LacksReply version) s t → IsAtFrame t
 frame_read version (Some s) (Some t) h = h.1.0
 frame_read version (Some s) None h = absurd h
 frame_read version None (Some t) h = absurd h
@@ -69,7 +69,7 @@ frame_before version (Some s) None a b h i = absurd h
 frame_before version None (Some t) a b h i = absurd h
 frame_before version None None a b h i = absurd i
 
-frame_long : (version : FrameVersion) (s : Option Stream) → IsTooLong version s → IsAtFrame s
+frame_long : (version : FrameVersion) (s : Option Stream) → IsTooLong (LacksReply version) s → IsAtFrame s
 frame_long version (Some s) h = h.none.0
 frame_long version None h = absurd h
 
@@ -152,11 +152,13 @@ module _ (session : Session) (shown : Listing) (f : Heard → Talk) (x : Outside
         })
         h.0
 
-    unread_fails : CantBeRead w.version x.wire.stream w.stream → StaysWithin x.wire w → BreaksOff result stop.ReadFault (broken session shown) x.client client → StopsBy result (Hears session shown f) x After
+    unread_fails : CantBeRead (LacksReply w.version) x.wire.stream w.stream → StaysWithin x.wire w → BreaksOff result stop.ReadFault (broken session shown) x.client client → StopsBy result (Hears session shown f) x After
+    unfolding lacks
     unread_fails c l (inl h) = subst (λ s. StopsBy s (Hears session shown f) x After) (sym h.0) (lacks stop.ReadFault h, c, l)
     unread_fails c l (inr h) = cut_lacks (frame_read w.version x.wire.stream w.stream c) h
 
-    long_fails : IsTooLong w.version w.stream → BreaksOff result stop.TooLong (broken session shown) x.client client → StopsBy result (Hears session shown f) x After
+    long_fails : IsTooLong (LacksReply w.version) w.stream → BreaksOff result stop.TooLong (broken session shown) x.client client → StopsBy result (Hears session shown f) x After
+    unfolding lacks
     long_fails c (inl h) = subst (λ s. StopsBy s (Hears session shown f) x After) (sym h.0) (lacks stop.TooLong h, c)
     long_fails c (inr h) = cut_lacks (frame_long w.version w.stream c) h
 
@@ -262,6 +264,7 @@ ends_lacking sessions x w p q = record {
 }
 
 pub finish_fails : (sessions : List Session) (x : Outside) (w : Wire) (why : ReplyFault) (place : ℕ) → place ≡ place_of w → Finishes (Err why) x.wire w → StopsBy (stop_at why place) (Ends sessions) x (record x { wire = w })
+unfolding ends_lacking
 finish_fails sessions x w fault.BadReply place p h = record { rest = Ends sessions; goes = rests_goes (Ends sessions) x w h.0; place = (left_on sessions w.stream w.waiting h.1, sym p) }
 finish_fails sessions x w fault.ReadFault place p h = (ends_lacking sessions x w h.0.0 h.0.1, h.1, h.0.2)
 finish_fails sessions x w fault.TooLong place p h = (ends_lacking sessions x w h.0 h.1, h.2)

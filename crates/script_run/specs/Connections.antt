@@ -6,7 +6,7 @@ use Rattle.wire_messages.specs.declared.replies.Reply.{Reply}
 use Rattle.wire_messages.specs.declared.requests.Request.{Request}
 use Rattle.conversation.specs.Paths.{Asked}
 use Rattle.run_effects.specs.Shares.{Begins, Stream, Wire, WirePut, WireRead}
-use Rattle.run_effects.specs.Ways.{AsksInPart, CantBeRead, IsFirst, IsLeftOn, IsNextOn, IsReadOut, IsTooLong, StaysWithin}
+use Rattle.run_effects.specs.Ways.{AsksInPart, CantBeRead, HoldsNothing, IsFirst, IsLeftOn, IsNextOn, IsReadOut, IsTooLong, LacksReply, StaysWithin}
 use Rattle.wire_spelling.specs.Packing.{payload_frame}
 use Rattle.script_run.specs.declared.connection.ReplyFault.{ReplyFault}
 use Rattle.script_run.specs.declared.connection.ReplyFault.TheVariants as fault
@@ -34,16 +34,16 @@ Rests old new = WirePut Adds [] old new × WireRead [] old new × StaysWithin ol
 abbrev pub Fetches : Result (Unit {0}) ReplyFault → Wire → Wire → Type 0
 Fetches (Ok o) old new = Rests old new × ((reply : Reply) × IsFirst reply new)
 Fetches (Err fault.BadReply) old new = Rests old new × IsNextOn None new
-Fetches (Err fault.ReadFault) old new = Rests old new × CantBeRead new.version old.stream new.stream
-Fetches (Err fault.TooLong) old new = WirePut Adds [] old new × WireRead [] old new × IsTooLong new.version new.stream
+Fetches (Err fault.ReadFault) old new = Rests old new × CantBeRead (LacksReply new.version) old.stream new.stream
+Fetches (Err fault.TooLong) old new = WirePut Adds [] old new × WireRead [] old new × IsTooLong (LacksReply new.version) new.stream
 Fetches (Err fault.OutOfMemory) old new = WirePut AddsFront [] old new
 
 -- nothing is left; or something is, or that can't be known
 abbrev pub Finishes : Result (Unit {0}) ReplyFault → Wire → Wire → Type 0
 Finishes (Ok o) old new = Rests old new × IsReadOut new.stream new.waiting
 Finishes (Err fault.BadReply) old new = Rests old new × IsLeftOn new.stream new.waiting
-Finishes (Err fault.ReadFault) old new = Rests old new × CantBeRead new.version old.stream new.stream
-Finishes (Err fault.TooLong) old new = WirePut Adds [] old new × WireRead [] old new × IsTooLong new.version new.stream
+Finishes (Err fault.ReadFault) old new = Rests old new × CantBeRead HoldsNothing old.stream new.stream
+Finishes (Err fault.TooLong) old new = WirePut Adds [] old new × WireRead [] old new × IsTooLong HoldsNothing new.stream
 Finishes (Err fault.OutOfMemory) old new = WirePut AddsFront [] old new
 
 -- how many bytes of its frame go with a reply behind which these of the frame follow: all with the last, else none
