@@ -1,5 +1,5 @@
 -- A script driven against the bytes of replies.
-use Rattle.std.specs.Prelude.{◌≡◌, ◌≢◌, ℕ, zero, suc, ◌≤◌, List, [], ◌∷◌, ◌++◌, length, map, flat_map, Option, Some, Bool, true, false}
+use Rattle.std.specs.Prelude.{◌≡◌, ◌≢◌, ℕ, zero, suc, ◌+◌, ◌≤◌, List, [], ◌∷◌, ◌++◌, length, map, flat_map, Option, Some, Bool, true, false}
 use Rattle.ae_base.specs.declared.frames.FrameVersion.{FrameVersion}
 use Rattle.ae_edge.specs.Devices.{Adds, AddsFront, IsFront, Removes}
 use Rattle.ae_edge.specs.Vaults.{KeyMap}
@@ -101,6 +101,10 @@ pub record DrivesFront (version : FrameVersion) (keys : KeyMap) (steps : List St
 abbrev pub TakesWithin : (bytes : List ℕ) → (after : Option (List ℕ)) → Type 0
 TakesWithin bytes after = (taken : List ℕ) × Removes taken (Some bytes) after × (length taken ≤ most_stream_bytes)
 
+-- no more were taken than one byte past those that may be
+abbrev pub TakesPast : (bytes : List ℕ) → (after : Option (List ℕ)) → Type 0
+TakesPast bytes after = (taken : List ℕ) × Removes taken (Some bytes) after × (length taken ≤ most_stream_bytes + 1)
+
 -- some of them were taken, within the limit, and it ended with these
 pub record DrivesTaken (version : FrameVersion) (keys : KeyMap) (steps : List Step) (bytes : List ℕ) (after : Option (List ℕ)) (old new : Told) : Type 0 where
   pub taken : List ℕ
@@ -132,6 +136,6 @@ DrivesBytes version (ran.Stopped stop.ReadFault) keys steps bytes after old new 
 DrivesBytes version (ran.Stopped stop.TooLong) keys steps bytes after old new = DrivesPast version keys steps bytes after old new
 DrivesBytes version (ran.Stopped stop.EntropyFault) keys steps bytes after old new = DrivesFront version keys steps bytes old new × TakesWithin bytes after
 DrivesBytes version (ran.Stopped stop.VaultFault) keys steps bytes after old new = DrivesFront version keys steps bytes old new × TakesWithin bytes after
-DrivesBytes version (ran.Stopped stop.WriteFault) keys steps bytes after old new = DrivesPart version keys steps bytes old new
-DrivesBytes version (ran.Stopped stop.OutOfMemory) keys steps bytes after old new = DrivesPart version keys steps bytes old new
+DrivesBytes version (ran.Stopped stop.WriteFault) keys steps bytes after old new = DrivesPart version keys steps bytes old new × TakesPast bytes after
+DrivesBytes version (ran.Stopped stop.OutOfMemory) keys steps bytes after old new = DrivesPart version keys steps bytes old new × TakesPast bytes after
 DrivesBytes version (ran.Unread why) keys steps bytes after old new = new ≡ old

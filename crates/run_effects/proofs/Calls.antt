@@ -23,6 +23,7 @@ use Rattle.run_effects.specs.Shares.{ClientSide, Wire, Outside, AreServed, Queue
 use Rattle.run_effects.specs.Ways.{Proceeds, HaltsAt, Breaks, AsksInPart, TakesOne, IsNextOf, IsNextOn, StaysWithin}
 use Rattle.outcome_text.specs.declared.tallies.Tally.{Tally}
 use Rattle.run_effects.proofs.Going.{client_still, comes_still, stay, client_front, wire_front, breaks_between, silent_by}
+use Rattle.run_effects.proofs.Reading.{reads_same, reads_still}
 
 -- ---- events of the driver by itself leave text, tap and replies
 
@@ -185,6 +186,7 @@ module _ (comes : Outcome) (t u : Talk) (follows : Follows t (Printed comes ∷ 
       client = client_cut comes old.client out faults names same count h;
       wire = wire_front (Printed comes ∷ []) old.wire old.wire (wire_printed comes old.wire);
     };
+    reads = reads_still old.wire.stream;
   }
 
 -- ---- the wire
@@ -220,7 +222,7 @@ asked_goes request replies t old wire p r l tally c = record {
 }
 
 pub asked_breaks : (request : Request) (t : Talk) (old : Outside) (wire : Wire) → AsksInPart request old.wire wire → Breaks (Asks request t) old (record old { wire = wire })
-asked_breaks request t old wire (inl h) = record {
+asked_breaks request t old wire (e, inl h) = record {
   between = Asks request t;
   rest = Asks request t;
   mid = old;
@@ -229,8 +231,9 @@ asked_breaks request t old wire (inl h) = record {
   one = omega arith;
   follows = inl (stays (Asks request t), silent_by old.wire.stream [] refl);
   put = record { client = client_front [] old.client old.client (client_still old.client); wire = h };
+  reads = reads_same old.wire.stream wire.stream e;
 }
-asked_breaks request t old wire (inr h) = record {
+asked_breaks request t old wire (e, inr h) = record {
   between = Asks request t;
   rest = t;
   mid = old;
@@ -239,6 +242,7 @@ asked_breaks request t old wire (inr h) = record {
   one = omega arith;
   follows = inl (asks request h.0 t t [] (stays t), h.1);
   put = record { client = client_front (Asked request h.0 ∷ []) old.client old.client (client_asked request h.0 old.client old.client.tally); wire = h.2 };
+  reads = reads_same old.wire.stream wire.stream e;
 }
 
 -- ---- hearing

@@ -16,6 +16,7 @@ use Rattle.run_effects.specs.Ways.{Proceeds, HaltsAt, Lacks, Breaks, StopsBy, Ad
 use Rattle.run_effects.specs.declared.stops.Stop.{Stop}
 use Rattle.run_effects.specs.declared.stops.Stop.TheVariants as stop
 use Rattle.outcome_text.specs.declared.tallies.Tally.{Tally}
+use Rattle.run_effects.proofs.Reading.{reads_still}
 
 queues_then : (version : FrameVersion) (xs ys : List Event) (a b c : Queue) → Queues version xs a b → Queues version ys b c → Queues version (xs ++ ys) a c
 queues_then version [] ys a b c p q = subst (λ w. Queues version ys w c) p q
@@ -216,6 +217,7 @@ breaks_then t u a b c p q = record {
   one = q.one;
   follows = q.follows;
   put = q.put;
+  reads = q.reads;
 }
 
 -- where the replies come as bytes, none came with these
@@ -234,6 +236,7 @@ breaks_between t u a b p = record {
   one = omega arith;
   follows = inl (stays u, silent_by b.wire.stream [] refl);
   put = record { client = client_front [] b.client b.client (client_still b.client); wire = wire_front [] b.wire b.wire (wire_still b.wire) };
+  reads = reads_still b.wire.stream;
 }
 
 either_rose : (a b c x y z : ℕ) → a ≤ b → x ≤ y → Rose b c ⊎ Rose y z → Rose a c ⊎ Rose x z

@@ -14,3 +14,6 @@ pub use Rattle.run_effects.proofs.Going.{serves_then, silent_by, stay, wire_fron
 pub use Rattle.run_effects.proofs.Going.{wire_still, wire_then, wire_unread}
 -- Replies that wait at a peer come and are taken as the conversation says.
 pub use Rattle.run_effects.proofs.Queueing.{queues_wait}
+-- How much of a stream of replies was read.
+pub use Rattle.run_effects.proofs.Reading.{IsNear, near_long, near_within, reads_none, reads_still}
+pub use Rattle.run_effects.proofs.Reading.{reads_took}

@@ -2,4 +2,5 @@ mod Calls
 mod Counted
 mod Going
 mod Queueing
+mod Reading
 pub mod Interface

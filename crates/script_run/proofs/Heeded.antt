@@ -30,12 +30,12 @@ use Rattle.conversation.specs.Sessions.{Tells, Stray, replied, sent_ended, title
 use Rattle.conversation.specs.Talk.{Talk, Stops, Hears, Prints, Heard, Said, Shown, Got, hear, heard_answer, broken, nothing_shown, described_outcome}
 use Rattle.conversation.specs.Turns.{reading, answered_on, rows_on, rested}
 use Rattle.driver.specs.Calls.{SaysAs, ShowsAs, HaltsAs, IsSent, Replies}
-use Rattle.run_effects.specs.Shares.{Stream, Wire, Outside, AreServed, Begins, IsNext, coming_behind, devices_of, messages_of, place_of, with_devices}
+use Rattle.run_effects.specs.Shares.{Stream, Wire, Outside, AreServed, Begins, IsNext, coming_behind, devices_of, messages_of, place_of, queue_of, with_devices}
 use Rattle.run_effects.specs.Ways.{Proceeds, Breaks, StopsBy, Advances, IsStuckOn, IsFirstOf, IsFirst, IsNextOf, IsNextOn, TakesOne}
 use Rattle.run_effects.specs.declared.stops.Stop.{Stop}
 use Rattle.run_effects.specs.declared.stops.Stop.TheVariants as stop
 use Rattle.run_effects.proofs.Interface.{stay, client_still, client_front, wire_still, wire_unread, breaks_between, goes_then, fails_then, silent_by}
-use Rattle.run_effects.proofs.Interface.{own_goes, own_halts, own_breaks, heard_more, heard_last, strayed_goes}
+use Rattle.run_effects.proofs.Interface.{own_goes, own_halts, own_breaks, heard_more, heard_last, near_within, reads_took, strayed_goes}
 use Rattle.script_run.specs.declared.around.First.{First}
 use Rattle.script_run.specs.declared.around.First.TheVariants as first
 use Rattle.script_run.specs.declared.around.RowHeard.{RowHeard}
@@ -192,6 +192,7 @@ took_breaks r t x wire h = record {
       count = h.put.count;
     };
   };
+  reads = reads_took x.wire.version r x.wire.stream wire.stream (queue_of x.wire) (queue_of wire) h.read.comes (λ w. near_within wire.stream (h.limit w));
 }
 
 pub halted : (h : Halt) (t : Talk) (x : Outside) (now : Devices) → own.Fails h t (devices_of x.client) now → StopsBy (stop_of h) t x (record x { client = with_devices x.client now })
