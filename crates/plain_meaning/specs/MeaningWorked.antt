@@ -1,11 +1,12 @@
 -- The plaintext meaning of scripts, computed: a plain table; a half batch that waits while a definition comes; two sessions that change a
--- table, one in a transaction; a protected column whose master key the vault lacks; and what the driver refuses by itself.
+-- table, one in a transaction; a protected column whose master key the vault lacks; statements without an encryption typing; and what the
+-- driver refuses by itself.
 use Rattle.std.specs.Prelude.{◌≡◌, ℕ, pos, List, [], ◌∷◌, map, None, false, codes, replicate, refl}
 use lib.Utf8.{encode}
 use Rattle.ae_base.specs.Atoms.{Atom}
 use Rattle.ae_base.specs.OneOrTwo.{only}
 use Rattle.ae_base.specs.declared.batches.Param.{Param}
-use Rattle.ae_base.specs.declared.faults.SqlFault.TheVariants.{Moved, Conflict, NoTransaction}
+use Rattle.ae_base.specs.declared.faults.SqlFault.TheVariants.{Moved, Conflict, EncryptionClash, NoTransaction}
 use Rattle.ae_base.specs.declared.types.Enc.TheVariants as enc
 use Rattle.ae_base.specs.declared.types.Ty.TheVariants as ty
 use Rattle.ae_base.specs.declared.values.Datum.TheVariants.{Num}
@@ -146,3 +147,17 @@ pub a_protected_column : (wrapped : List ℕ) →
     ∷ []
 unfolding understood statement_in tree_of operand_in inner_in bind check_of inferred_encs least has_typing clash_behind rules encode open_key column_key
 a_protected_column wrapped = refl
+
+-- a literal and a plain column have no encryption that a protected column could share; a parameter has
+pub statements_without_a_typing : (wrapped : List ℕ) →
+    reference [] (
+    whole 1 (codes "SELECT b FROM t WHERE a = 7") []
+    ∷ half 2 (codes "SELECT b FROM t WHERE a = b") []
+    ∷ half 2 (codes "SELECT b FROM t WHERE a = @p") (number (codes "p") 5 ∷ [])
+    ∷ []) nothing_held (keyed wrapped)
+    ≡ Refused (EncryptionClash 24)
+    ∷ Refused (EncryptionClash 24)
+    ∷ Described (record { name = codes "p"; enc = named.Det (codes "K") } ∷ [])
+    ∷ []
+unfolding understood statement_in tree_of operand_in inner_in bind check_of inferred_encs least has_typing clash_behind rules encode
+statements_without_a_typing wrapped = refl
