@@ -195,11 +195,8 @@ fn batch_of(alloc: Global, body: &[u8]) -> Body<Payload<'_>>
     ensures { GivesBody result (read.batch_at body.now) }
 {
     match rows_of(alloc, body) {
-        Found::One(rows, rest) => match checks::batch(rows) {
-            Some(batch) if rest.is_empty() => Body::One(Payload::Rows(batch)),
-            _ => Body::Bad,
-        },
-        Found::Bad => Body::Bad,
+        Found::One(batch, rest) if rest.is_empty() => Body::One(Payload::Rows(batch)),
+        Found::One(_, _) | Found::Bad => Body::Bad,
         Found::OutOfMemory => Body::OutOfMemory,
     }
 }

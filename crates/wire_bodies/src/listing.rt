@@ -7,6 +7,7 @@ ghost use Rattle.wire_reading.specs.Reading as read;
 ghost use Rattle.wire_reading.specs.Reading.{Gives};
 
 use crate::found::Found;
+use ae_base::limits::MOST_ANSWER_COLUMNS;
 use ae_base::lists::Seq;
 use ae_base::params::{Named, ParamList};
 use std::alloc::Global;
@@ -63,13 +64,26 @@ fn few_of<'a, P: ReadPart<'a>>(alloc: Global, bytes: &'a [u8]) -> Found<'a, Seq<
     }
 }
 
-/// As many parts as two bytes count.
+/// A count in two bytes, from 1 to `most`.
+pub fn count_of(bytes: &[u8], most: usize) -> Option<(usize, &[u8])>
+    ensures { Gives (λ x. (x.0, x.1.now)) result
+        (read.kept (read.is_within 1 most) (read.number_at w16) bytes.now) }
+{
+    let (count, rest) = u16_of(bytes)?;
+    let count = count as usize;
+    if count == 0 || count > most {
+        return None;
+    }
+    Some((count, rest))
+}
+
+/// As many parts as two bytes count: 1 to 512. Where it is another number, no part is read.
 #[tactic(auto, unfolding(wire_reading::specs::Reading::many_at))]
 pub fn many_of<'a, P: ReadPart<'a>>(alloc: Global, bytes: &'a [u8]) -> Found<'a, Seq<P>>
-    ensures { GivesFound result (read.many_at P.reading bytes.now) }
+    ensures { GivesFound result (read.kept read.is_few (read.many_at P.reading) bytes.now) }
 {
-    match u16_of(bytes) {
-        Some((count, rest)) => parts_of(alloc, count as usize, rest),
+    match count_of(bytes, MOST_ANSWER_COLUMNS) {
+        Some((count, rest)) => parts_of(alloc, count, rest),
         None => Found::Bad,
     }
 }

@@ -5,12 +5,13 @@ ghost use Rattle.wire_bodies.specs.Found.{GivesFound};
 ghost use Rattle.wire_reading.specs.Reading as read;
 
 use crate::found::Found;
-use crate::listing::parts_of;
+use crate::listing::{count_of, parts_of};
+use ae_base::limits::{MOST_ANSWER_COLUMNS, MOST_FRAME_ROWS};
 use ae_base::lists::Seq;
 use std::alloc::Global;
 use wire_messages::replies::RowParts;
+use wire_payloads::payloads::RowBatch;
 use wire_reading::checks;
-use wire_reading::reading::u16_of;
 
 /// A row of so many atoms.
 #[tactic(auto, unfolding(wire_reading::specs::Reading::shared_row_at))]
@@ -51,16 +52,24 @@ fn shared_rows_of(
     Found::One(parts, rest)
 }
 
-/// How many rows there are, how many atoms each has, and the rows.
+/// Rows that share a frame, behind their number and the number of their columns. Where there are
+/// too many rows or columns, no row is read.
 #[tactic(auto, unfolding(wire_reading::specs::Reading::rows_at))]
-pub fn rows_of(alloc: Global, bytes: &[u8]) -> Found<'_, Seq<RowParts<'_>>>
-    ensures { GivesFound result (read.rows_at bytes.now) }
+pub fn rows_of(alloc: Global, bytes: &[u8]) -> Found<'_, RowBatch<'_>>
+    ensures { GivesFound result (read.kept read.is_batch read.rows_at bytes.now) }
 {
-    let Some((rows, rest)) = u16_of(bytes) else {
+    let Some((rows, rest)) = count_of(bytes, MOST_FRAME_ROWS) else {
         return Found::Bad;
     };
-    let Some((columns, rest)) = u16_of(rest) else {
+    let Some((columns, rest)) = count_of(rest, MOST_ANSWER_COLUMNS) else {
         return Found::Bad;
     };
-    shared_rows_of(alloc, rows as usize, columns as usize, rest)
+    match shared_rows_of(alloc, rows, columns, rest) {
+        Found::One(rows, rest) => match checks::batch(rows) {
+            Some(batch) => Found::One(batch, rest),
+            None => Found::Bad,
+        },
+        Found::Bad => Found::Bad,
+        Found::OutOfMemory => Found::OutOfMemory,
+    }
 }
