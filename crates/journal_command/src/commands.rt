@@ -22,6 +22,7 @@ use crate::restarts::{Again, serve_again};
 use crate::turns::{Came, answer_held};
 use ae_base::blobs::Blob;
 use ae_base::limits::MOST_STREAM_BYTES;
+use ae_base::lists::Seq;
 use ae_edge::sinks::Sink;
 use ae_edge::sources::{Source, Taken};
 use disk::disks::Disk;
@@ -143,19 +144,19 @@ fn serve_from<S: Source, W: Sink, D: Disk>(
     }
 }
 
-/// Serves the records again, and then the input.
+/// Serves the records again, drops them, and then serves the input.
 fn serve_found<S: Source, W: Sink, D: Disk>(
     alloc: Global,
     input: &mut S,
     out: &mut W,
     disk: &mut D,
     journal: Journal,
-    entries: &[Blob],
+    entries: Seq<Blob>,
 ) -> Ended
     requires ready { journal.failed ≡ false }
     requires mounted { IfSome (D.told disk.old) (IsMounted journal.gate) }
-    requires place { place_behind entries.now < 2 ^ 64 }
-    ensures serves { ServesFound result entries.now journal.gate (S.left input.old)
+    requires place { place_behind entries < 2 ^ 64 }
+    ensures serves { ServesFound result entries journal.gate (S.left input.old)
         (S.left input.new) (D.told disk.old) (D.told disk.new) (W.held out.old) (W.held out.new) }
     ensures same { D.names disk.new ≡ D.names disk.old }
     ensures read { result ≡ Ended.ReadFault → Rose (S.faults input.old) (S.faults input.new) }
@@ -163,7 +164,9 @@ fn serve_found<S: Source, W: Sink, D: Disk>(
     ensures stored { result ≡ Ended.DiskFault → Rose (D.faults disk.old) (D.faults disk.new) }
 {
     let mut server = Server::new(alloc);
-    match serve_again(alloc, entries, &mut server) {
+    let again = serve_again(alloc, entries.as_slice(), &mut server);
+    drop(entries);
+    match again {
         Again::Served => serve_from(alloc, input, out, disk, server, journal),
         Again::Refused(place) => Ended::Damaged(place),
         Again::OutOfMemory => Ended::OutOfMemory,
@@ -185,9 +188,7 @@ fn serve_mounted<S: Source, W: Sink, D: Disk>(
     ensures stored { result ≡ Ended.DiskFault → Rose (D.faults disk.old) (D.faults disk.new) }
 {
     match Journal::mount(alloc, disk) {
-        Mounted::Ready(journal, entries) => {
-            serve_found(alloc, input, out, disk, journal, entries.as_slice())
-        }
+        Mounted::Ready(journal, entries) => serve_found(alloc, input, out, disk, journal, entries),
         Mounted::Damaged(place) => Ended::Damaged(place),
         Mounted::DiskFault => Ended::DiskFault,
         Mounted::OutOfMemory => Ended::OutOfMemory,
