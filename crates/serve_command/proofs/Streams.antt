@@ -5,7 +5,9 @@ use Rattle.std.proofs.lemmas.List.Elements.{All-nil, All-cons, All-head, All-tai
 use Rattle.ae_base.specs.declared.frames.FrameVersion.{FrameVersion}
 use Rattle.blind_laws.specs.Renaming.{IsRenaming}
 use Rattle.scalar.specs.Classes.{Entry, Pairing, Listing}
-use Rattle.serve_command.specs.Correspond.{PayloadsCorrespond, answers_to}
+use Rattle.frame_laws.specs.Correspond.{PayloadsCorrespond}
+use Rattle.frame_laws.specs.Laws.{RepliesAreCarriedAlike}
+use Rattle.serve_command.specs.Correspond.{answers_to}
 use Rattle.serve_command.specs.ServeAll.{messages_of, requests_of, state_after}
 use Rattle.serve_command.specs.Serving.{IsProper}
 use Rattle.server_core.specs.Serve.{State, empty_state, serve}
@@ -18,7 +20,6 @@ use Rattle.wire_payloads.specs.declared.versioned.Versioned.{Versioned}
 use Rattle.wire_spelling.specs.Packing.{payloads_of}
 use Rattle.wire_spelling.specs.Spelling.{SpellsRequest}
 use Rattle.serve_command.specs.Laws.{PlacedCorrespond, StreamsAreServedAlike}
-use Rattle.serve_command.proofs.Carrying.{carried_alike}
 
 are_proper : (at : ℕ) (bytes : List ℕ) (ms : List (Placed (Versioned Request))) (end : End) → ReadsAs is_request_head SpellsRequest at bytes ms end → All IsProper (requests_of ms)
 are_proper at bytes [] end r = All-nil IsProper
@@ -34,7 +35,7 @@ in_order R [] (n ∷ ns) h = absurd h
 in_order R (m ∷ ms) [] h = absurd h
 in_order R (m ∷ ms) (n ∷ ns) h = (h.0.1, in_order R ms ns h.1)
 
-module _ (each : RequestsAreServedAlike) (entries : List Entry) (renaming : IsRenaming entries) where
+module _ (each : RequestsAreServedAlike) (carried : RepliesAreCarriedAlike) (entries : List Entry) (renaming : IsRenaming entries) where
   answers_alike : (w v : State) (ms ns : List (Placed (Versioned Request))) → StatesCorrespond (Listing entries) w v → All IsProper (requests_of ms) → AllZip (PlacedCorrespond (Listing entries)) ms ns
       → AllZip (PayloadsCorrespond (Listing entries) []) (answers_to w (requests_of ms)) (answers_to v (requests_of ns))
   answers_alike w v [] [] st good h = tt
@@ -46,12 +47,12 @@ module _ (each : RequestsAreServedAlike) (entries : List Entry) (renaming : IsRe
       let right = serve v n.message.message in
       let one = each w m.message.message entries renaming v n.message.message (All-head IsProper m.message (requests_of ms) good) st h.0.1 in (
         subst (λ (version : FrameVersion). PayloadsCorrespond R [] (payloads_of m.message.version left.replies) (payloads_of version right.replies)) h.0.0
-            (carried_alike R renaming.cells m.message.version [] left.replies right.replies one.replies),
+            (carried entries renaming m.message.version left.replies right.replies one.replies),
         answers_alike left.after right.after ms ns one.states (All-tail IsProper m.message (requests_of ms) good) h.1,
       )
 
-pub streams_served_alike : ServedAlike → RequestsAreServedAlike → StreamsAreServedAlike
-streams_served_alike law each entries renaming bytes others frames more after later left right h =
+pub streams_served_alike : ServedAlike → RequestsAreServedAlike → RepliesAreCarriedAlike → StreamsAreServedAlike
+streams_served_alike law each carried entries renaming bytes others frames more after later left right h =
     let R = Listing entries in
     let good = are_proper 0 bytes left.requests _ left.read in
     let requests = messages_of (requests_of left.requests) in
@@ -62,7 +63,7 @@ streams_served_alike law each entries renaming bytes others frames more after la
         left = left.replied;
         right = right.replied;
         correspond = a.0;
-        carried = answers_alike each entries renaming empty_state empty_state left.requests right.requests start good h;
+        carried = answers_alike each carried entries renaming empty_state empty_state left.requests right.requests start good h;
       },
       subst (λ s. StatesCorrespond R s later) (sym left.left) (subst (λ s. StatesCorrespond R (state_after empty_state (requests_of left.requests)) s) (sym right.left) a.1),
     )

@@ -4,7 +4,8 @@ use Rattle.std.specs.List.{AllZip}
 use Rattle.blind_laws.specs.Renaming.{IsRenaming}
 use Rattle.scalar.specs.Classes.{Class, Pairing, Entry, Listing}
 use Rattle.ae_base.specs.Atoms.{Atom}
-use Rattle.serve_command.specs.Correspond.{PayloadsCorrespond, answers_to}
+use Rattle.frame_laws.specs.Correspond.{PayloadsCorrespond}
+use Rattle.serve_command.specs.Correspond.{answers_to}
 use Rattle.serve_command.specs.ServeAll.{ServeAll, messages_of, reply_frames, requests_of}
 use Rattle.server_core.specs.Correspond.{RequestsCorrespond, RepliesCorrespond, StatesCorrespond}
 use Rattle.server_core.specs.Serve.{State, empty_state, serve_all}

@@ -2,6 +2,7 @@
 
 ghost use Rattle.serve_command.specs.Laws.{StreamsAreServedAlike};
 
+use frame_laws::laws::replies_are_carried_alike;
 use server_core::laws::{requests_are_served_alike, served_alike};
 
 /// For every renaming of cells: two streams of whole frames, whose requests are of like versions
@@ -12,4 +13,5 @@ pub fn streams_are_served_alike()
 {
     served_alike();
     requests_are_served_alike();
+    replies_are_carried_alike();
 }

@@ -8,7 +8,7 @@ use Rattle.ae_base.specs.declared.atoms.AtomOf.TheVariants.{Null, Plain, Sealed}
 use Rattle.ae_base.specs.declared.frames.FrameVersion.{FrameVersion}
 use Rattle.ae_base.specs.declared.frames.FrameVersion.TheVariants.{V1, V2}
 use Rattle.blind_laws.specs.Renaming.{AreCells, PairsCells}
-use Rattle.scalar.specs.Classes.{Class, Open, Det, Rnd, Pairing, Correspond, RowsCorrespond}
+use Rattle.scalar.specs.Classes.{Class, Open, Det, Rnd, Pairing, Listing, Correspond, RowsCorrespond}
 use Rattle.server_core.specs.Correspond.{RepliesCorrespond, classes_behind, class_of_sent}
 use Rattle.wire_messages.specs.declared.replies.Reply.{Reply}
 use Rattle.wire_messages.specs.declared.replies.Reply.TheVariants.{Described, Columns, Row, Ended, Refused}
@@ -17,7 +17,8 @@ use Rattle.wire_payloads.specs.declared.payloads.Payload.{Payload}
 use Rattle.wire_payloads.specs.declared.payloads.Payload.TheVariants.{One}
 use Rattle.wire_spelling.specs.Packing.{closed, gathered, payloads_of, rows_body, takes}
 use Rattle.wire_spelling.specs.Spelling.{atom, blob, u16}
-use Rattle.serve_command.specs.Correspond.{PayloadsCorrespond}
+use Rattle.frame_laws.specs.Correspond.{PayloadsCorrespond}
+use Rattle.frame_laws.specs.Laws.{RepliesAreCarriedAlike}
 
 -- ---- lists
 
@@ -173,7 +174,9 @@ module _ (R : Pairing) (cells : PairsCells R) where
   single_alike classes (x ∷ xs) [] k = absurd k
   single_alike classes (x ∷ xs) (y ∷ ys) k = (k.0, single_alike (classes_behind classes x) xs ys k.1)
 
-  -- answers that correspond are carried by frames that do, one by one
-  pub carried_alike : (version : FrameVersion) (classes : List Class) (xs ys : List Reply) → RepliesCorrespond R classes xs ys → PayloadsCorrespond R classes (payloads_of version xs) (payloads_of version ys)
-  carried_alike V1 classes xs ys k = single_alike classes xs ys k
-  carried_alike V2 classes xs ys k = gathered_alike classes [] [] xs ys tt k
+  alike_in : (version : FrameVersion) (xs ys : List Reply) → RepliesCorrespond R [] xs ys → PayloadsCorrespond R [] (payloads_of version xs) (payloads_of version ys)
+  alike_in V1 xs ys k = single_alike [] xs ys k
+  alike_in V2 xs ys k = gathered_alike [] [] [] xs ys tt k
+
+pub carried_alike : RepliesAreCarriedAlike
+carried_alike entries renaming version replies others k = alike_in (Listing entries) renaming.cells version replies others k

@@ -1,0 +1,2 @@
+pub mod Correspond
+pub mod Laws
