@@ -56,8 +56,9 @@ pub record DidServe (end : Status) (old new : Seen) : Type 0 where
       → IsServed how bytes stream_end frames old.out.content new.out.content
 
 -- It served requests with a server whose changes are kept on the disk: what was taken of the script, what was put for it, and what a crash
--- leaves of the disk at each moment. If the script exposes its bytes and the disk its file: by how those within the limit end, and the
--- frames of the replies to their requests. A file that it left, or one without a record, isn't found damaged.
+-- leaves of the disk at each moment; and that transactions took effect one after another. If the script exposes its bytes and the disk its
+-- file: by how those within the limit end, and the frames of the replies to their requests. A file that it left, or one without a record,
+-- isn't found damaged.
 pub record DidServeJournal (end : Status) (old new : Seen) : Type 0 where
   pub how : Ended
   pub ends : end ≡ status_of_journaling how

@@ -9,12 +9,15 @@ use Rattle.wire_frames.specs.Frames.{Whole, Refused, Rest, IsNotYet, is_request_
 use Rattle.wire_frames.specs.declared.decoding.Way.TheVariants.{ToServer}
 use Rattle.frame_feed.specs.Feeding.{Feeding, empty_feed}
 use Rattle.recording.specs.Recorded.{nothing_held}
+use Rattle.server_core.specs.Laws.{AreServedSeriallyFrom, RequestsAreSerialFrom}
 use Rattle.server_core.specs.Serve.{State}
-use Rattle.serve_command.specs.Serving.{AnswersAll, AnswersFirst, AnswersOpen, most_stream_bytes}
+use Rattle.serve_command.specs.ServeAll.{messages_of}
+use Rattle.serve_command.specs.Serving.{AnswersAll, AnswersFirst, AnswersOpen, Begins, most_stream_bytes}
 use Rattle.serve_command.proofs.Interface.{answers_all, answers_first, answers_open, at_end, begins_fed, removes_end, removes_failed, removes_piece, removes_unheld}
+use Rattle.transactions.specs.WellKept.{HasNoTransactions}
 use Rattle.journal_command.specs.Durable.{DurableState}
 use Rattle.journal_command.specs.Endings.{ended_by}
-use Rattle.journal_command.specs.Keeping.{frames_of}
+use Rattle.journal_command.specs.Keeping.{Asked, frames_of}
 use Rattle.journal_command.specs.Running.{HasRoomFor, KeepsBy, PutsOf, ServesPieces}
 use Rattle.journal_command.specs.Stopping.{Outside}
 use Rattle.journal_command.specs.Turns.{Comes, EndsAt, IsSoFar}
@@ -39,7 +42,10 @@ goes_first feed durable source old e h =
     subst (λ (x : Feeding). Going durable.state most_stream_bytes x durable source source old old) (sym e)
     (record { taken = []; lost = removes_none source; few = refl; so_far = so_far_first durable old h; waits = inl (omega arith) })
 
-module _ (start : State) (count : ℕ) (feed : Feeding) (durable : DurableState) (source left : Option (List ℕ)) (first now : Outside) (g : Going start count feed durable source left first now) where
+module _ (law : RequestsAreSerialFrom) (start : State) (count : ℕ) (feed : Feeding) (durable : DurableState) (source left : Option (List ℕ)) (first now : Outside) (g : Going start count feed durable source left first now) where
+  serially : (bytes : List ℕ) → HasNoTransactions start → (requests : List Asked) (others : List ℕ) → Begins bytes requests others → AreServedSeriallyFrom start (messages_of requests)
+  serially bytes = λ none requests others b. law start none (messages_of requests)
+
   lost_more : (piece : List ℕ) (after : Option (List ℕ)) → WhereTold (Takes (taken.Bytes piece)) left after → Removes (g.taken ++ piece) source after
   lost_more piece after h = removes_then g.taken piece source left after g.lost (removes_piece piece left after h)
 
@@ -84,13 +90,13 @@ module _ (start : State) (count : ℕ) (feed : Feeding) (durable : DurableState)
     pub ends_refused : (place : ℕ) (new : Outside) → After (λ begin bytes old. AnswersAll begin bytes (Refused place) old.out new.out × HasRoomFor begin bytes old new) → ServesPieces (ended.BadFrame place) start source after first new
     ends_refused place new f =
         let h = holds (λ begin bytes old. AnswersAll begin bytes (Refused place) old.out new.out × HasRoomFor begin bytes old new) f in
-        record { taken = g.taken ++ piece; lost = lost_more piece after took; puts = (still_within, inl h.0); keeps = h.1 }
+        record { taken = g.taken ++ piece; lost = lost_more piece after took; puts = (still_within, inl h.0); keeps = h.1; serial = serially (g.taken ++ piece) }
 
     stopped : (stop : Stop) (new : Outside) → PutsOf stop start (g.taken ++ piece) first.out new.out × KeepsBy stop start (g.taken ++ piece) first new → ServesPieces (ended_by stop) start source after first new
-    stopped stops.WriteFault new h = record { taken = g.taken ++ piece; lost = lost_more piece after took; puts = (still_within, h.0); keeps = h.1 }
-    stopped stops.DiskFault new h = record { taken = g.taken ++ piece; lost = lost_more piece after took; puts = (still_within, h.0); keeps = h.1 }
-    stopped stops.JournalFull new h = record { taken = g.taken ++ piece; lost = lost_more piece after took; puts = (still_within, h.0); keeps = h.1 }
-    stopped stops.OutOfMemory new h = record { taken = g.taken ++ piece; lost = lost_more piece after took; puts = (still_within, h.0); keeps = h.1 }
+    stopped stops.WriteFault new h = record { taken = g.taken ++ piece; lost = lost_more piece after took; puts = (still_within, h.0); keeps = h.1; serial = serially (g.taken ++ piece) }
+    stopped stops.DiskFault new h = record { taken = g.taken ++ piece; lost = lost_more piece after took; puts = (still_within, h.0); keeps = h.1; serial = serially (g.taken ++ piece) }
+    stopped stops.JournalFull new h = record { taken = g.taken ++ piece; lost = lost_more piece after took; puts = (still_within, h.0); keeps = h.1; serial = serially (g.taken ++ piece) }
+    stopped stops.OutOfMemory new h = record { taken = g.taken ++ piece; lost = lost_more piece after took; puts = (still_within, h.0); keeps = h.1; serial = serially (g.taken ++ piece) }
 
     pub ends_stopped : (stop : Stop) (r : Ended) (new : Outside) → r ≡ ended_by stop → After (λ begin bytes old. PutsOf stop begin bytes old.out new.out × KeepsBy stop begin bytes old new) → ServesPieces r start source after first new
     ends_stopped stop r new e f =
@@ -117,13 +123,14 @@ module _ (start : State) (count : ℕ) (feed : Feeding) (durable : DurableState)
         lost = lost_more piece after took;
         puts = (omega (arith, all, one, length-append g.taken piece), subst (λ (l : List ℕ). AnswersOpen start l first.out now.out) (sym front) so_open);
         keeps = kept_fed piece;
+        serial = serially (g.taken ++ piece);
       }
 
   pub ends_unread : (after : Option (List ℕ)) → WhereTold (Takes taken.Failed) left after → ServesPieces ended.ReadFault start source after first now
-  ends_unread after h = record { taken = g.taken; lost = lost_same after (removes_failed left after h); puts = (within, so_open); keeps = so_kept }
+  ends_unread after h = record { taken = g.taken; lost = lost_same after (removes_failed left after h); puts = (within, so_open); keeps = so_kept; serial = serially g.taken }
 
   pub ends_without : (after : Option (List ℕ)) → WhereTold (Takes taken.OutOfMemory) left after → ServesPieces ended.OutOfMemory start source after first now
-  ends_without after h = record { taken = g.taken; lost = lost_same after (removes_unheld left after h); puts = (within, inl so_first); keeps = so_kept.kept }
+  ends_without after h = record { taken = g.taken; lost = lost_same after (removes_unheld left after h); puts = (within, inl so_first); keeps = so_kept.kept; serial = serially g.taken }
 
   -- the end of the input
   pub ends_whole : (r : Ended) (after : Option (List ℕ)) → WhereTold (Takes taken.End) left after → EndsAt r feed → ServesPieces r start source after first now
@@ -132,12 +139,14 @@ module _ (start : State) (count : ℕ) (feed : Feeding) (durable : DurableState)
     lost = lost_same after (removes_end left after h);
     puts = (within, at_end left after h, answers_all start g.taken feed durable.state first.out now.out g.so_far.stands Whole e);
     keeps = so_kept;
+    serial = serially g.taken;
   }
   ends_whole (ended.BadFrame place) after h e = record {
     taken = g.taken;
     lost = lost_same after (removes_end left after h);
     puts = (within, inr (at_end left after h, answers_all start g.taken feed durable.state first.out now.out g.so_far.stands (Rest place) (e.0, e.1, g.waits)));
     keeps = so_kept;
+    serial = serially g.taken;
   }
   ends_whole ended.ReadFault after h e = absurd e
   ends_whole ended.WriteFault after h e = absurd e

@@ -11,9 +11,10 @@ use Rattle.journal_core.specs.Mounts.{Finds, IsSomeImage, Mounts}
 use Rattle.journal_core.specs.States.{JournalState}
 use Rattle.journal_core.specs.declared.mounting.Mounted.TheVariants as mounted
 use Rattle.recording.specs.Recorded.{nothing_held}
+use Rattle.recording.proofs.Interface.{none_behind}
 use Rattle.server_core.specs.Serve.{State, empty_state}
 use Rattle.journal_command.specs.Journaling.{IsBad, IsDurable, IsFull, IsntFull, IsRefused, IsUnserved, KeepsRecords, Runs, ServesFound, ServesFrom, ServesJournal}
-use Rattle.journal_command.specs.Keeping.{Asked, entries_of, records_of}
+use Rattle.journal_command.specs.Keeping.{Asked, entries_of, messages_in, records_of}
 use Rattle.journal_command.specs.Records.{AreTried, HasFront, HasLeast, HaveRoom, IsOfRun}
 use Rattle.journal_command.specs.Restarts.{AreServedRecords, RefusesAt, state_behind}
 use Rattle.journal_command.specs.Running.{HasKept, HasNoRoomFor, HasRoomFor, KeepsSo, ServesPieces}
@@ -139,6 +140,7 @@ module _ (journal : JournalState) (entries : List (List ℕ)) (a b : Option Mome
           lost = s.lost;
           puts = s.puts;
           keeps = keeps how s.taken s.keeps;
+          serial = s.serial (none_behind (messages_in records) empty_state (record { counts = refl; none = refl }) served.served);
         }
 
   -- a run, or no memory for one

@@ -6,9 +6,10 @@ use Rattle.disk.specs.Moments.{Moments, LeavesNow, Leaves}
 use Rattle.journal_core.specs.Appends.{most_bytes}
 use Rattle.journal_core.specs.Journals.{Records, Damaged, ReadsAs, place_behind}
 use Rattle.journal_core.specs.Mounts.{IsLeft, IsSomeImage}
+use Rattle.server_core.specs.Laws.{AreServedSeriallyFrom}
 use Rattle.server_core.specs.Serve.{State, empty_state}
 use Rattle.recording.specs.Recorded.{nothing_held}
-use Rattle.serve_command.specs.ServeAll.{reply_frames}
+use Rattle.serve_command.specs.ServeAll.{messages_of, reply_frames}
 use Rattle.serve_command.specs.Serving.{Begins}
 use Rattle.journal_command.specs.Keeping.{Asked, entries_of, frames_in, records_of}
 use Rattle.journal_command.specs.Records.{HasLeast, HaveRoom, IsOfRun}
@@ -55,7 +56,8 @@ KeepsRecords other records taken disk disk_after out out_after = IsntFull record
 -- ---- the records were found and served again
 
 -- The file stood for these records, each of which was served again, and the requests of the input were served from the state that
--- they give.
+-- they lead to. Whichever of these requests were answered, transactions took effect one after another from there, each whole at its
+-- COMMIT.
 pub record Runs (how : Ended) (source left : Option (List ℕ)) (disk disk_after : Option Moments) (out out_after : Option (List ℕ)) : Type 0 where
   pub records : List (List Asked)
   pub found : WhereTold (λ old new. IsImage old.now old.now.seen × ReadsAs (Records (entries_of records)) old.now.seen) disk disk_after
@@ -64,6 +66,7 @@ pub record Runs (how : Ended) (source left : Option (List ℕ)) (disk disk_after
   pub lost : Removes taken source left
   pub puts : PutsSo how (state_behind empty_state records) taken left out out_after
   pub keeps : KeepsRecords how records taken disk disk_after out out_after
+  pub serial : (requests : List Asked) (others : List ℕ) → Begins taken requests others → AreServedSeriallyFrom (state_behind empty_state records) (messages_of requests)
 
 -- ---- or they weren't
 

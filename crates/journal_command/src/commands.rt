@@ -30,6 +30,7 @@ use frame_feed::FrameFeed;
 use journal_core::journal::Journal;
 use journal_core::mounting::Mounted;
 use recording::laws::fronts_are_accepted;
+use server_core::laws::requests_are_serial_from;
 use server_core::server::Server;
 use std::alloc::Global;
 use wire_frames::{Way, frames_are_read_back, one_reading, streams_are_read_once};
@@ -94,6 +95,7 @@ fn serve_pieces<S: Source, W: Sink, D: Disk>(
     ensures write { result ≡ Ended.WriteFault → Rose (W.faults out.old) (W.faults out.new) }
     ensures stored { result ≡ Ended.DiskFault → Rose (D.faults disk.old) (D.faults disk.new) }
 {
+    requests_are_serial_from();
     let mut feed = FrameFeed::new(alloc, Way::ToServer);
     let mut left = MOST_STREAM_BYTES;
     'pieces: loop {
@@ -205,7 +207,8 @@ pub fn serve_journal<S: Source, W: Sink, D: Disk>(
     disk: &mut D,
 ) -> Ended
     // What was taken of the input, what was put for it and what a crash leaves of its records, by
-    // how it ended; or why the file's records weren't served again.
+    // how it ended, and that transactions took effect one after another; or why the file's records
+    // weren't served again.
     ensures content { ServesJournal result (S.left input.old) (S.left input.new)
         (D.told disk.old) (D.told disk.new) (W.held out.old) (W.held out.new) }
     // Where the input and the disk expose what they hold: by how the bytes within the limit end,

@@ -197,7 +197,7 @@ are_journals s requests none =
     ap (λ x. map (map by_place) (calls_of_records x (requests_recorded s nothing_held requests))) (sym is) ∙ (all_went requests s no_logs nothing_held (nothing_so s none)).goes.calls
 
 -- behind records that are served again there is no transaction
-none_behind : (records : List (List Request)) (s : State) → HasNoTransactions s → AreServedAgain s records → HasNoTransactions (after_records s records)
+pub none_behind : (records : List (List Request)) (s : State) → HasNoTransactions s → AreServedAgain s records → HasNoTransactions (after_records s records)
 none_behind [] s none h = none
 none_behind (requests ∷ records) s none h =
     let w = all_went requests s no_logs nothing_held (nothing_so s none) in
