@@ -150,9 +150,10 @@ kind() {
 }
 
 # in_turn ROUNDS: the cipher and HMAC of `ae drive` and those of OpenSSL's library in turn, by tables and without vectors, over 4,000
-# cells of 8,000 bytes. The rounds are short, since a processor is slower while another one that shares its core is busy.
+# cells of 8,000 bytes that are opened (and 20 that `ae` seals, which count too). The rounds are short, since a processor is slower
+# while another one that shares its core is busy.
 in_turn() {
-    recorded short bytes 200 20
+    recorded short bytes 20 200
     for _ in $(seq "$1"); do
         ours=$(cd short && cipher_seconds)
         theirs=$(OPENSSL_ia32cap='~0x200020000000000' python3 "$top/bench/openssl.py" 4000 8016 2>/dev/null) || theirs=
