@@ -49,7 +49,7 @@ either-xor : (t : Bool) (a b : ℕ) → (if t then bit_xor a b else 0) ≡ bit_x
 either-xor true a b = refl
 either-xor false a b = refl
 
-either-lt : (t : Bool) (a n : ℕ) → a < n → (if t then a else 0) < n
+pub either-lt : (t : Bool) (a n : ℕ) → a < n → (if t then a else 0) < n
 either-lt true a n low = low
 either-lt false a n low = omega arith
 

@@ -32,7 +32,7 @@ sum_of_four-lt f low =
     xor_lt 8 (bit_xor (bit_xor (f 0) (f 1)) (f 2)) (f 3) (xor_lt 8 (bit_xor (f 0) (f 1)) (f 2) (xor_lt 8 (f 0) (f 1) (low 0) (low 1)) (low 2)) (low 3)
 
 -- a product of a sum
-product-sum_of_four : (k : ℕ) (f : ℕ → ℕ) → ((i : ℕ) → f i < 256) → product k (sum_of_four f) ≡ sum_of_four (λ i. product k (f i))
+pub product-sum_of_four : (k : ℕ) (f : ℕ → ℕ) → ((i : ℕ) → f i < 256) → product k (sum_of_four f) ≡ sum_of_four (λ i. product k (f i))
 product-sum_of_four k f low =
     let two : bit_xor (f 0) (f 1) < 256 = xor_lt 8 (f 0) (f 1) (low 0) (low 1) in
     let three : bit_xor (bit_xor (f 0) (f 1)) (f 2) < 256 = xor_lt 8 (bit_xor (f 0) (f 1)) (f 2) two (low 2) in

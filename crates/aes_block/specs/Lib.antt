@@ -2,4 +2,8 @@ pub mod Aes
 pub mod Bytes
 pub mod Columns
 pub mod Equivalent
+pub mod Exchanges
 pub mod Field
+pub mod InvSbox
+pub mod Planes
+pub mod RoundKeys

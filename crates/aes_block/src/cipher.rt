@@ -7,6 +7,8 @@ ghost use Rattle.aes_block.specs.Aes.{IsBlock, decryption, encryption};
 
 use crate::eights::equivalent_ciphers;
 use crate::key::{inv_key_words, key_columns};
+use crate::planes::Plane;
+use crate::round_keys::round_keys;
 use crate::rounds::{cipher, equivalent_cipher};
 use std::marker::Model;
 
@@ -17,6 +19,7 @@ use std::marker::Model;
 pub struct Aes256 {
     words: [u32; 60],
     inverse_words: [u32; 60],
+    round_keys: [[Plane; 8]; 15],
 }
 
 impl Model for Aes256 {
@@ -24,6 +27,7 @@ impl Model for Aes256 {
     ghost use Rattle.aes_block.specs.Aes.{IsKey, expanded_key, key_of};
     ghost use Rattle.aes_block.specs.Columns.{words_of};
     ghost use Rattle.aes_block.specs.Equivalent.{inv_key_words};
+    ghost use Rattle.aes_block.specs.RoundKeys.{AreRoundKeys};
 
     ghost Value = { List ℕ };
 
@@ -31,7 +35,8 @@ impl Model for Aes256 {
 
     ghost invariant = { λ a. IsKey (key_of (words_of a.words))
         × (words_of a.words ≡ expanded_key (key_of (words_of a.words)))
-        × (words_of a.inverse_words ≡ inv_key_words (words_of a.words)) };
+        × (words_of a.inverse_words ≡ inv_key_words (words_of a.words))
+        × AreRoundKeys (words_of a.inverse_words) a.round_keys };
 }
 
 impl Aes256 {
@@ -41,9 +46,11 @@ impl Aes256 {
         ensures { result ≡ key.now }
     {
         let words = key_columns(key);
+        let inverse_words = inv_key_words(&words);
         Aes256 {
             words,
-            inverse_words: inv_key_words(&words),
+            inverse_words,
+            round_keys: round_keys(&inverse_words),
         }
     }
 
@@ -54,6 +61,7 @@ impl Aes256 {
         Aes256 {
             words: self.words,
             inverse_words: self.inverse_words,
+            round_keys: self.round_keys,
         }
     }
 
@@ -78,6 +86,6 @@ impl Aes256 {
         ensures value { result ≡ map (decryption self.now) blocks.now }
         ensures undoes { map (encryption self.now) result ≡ blocks.now }
     {
-        equivalent_ciphers(&self.inverse_words, blocks)
+        equivalent_ciphers(&self.round_keys, blocks)
     }
 }

@@ -6,11 +6,16 @@ mod bytes;
 mod cipher;
 mod columns;
 mod eights;
+mod inv_mix;
+mod inv_sbox;
 mod key;
 mod laws;
+mod planes;
+mod round_keys;
 mod rounds;
 mod state;
 mod tables;
+mod turning;
 
 pub use bytes::xor;
 pub use cipher::Aes256;

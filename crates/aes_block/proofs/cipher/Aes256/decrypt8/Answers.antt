@@ -9,7 +9,7 @@ pub returns-clause-value : goal.returns-clause-value
 returns-clause-value c =
     let key : IsKey c.args.self.now = rw c.self.view_is at c.self.invariant.0 in
     let words : words_of c.self.inside.words ≡ expanded_key c.args.self.now = rw c.self.view_is at c.self.invariant.1 in
-    c.equivalent_ciphers.ensures.value
+    c.equivalent_ciphers.ensures.value (words_of c.self.inside.inverse_words) c.self.invariant.3
     ∙ ap (λ (w : List (List ℕ)). map (equivalent_cipher w) c.args.blocks.now) (c.self.invariant.2 ∙ ap inv_key_words words)
     ∙ all_decrypted c.args.self.now c.args.blocks.now key c.equivalent_ciphers.ensures.are_blocks
 
