@@ -19,7 +19,6 @@ use std::marker::Model;
 pub struct Aes256 {
     words: [u32; 60],
     inverse_words: [u32; 60],
-    round_keys: [[Plane; 8]; 15],
 }
 
 impl Model for Aes256 {
@@ -27,7 +26,6 @@ impl Model for Aes256 {
     ghost use Rattle.aes_block.specs.Aes.{IsKey, expanded_key, key_of};
     ghost use Rattle.aes_block.specs.Columns.{words_of};
     ghost use Rattle.aes_block.specs.Equivalent.{inv_key_words};
-    ghost use Rattle.aes_block.specs.RoundKeys.{AreRoundKeys};
 
     ghost Value = { List ℕ };
 
@@ -35,8 +33,7 @@ impl Model for Aes256 {
 
     ghost invariant = { λ a. IsKey (key_of (words_of a.words))
         × (words_of a.words ≡ expanded_key (key_of (words_of a.words)))
-        × (words_of a.inverse_words ≡ inv_key_words (words_of a.words))
-        × AreRoundKeys (words_of a.inverse_words) a.round_keys };
+        × (words_of a.inverse_words ≡ inv_key_words (words_of a.words)) };
 }
 
 impl Aes256 {
@@ -46,11 +43,9 @@ impl Aes256 {
         ensures { result ≡ key.now }
     {
         let words = key_columns(key);
-        let inverse_words = inv_key_words(&words);
         Aes256 {
             words,
-            inverse_words,
-            round_keys: round_keys(&inverse_words),
+            inverse_words: inv_key_words(&words),
         }
     }
 
@@ -61,7 +56,6 @@ impl Aes256 {
         Aes256 {
             words: self.words,
             inverse_words: self.inverse_words,
-            round_keys: self.round_keys,
         }
     }
 
@@ -81,6 +75,50 @@ impl Aes256 {
         equivalent_cipher(&self.inverse_words, block)
     }
 
+    /// The cipher made ready to decrypt many blocks.
+    pub fn decryptor(&self) -> Decryptor<'_>
+        ensures { result ≡ self.now }
+    {
+        Decryptor {
+            cipher: self,
+            round_keys: round_keys(&self.inverse_words),
+        }
+    }
+
+    /// Eight blocks, each decrypted under the key. For more than eight, `decryptor` makes the round keys once.
+    pub fn decrypt8(&self, blocks: &[[u8; 16]; 8]) -> [[u8; 16]; 8]
+        ensures value { result ≡ map (decryption self.now) blocks.now }
+        ensures undoes { map (encryption self.now) result ≡ blocks.now }
+    {
+        self.decryptor().decrypt8(blocks)
+    }
+}
+
+/// A cipher made ready to decrypt many blocks, eight at once: its round keys stand in planes.
+///
+/// A contract sees it as the 32 bytes of its key.
+#[derive(Drop)]
+pub struct Decryptor<'a> {
+    // Its key is what a contract sees.
+    cipher: &'a Aes256,
+    round_keys: [[Plane; 8]; 15],
+}
+
+impl<'a> Model for Decryptor<'a> {
+    ghost use Rattle.std.specs.Prelude.{ℕ, List};
+    ghost use Rattle.aes_block.specs.Aes.{IsKey, expanded_key};
+    ghost use Rattle.aes_block.specs.Equivalent.{inv_key_words};
+    ghost use Rattle.aes_block.specs.RoundKeys.{AreRoundKeys};
+
+    ghost Value = { List ℕ };
+
+    ghost view = { λ d. d.cipher.now };
+
+    ghost invariant = { λ d. IsKey d.cipher.now
+        × AreRoundKeys (inv_key_words (expanded_key d.cipher.now)) d.round_keys };
+}
+
+impl<'a> Decryptor<'a> {
     /// Eight blocks, each decrypted under the key, in less time than one by one.
     pub fn decrypt8(&self, blocks: &[[u8; 16]; 8]) -> [[u8; 16]; 8]
         ensures value { result ≡ map (decryption self.now) blocks.now }

@@ -18,5 +18,5 @@ mod tables;
 mod turning;
 
 pub use bytes::xor;
-pub use cipher::Aes256;
+pub use cipher::{Aes256, Decryptor};
 pub use laws::each_undoes_the_other;

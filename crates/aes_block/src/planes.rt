@@ -152,6 +152,18 @@ impl Plane {
         }
     }
 
+    /// Bit k of each lane in all bits of the lane.
+    #[inline(always)]
+    pub(crate) fn spread(self, k: u8) -> Plane
+        requires { k < 8 }
+        ensures { (r c j : ℕ) → r < 4 → c < 4 → j < 8 → bit result r c j ≡ bit self r c k }
+    {
+        let bits = (self.lanes >> u8x16::splat(k)) & u8x16::splat(1);
+        Plane {
+            lanes: (bits ^ u8x16::splat(1)) - u8x16::splat(1),
+        }
+    }
+
     /// The bits that the mask has, in each lane.
     #[inline(always)]
     pub(crate) fn masked(self, mask: u8) -> Plane

@@ -9,7 +9,7 @@ ghost use Rattle.aes_block.specs.RoundKeys.{AreRoundKeys, masked, masked_key, ro
 
 use crate::planes::Plane;
 use crate::state::block_of;
-use crate::turning::planes_of;
+use crate::turning::rows_of;
 use std::simd::u8x16;
 
 /// The round keys that these key words have, in planes.
@@ -18,9 +18,26 @@ pub(crate) fn round_keys(words: &[u32; 60]) -> [[Plane; 8]; 15]
 {
     let mut keys = [[Plane::from_array([0; 16]); 8]; 15];
     for round in 0..15 {
-        keys[round] = planes_of(&[masked_key(words, round); 8]);
+        keys[round] = key_planes(masked_key(words, round));
     }
     keys
+}
+
+/// The planes of eight blocks that are all this key.
+fn key_planes(key: [u8; 16]) -> [Plane; 8]
+    ensures { (j : ℕ) → j < 8 → block_in result j ≡ key }
+{
+    let rows = rows_of(key);
+    [
+        rows.spread(0),
+        rows.spread(1),
+        rows.spread(2),
+        rows.spread(3),
+        rows.spread(4),
+        rows.spread(5),
+        rows.spread(6),
+        rows.spread(7),
+    ]
 }
 
 /// A round key, to which 0x63 is added unless it is the last that is added.

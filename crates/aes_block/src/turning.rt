@@ -49,7 +49,7 @@ pub(crate) fn blocks_of(planes: [Plane; 8]) -> [[u8; 16]; 8]
 
 /// A block's bytes row after row.
 #[inline(always)]
-fn rows_of(block: [u8; 16]) -> Plane
+pub(crate) fn rows_of(block: [u8; 16]) -> Plane
     ensures rows { (r c k : ℕ) → r < 4 → c < 4 → bit result r c k ≡ bit block c r k }
     ensures long { length block ≡ 16 }
     ensures bytes { (i : ℕ) → slice_index block i < 256 }

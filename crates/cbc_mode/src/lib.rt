@@ -7,7 +7,7 @@ ghost use Rattle.aes_block.specs.Aes.{IsBlock, IsKey};
 ghost use Rattle.aes_block.specs.Bytes.{AreBytes, bytes_xor};
 ghost use Rattle.cbc_mode.specs.Cbc.{with_padding, without_padding, cbc_decryption, blocks_of, cbc_encryption, cbc, decrypted_cbc, is_whole_blocks, AreUndone, DecryptsTo, IsBadLength, Unchains};
 
-use aes_block::Aes256;
+use aes_block::{Aes256, Decryptor};
 use std::alloc::{AllocError, Global};
 use std::simd::u8x16;
 use thiserror::Error;
@@ -79,7 +79,7 @@ fn sum(a: &[u8; 16], b: &[u8; 16]) -> [u8; 16]
 }
 
 // Eight blocks decrypted, each added to the block before it, the first to `previous`.
-fn unchained8(key: &Aes256, previous: &[u8; 16], blocks: &[[u8; 16]; 8]) -> [[u8; 16]; 8]
+fn unchained8(key: &Decryptor<'_>, previous: &[u8; 16], blocks: &[[u8; 16]; 8]) -> [[u8; 16]; 8]
     ensures value { result ≡ cbc_decryption key.now previous.now blocks.now }
     ensures undone { AreUndone key.now blocks.now }
 {
@@ -93,7 +93,8 @@ fn unchained8(key: &Aes256, previous: &[u8; 16], blocks: &[[u8; 16]; 8]) -> [[u8
     plain
 }
 
-// Puts what the blocks decrypt to at the end, and gives the block that the next one is added to.
+// Puts what the blocks decrypt to at the end, and gives the block that the next one is added to. A short ciphertext has no
+// eight blocks, and its cipher isn't made ready for them.
 fn append_eights(
     plaintext: &mut Vec<u8>,
     key: &Aes256,
@@ -105,9 +106,13 @@ fn append_eights(
     ensures undone { IfOk result
         (λ _. AreUndone key.now (flat_map (λ eight. eight) eights.now)) }
 {
+    if eights.is_empty() {
+        return Ok(iv);
+    }
+    let decryptor = key.decryptor();
     let mut previous = iv;
     for eight in eights {
-        let plain = unchained8(key, &previous, eight);
+        let plain = unchained8(&decryptor, &previous, eight);
         plaintext.extend_from_slice(plain.as_flattened())?;
         previous = eight[7];
     }

@@ -1,7 +1,5 @@
-use Rattle.std.proofs.Common.{◌≡◌, ◌∙◌, ap, refl, subst}
+use Rattle.std.proofs.Common.{◌≡◌, refl}
 use Rattle.aes_block.specs.Aes.{expanded_key, key_of}
-use Rattle.aes_block.specs.Equivalent.{inv_key_words}
-use Rattle.aes_block.specs.RoundKeys.{AreRoundKeys}
 use Rattle.aes_block.proofs.Blocks.{IsKey-from_bytes}
 use Rattle.aes_block.proofs.KeyBytes.{key_of-key_words}
 use Rattle.aes_block.proofs.cipher.Aes256.new.Goals as goal
@@ -9,8 +7,7 @@ use Rattle.aes_block.proofs.cipher.Aes256.new.Goals as goal
 pub invariant_of-result : goal.invariant_of-result
 invariant_of-result c =
     let back : key_of (expanded_key c.args.key.now) ≡ c.args.key.now = key_of-key_words c.args.key.now 52 c.told-key in
-    let keys = subst (λ words. AreRoundKeys words c.round_keys.result) (c.inv_key_words-inverse_words.ensures ∙ ap inv_key_words c.key_columns-words.ensures) c.round_keys.ensures in
-    rw (c.inv_key_words-inverse_words.ensures, c.key_columns-words.ensures, back) (IsKey-from_bytes c.args.key.now c.told-key c.fits-key, refl, refl, keys)
+    rw (c.inv_key_words.ensures, c.key_columns-words.ensures, back) (IsKey-from_bytes c.args.key.now c.told-key c.fits-key, refl, refl)
 
 pub returns : goal.returns
 returns c = rw c.key_columns-words.ensures (key_of-key_words c.args.key.now 52 c.told-key)
