@@ -3,7 +3,7 @@
 ghost use Rattle.std.specs.Prelude.{◌≡◌};
 ghost use Rattle.std.specs.Str.{bytes_eq};
 
-use crate::lists::Duplicate;
+use crate::lists::{Duplicate, Seq};
 use crate::names::ParamName;
 use crate::params::{Named, ParamList};
 use crate::texts::Txt;
@@ -39,11 +39,12 @@ pub type Declarations = ParamList<ParamDecl>;
 /// Declarations with their values.
 pub type Params = ParamList<Param>;
 
-/// One statement with its parameters.
+/// One statement with its parameters, and the names of those that may be sent only as cells.
 #[derive(Drop)]
 pub struct Batch {
     pub text: Txt,
     pub params: Params,
+    pub forced: Seq<ParamName>,
 }
 
 impl Named for ParamDecl {
@@ -85,6 +86,7 @@ impl Duplicate for Batch {
         Ok(Batch {
             text: self.text.copy()?,
             params: self.params.copy()?,
+            forced: self.forced.copy()?,
         })
     }
 }

@@ -30,9 +30,9 @@ use Rattle.check_command.proofs.Unused.{IsDone, definition_done}
 abbrev Stays : State → Came → Type 0
 Stays state c = (f : SqlFault) → c.comes ≡ outcome.Refused f → c.state ≡ state
 
-done_stays : (state : State) (catalog : Catalog) (t : Transacted) → IsDone state t → (f : SqlFault) → plain.answered [] catalog t.answer ≡ outcome.Refused f → t.after ≡ state
+done_stays : (state : State) (catalog : Catalog) (t : Transacted) → IsDone state t → (f : SqlFault) → plain.answered [] [] catalog t.answer ≡ outcome.Refused f → t.after ≡ state
 done_stays state catalog t d f e = elim d.done [
-  | inl i ↦ let g : outcome.Defined ≡ outcome.Refused f = subst (λ a. plain.answered [] catalog a ≡ outcome.Refused f) i e in absurd cc
+  | inl i ↦ let g : outcome.Defined ≡ outcome.Refused f = subst (λ a. plain.answered [] [] catalog a ≡ outcome.Refused f) i e in absurd cc
   | inr h ↦ h.2
 ]
 
@@ -40,21 +40,21 @@ module _ (state : State) (number : ℕ) where
   abbrev here : Catalog
   here = catalog_of state number
 
-  stepped_stays : (batch : Batch) → defines batch.text ≡ true → (r : Result Meant SqlFault) → understood here batch.text (declarations_of batch) ≡ r → Stays state (plain.stepped [] state number batch r)
+  stepped_stays : (batch : Batch) → defines batch.text ≡ true → (r : Result Meant SqlFault) → understood here batch.text (declarations_of batch) ≡ r → Stays state (plain.stepped [] [] state number batch r)
   stepped_stays batch d (Ok meant) u = λ f e. done_stays state here _ (definition_done state number batch meant d u) f e
   stepped_stays batch d (Err g) u = λ f e. refl
 
   version_stays : (p : Pending) → defines p.batch.text ≡ true → (b : Bool)
-      → Stays state (cond b (plain.stepped [] state number p.batch (understood here p.batch.text (declarations_of p.batch))) (came (outcome.Refused (fault.Moved (record { seen = p.version; now = here.version }))) None state))
+      → Stays state (cond b (plain.stepped [] [] state number p.batch (understood here p.batch.text (declarations_of p.batch))) (came (outcome.Refused (fault.Moved (record { seen = p.version; now = here.version }))) None state))
   version_stays p d true = stepped_stays p.batch d (understood here p.batch.text (declarations_of p.batch)) refl
   version_stays p d false = λ f e. refl
 
-  opened_stays : (p : Pending) → defines p.batch.text ≡ true → (o : Option DriverFault) → Stays state (plain.executed_with [] state number p o)
+  opened_stays : (p : Pending) → defines p.batch.text ≡ true → (o : Option DriverFault) → Stays state (plain.executed_with [] [] state number p o)
   opened_stays p d (Some g) = λ f e. absurd cc
   opened_stays p d None = version_stays p d (p.version == here.version)
 
   ready_stays : (p : Pending) (b : Bool) → defines p.batch.text ≡ b → Stays state (described_only state number b p)
-  ready_stays p true d = opened_stays p d (plain.why_unopened [] p.keys (map (λ (u : Use). u.enc) (uses_of p)))
+  ready_stays p true d = opened_stays p d (plain.why_unopened [] [] p.keys (map (λ (u : Use). u.enc) (uses_of p)))
   ready_stays p false d = λ f e. absurd cc
 
   described_stays : (batch : Batch) (r : Result Description SqlFault) → Stays state (plain.described state batch (described_only state number (defines batch.text)) r)

@@ -1,5 +1,5 @@
 -- What a server replies to a batch that is begun is awaited, and tells its description or why there is none.
-use Rattle.std.proofs.Common.{◌≡◌, ◌<◌, ◌≤◌, arith, ℕ, List, [], ◌∷◌, length, Option, Some, None, Result, Ok, Err, refl, sym, ap, ◌∙◌, subst}
+use Rattle.std.proofs.Common.{◌≡◌, ◌<◌, ◌≤◌, arith, ℕ, List, [], ◌∷◌, length, Option, Some, None, Result, Ok, Err, true, refl, sym, ap, ◌∙◌, subst}
 use Rattle.std.specs.Prelude.{unwrap_or, slice_index_or}
 use Rattle.std.proofs.lemmas.List.{length-map}
 use Rattle.ae_base.specs.declared.batches.Batch.{Batch}
@@ -15,29 +15,37 @@ use Rattle.wire_messages.specs.declared.replies.Reply.{Reply}
 use Rattle.wire_messages.specs.declared.replies.Reply.TheVariants as reply
 use Rattle.statement_analysis.specs.Describing.{Meant, understood, description, describe}
 use Rattle.server_core.specs.Serve.{State, catalog_of, described}
+use Rattle.conversation.specs.Batches.{why_unfit}
 use Rattle.conversation.specs.Pending.{Pending, uses_of}
 use Rattle.conversation.specs.Sessions as held
-use Rattle.conversation.specs.Sessions.{encs_of, described_as, described_params}
+use Rattle.conversation.specs.Sessions.{encs_of, first_open, readied, described_as, described_params}
 use Rattle.conversation.specs.declared.answers.DescribeAnswer.{DescribeAnswer}
 use Rattle.conversation.specs.declared.sessions.Session.{Session}
 use Rattle.conversation.specs.declared.sessions.Session.TheVariants as session
 use Rattle.conversation.specs.declared.sessions.Turn.{Turn}
 use Rattle.script_lang.specs.Limits.{HasParams}
-use Rattle.plain_meaning.specs.Reference.{declarations_of, pending}
+use Rattle.plain_meaning.specs.Reference.{declarations_of, execution_of, pending}
 use Rattle.plain_meaning.proofs.Interface.{told_among, encs_found}
 use Rattle.plain_meaning.proofs.Interface.{parts_of}
 use Rattle.check_command.proofs.Following.{bind_ok}
 use Rattle.conversation.specs.declared.faults.Halt.{Halt}
 use Rattle.conversation.specs.declared.faults.Halt.TheVariants as halt
 use Rattle.driver.specs.Calls.{Describes}
-use Rattle.check_command.specs.Asked.{said_of, TellsAs, AnswersOf}
+use Rattle.check_command.specs.Check.{checked, defines}
+use Rattle.check_command.specs.Asked.{unforced, said_of, TellsAs, AnswersOf}
 
 -- it is awaited, and says so
 abbrev pub IsHeardAs : State → ℕ → Batch → Option (Turn DescribeAnswer) → Type 0
 IsHeardAs state number batch (Some turn) = TellsAs state number batch turn.answer turn.after
 IsHeardAs state number batch None = ⊥
 
-module _ (bound : BoundStatementsAre) (typings : TypingsAreOfColumns) (state : State) (number : ℕ) (batch : Batch) (params : HasParams batch) where
+-- where nothing is forced, all may be sent
+none_open : (ps : List Param) (es : List (Option Enc)) → first_open [] ps es ≡ None
+none_open [] es = refl
+none_open (p ∷ ps) [] = refl
+none_open (p ∷ ps) (e ∷ es) = none_open ps es
+
+module _ (bound : BoundStatementsAre) (typings : TypingsAreOfColumns) (state : State) (number : ℕ) (batch : Batch) (params : HasParams batch) (forced : batch.forced ≡ []) where
   -- each declared parameter has an encryption, where it is used
   found : (meant : Meant) → understood (catalog_of state number) batch.text (declarations_of batch) ≡ Ok meant
       → encs_of batch.params (description (catalog_of state number) (declarations_of batch) meant).params ≡ Some (told_among (is_used meant.bound) 0 meant.encs)
@@ -57,8 +65,11 @@ module _ (bound : BoundStatementsAre) (typings : TypingsAreOfColumns) (state : S
   described_so : (d : Description) → describe (catalog_of state number) batch.text (declarations_of batch) ≡ Ok d → (o : Option (List (Option Enc))) → encs_of batch.params d.params ≡ o → (es : List (Option Enc)) → o ≡ Some es
       → IsHeardAs state number batch (described_as batch d o)
   described_so d e (Some xs) i es s =
-      let p : record { batch = batch; version = d.version; keys = d.keys; encs = xs } ≡ pending batch d = ap (λ (o : Option (List (Option Enc))). let v : Pending = record { batch = batch; version = d.version; keys = d.keys; encs = unwrap_or o [] } in v) (sym i) in
-      (d, e, ap session.Pending p, ap (λ (v : Pending). described_params d.keys (uses_of v)) p)
+      let p : record { batch = batch; version = d.version; keys = d.keys; encs = xs } ≡ pending (unforced batch) d =
+      ap (λ (o : Option (List (Option Enc))). let v : Pending = record { batch = batch; version = d.version; keys = d.keys; encs = unwrap_or o [] } in v) (sym i)
+      ∙ ap (λ (names : List (List ℕ)). let v : Pending = record { batch = record { text = batch.text; params = batch.params; forced = names }; version = d.version; keys = d.keys; encs = unwrap_or (encs_of batch.params d.params) [] } in v) forced in
+      let open_none : first_open batch.forced batch.params xs ≡ None = ap (λ names. first_open names batch.params xs) forced ∙ none_open batch.params xs in
+      subst (λ o. IsHeardAs state number batch (Some (readied batch d xs o))) (sym open_none) (d, e, ap session.Pending p, ap (λ (v : Pending). described_params d.keys (uses_of v)) p)
   described_so d e None i es s = absurd cc
 
   pub hears : (r : Result Description SqlFault) → describe (catalog_of state number) batch.text (declarations_of batch) ≡ r → (x : Reply) → x ∷ [] ≡ (described state r).replies → IsHeardAs state number batch (held.described (session.Begun batch) x)
@@ -80,11 +91,11 @@ answers_of state number batch (Some turn) (Err halt.OutOfMemory) old after h e =
 answers_of state number batch (Some turn) (Err halt.EntropyFault) old after h e = absurd e
 answers_of state number batch (Some turn) (Err halt.VaultFault) old after h e = absurd e
 
-pub told_answers : BoundStatementsAre → TypingsAreOfColumns → (state : State) (number : ℕ) (batch : Batch) → HasParams batch → (s : Session) → s ≡ session.Begun batch → (x : Reply) → x ∷ [] ≡ said_of state number batch
+pub told_answers : BoundStatementsAre → TypingsAreOfColumns → (state : State) (number : ℕ) (batch : Batch) → HasParams batch → batch.forced ≡ [] → (s : Session) → s ≡ session.Begun batch → (x : Reply) → x ∷ [] ≡ said_of state number batch
     → (r : Result DescribeAnswer Halt) (after : Session) → Describes r (held.described s x) s after → AnswersOf state number batch r after
-told_answers bound typings state number batch params s b x t r after h =
+told_answers bound typings state number batch params forced s b x t r after h =
     answers_of state number batch (held.described s x) r s after
-    (subst (λ y. IsHeardAs state number batch (held.described y x)) (sym b) (hears bound typings state number batch params (describe (catalog_of state number) batch.text (declarations_of batch)) refl x t)) h
+    (subst (λ y. IsHeardAs state number batch (held.described y x)) (sym b) (hears bound typings state number batch params forced (describe (catalog_of state number) batch.text (declarations_of batch)) refl x t)) h
 
 -- the one that there is
 pub alone_is : (replies : List Reply) (x : Reply) → 1 ≤ length replies → length replies < 2 → x ≡ slice_index_or replies 0 x → x ∷ [] ≡ replies
@@ -95,3 +106,8 @@ alone_is (y ∷ z ∷ more) x one two e = absurd (omega (arith, two))
 -- one session begins one batch
 pub begun_same : (a b : Batch) (s : Session) → s ≡ session.Begun a → s ≡ session.Begun b → a ≡ b
 begun_same a b s e f = let i : session.Begun a ≡ session.Begun b = sym e ∙ f in cc
+
+-- a definition that is described is executed; what it forces is nothing to that
+pub defined_is : (state : State) (number : ℕ) (batch : Batch) (p : Pending) → why_unfit batch ≡ None → (d : Description) → describe (catalog_of state number) batch.text (declarations_of batch) ≡ Ok d → p ≡ pending (unforced batch) d
+    → defines batch.text ≡ true → checked state number batch ≡ execution_of [] [] state number p
+defined_is state number batch p fit d e i s = rw (fit, e, s, i) refl

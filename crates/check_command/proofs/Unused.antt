@@ -189,7 +189,7 @@ pub record ExecutesAs (state : State) (number : ℕ) (p : Pending) (c : Came) : 
   pub sessions : c.state.sessions ≡ state.sessions
 
 answers_so : (catalog : Catalog) (state : State) (t : Transacted) → IsDone state t
-    → AnswersAs (answered catalog t.answer t.after).replies (plain.answered [] catalog t.answer) × (t.after ≡ (answered catalog t.answer t.after).after)
+    → AnswersAs (answered catalog t.answer t.after).replies (plain.answered [] [] catalog t.answer) × (t.after ≡ (answered catalog t.answer t.after).after)
 answers_so catalog state t d = elim d.done [
   | inl e ↦ rw e (refl, refl)
   | inr h ↦ let e = h.1 in rw e (refl, refl)
@@ -236,30 +236,30 @@ module _ (law : PreparedAlone) (state : State) (number : ℕ) (batch : Batch) (m
       let a = alone_is in
       rw (v, a) (ap (λ (t : Transacted). answered here t.answer t.after) alone_does)
 
-  means_so : plain.execution_of [] state number p ≡ plain.came_by [] here did
+  means_so : plain.execution_of [] [] state number p ≡ plain.came_by [] [] here did
   means_so =
       let v = eq-eqb here.version here.version refl in
-      ap (λ us. plain.executed_with [] state number p (plain.why_unopened [] p.keys (map (λ (u : Use). u.enc) us))) no_use
+      ap (λ us. plain.executed_with [] [] state number p (plain.why_unopened [] [] p.keys (map (λ (u : Use). u.enc) us))) no_use
       ∙ rw (v, e) refl
 
-  runs_so : ExecutesAs state number p (plain.execution_of [] state number p)
+  runs_so : ExecutesAs state number p (plain.execution_of [] [] state number p)
   runs_so =
       let done = definition_done state number batch meant defining e in
       let a = answers_so here state did done in
       let s = serves_so in
       let m = means_so in
       subst (ExecutesAs state number p) (sym m) (record {
-        replies = subst (λ (x : Served State). AnswersAs x.replies (plain.answered [] here did.answer)) (sym s) a.0;
+        replies = subst (λ (x : Served State). AnswersAs x.replies (plain.answered [] [] here did.answer)) (sym s) a.0;
         after = a.1 ∙ ap (λ (x : Served State). x.after) (sym s);
         sessions = done.sessions;
       })
 
-pub runs_definition : PreparedAlone → (state : State) (number : ℕ) (p : Pending) → IsDefinition state number p → ExecutesAs state number p (plain.execution_of [] state number p)
+pub runs_definition : PreparedAlone → (state : State) (number : ℕ) (p : Pending) → IsDefinition state number p → ExecutesAs state number p (plain.execution_of [] [] state number p)
 runs_definition law state number p h =
     let here = catalog_of state number in
     let q = bind_ok (understood here h.batch.text (declarations_of h.batch)) (λ meant. Ok (description here (declarations_of h.batch) meant)) h.description h.described in
     let is : description here (declarations_of h.batch) q.0 ≡ h.description = cc in
-    subst (λ (x : Pending). ExecutesAs state number x (plain.execution_of [] state number x)) (ap (pending h.batch) is ∙ sym h.is) (runs_so law state number h.batch q.0 h.defines q.1)
+    subst (λ (x : Pending). ExecutesAs state number x (plain.execution_of [] [] state number x)) (ap (pending h.batch) is ∙ sym h.is) (runs_so law state number h.batch q.0 h.defines q.1)
 
 -- ---- its one reply
 

@@ -6,7 +6,8 @@ use Rattle.ae_edge.specs.Devices.{Adds, AddsFront, IsFront}
 use Rattle.ae_edge.proofs.Interface.{adds_none, adds_then}
 use Rattle.outcome_text.specs.Printing.{is_refusal, has_refusal}
 use Rattle.script_lang.specs.declared.steps.Step.{Step}
-use Rattle.script_lang.specs.declared.steps.Step.TheVariants.{Whole, Half, Execute}
+use Rattle.script_lang.specs.declared.steps.Act.TheVariants.{Whole, Half, Execute}
+use Rattle.script_lang.specs.declared.steps.Step.TheVariants.{Turn, Trust}
 use Rattle.server_core.specs.Serve.{State, empty_state}
 use Rattle.check_command.specs.Check.{SessionBatch, checked, batches, outcomes, IsCheck, IsCheckFront}
 use Rattle.check_command.specs.Ends.{PutsCheck, PutsCheckFront}
@@ -57,9 +58,15 @@ module _ (all left : List Step) (now : State) (refused : Bool) (old new : Option
 -- one step more
 pub step_more : (all left : List Step) (now next : State) (refused b : Bool) (old new after : Option (List ℕ)) (step : Step) → SoFar all (step ∷ left) now refused old new → PutsStep (Ok b) now next step new after
     → SoFar all left next (refused || b) old after
-step_more all left now next refused b old new after (Whole number batch) s p = batch_more all left now refused old new number batch b next after s.text s.put s.whole s.front s.refuses p
-step_more all left now next refused b old new after (Half number batch) s p = batch_more all left now refused old new number batch b next after s.text s.put s.whole s.front s.refuses p
-step_more all left now next refused b old new after (Execute number) s p =
+step_more all left now next refused b old new after (Turn number (Whole batch)) s p = batch_more all left now refused old new number batch b next after s.text s.put s.whole s.front s.refuses p
+step_more all left now next refused b old new after (Turn number (Half batch)) s p = batch_more all left now refused old new number batch b next after s.text s.put s.whole s.front s.refuses p
+step_more all left now next refused b old new after (Turn number Execute) s p =
+    let o : Ok b ≡ Ok false = p.refuses in
+    let i : b ≡ false = cc in
+    let w = p.state in
+    let a = p.put in
+    rw (i, w, a, or-none refused) (record { text = s.text; put = s.put; whole = s.whole; front = s.front; refuses = s.refuses })
+step_more all left now next refused b old new after (Trust path) s p =
     let o : Ok b ≡ Ok false = p.refuses in
     let i : b ≡ false = cc in
     let w = p.state in
@@ -99,11 +106,13 @@ part_put all left number batch now old new after text put front (inr h) =
     (text ++ f.0, front f.0 (inr (h.0, h.1, inl f.1)), adds_then text f.0 old new after put f.2)
 
 pub fault_put : (all left : List Step) (now next : State) (refused : Bool) (old new after : Option (List ℕ)) (step : Step) → SoFar all (step ∷ left) now refused old new → PutsStep (Err unput.WriteFault) now next step new after → PutsCheckFront all old after
-fault_put all left now next refused old new after (Whole number batch) s p = part_put all left number batch now old new after s.text s.put s.front p
-fault_put all left now next refused old new after (Half number batch) s p = part_put all left number batch now old new after s.text s.put s.front p
-fault_put all left now next refused old new after (Execute number) s p = let o : Err unput.WriteFault ≡ Ok false = p.refuses in absurd cc
+fault_put all left now next refused old new after (Turn number (Whole batch)) s p = part_put all left number batch now old new after s.text s.put s.front p
+fault_put all left now next refused old new after (Turn number (Half batch)) s p = part_put all left number batch now old new after s.text s.put s.front p
+fault_put all left now next refused old new after (Turn number Execute) s p = let o : Err unput.WriteFault ≡ Ok false = p.refuses in absurd cc
+fault_put all left now next refused old new after (Trust path) s p = let o : Err unput.WriteFault ≡ Ok false = p.refuses in absurd cc
 
 pub short_put : (all left : List Step) (now next : State) (refused : Bool) (old new after : Option (List ℕ)) (step : Step) → SoFar all (step ∷ left) now refused old new → PutsStep (Err unput.OutOfMemory) now next step new after → PutsCheckFront all old after
-short_put all left now next refused old new after (Whole number batch) s p = part_put all left number batch now old new after s.text s.put s.front p
-short_put all left now next refused old new after (Half number batch) s p = part_put all left number batch now old new after s.text s.put s.front p
-short_put all left now next refused old new after (Execute number) s p = let o : Err unput.OutOfMemory ≡ Ok false = p.refuses in absurd cc
+short_put all left now next refused old new after (Turn number (Whole batch)) s p = part_put all left number batch now old new after s.text s.put s.front p
+short_put all left now next refused old new after (Turn number (Half batch)) s p = part_put all left number batch now old new after s.text s.put s.front p
+short_put all left now next refused old new after (Turn number Execute) s p = let o : Err unput.OutOfMemory ≡ Ok false = p.refuses in absurd cc
+short_put all left now next refused old new after (Trust path) s p = let o : Err unput.OutOfMemory ≡ Ok false = p.refuses in absurd cc

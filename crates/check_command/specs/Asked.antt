@@ -29,6 +29,10 @@ use Rattle.check_command.specs.Check.{defines}
 use Rattle.check_command.specs.declared.describing.Asked.{Asked}
 use Rattle.check_command.specs.declared.describing.Asked.TheVariants as asked
 
+-- a batch that forces nothing
+abbrev pub unforced : Batch → Batch
+unforced batch = record { text = batch.text; params = batch.params; forced = [] }
+
 -- it asks for the description of this batch, in this session
 abbrev pub AsksFor : ℕ → Batch → Request → Type 0
 AsksFor number batch r = r ≡ request.Describe number batch.text (declarations_of batch)
@@ -38,6 +42,7 @@ pub record AsksOf (r : Request) (s : Session) : Type 0 where
   pub number : ℕ
   pub batch : Batch
   pub params : HasParams batch
+  pub forced : batch.forced ≡ []
   pub fit : why_unfit batch ≡ None
   pub begun : s ≡ session.Begun batch
   pub asks : AsksFor number batch r
@@ -52,6 +57,7 @@ pub record IsToldOf (s : Session) (replies : List Reply) : Type 0 where
   pub number : ℕ
   pub batch : Batch
   pub params : HasParams batch
+  pub forced : batch.forced ≡ []
   pub fit : why_unfit batch ≡ None
   pub begun : s ≡ session.Begun batch
   pub told : replies ≡ said_of state number batch
@@ -61,16 +67,17 @@ pub record IsToldOf (s : Session) (replies : List Reply) : Type 0 where
 -- it is described, and its parameters are told; or the server refuses; or it may not be sent
 abbrev pub IsAsked : State → ℕ → Batch → Asked → Type 0
 IsAsked state number batch (asked.Ready p params) =
-    (why_unfit batch ≡ None) × ((d : Description) × (describe (catalog_of state number) batch.text (declarations_of batch) ≡ Ok d) × (p ≡ pending batch d)) × (params ≡ described_params p.keys (uses_of p))
+    (why_unfit batch ≡ None) × ((d : Description) × (describe (catalog_of state number) batch.text (declarations_of batch) ≡ Ok d) × (p ≡ pending (unforced batch) d)) × (params ≡ described_params p.keys (uses_of p))
 IsAsked state number batch (asked.Refused f) = (why_unfit batch ≡ None) × (describe (catalog_of state number) batch.text (declarations_of batch) ≡ Err f)
 IsAsked state number batch (asked.Unfit f) = why_unfit batch ≡ Some f
 
 -- what the driver's answer to a description says of a batch, and the session after it
 abbrev pub TellsAs : State → ℕ → Batch → DescribeAnswer → Session → Type 0
 TellsAs state number batch (answer.Ready params) after =
-    (d : Description) × (describe (catalog_of state number) batch.text (declarations_of batch) ≡ Ok d) × (after ≡ session.Pending (pending batch d))
-    × (params ≡ described_params d.keys (uses_of (pending batch d)))
+    (d : Description) × (describe (catalog_of state number) batch.text (declarations_of batch) ≡ Ok d) × (after ≡ session.Pending (pending (unforced batch) d))
+    × (params ≡ described_params d.keys (uses_of (pending (unforced batch) d)))
 TellsAs state number batch (answer.Refused f) after = describe (catalog_of state number) batch.text (declarations_of batch) ≡ Err f
+TellsAs state number batch (answer.Failed f) after = ⊥
 
 -- the reply is awaited
 abbrev pub AnswersOf : State → ℕ → Batch → Result DescribeAnswer Halt → Session → Type 0

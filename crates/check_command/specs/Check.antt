@@ -17,7 +17,8 @@ use Rattle.conversation.specs.Pending.{Pending}
 use Rattle.conversation.specs.declared.faults.DriverFault.{DriverFault}
 use Rattle.conversation.specs.declared.outcomes.Outcome.{Outcome}
 use Rattle.script_lang.specs.declared.steps.Step.{Step}
-use Rattle.script_lang.specs.declared.steps.Step.TheVariants.{Whole, Half, Execute}
+use Rattle.script_lang.specs.declared.steps.Act.TheVariants.{Whole, Half, Execute}
+use Rattle.script_lang.specs.declared.steps.Step.TheVariants.{Turn, Trust}
 use Rattle.plain_meaning.specs.Reference.{Came, begins, declarations_of, execution_of, waits}
 use Rattle.outcome_text.specs.Printing.{line, printed_outcome}
 
@@ -35,7 +36,7 @@ defines text = reads_definition (statement_in (encode_utf8_all text))
 
 -- once it is described, a definition is executed; every other batch ends there. No key is there to open.
 abbrev pub described_only : State → ℕ → Bool → Pending → Came
-described_only state number true = execution_of [] state number
+described_only state number true = execution_of [] [] state number
 described_only state number false = waits state
 
 -- a batch of this session, which is idle
@@ -69,11 +70,12 @@ pub record SessionBatch : Type 0 where
   pub number : ℕ
   pub batch : Batch
 
--- the batches of a script: `:describe` ends one as `GO` does, and `:execute` is nothing
+-- the batches of a script: `:describe` ends one as `GO` does; `:execute` is nothing, nor is a path that is trusted
 abbrev pub batch_in : Step → List SessionBatch
-batch_in (Whole number batch) = record { number = number; batch = batch } ∷ []
-batch_in (Half number batch) = record { number = number; batch = batch } ∷ []
-batch_in (Execute number) = []
+batch_in (Turn number (Whole batch)) = record { number = number; batch = batch } ∷ []
+batch_in (Turn number (Half batch)) = record { number = number; batch = batch } ∷ []
+batch_in (Turn number Execute) = []
+batch_in (Trust path) = []
 
 abbrev pub batches : List Step → List SessionBatch
 batches steps = flat_map batch_in steps

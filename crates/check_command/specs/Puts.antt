@@ -4,7 +4,8 @@ use Rattle.ae_base.specs.declared.batches.Batch.{Batch}
 use Rattle.ae_edge.specs.Devices.{Adds, AddsFront, Rose}
 use Rattle.outcome_text.specs.Printing.{is_refusal}
 use Rattle.script_lang.specs.declared.steps.Step.{Step}
-use Rattle.script_lang.specs.declared.steps.Step.TheVariants.{Whole, Half, Execute}
+use Rattle.script_lang.specs.declared.steps.Act.TheVariants.{Whole, Half, Execute}
+use Rattle.script_lang.specs.declared.steps.Step.TheVariants.{Turn, Trust}
 use Rattle.server_core.specs.Serve.{State}
 use Rattle.check_command.specs.Check.{AreLinesOf, checked}
 use Rattle.check_command.specs.declared.steps.Lines.{Lines}
@@ -42,9 +43,10 @@ pub record PutsNothing (r : Result Bool Unput) (old new : State) (before after :
   pub put : after ≡ before
 
 abbrev pub PutsStep : Result Bool Unput → State → State → Step → Option (List ℕ) → Option (List ℕ) → Type 0
-PutsStep r old new (Whole number batch) before after = PutsBatch r old new number batch before after
-PutsStep r old new (Half number batch) before after = PutsBatch r old new number batch before after
-PutsStep r old new (Execute number) before after = PutsNothing r old new before after
+PutsStep r old new (Turn number (Whole batch)) before after = PutsBatch r old new number batch before after
+PutsStep r old new (Turn number (Half batch)) before after = PutsBatch r old new number batch before after
+PutsStep r old new (Turn number Execute) before after = PutsNothing r old new before after
+PutsStep r old new (Trust path) before after = PutsNothing r old new before after
 
 -- the count of faults rose where a call failed, and never falls
 abbrev pub CountsPut : Result Bool Unput → ℕ → ℕ → Type 0

@@ -29,7 +29,8 @@ pub fn defined(
     pending: Pending,
 ) -> Result<Outcome, AllocError>
     requires { IsDefinition server.old number pending }
-    ensures comes { IfOk result (ComesTo (execution_of [] server.old number pending) server.new) }
+    ensures comes { IfOk result (ComesTo
+        (execution_of [] [] server.old number pending) server.new) }
     ensures sessions { server.new.sessions ≡ server.old.sessions }
 {
     prepared_alone();

@@ -6,6 +6,7 @@ ghost use Rattle.conversation.specs.Batches.{why_unfit};
 ghost use Rattle.conversation.specs.declared.sessions.Session.TheVariants as session_of;
 ghost use Rattle.script_lang.specs.Limits.{HasParams};
 ghost use Rattle.server_core.specs.Serve.{State};
+ghost use Rattle.check_command.specs.Asked as asks;
 ghost use Rattle.check_command.specs.Asked.{AnswersOf, AsksFor, AsksOf, IsAsked, IsToldOf, said_of};
 
 use ae_base::batches::Batch;
@@ -35,7 +36,18 @@ pub enum Asked {
     Unfit(DriverFault),
 }
 
-/// Describes a batch, which leaves the server as it was.
+/// A copy of a batch, which forces nothing.
+fn unforced(alloc: Global, batch: &Batch) -> Result<Batch, AllocError>
+    ensures { IfOk result (λ copy. copy ≡ asks.unforced batch.now) }
+{
+    Ok(Batch {
+        text: batch.text.copy()?,
+        params: batch.params.copy()?,
+        forced: Seq::new(alloc),
+    })
+}
+
+/// Describes a batch, whatever it forces, which leaves the server as it was.
 pub fn describe(
     alloc: Global,
     server: &mut Server,
@@ -46,7 +58,7 @@ pub fn describe(
     ensures asked { IfOk result (IsAsked server.old number batch.now) }
     ensures same { server.new ≡ server.old }
 {
-    let Turn { answer, after } = begin(alloc, Session::Idle, number, batch.copy()?);
+    let Turn { answer, after } = begin(alloc, Session::Idle, number, unforced(alloc, batch)?);
     match answer {
         Ok(Ok(request)) => heard(alloc, server, request, after),
         Ok(Err(fault)) => {
@@ -113,6 +125,7 @@ fn answered(turn: Turn<Result<DescribeAnswer, Halt>>) -> Result<Asked, AllocErro
             drop(after);
             Ok(Asked::Refused(fault))
         }
+        Ok(DescribeAnswer::Failed(_)) => unreachable!(),
         Err(Halt::OutOfMemory) => {
             drop(after);
             Err(AllocError)

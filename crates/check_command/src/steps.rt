@@ -23,7 +23,7 @@ use ae_edge::sinks::Sink;
 use ae_edge::streams::{PutAll, put_all};
 use conversation::outcomes::Outcome;
 use outcome_text::texts::is_refusal;
-use script_lang::steps::Step;
+use script_lang::steps::{Act, Step};
 use server_core::server::Server;
 use std::alloc::{AllocError, Global};
 
@@ -160,9 +160,12 @@ fn check_step<W: Sink>(
     ensures counts { CountsPut result (W.faults out.old) (W.faults out.new) }
 {
     match step {
-        Step::Whole { session, batch } => check_batch(alloc, server, *session, batch, out),
-        Step::Half { session, batch } => check_batch(alloc, server, *session, batch, out),
-        Step::Execute { .. } => Ok(false),
+        Step::Turn { session, act } => match act {
+            Act::Whole(batch) => check_batch(alloc, server, *session, batch, out),
+            Act::Half(batch) => check_batch(alloc, server, *session, batch, out),
+            Act::Execute => Ok(false),
+        },
+        Step::Trust(_) => Ok(false),
     }
 }
 

@@ -1,5 +1,6 @@
 -- One session of the driver: what it answers to each call, and what it holds after it.
-use Rattle.std.specs.Prelude.{ℕ, ◌+◌, ◌-◌, List, [], ◌∷◌, map, slice_index_or, slice_set, replicate, Option, Some, None, Result, Ok, Err, ◌==◌, if◌then◌else◌}
+use Rattle.std.specs.Prelude.{ℕ, ◌+◌, ◌-◌, List, [], ◌∷◌, map, slice_index_or, slice_set, replicate, Option, Some, None, Result, Ok, Err, Bool, false, ◌&&◌, not, ◌==◌, if◌then◌else◌}
+use Rattle.std.specs.List.{list_any}
 use Rattle.std.specs.Str.{bytes_eq}
 use Rattle.ae_base.specs.declared.batches.Batch.{Batch}
 use Rattle.ae_base.specs.declared.batches.Param.{Param}
@@ -22,7 +23,7 @@ use Rattle.conversation.specs.declared.outcomes.DescribedParam.{DescribedParam}
 use Rattle.conversation.specs.declared.outcomes.NamedEnc.{NamedEnc}
 use Rattle.conversation.specs.declared.outcomes.NamedEnc.TheVariants as named
 use Rattle.conversation.specs.declared.answers.DescribeAnswer.{DescribeAnswer}
-use Rattle.conversation.specs.declared.answers.DescribeAnswer.TheVariants.{Ready, Refused}
+use Rattle.conversation.specs.declared.answers.DescribeAnswer.TheVariants.{Ready, Refused, Failed}
 use Rattle.conversation.specs.declared.answers.ReplyAnswer.{ReplyAnswer}
 use Rattle.conversation.specs.declared.answers.ReplyAnswer.TheVariants as answer
 use Rattle.conversation.specs.declared.sessions.Turn.{Turn}
@@ -32,7 +33,7 @@ use Rattle.conversation.specs.declared.sessions.Session.TheVariants.{Idle, Begun
 use Rattle.conversation.specs.Batches.{fit_batch}
 use Rattle.conversation.specs.Keys.{meta_of}
 use Rattle.conversation.specs.Pending.{Use, uses_in}
-use Rattle.conversation.specs.Cells.{is_row_of, read_atoms}
+use Rattle.conversation.specs.Cells.{is_encrypted, is_row_of, read_atoms}
 
 -- ---- the sessions of a client, numbered from 1 to 64
 
@@ -85,11 +86,31 @@ named_enc keys (enc.Rnd key) = named.Rnd (meta_of keys key).name
 abbrev pub described_params : List KeyMeta → List Use → List DescribedParam
 described_params keys uses = map (λ u. record { name = u.param.declaration.name; enc = named_enc keys u.enc }) uses
 
-abbrev pub described_as : Batch → Description → Option (List (Option Enc)) → Option (Turn DescribeAnswer)
-described_as batch description (Some encs) = Some (record {
+-- whether a parameter that is told so is sent as a cell; one of which nothing is told isn't
+abbrev pub is_sealed : Option Enc → Bool
+is_sealed None = false
+is_sealed (Some enc) = is_encrypted enc
+
+abbrev pub is_forced : List (List ℕ) → Param → Bool
+is_forced forced param = list_any (bytes_eq param.declaration.name) forced
+
+-- the first forced parameter, in declaration order, that would not be sent as a cell
+abbrev pub first_open : List (List ℕ) → List Param → List (Option Enc) → Option (List ℕ)
+first_open forced [] encs = None
+first_open forced (param ∷ params) [] = None
+first_open forced (param ∷ params) (enc ∷ encs) =
+    if is_forced forced param && not (is_sealed enc) then Some param.declaration.name else first_open forced params encs
+
+-- a described batch is pending, unless a forced parameter would not be sent as a cell
+abbrev pub readied : Batch → Description → List (Option Enc) → Option (List ℕ) → Turn DescribeAnswer
+readied batch description encs None = record {
   answer = Ready (described_params description.keys (uses_in batch.params encs));
   after = Pending (record { batch = batch; version = description.version; keys = description.keys; encs = encs });
-})
+}
+readied batch description encs (Some name) = record { answer = Failed (fault.NotEncrypted name); after = Idle }
+
+abbrev pub described_as : Batch → Description → Option (List (Option Enc)) → Option (Turn DescribeAnswer)
+described_as batch description (Some encs) = Some (readied batch description encs (first_open batch.forced batch.params encs))
 described_as batch description None = None
 
 -- after Describe a Refused is awaited, or a Described of declared parameters; None stands for a reply that isn't, which leaves the session

@@ -22,7 +22,7 @@ use Rattle.conversation.specs.declared.sessions.ColumnType.{ColumnType}
 use Rattle.conversation.specs.declared.sessions.Session.{Session}
 use Rattle.conversation.specs.declared.sessions.Session.TheVariants as session
 use Rattle.conversation.specs.Cells.{det_atom, rnd_atom}
-use Rattle.conversation.specs.Keys.{meta_of}
+use Rattle.conversation.specs.Keys.{meta_of, trusted_meta}
 use Rattle.conversation.specs.Pending.{Pending, Use, uses_of}
 use Rattle.conversation.specs.Sessions.{begin, described_params, titles_of, types_of}
 use Rattle.conversation.specs.Talk.{Talk, Asks, Hears, Draws, Opens, Prints, Heard, Said, Shown, printing, nothing_shown}
@@ -37,16 +37,20 @@ abbrev pub each_on : {A B E : Type 0} → (A → (B → Talk) → (E → Talk) �
 each_on one [] k fails = k []
 each_on one (x ∷ xs) k fails = one x (λ y. each_on one xs (λ ys. k (y ∷ ys)) fails) fails
 
--- ---- keys of columns
+-- ---- keys
 
-abbrev pub opening_one : List KeyMeta → Enc → (Option Keys → Talk) → (DriverFault → Talk) → Talk
-opening_one metas enc.Plain k fails = k None
-opening_one metas (enc.Det key) k fails = Opens (meta_of metas key) (on_result (λ keys. k (Some keys)) fails)
-opening_one metas (enc.Rnd key) k fails = Opens (meta_of metas key) (on_result (λ keys. k (Some keys)) fails)
+-- a key is opened, by those of its values whose path is trusted
+abbrev pub opening_by : List (List ℕ) → KeyMeta → (Result Keys DriverFault → Talk) → Talk
+opening_by trusted meta rest = on_result (λ told. Opens told rest) (λ f. rest (Err f)) (trusted_meta trusted meta)
+
+abbrev pub opening_one : List (List ℕ) → List KeyMeta → Enc → (Option Keys → Talk) → (DriverFault → Talk) → Talk
+opening_one trusted metas enc.Plain k fails = k None
+opening_one trusted metas (enc.Det key) k fails = opening_by trusted (meta_of metas key) (on_result (λ keys. k (Some keys)) fails)
+opening_one trusted metas (enc.Rnd key) k fails = opening_by trusted (meta_of metas key) (on_result (λ keys. k (Some keys)) fails)
 
 -- the keys of the encrypted columns are opened, from left to right
-abbrev pub opening : List KeyMeta → List ColumnType → (List (Option Keys) → Talk) → (DriverFault → Talk) → Talk
-opening metas columns k fails = each_on (λ column. opening_one metas column.enc) columns k fails
+abbrev pub opening : List (List ℕ) → List KeyMeta → List ColumnType → (List (Option Keys) → Talk) → (DriverFault → Talk) → Talk
+opening trusted metas columns k fails = each_on (λ column. opening_one trusted metas column.enc) columns k fails
 
 -- ---- the atoms of parameters
 
@@ -56,30 +60,30 @@ drawing keys ty value.Null k = k atom.Null
 drawing keys ty (value.Is datum) k = Draws (λ iv. k (rnd_atom keys ty datum iv))
 
 -- the key is opened, also for NULL
-abbrev pub sealing_value : List KeyMeta → Enc → Ty → Value → (AtomOf (List ℕ) → Talk) → (DriverFault → Talk) → Talk
-sealing_value metas enc.Plain ty v k fails = k (plain_atom v)
-sealing_value metas (enc.Det key) ty v k fails = Opens (meta_of metas key) (on_result (λ keys. k (det_atom keys ty v)) fails)
-sealing_value metas (enc.Rnd key) ty v k fails = Opens (meta_of metas key) (on_result (λ keys. drawing keys ty v k) fails)
+abbrev pub sealing_value : List (List ℕ) → List KeyMeta → Enc → Ty → Value → (AtomOf (List ℕ) → Talk) → (DriverFault → Talk) → Talk
+sealing_value trusted metas enc.Plain ty v k fails = k (plain_atom v)
+sealing_value trusted metas (enc.Det key) ty v k fails = opening_by trusted (meta_of metas key) (on_result (λ keys. k (det_atom keys ty v)) fails)
+sealing_value trusted metas (enc.Rnd key) ty v k fails = opening_by trusted (meta_of metas key) (on_result (λ keys. drawing keys ty v k) fails)
 
 abbrev pub sent_param : Use → AtomOf (List ℕ) → SentParam
 sent_param u a = record { name = u.param.declaration.name; ty = u.param.declaration.ty; enc = u.enc; atom = a }
 
-abbrev pub sealing_one : List KeyMeta → Use → (SentParam → Talk) → (DriverFault → Talk) → Talk
-sealing_one metas u k fails = sealing_value metas u.enc u.param.declaration.ty u.param.value (λ a. k (sent_param u a)) fails
+abbrev pub sealing_one : List (List ℕ) → List KeyMeta → Use → (SentParam → Talk) → (DriverFault → Talk) → Talk
+sealing_one trusted metas u k fails = sealing_value trusted metas u.enc u.param.declaration.ty u.param.value (λ a. k (sent_param u a)) fails
 
 -- the parameters are sealed in the order of their declarations
-abbrev pub sealing : List KeyMeta → List Use → (List SentParam → Talk) → (DriverFault → Talk) → Talk
-sealing metas uses k fails = each_on (sealing_one metas) uses k fails
+abbrev pub sealing : List (List ℕ) → List KeyMeta → List Use → (List SentParam → Talk) → (DriverFault → Talk) → Talk
+sealing trusted metas uses k fails = each_on (sealing_one trusted metas) uses k fails
 
 -- what is pending is executed: its parameters are sealed and it is sent; where a key can't be opened the batch is gone
-abbrev pub execute : ℕ → Session → (Result Request DriverFault → Session → Talk) → Talk
-execute number (session.Pending p) k =
-    sealing p.keys (uses_of p) (λ params. k (Ok (Execute number p.version p.batch.text params)) session.Sent) (λ f. k (Err f) session.Idle)
-execute number session.Idle k = k (Err NothingPending) session.Idle
-execute number (session.Begun batch) k = k (Err NothingPending) (session.Begun batch)
-execute number session.Sent k = k (Err NothingPending) session.Sent
-execute number (session.Reading columns keys count) k = k (Err NothingPending) (session.Reading columns keys count)
-execute number (session.Skipping columns count) k = k (Err NothingPending) (session.Skipping columns count)
+abbrev pub execute : List (List ℕ) → ℕ → Session → (Result Request DriverFault → Session → Talk) → Talk
+execute trusted number (session.Pending p) k =
+    sealing trusted p.keys (uses_of p) (λ params. k (Ok (Execute number p.version p.batch.text params)) session.Sent) (λ f. k (Err f) session.Idle)
+execute trusted number session.Idle k = k (Err NothingPending) session.Idle
+execute trusted number (session.Begun batch) k = k (Err NothingPending) (session.Begun batch)
+execute trusted number session.Sent k = k (Err NothingPending) session.Sent
+execute trusted number (session.Reading columns keys count) k = k (Err NothingPending) (session.Reading columns keys count)
+execute trusted number (session.Skipping columns count) k = k (Err NothingPending) (session.Skipping columns count)
 
 -- ---- one request and its replies
 
@@ -125,25 +129,25 @@ rows_on k (Said comes after) = printing comes (rested k after)
 rows_on k (Shown header) = k session.Idle
 
 -- the keys of the columns are opened, and the rows read; or the fault is printed, and the rows are skipped
-abbrev pub reading : Header → (Session → Talk) → Talk
-reading header k =
-    opening header.keys (types_of header)
+abbrev pub reading : List (List ℕ) → Header → (Session → Talk) → Talk
+reading trusted header k =
+    opening trusted header.keys (types_of header)
     (λ keys. Hears (session.Reading (types_of header) keys 0) (record { titles = titles_of header; rows = [] }) (rows_on k))
     (λ f. Prints (Failed f) (rested k (session.Skipping (types_of header) 0)))
 
-abbrev pub answered_on : (Session → Talk) → Heard → Talk
-answered_on k (Said comes after) = printing comes (k after)
-answered_on k (Shown header) = reading header k
+abbrev pub answered_on : List (List ℕ) → (Session → Talk) → Heard → Talk
+answered_on trusted k (Said comes after) = printing comes (k after)
+answered_on trusted k (Shown header) = reading trusted header k
 
 -- what is pending is executed, and its answer is heard
-abbrev pub executing : ℕ → Session → (Session → Talk) → Talk
-executing number before k = execute number before (asked (λ after. Hears after nothing_shown (answered_on k)) k)
+abbrev pub executing : List (List ℕ) → ℕ → Session → (Session → Talk) → Talk
+executing trusted number before k = execute trusted number before (asked (λ after. Hears after nothing_shown (answered_on trusted k)) k)
 
 -- ---- the steps of a script
 
 -- a batch is described and executed
-abbrev pub whole : ℕ → Batch → Session → (Session → Talk) → Talk
-whole number batch before k = describing number batch before (λ p. executing number (session.Pending p) k) k
+abbrev pub whole : List (List ℕ) → ℕ → Batch → Session → (Session → Talk) → Talk
+whole trusted number batch before k = describing number batch before (λ p. executing trusted number (session.Pending p) k) k
 
 -- half a batch is described
 abbrev pub half : ℕ → Batch → Session → (Session → Talk) → Talk

@@ -1,6 +1,6 @@
 //! The driver: its sessions, each by its number.
 
-ghost use Rattle.std.specs.Prelude.{◌≡◌, IfOk, Option, false};
+ghost use Rattle.std.specs.Prelude.{◌≡◌, ◌++◌, ◌∷◌, [], IfOk, OnOk, OnErr, Option, false};
 ghost use Rattle.conversation.specs.declared.sessions.Session.{Session};
 ghost use Rattle.ae_edge.specs.Vaults.{KeyMap};
 ghost use Rattle.key_store.specs.Stores.{IsOf};
@@ -14,6 +14,8 @@ use crate::executing::execute;
 use crate::replies::replied;
 use crate::starting::{begin, described};
 use ae_base::batches::Batch;
+use ae_base::keys::KeyPath;
+use ae_base::lists::Seq;
 use ae_base::sessions::SessionId;
 use ae_edge::entropies::Entropy;
 use ae_edge::vaults::Vault;
@@ -30,6 +32,7 @@ use wire_messages::requests::Request;
 /// The client's end of 64 sessions, used with one vault.
 pub struct Driver {
     sessions: Vec<Session>,
+    trusted: Seq<KeyPath>,
     store: KeyStore,
 }
 
@@ -37,6 +40,7 @@ impl Drop for Driver {
     fn drop(self) {
         let Driver {
             sessions: _,
+            trusted: _,
             store: _,
         } = self;
     }
@@ -48,7 +52,11 @@ impl Model for Driver {
 
     ghost Value = { Client };
 
-    ghost view = { λ d. record { sessions = d.sessions.items; kept = d.store } };
+    ghost view = { λ d. record {
+      sessions = d.sessions.items;
+      trusted = d.trusted;
+      kept = d.store;
+    } };
 
     ghost invariant = { λ d. length d.sessions.items ≡ 64 };
 }
@@ -57,12 +65,24 @@ impl Driver {
     /// A driver whose 64 sessions hold nothing, and which keeps no key.
     pub fn new(alloc: Global) -> Result<Driver, AllocError>
         ensures idle { IfOk result (λ driver. driver.sessions ≡ nobody) }
+        ensures trusted { IfOk result (λ driver. driver.trusted ≡ []) }
         ensures of_vault { IfOk result (λ driver. (keys : Option KeyMap) → IsOf keys driver.kept) }
     {
         Ok(Driver {
             sessions: idle_sessions(alloc)?,
+            trusted: Seq::new(alloc),
             store: KeyStore::new(alloc)?,
         })
+    }
+
+    /// Trusts a path from here on, in all sessions. Without memory the driver is as before.
+    pub fn trust(&mut self, path: KeyPath) -> Result<(), AllocError>
+        ensures ok { OnOk result (self.new.trusted ≡ self.old.trusted ++ path ∷ []) }
+        ensures err { OnErr result (self.new.trusted ≡ self.old.trusted) }
+        ensures sessions { self.new.sessions ≡ self.old.sessions }
+        ensures kept { self.new.kept ≡ self.old.kept }
+    {
+        self.trusted.push(path)
     }
 
     /// What a session holds.
@@ -85,6 +105,7 @@ impl Driver {
         ensures begun { Comes result (held.begin (session_of self.old number) number batch)
             (session_of self.old number) (session_of self.new number) }
         ensures others { IsOnlyAt number self.old.sessions self.new.sessions }
+        ensures trusted { self.new.trusted ≡ self.old.trusted }
         ensures kept { self.new.kept ≡ self.old.kept }
     {
         let slot = &mut self.sessions[number.number() as usize - 1];
@@ -104,6 +125,7 @@ impl Driver {
         ensures described { Describes result (held.described (session_of self.old number) reply.now)
             (session_of self.old number) (session_of self.new number) }
         ensures others { IsOnlyAt number self.old.sessions self.new.sessions }
+        ensures trusted { self.new.trusted ≡ self.old.trusted }
         ensures kept { self.new.kept ≡ self.old.kept }
     {
         let slot = &mut self.sessions[number.number() as usize - 1];
@@ -125,7 +147,7 @@ impl Driver {
         entropy: &mut E,
     ) -> Result<Result<Request<'r>, DriverFault>, Halt>
         requires { IsOf (V.keys vault.old) self.old.kept }
-        ensures executed { Executes result number (session_of self.old number)
+        ensures executed { Executes self.old.trusted result number (session_of self.old number)
             (session_of self.new number)
             (devices (E.to_come entropy.old) (E.faults entropy.old) (E.names entropy.old)
             (V.keys vault.old) (V.faults vault.old) (V.names vault.old))
@@ -133,13 +155,22 @@ impl Driver {
             (V.keys vault.new) (V.faults vault.new) (V.names vault.new)) }
         ensures sent { IsSent result (session_of self.new number) }
         ensures others { IsOnlyAt number self.old.sessions self.new.sessions }
+        ensures trusted { self.new.trusted ≡ self.old.trusted }
         ensures kept { is_pending (session_of self.old number) ≡ false
             → self.new.kept ≡ self.old.kept }
         ensures of_vault { IsOf (V.keys vault.new) self.new.kept }
     {
         let slot = &mut self.sessions[number.number() as usize - 1];
         let session = mem::replace(slot, Session::Idle);
-        let turn = execute(alloc, &mut self.store, vault, entropy, session, number);
+        let turn = execute(
+            alloc,
+            &mut self.store,
+            vault,
+            entropy,
+            self.trusted.as_slice(),
+            session,
+            number,
+        );
         put(slot, turn.after);
         turn.answer
     }
@@ -156,18 +187,26 @@ impl Driver {
     ) -> Result<ReplyAnswer, Halt>
         requires { IsOf (V.keys vault.old) self.old.kept }
         ensures replied { (beside : Devices)
-            → Replies result (held.replied (session_of self.old number) reply.now)
+            → Replies self.old.trusted result (held.replied (session_of self.old number) reply.now)
             (session_of self.old number) (session_of self.new number)
             (with_vault beside (V.keys vault.old) (V.faults vault.old) (V.names vault.old))
             (with_vault beside (V.keys vault.new) (V.faults vault.new) (V.names vault.new)) }
         ensures others { IsOnlyAt number self.old.sessions self.new.sessions }
+        ensures trusted { self.new.trusted ≡ self.old.trusted }
         ensures kept { opens_keys (session_of self.old number) reply.now ≡ false
             → self.new.kept ≡ self.old.kept }
         ensures of_vault { IsOf (V.keys vault.new) self.new.kept }
     {
         let slot = &mut self.sessions[number.number() as usize - 1];
         let session = mem::replace(slot, Session::Idle);
-        let turn = replied(alloc, &mut self.store, vault, session, reply);
+        let turn = replied(
+            alloc,
+            &mut self.store,
+            vault,
+            self.trusted.as_slice(),
+            session,
+            reply,
+        );
         put(slot, turn.after);
         turn.answer
     }

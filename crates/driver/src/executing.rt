@@ -19,7 +19,7 @@ ghost use Rattle.driver.specs.Sealed.{with_atom, sending, sent_names, use_names}
 use crate::asking::statement;
 use crate::sealing::seal_value;
 use ae_base::batches::Param;
-use ae_base::keys::KeyMeta;
+use ae_base::keys::{KeyMeta, KeyPath};
 use ae_base::lists::{Duplicate, Seq};
 use ae_base::names::ParamName;
 use ae_base::params::ParamList;
@@ -61,6 +61,7 @@ fn seal_param<'r, V: Vault, E: Entropy>(
     store: &mut KeyStore,
     vault: &mut V,
     entropy: &mut E,
+    trusted: &[KeyPath],
     metas: &[KeyMeta],
     param: &Param,
     enc: &Enc,
@@ -69,7 +70,8 @@ fn seal_param<'r, V: Vault, E: Entropy>(
     requires of_vault { IsOf (V.keys vault.old) store.old }
     requires fits { value_is_within param.now.value param.now.declaration.ty ≡ true }
     ensures leads { (k : SentParam → Talk) (fails : DriverFault → Talk)
-        → Leads result (sealing_one metas.now (record { param = param.now; enc = enc.now }) k fails)
+        → Leads result (sealing_one trusted.now metas.now (record
+        { param = param.now; enc = enc.now }) k fails)
         (on_result k fails)
         (devices (E.to_come entropy.old) (E.faults entropy.old) (E.names entropy.old)
         (V.keys vault.old) (V.faults vault.old) (V.names vault.old))
@@ -88,6 +90,7 @@ fn seal_param<'r, V: Vault, E: Entropy>(
         store,
         vault,
         entropy,
+        trusted,
         metas,
         *enc,
         &param.declaration.ty,
@@ -103,6 +106,7 @@ fn seal_params<'r, V: Vault, E: Entropy>(
     store: &mut KeyStore,
     vault: &mut V,
     entropy: &mut E,
+    trusted: &[KeyPath],
     metas: &[KeyMeta],
     params: &[Param],
     encs: &[Option<Enc>],
@@ -112,7 +116,8 @@ fn seal_params<'r, V: Vault, E: Entropy>(
     requires of_vault { IsOf (V.keys vault.old) store.old }
     requires fits { first_unfit params.now ≡ None }
     ensures leads { (k : List SentParam → Talk) (fails : DriverFault → Talk)
-        → Leads result (sealing metas.now (uses_in params.now encs.now) k fails) (on_result k fails)
+        → Leads result (sealing trusted.now metas.now (uses_in params.now encs.now) k fails)
+        (on_result k fails)
         (devices (E.to_come entropy.old) (E.faults entropy.old) (E.names entropy.old)
         (V.keys vault.old) (V.faults vault.old) (V.names vault.old))
         (devices (E.to_come entropy.new) (E.faults entropy.new) (E.names entropy.new)
@@ -128,7 +133,9 @@ fn seal_params<'r, V: Vault, E: Entropy>(
             Some(enc) => enc,
             None => continue,
         };
-        let sealed = match seal_param(alloc, store, vault, entropy, metas, &params[i], &enc) {
+        let sealed = match seal_param(
+            alloc, store, vault, entropy, trusted, metas, &params[i], &enc,
+        ) {
             Ok(sealed) => sealed,
             Err(halt) => return Err(halt),
         };
@@ -160,11 +167,13 @@ fn seal<'r, V: Vault, E: Entropy>(
     store: &mut KeyStore,
     vault: &mut V,
     entropy: &mut E,
+    trusted: &[KeyPath],
     pending: &Pending,
 ) -> Result<Result<SentParams<'r>, DriverFault>, Halt>
     requires { IsOf (V.keys vault.old) store.old }
     ensures leads { (k : List SentParam → Talk) (fails : DriverFault → Talk)
-        → Leads result (sealing pending.now.keys (uses_of pending.now) k fails) (on_result k fails)
+        → Leads result (sealing trusted.now pending.now.keys (uses_of pending.now) k fails)
+        (on_result k fails)
         (devices (E.to_come entropy.old) (E.faults entropy.old) (E.names entropy.old)
         (V.keys vault.old) (V.faults vault.old) (V.names vault.old))
         (devices (E.to_come entropy.new) (E.faults entropy.new) (E.names entropy.new)
@@ -176,6 +185,7 @@ fn seal<'r, V: Vault, E: Entropy>(
         store,
         vault,
         entropy,
+        trusted,
         pending.keys(),
         pending.params(),
         pending.encs(),
@@ -221,11 +231,13 @@ fn execute_pending<'r, V: Vault, E: Entropy>(
     store: &mut KeyStore,
     vault: &mut V,
     entropy: &mut E,
+    trusted: &[KeyPath],
     pending: Pending,
     number: SessionId,
 ) -> Turn<Result<Result<Request<'r>, DriverFault>, Halt>>
     requires { IsOf (V.keys vault.old) store.old }
-    ensures executes { Executes result.answer number (Session.Pending pending) result.after
+    ensures executes { Executes trusted.now result.answer number
+        (Session.Pending pending) result.after
         (devices (E.to_come entropy.old) (E.faults entropy.old) (E.names entropy.old)
         (V.keys vault.old) (V.faults vault.old) (V.names vault.old))
         (devices (E.to_come entropy.new) (E.faults entropy.new) (E.names entropy.new)
@@ -233,7 +245,7 @@ fn execute_pending<'r, V: Vault, E: Entropy>(
     ensures sent { IsSent result.answer result.after }
     ensures of_vault { IsOf (V.keys vault.new) store.new }
 {
-    match seal(alloc, store, vault, entropy, &pending) {
+    match seal(alloc, store, vault, entropy, trusted, &pending) {
         Ok(sealed) => {
             let turn = sent(number, pending, sealed);
             Turn {
@@ -264,11 +276,12 @@ pub fn execute<'r, V: Vault, E: Entropy>(
     store: &mut KeyStore,
     vault: &mut V,
     entropy: &mut E,
+    trusted: &[KeyPath],
     session: Session,
     number: SessionId,
 ) -> Turn<Result<Result<Request<'r>, DriverFault>, Halt>>
     requires { IsOf (V.keys vault.old) store.old }
-    ensures executes { Executes result.answer number session result.after
+    ensures executes { Executes trusted.now result.answer number session result.after
         (devices (E.to_come entropy.old) (E.faults entropy.old) (E.names entropy.old)
         (V.keys vault.old) (V.faults vault.old) (V.names vault.old))
         (devices (E.to_come entropy.new) (E.faults entropy.new) (E.names entropy.new)
@@ -279,7 +292,7 @@ pub fn execute<'r, V: Vault, E: Entropy>(
 {
     match session {
         Session::Pending(pending) => {
-            execute_pending(alloc, store, vault, entropy, pending, number)
+            execute_pending(alloc, store, vault, entropy, trusted, pending, number)
         }
         Session::Idle => nothing_pending(Session::Idle),
         Session::Begun(batch) => nothing_pending(Session::Begun(batch)),

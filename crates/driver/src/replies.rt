@@ -13,7 +13,7 @@ use crate::describing::own_keys;
 use crate::opening::open_columns;
 use crate::reading::{RowRead, is_row_of, next_row};
 use ae_base::faults::SqlFault;
-use ae_base::keys::KeyMeta;
+use ae_base::keys::{KeyMeta, KeyPath};
 use ae_base::lists::{Duplicate, Seq};
 use ae_base::names::Title;
 use ae_edge::vaults::Vault;
@@ -76,11 +76,12 @@ fn show<V: Vault>(
     alloc: Global,
     store: &mut KeyStore,
     vault: &mut V,
+    trusted: &[KeyPath],
     header: &Header<'_>,
 ) -> Result<Turn<ReplyAnswer>, Halt>
     requires { IsOf (V.keys vault.old) store.old }
     ensures shows { (beside : Devices)
-        → ShowsTurn result header.now
+        → ShowsTurn trusted.now result header.now
         (with_vault beside (V.keys vault.old) (V.faults vault.old) (V.names vault.old))
         (with_vault beside (V.keys vault.new) (V.faults vault.new) (V.names vault.new)) }
     ensures of_vault { IsOf (V.keys vault.new) store.new }
@@ -93,6 +94,7 @@ fn show<V: Vault>(
         alloc,
         store,
         vault,
+        trusted,
         heading.metas.as_slice(),
         heading.types.as_slice(),
     ) {
@@ -319,16 +321,18 @@ fn shown<V: Vault>(
     alloc: Global,
     store: &mut KeyStore,
     vault: &mut V,
+    trusted: &[KeyPath],
     header: &Header<'_>,
 ) -> Turn<Result<ReplyAnswer, Halt>>
     requires { IsOf (V.keys vault.old) store.old }
     ensures replies { (beside : Devices)
-        → Replies result.answer (held.replied Session.Sent (reply.Columns header.now)) Session.Sent
+        → Replies trusted.now result.answer (held.replied Session.Sent
+        (reply.Columns header.now)) Session.Sent
         result.after (with_vault beside (V.keys vault.old) (V.faults vault.old) (V.names vault.old))
         (with_vault beside (V.keys vault.new) (V.faults vault.new) (V.names vault.new)) }
     ensures of_vault { IsOf (V.keys vault.new) store.new }
 {
-    match show(alloc, store, vault, header) {
+    match show(alloc, store, vault, trusted, header) {
         Ok(turn) => Turn {
             answer: Ok(turn.answer),
             after: turn.after,
@@ -341,18 +345,20 @@ fn sent_replied<V: Vault>(
     alloc: Global,
     store: &mut KeyStore,
     vault: &mut V,
+    trusted: &[KeyPath],
     reply: &Reply<'_>,
 ) -> Turn<Result<ReplyAnswer, Halt>>
     requires { IsOf (V.keys vault.old) store.old }
     ensures replies { (beside : Devices)
-        → Replies result.answer (held.replied Session.Sent reply.now) Session.Sent result.after
+        → Replies trusted.now result.answer
+        (held.replied Session.Sent reply.now) Session.Sent result.after
         (with_vault beside (V.keys vault.old) (V.faults vault.old) (V.names vault.old))
         (with_vault beside (V.keys vault.new) (V.faults vault.new) (V.names vault.new)) }
     ensures of_vault { IsOf (V.keys vault.new) store.new }
     ensures kept { opens_keys Session.Sent reply.now ≡ false → store.new ≡ store.old }
 {
     match reply {
-        Reply::Columns(header) => shown(alloc, store, vault, header),
+        Reply::Columns(header) => shown(alloc, store, vault, trusted, header),
         Reply::Ended(done) => sent_ended(*done),
         Reply::Refused(fault) => sent_refused(fault),
         Reply::Row(_) => halted(Halt::BadReply, Session::Sent),
@@ -366,19 +372,20 @@ pub fn replied<V: Vault>(
     alloc: Global,
     store: &mut KeyStore,
     vault: &mut V,
+    trusted: &[KeyPath],
     session: Session,
     reply: &Reply<'_>,
 ) -> Turn<Result<ReplyAnswer, Halt>>
     requires { IsOf (V.keys vault.old) store.old }
     ensures replies { (beside : Devices)
-        → Replies result.answer (held.replied session reply.now) session result.after
+        → Replies trusted.now result.answer (held.replied session reply.now) session result.after
         (with_vault beside (V.keys vault.old) (V.faults vault.old) (V.names vault.old))
         (with_vault beside (V.keys vault.new) (V.faults vault.new) (V.names vault.new)) }
     ensures of_vault { IsOf (V.keys vault.new) store.new }
     ensures kept { opens_keys session reply.now ≡ false → store.new ≡ store.old }
 {
     match session {
-        Session::Sent => sent_replied(alloc, store, vault, reply),
+        Session::Sent => sent_replied(alloc, store, vault, trusted, reply),
         Session::Reading {
             columns,
             keys,

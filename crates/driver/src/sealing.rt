@@ -7,14 +7,14 @@ ghost use Rattle.key_store.specs.Stores.{IsOf};
 ghost use Rattle.conversation.specs.Cells.{det_atom};
 ghost use Rattle.conversation.specs.declared.faults.DriverFault.{DriverFault};
 ghost use Rattle.conversation.specs.Devices.{Devices, KeyLeads, Leads, devices, with_vault, with_entropy};
-ghost use Rattle.conversation.specs.Talk.{Talk, Opens, Draws};
-ghost use Rattle.conversation.specs.Turns.{on_result, drawing, sealing_value};
+ghost use Rattle.conversation.specs.Talk.{Talk, Draws};
+ghost use Rattle.conversation.specs.Turns.{on_result, opening_by, drawing, sealing_value};
 ghost use Rattle.driver.specs.Listed.{IsListed};
 
 use crate::describing::meta_of;
 use crate::opening::open_key;
 use crate::parts::{det_part, plain_part, rnd_part};
-use ae_base::keys::KeyMeta;
+use ae_base::keys::{KeyMeta, KeyPath};
 use ae_base::types::{Enc, Ty};
 use ae_base::values::Value;
 use ae_edge::entropies::{Draw, Entropy};
@@ -42,6 +42,7 @@ fn seal_always<'r, V: Vault>(
     alloc: Global,
     store: &mut KeyStore,
     vault: &mut V,
+    trusted: &[KeyPath],
     meta: &KeyMeta,
     ty: &Ty,
     value: &Value,
@@ -50,13 +51,14 @@ fn seal_always<'r, V: Vault>(
     requires fits { value_is_within value.now ty.now ≡ true }
     ensures leads { (beside : Devices) (k : AtomOf (List ℕ) → Talk) (fails : DriverFault → Talk)
         → KeyLeads result
-        (Opens meta.now (on_result (λ keys. k (det_atom keys ty.now value.now)) fails))
+        (opening_by trusted.now meta.now (on_result (λ keys. k
+        (det_atom keys ty.now value.now)) fails))
         (on_result k fails)
         (with_vault beside (V.keys vault.old) (V.faults vault.old) (V.names vault.old))
         (with_vault beside (V.keys vault.new) (V.faults vault.new) (V.names vault.new)) }
     ensures of_vault { IsOf (V.keys vault.new) store.new }
 {
-    let opened = match open_key(store, vault, meta) {
+    let opened = match open_key(store, vault, trusted, meta) {
         Ok(opened) => opened,
         Err(halt) => return Err(halt),
     };
@@ -103,6 +105,7 @@ fn seal_randomly<'r, V: Vault, E: Entropy>(
     store: &mut KeyStore,
     vault: &mut V,
     entropy: &mut E,
+    trusted: &[KeyPath],
     meta: &KeyMeta,
     ty: &Ty,
     value: &Value,
@@ -110,7 +113,8 @@ fn seal_randomly<'r, V: Vault, E: Entropy>(
     requires of_vault { IsOf (V.keys vault.old) store.old }
     requires fits { value_is_within value.now ty.now ≡ true }
     ensures leads { (k : AtomOf (List ℕ) → Talk) (fails : DriverFault → Talk)
-        → Leads result (Opens meta.now (on_result (λ keys. drawing keys ty.now value.now k) fails))
+        → Leads result (opening_by trusted.now meta.now (on_result
+        (λ keys. drawing keys ty.now value.now k) fails))
         (on_result k fails)
         (devices (E.to_come entropy.old) (E.faults entropy.old) (E.names entropy.old)
         (V.keys vault.old) (V.faults vault.old) (V.names vault.old))
@@ -118,7 +122,7 @@ fn seal_randomly<'r, V: Vault, E: Entropy>(
         (V.keys vault.new) (V.faults vault.new) (V.names vault.new)) }
     ensures of_vault { IsOf (V.keys vault.new) store.new }
 {
-    let opened = match open_key(store, vault, meta) {
+    let opened = match open_key(store, vault, trusted, meta) {
         Ok(opened) => opened,
         Err(halt) => return Err(halt),
     };
@@ -138,6 +142,7 @@ pub fn seal_value<'r, V: Vault, E: Entropy>(
     store: &mut KeyStore,
     vault: &mut V,
     entropy: &mut E,
+    trusted: &[KeyPath],
     metas: &[KeyMeta],
     enc: Enc,
     ty: &Ty,
@@ -147,7 +152,8 @@ pub fn seal_value<'r, V: Vault, E: Entropy>(
     requires of_vault { IsOf (V.keys vault.old) store.old }
     requires fits { value_is_within value.now ty.now ≡ true }
     ensures leads { (k : AtomOf (List ℕ) → Talk) (fails : DriverFault → Talk)
-        → Leads result (sealing_value metas.now enc ty.now value.now k fails) (on_result k fails)
+        → Leads result (sealing_value trusted.now metas.now enc ty.now value.now k fails)
+        (on_result k fails)
         (devices (E.to_come entropy.old) (E.faults entropy.old) (E.names entropy.old)
         (V.keys vault.old) (V.faults vault.old) (V.names vault.old))
         (devices (E.to_come entropy.new) (E.faults entropy.new) (E.names entropy.new)
@@ -159,9 +165,20 @@ pub fn seal_value<'r, V: Vault, E: Entropy>(
             Ok(part) => Ok(Ok(part)),
             Err(_) => Err(Halt::OutOfMemory),
         },
-        Enc::Det(id) => seal_always(alloc, store, vault, meta_of(metas, id), ty, value),
+        Enc::Det(id) => {
+            seal_always(alloc, store, vault, trusted, meta_of(metas, id), ty, value)
+        },
         Enc::Rnd(id) => {
-            seal_randomly(alloc, store, vault, entropy, meta_of(metas, id), ty, value)
+            seal_randomly(
+                alloc,
+                store,
+                vault,
+                entropy,
+                trusted,
+                meta_of(metas, id),
+                ty,
+                value,
+            )
         }
     }
 }

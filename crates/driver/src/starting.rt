@@ -1,6 +1,6 @@
 //! A session begins a batch, and takes its description.
 
-ghost use Rattle.std.specs.Prelude.{◌≡◌, IfOk, Ok, Err};
+ghost use Rattle.std.specs.Prelude.{◌≡◌, IfOk, Ok, Err, length};
 ghost use Rattle.conversation.specs.Sessions as held;
 ghost use Rattle.conversation.specs.Batches.{fit_batch};
 ghost use Rattle.conversation.specs.declared.sessions.Session.{Session};
@@ -10,10 +10,12 @@ ghost use Rattle.wire_messages.specs.declared.replies.Reply.TheVariants as reply
 
 use crate::asking::describe;
 use crate::describing::{described_params, encs_of, own_keys};
+use crate::trusting::first_open;
 use ae_base::batches::Batch;
 use ae_base::faults::SqlFault;
 use ae_base::keys::KeyMeta;
 use ae_base::lists::{Duplicate, Seq};
+use ae_base::names::ParamName;
 use ae_base::sessions::SessionId;
 use ae_base::types::Enc;
 use conversation::answers::DescribeAnswer;
@@ -139,15 +141,46 @@ fn begun_described(
         (held.described (Session.Begun batch) (reply.Described description.now))
         (Session.Begun batch) result.after }
 {
-    match find(alloc, &batch, description) {
-        Ok(found) => Turn {
+    let found = match find(alloc, &batch, description) {
+        Ok(found) => found,
+        Err(halt) => return waiting(halt, batch),
+    };
+    match open_name(&batch, found.encs.as_slice()) {
+        Ok(None) => Turn {
             answer: Ok(DescribeAnswer::Ready(found.params)),
             after: Session::Pending(Pending::new(batch, found.version, found.keys, found.encs)),
         },
-        Err(halt) => Turn {
-            answer: Err(halt),
-            after: Session::Begun(batch),
-        },
+        Ok(Some(name)) => {
+            drop(batch);
+            Turn {
+                answer: Ok(DescribeAnswer::Failed(DriverFault::NotEncrypted(name))),
+                after: Session::Idle,
+            }
+        }
+        Err(_) => waiting(Halt::OutOfMemory, batch),
+    }
+}
+
+/// The name of the first forced parameter that would not be sent as a cell.
+fn open_name(batch: &FitBatch, encs: &[Option<Enc>]) -> Result<Option<ParamName>, AllocError>
+    requires { length encs.now ≡ length batch.now.params }
+    ensures { IfOk result (λ name. name
+        ≡ held.first_open batch.now.forced batch.now.params encs.now) }
+{
+    let batch = batch.as_batch();
+    match first_open(batch.forced.as_slice(), batch.params.as_slice(), encs) {
+        Some(name) => Ok(Some(name.copy()?)),
+        None => Ok(None),
+    }
+}
+
+/// The description is awaited still.
+fn waiting(halt: Halt, batch: FitBatch) -> Turn<Result<DescribeAnswer, Halt>>
+    ensures { result ≡ record { answer = Err halt; after = Session.Begun batch } }
+{
+    Turn {
+        answer: Err(halt),
+        after: Session::Begun(batch),
     }
 }
 

@@ -22,22 +22,27 @@ use Rattle.engine.specs.declared.answers.ResultColumn.{ResultColumn}
 use Rattle.wire_messages.specs.declared.columns.SentColumn.{SentColumn}
 use Rattle.wire_messages.specs.declared.replies.Done.TheVariants.{Answered}
 use Rattle.wire_messages.specs.declared.replies.Reply.TheVariants.{Row, Ended}
+use Rattle.ae_base.specs.declared.types.Enc.{Enc}
+use Rattle.wire_messages.specs.Messages.{Description}
 use Rattle.statement_analysis.specs.Describing.{Meant, understood, describe, description, keys_of}
 use Rattle.statement_analysis.specs.Params.{declaration_of, suited}
 use Rattle.server_core.specs.Serve.{State, empty_state, catalog_of, described, answered, executed, sent_column, header, serve}
 use Rattle.server_core.specs.States.{is_short}
 use Rattle.conversation.specs.Batches.{why_unfit, unless}
 use Rattle.conversation.specs.Drive.{End, Done, Dry, BadReply, Listened, Caught, listen, passed_by, passed_on, over}
-use Rattle.conversation.specs.Keys.{open_key}
+use Rattle.conversation.specs.Keys.{open_key, trusted_meta}
 use Rattle.conversation.specs.Pending.{Pending, uses_of}
-use Rattle.conversation.specs.Sessions.{with_session, begun, described_params, titles_of}
-use Rattle.conversation.specs.Talk.{Talk, Draws, Hears, Opens, Prints, Heard, nothing_shown, Said}
-use Rattle.conversation.specs.Turns.{answered_on, described_on, describing, executing, asked, rows_on, rested, reading, over_on}
+use Rattle.conversation.specs.Sessions as conversation
+use Rattle.conversation.specs.Sessions.{with_session, begun, first_open, described_params, titles_of}
+use Rattle.conversation.specs.Talk.{Talk, Draws, Hears, Opens, Prints, Heard, nothing_shown, described_outcome, Said}
+use Rattle.conversation.specs.Turns.{on_result, opening_by, answered_on, described_on, describing, executing, asked, rows_on, rested, reading, over_on}
 use Rattle.conversation.specs.declared.faults.DriverFault.{DriverFault}
-use Rattle.conversation.specs.declared.faults.DriverFault.TheVariants.{StillPending, NothingPending}
+use Rattle.conversation.specs.declared.faults.DriverFault.TheVariants.{StillPending, NothingPending, NotEncrypted}
 use Rattle.conversation.specs.declared.outcomes.Listing.{Listing}
 use Rattle.conversation.specs.declared.sessions.Session.{Session}
-use Rattle.script_lang.specs.Limits.{IsWithinLimits, HasParams, HasProperParams, IsProperStep}
+use Rattle.script_lang.specs.Limits.{OfBatch, IsWithinLimits, HasParams, HasProperParams, IsProperStep}
+use Rattle.script_lang.specs.declared.steps.Act.{Act}
+use Rattle.script_lang.specs.declared.steps.Act.TheVariants as acts
 use Rattle.script_lang.specs.declared.steps.Step.{Step}
 use Rattle.ae_base.specs.declared.keys.KeyMeta.{KeyMeta}
 use Rattle.aes_block.specs.Aes.{IsBlock}
@@ -52,7 +57,7 @@ use Rattle.plain_meaning.specs.Alike.{Fits, FitThroughout}
 use Rattle.plain_meaning.specs.Below.{LawsBelow}
 use Rattle.plain_meaning.specs.Laws.{Agrees, EndsWith, ServedIsPlain}
 use Rattle.plain_meaning.specs.Reference.{Came, came, declarations_of, means, nothing_held, held_at, with_held, reference}
-use Rattle.plain_meaning.specs.Steps.{number_of, turn, talk}
+use Rattle.script_talk.specs.Steps.{turn, talk}
 use Rattle.wire_messages.specs.declared.requests.Request.TheVariants as request
 use Rattle.conversation.specs.declared.outcomes.Outcome as outcomes
 use Rattle.conversation.specs.declared.outcomes.Outcome.TheVariants as outcome
@@ -105,29 +110,29 @@ pub record Ready (key_for : ℕ → List ℕ) (now : State) (n : ℕ) (p : Pendi
   pub encs : encs_in (uses_of p) ≡ encs_alone meant
   pub types : tys_in (uses_of p) ≡ (alone meant.bound).params
 
-module _ (laws : LawsBelow) (keys : KeyMap) (key_for : ℕ → List ℕ) (now : State) (n : ℕ) (fits : Fits keys key_for (catalog_of now n)) where
-  pub is_ready : (p : Pending) → Each IsSendableParam p.batch.params → (d : DescribedAs (catalog_of now n) p) → (sent : List SentParam) → AreSealed keys p.keys (uses_of p) sent → Ready key_for now n p d.meant sent
+module _ (laws : LawsBelow) (keys : KeyMap) (trusted : List (List ℕ)) (key_for : ℕ → List ℕ) (now : State) (n : ℕ) (fits : Fits keys key_for (catalog_of now n)) where
+  pub is_ready : (p : Pending) → Each IsSendableParam p.batch.params → (d : DescribedAs (catalog_of now n) p) → (sent : List SentParam) → AreSealed keys trusted p.keys (uses_of p) sent → Ready key_for now n p d.meant sent
   is_ready p sendable d sent sealed =
       let b = d.meant.bound in
       let es = encs_alone d.meant in
       let atoms = atoms_in sent in
       let us = uses_of p in
-      let s = suits laws keys (catalog_of now n) p sendable d sent sealed in
+      let s = suits laws keys trusted (catalog_of now n) p sendable d sent sealed in
       let admitted = laws.admitted (alone b) es s.on.placed s.inferred in
       let values : AreValuesOf is_short (alone b).params es atoms =
-      subst (λ tys. AreValuesOf is_short tys es atoms) s.types (subst (λ es. AreValuesOf is_short (tys_in us) es atoms) s.encs (sent_typed laws.seals keys p.keys us sent s.fit sealed)) in
+      subst (λ tys. AreValuesOf is_short tys es atoms) s.types (subst (λ es. AreValuesOf is_short (tys_in us) es atoms) s.encs (sent_typed laws.seals keys trusted p.keys us sent s.fit sealed)) in
       record {
         served = ap (λ r. executed now n (r >>= λ meant. suited meant.encs sent >>= λ atoms. Ok (meant, atoms))) s.understood
             ∙ ap (λ r. executed now n (r >>= λ atoms. Ok (record { bound = alone b; encs = es }, atoms))) s.suited;
         may = may_ask is_short (world_of now n).world (alone b).statement (execution_alone d.meant sent) (record { bound = s.on; typed = admitted; values = values });
         pairs = subst (λ xs. RowsCorrespond (Standing key_for) (param_classes (alone b).params es) atoms xs) s.values
             (subst (λ tys. RowsCorrespond (Standing key_for) (param_classes tys es) atoms (plain_in us)) s.types
-            (subst (λ es. RowsCorrespond (Standing key_for) (param_classes (tys_in us) es) atoms (plain_in us)) s.encs (sent_stands laws.seals keys p.keys key_for (keys_told laws keys key_for (catalog_of now n) fits p d) us sent s.fit sealed)));
+            (subst (λ es. RowsCorrespond (Standing key_for) (param_classes (tys_in us) es) atoms (plain_in us)) s.encs (sent_stands laws.seals keys trusted p.keys key_for (keys_told laws keys key_for (catalog_of now n) fits p d) us sent s.fit sealed)));
         encs = s.encs;
         types = s.types;
       }
 
-module _ (laws : LawsBelow) (keys : KeyMap) (key_for : ℕ → List ℕ) where
+module _ (laws : LawsBelow) (keys : KeyMap) (trusted : List (List ℕ)) (key_for : ℕ → List ℕ) where
   -- over this state and these replies a conversation has those outcomes, whatever random bytes are there
   abbrev pub IsMeant : State → List Reply → Talk → List outcomes.Outcome → Type 0
   IsMeant state queue t wanted = (taken : ℕ) (left : List ℕ) → AreBytes left → Agrees (over serve keys t taken left state queue) wanted
@@ -177,8 +182,12 @@ module _ (laws : LawsBelow) (keys : KeyMap) (key_for : ℕ → List ℕ) where
             → Agrees (passed_on (λ heard n more. over serve keys (f heard) n left state more) left state x) wanted
         at left x n e h = rw e h
 
-    opens : (wanted : List outcomes.Outcome) (m : KeyMeta) (f g : Result Keys DriverFault → Talk) → ((r : Result Keys DriverFault) → AnswersOf keys m r → IsMeant state queue (f r) wanted) → IsMeant state queue (Opens m f) wanted
-    opens wanted m f g h = h (open_key keys m) refl
+    opens : (wanted : List outcomes.Outcome) (m : KeyMeta) (f g : Result Keys DriverFault → Talk) → ((r : Result Keys DriverFault) → AnswersOf keys trusted m r → IsMeant state queue (f r) wanted) → IsMeant state queue (opening_by trusted m f) wanted
+    opens wanted m f g h = at (trusted_meta trusted m) refl
+      where
+        at : (t : Result KeyMeta DriverFault) → trusted_meta trusted m ≡ t → IsMeant state queue (on_result (λ told. Opens told f) (λ e. f (Err e)) t) wanted
+        at (Ok told) e = h (open_key keys told) (ap (λ t. t >>= open_key keys) e)
+        at (Err fault) e = h (Err fault) (ap (λ t. t >>= open_key keys) e)
 
     draws : (wanted : List outcomes.Outcome) (f g : List ℕ → Talk) → ((iv vi : List ℕ) → IsBlock iv → IsBlock vi → IsMeant state queue (f iv) wanted) → IsMeant state queue (Draws f) wanted
     draws wanted f g h = λ taken left a. at taken left a (nat_lt (length left) 16) refl
@@ -218,31 +227,31 @@ module _ (laws : LawsBelow) (keys : KeyMap) (key_for : ℕ → List ℕ) where
       comes_to comes = says now [] (k session.Idle) comes (rest None beside) onward
 
       rows_agree : (columns : List ResultColumn) (rows others : List (List Atom)) → AreResults is_short columns rows → AllZip (RowsCorrespond (Standing key_for) (map class_of_result columns)) rows others
-          → IsMeant now (map Row rows ++ Ended (Answered (length rows)) ∷ []) (reading (header here columns) k) (plain.answered keys here (Ok (Rows columns others)) ∷ rest None beside)
+          → IsMeant now (map Row rows ++ Ended (Answered (length rows)) ∷ []) (reading trusted (header here columns) k) (plain.answered keys trusted here (Ok (Rows columns others)) ∷ rest None beside)
       rows_agree columns rows others typed pairs =
           let metas = keys_of here (plain.encs_shown columns) in
           let titles = titles_of (header here columns) in
           let queue : List Reply = map Row rows ++ Ended (Answered (length rows)) ∷ [] in
           let listing : Listing = record { titles = titles; rows = map (map plain.value_of) others } in
-          let wanted = plain.answered keys here (Ok (Rows columns others)) in
+          let wanted = plain.answered keys trusted here (Ok (Rows columns others)) in
           let shown : Option DriverFault → outcomes.Outcome = plain.shown (plain.titled columns others) in
           let told = told_here laws keys key_for here fits (plain.encs_shown columns) in
-          reading_goes (AnswersOf keys) (λ t u. IsMeant now queue t (wanted ∷ rest None beside)) (opens now queue (wanted ∷ rest None beside)) here columns k k
+          reading_goes trusted (AnswersOf keys trusted) (λ t u. IsMeant now queue t (wanted ∷ rest None beside)) (opens now queue (wanted ∷ rest None beside)) here columns k k
           (λ os none opened.
           let is : wanted ≡ outcome.Rows listing =
-          ap shown (unopened_is keys metas (plain.encs_shown columns) None none) ∙ ap (λ t. outcome.Rows (record { titles = t; rows = map (map plain.value_of) others })) (sym (titles_sent columns)) in
+          ap shown (unopened_is keys trusted metas (plain.encs_shown columns) None none) ∙ ap (λ t. outcome.Rows (record { titles = t; rows = map (map plain.value_of) others })) (sym (titles_sent columns)) in
           subst (λ (o : outcomes.Outcome). IsMeant now queue (read_by here columns k os) (o ∷ rest None beside)) (sym is)
           (hears now queue (session.Reading (types_shown columns) os 0) (record { titles = titles; rows = [] }) (rows_on k) (Said (Some (outcome.Rows listing)) session.Idle) (outcome.Rows listing ∷ rest None beside)
-          (λ taken. rows_opened keys is_short key_for metas told columns os opened rows others typed pairs titles [] 0 (length rows) taken (whole_count rows)) (comes_to (outcome.Rows listing))))
+          (λ taken. rows_opened keys trusted is_short key_for metas told columns os opened rows others typed pairs titles [] 0 (length rows) taken (whole_count rows)) (comes_to (outcome.Rows listing))))
           (λ f some.
-          let is : wanted ≡ outcome.Failed f = ap shown (unopened_is keys metas (plain.encs_shown columns) (Some f) some) in
+          let is : wanted ≡ outcome.Failed f = ap shown (unopened_is keys trusted metas (plain.encs_shown columns) (Some f) some) in
           subst (λ (o : outcomes.Outcome). IsMeant now queue (skipped_by columns k f) (o ∷ rest None beside)) (sym is)
           (says now queue (rested k (session.Skipping (types_shown columns) 0)) (outcome.Failed f) (rest None beside)
           (hears now queue (session.Skipping (types_shown columns) 0) nothing_shown (over_on k) (Said None session.Idle) (rest None beside)
           (λ taken. rows_skipped is_short key_for columns rows others typed pairs nothing_shown 0 (length rows) taken (whole_count rows)) onward)))
 
       answer_agrees : (x y : Result Answer SqlFault) → BothAnswer (AnswersCorrespond (Standing key_for)) x y → IsAnswerOf is_short x
-          → let s = answered here x now in IsMeant s.after s.replies (Hears session.Sent nothing_shown (answered_on k)) (plain.answered keys here y ∷ rest None beside)
+          → let s = answered here x now in IsMeant s.after s.replies (Hears session.Sent nothing_shown (answered_on trusted k)) (plain.answered keys trusted here y ∷ rest None beside)
       answer_agrees (Ok (Rows columns rows)) (Ok (Rows columns2 rows2)) c typed = λ taken left a. let e = c.0 in rw e (rows_agree columns rows rows2 typed c.1 (suc taken) left a)
       answer_agrees (Ok (Changed count)) (Ok (Changed other)) c typed = λ taken left a. rw c (comes_to (outcome.Changed count) (suc taken) left a)
       answer_agrees (Ok Defined) (Ok Defined) c typed = λ taken. comes_to outcome.Defined (suc taken)
@@ -252,15 +261,15 @@ module _ (laws : LawsBelow) (keys : KeyMap) (key_for : ℕ → List ℕ) where
     -- ---- what is pending is executed
 
     abbrev stepped_at : Pending → Came
-    stepped_at p = plain.stepped keys plainly n p.batch (understood (catalog_of plainly n) p.batch.text (declarations_of p.batch))
+    stepped_at p = plain.stepped keys trusted plainly n p.batch (understood (catalog_of plainly n) p.batch.text (declarations_of p.batch))
 
-    runs_agrees : (p : Pending) → HoldsBatch Always here p → DescribedAs here p → (sent : List SentParam) → AreSealed keys p.keys (uses_of p) sent → RestOf (stepped_at p)
+    runs_agrees : (p : Pending) → HoldsBatch Always here p → DescribedAs here p → (sent : List SentParam) → AreSealed keys trusted p.keys (uses_of p) sent → RestOf (stepped_at p)
         → let s = executed state n (understood here p.batch.text (map declaration_of sent) >>= λ meant. suited meant.encs sent >>= λ atoms. Ok (meant, atoms)) in
-        IsMeant s.after s.replies (Hears session.Sent nothing_shown (answered_on k)) (text rest (stepped_at p))
+        IsMeant s.after s.replies (Hears session.Sent nothing_shown (answered_on trusted k)) (text rest (stepped_at p))
     runs_agrees p h d sent sealed r =
         let meant = d.meant in
         let atoms = plain_atoms_of p.batch in
-        let ready = is_ready laws keys key_for state n fits p (h.sendable tt) d sent sealed in
+        let ready = is_ready laws keys trusted key_for state n fits p (h.sendable tt) d sent sealed in
         let did = done_alone state n meant sent in
         let other = transact plainly n (ask_of (plain_alone meant p)) in
         let whole = transact plainly n (ask_of (execution meant.bound meant.encs atoms)) in
@@ -271,44 +280,44 @@ module _ (laws : LawsBelow) (keys : KeyMap) (key_for : ℕ → List ℕ) where
         let whole_rest : Rest None whole.after = rw u at r in
         let other_rest : Rest None other.after = subst (λ (o : Transacted). Rest None o.after) (sym same) whole_rest in
         let all_agrees = answer_agrees did.after other.after on.stands on.goes other_rest did.answer other.answer on.answers on.typed in
-        let meant_so : plain.answered keys here other.answer ∷ rest None other.after ≡ plain.answered keys (catalog_of plainly n) whole.answer ∷ rest None whole.after =
-        ap (λ (o : Transacted). plain.answered keys here o.answer ∷ rest None o.after) same
-        ∙ ap (λ (c : Catalog). plain.answered keys c whole.answer ∷ rest None whole.after) (sym seen_here) in
-        λ taken left a. rw (served, u) (subst (λ wanted. Agrees (over serve keys (Hears session.Sent nothing_shown (answered_on k)) taken left (answered here did.answer did.after).after (answered here did.answer did.after).replies) wanted) meant_so (all_agrees taken left a))
+        let meant_so : plain.answered keys trusted here other.answer ∷ rest None other.after ≡ plain.answered keys trusted (catalog_of plainly n) whole.answer ∷ rest None whole.after =
+        ap (λ (o : Transacted). plain.answered keys trusted here o.answer ∷ rest None o.after) same
+        ∙ ap (λ (c : Catalog). plain.answered keys trusted c whole.answer ∷ rest None whole.after) (sym seen_here) in
+        λ taken left a. rw (served, u) (subst (λ wanted. Agrees (over serve keys (Hears session.Sent nothing_shown (answered_on trusted k)) taken left (answered here did.answer did.after).after (answered here did.answer did.after).replies) wanted) meant_so (all_agrees taken left a))
 
     abbrev moved : Pending → ℕ → SqlFault
     moved p now = Moved (record { seen = p.version; now = now })
 
-    asked_agrees : (p : Pending) → HoldsBatch Always here p → (sent : List SentParam) → AreSealed keys p.keys (uses_of p) sent → (b : Bool) → (p.version == here.version) ≡ b
+    asked_agrees : (p : Pending) → HoldsBatch Always here p → (sent : List SentParam) → AreSealed keys trusted p.keys (uses_of p) sent → (b : Bool) → (p.version == here.version) ≡ b
         → RestOf (cond b (stepped_at p) (came (outcome.Refused (moved p here.version)) None plainly))
         → let s = executed state n (cond b (understood here p.batch.text (map declaration_of sent)) (Err (moved p here.version)) >>= λ meant. suited meant.encs sent >>= λ atoms. Ok (meant, atoms)) in
-        IsMeant s.after s.replies (Hears session.Sent nothing_shown (answered_on k)) (text rest (cond b (stepped_at p) (came (outcome.Refused (moved p here.version)) None plainly)))
+        IsMeant s.after s.replies (Hears session.Sent nothing_shown (answered_on trusted k)) (text rest (cond b (stepped_at p) (came (outcome.Refused (moved p here.version)) None plainly)))
     asked_agrees p h sent s true e r = runs_agrees p h (h.same (eqb-true p.version here.version e)) sent s r
     asked_agrees p h sent s false e r = λ taken. prints (outcome.Refused (moved p here.version)) None nothing r (suc taken)
 
-    executing_agrees : (p : Pending) → HoldsBatch Always here p → RestOf (plain.execution_of keys plainly n p) → IsMeant state [] (executing n (session.Pending p) k) (text rest (plain.execution_of keys plainly n p))
+    executing_agrees : (p : Pending) → HoldsBatch Always here p → RestOf (plain.execution_of keys trusted plainly n p) → IsMeant state [] (executing trusted n (session.Pending p) k) (text rest (plain.execution_of keys trusted plainly n p))
     executing_agrees p h r =
-        let onward : Session → Talk = λ after. Hears after nothing_shown (answered_on k) in
-        let wanted = text rest (plain.execution_of keys plainly n p) in
+        let onward : Session → Talk = λ after. Hears after nothing_shown (answered_on trusted k) in
+        let wanted = text rest (plain.execution_of keys trusted plainly n p) in
         let sends : List SentParam → Talk = λ params. asked onward k (Ok (request.Execute n p.version p.batch.text params)) session.Sent in
         let fails : DriverFault → Talk = λ f. asked onward k (Err f) session.Idle in
-        sealing_goes (AnswersOf keys) (λ t u. IsMeant state [] t wanted) (opens state [] wanted) p.keys (draws state [] wanted) (uses_of p) (uses_of p) (same_uses (uses_of p)) sends sends fails fails
+        sealing_goes trusted (AnswersOf keys trusted) (λ t u. IsMeant state [] t wanted) (opens state [] wanted) p.keys (draws state [] wanted) (uses_of p) (uses_of p) (same_uses (uses_of p)) sends sends fails fails
         (λ sent other none s z. λ taken left a.
-        let e = unopened_is keys p.keys (encs_in (uses_of p)) None none in
-        let r0 : RestOf (plain.executed_with keys plainly n p None) = rw e at r in
+        let e = unopened_is keys trusted p.keys (encs_in (uses_of p)) None none in
+        let r0 : RestOf (plain.executed_with keys trusted plainly n p None) = rw e at r in
         rw e (versioned sent s r0 taken left a))
         (λ f some. λ taken left a.
-        let e = unopened_is keys p.keys (encs_in (uses_of p)) (Some f) some in
-        let r0 : RestOf (plain.executed_with keys plainly n p (Some f)) = rw e at r in
+        let e = unopened_is keys trusted p.keys (encs_in (uses_of p)) (Some f) some in
+        let r0 : RestOf (plain.executed_with keys trusted plainly n p (Some f)) = rw e at r in
         rw e (prints (outcome.Failed f) None nothing r0 taken left a))
       where
-        versioned : (sent : List SentParam) → AreSealed keys p.keys (uses_of p) sent → RestOf (plain.executed_with keys plainly n p None)
+        versioned : (sent : List SentParam) → AreSealed keys trusted p.keys (uses_of p) sent → RestOf (plain.executed_with keys trusted plainly n p None)
             → let x = executed state n (cond (p.version == here.version) (understood here p.batch.text (map declaration_of sent)) (Err (moved p here.version)) >>= λ meant. suited meant.encs sent >>= λ atoms. Ok (meant, atoms)) in
-            IsMeant x.after x.replies (Hears session.Sent nothing_shown (answered_on k)) (text rest (plain.executed_with keys plainly n p None))
+            IsMeant x.after x.replies (Hears session.Sent nothing_shown (answered_on trusted k)) (text rest (plain.executed_with keys trusted plainly n p None))
         versioned sent s =
             subst (λ (v : ℕ). let c = cond (p.version == v) (stepped_at p) (came (outcome.Refused (moved p v)) None plainly) in
             let x = executed state n (cond (p.version == here.version) (understood here p.batch.text (map declaration_of sent)) (Err (moved p here.version)) >>= λ meant. suited meant.encs sent >>= λ atoms. Ok (meant, atoms)) in
-            RestOf c → IsMeant x.after x.replies (Hears session.Sent nothing_shown (answered_on k)) (text rest c))
+            RestOf c → IsMeant x.after x.replies (Hears session.Sent nothing_shown (answered_on trusted k)) (text rest c))
             (sym (ap (λ (c : Catalog). c.version) seen_here)) (asked_agrees p h sent s (p.version == here.version) refl)
 
     -- ---- a batch is described
@@ -318,65 +327,77 @@ module _ (laws : LawsBelow) (keys : KeyMap) (key_for : ℕ → List ℕ) where
       abbrev awaiting : Talk
       awaiting = Hears (session.Begun batch) nothing_shown (described_on ready k)
 
+      -- it is ready, unless a forced parameter would not be sent as a cell
+      readied_agrees : (d : Description) (encs : List (Option Enc)) → let p : Pending = record { batch = batch; version = d.version; keys = d.keys; encs = encs } in
+          d.version ≡ here.version → HoldsBatch Always here p → (o : Option (List ℕ)) → first_open batch.forced batch.params encs ≡ o → RestOf (plain.readied plainly readied p)
+          → let t = conversation.readied batch d encs o in
+          IsMeant state [] (described_on ready k (Said (described_outcome t.answer) t.after)) (text rest (plain.readied plainly readied p))
+      readied_agrees d encs v h None e r = rw e (ready_agrees (record { batch = batch; version = d.version; keys = d.keys; encs = encs }) h v (rw e at r))
+      readied_agrees d encs v h (Some name) e r = rw e (prints (outcome.Failed (NotEncrypted name)) None nothing (rw e at r))
+
       described_agrees : why_unfit batch ≡ None → (r : Result Meant SqlFault) → understood here batch.text (declarations_of batch) ≡ r
           → let d = r >>= λ meant. Ok (description here (declarations_of batch) meant) in
-          RestOf (plain.described plainly batch readied d) → let s = described state d in
-          IsMeant s.after s.replies awaiting (text rest (plain.described plainly batch readied d))
+          RestOf (plain.described plainly batch (plain.readied plainly readied) d) → let s = described state d in
+          IsMeant s.after s.replies awaiting (text rest (plain.described plainly batch (plain.readied plainly readied) d))
       described_agrees fit (Ok meant) e r = λ taken left a.
           let h = is_held laws Always here batch params (λ _. proper) fit meant e in
           let found = h.0 in
           let p : Pending = record { batch = batch; version = here.version; keys = (description here (declarations_of batch) meant).keys; encs = told_among (is_used meant.bound) 0 meant.encs } in
-          let r0 : RestOf (readied p) = rw found at r in
-          rw found (ready_agrees p h.1 refl r0 (suc taken) left a)
+          let r0 : RestOf (plain.readied plainly readied p) = rw found at r in
+          rw found (readied_agrees (description here (declarations_of batch) meant) p.encs refl h.1 (first_open batch.forced batch.params p.encs) refl r0 (suc taken) left a)
       described_agrees fit (Err f) e r = λ taken. prints (outcome.Refused f) None nothing r (suc taken)
 
       abbrev begins_so : Option DriverFault → Talk
       begins_so o = let t = begun n (unless o batch) in asked (λ after. Hears after nothing_shown (described_on ready k)) k t.answer t.after
 
-      begun_agrees : (o : Option DriverFault) → why_unfit batch ≡ o → RestOf (plain.begun plainly n batch readied o) → IsMeant state [] (begins_so o) (text rest (plain.begun plainly n batch readied o))
+      begun_agrees : (o : Option DriverFault) → why_unfit batch ≡ o → RestOf (plain.begun plainly n batch (plain.readied plainly readied) o) → IsMeant state [] (begins_so o) (text rest (plain.begun plainly n batch (plain.readied plainly readied) o))
       begun_agrees (Some f) e r = prints (outcome.Failed f) None nothing r
       begun_agrees None e r =
-          subst (λ (c : Catalog). let came = plain.described plainly batch readied (describe c batch.text (declarations_of batch)) in RestOf came → IsMeant state [] (begins_so None) (text rest came)) (sym seen_here)
+          subst (λ (c : Catalog). let came = plain.described plainly batch (plain.readied plainly readied) (describe c batch.text (declarations_of batch)) in RestOf came → IsMeant state [] (begins_so None) (text rest came)) (sym seen_here)
           (described_agrees e (understood here batch.text (declarations_of batch)) refl) r
 
-      begins_agrees : (before : Option Pending) → Held before → RestOf (plain.begins plainly n batch readied before) → IsMeant state [] (describing n batch (resting before) ready k) (text rest (plain.begins plainly n batch readied before))
+      begins_agrees : (before : Option Pending) → Held before → RestOf (plain.begins plainly n batch (plain.readied plainly readied) before) → IsMeant state [] (describing n batch (resting before) ready k) (text rest (plain.begins plainly n batch (plain.readied plainly readied) before))
       begins_agrees None h = begun_agrees (why_unfit batch) refl
       begins_agrees (Some p) h = prints (outcome.Failed StillPending) (Some p) h
 
   -- ---- a turn
 
-  turn_agrees : (step : Step) (state plainly : State) (fits : Fits keys key_for (catalog_of state (number_of step))) (st : StandsFor keys key_for state plainly) (k : Session → Talk) (rest : Option Pending → State → List outcomes.Outcome)
-      (Rest : Option Pending → State → Type 0) (go : Onward state (number_of step) k rest Rest)
-      → IsWithinLimits step → IsProperStep step → (before : Option Pending) → HoldsIn Always state.shared (transaction_at state (number_of step)) before
-      → let c = means keys step before plainly in Rest c.held c.state → IsMeant state [] (turn step (resting before) k) (text rest c)
-  turn_agrees (steps_of.Whole number batch) state plainly fits st k rest Rest go within proper before h =
-      begins_agrees state plainly number fits st k rest Rest go batch within.1 proper (λ p. executing number (session.Pending p) k) (plain.execution_of keys plainly number)
+  turn_agrees : (number : ℕ) (act : Act) (state plainly : State) (fits : Fits keys key_for (catalog_of state number)) (st : StandsFor keys key_for state plainly) (k : Session → Talk) (rest : Option Pending → State → List outcomes.Outcome)
+      (Rest : Option Pending → State → Type 0) (go : Onward state number k rest Rest)
+      → OfBatch HasParams act → OfBatch HasProperParams act → (before : Option Pending) → HoldsIn Always state.shared (transaction_at state number) before
+      → let c = means keys trusted number act before plainly in Rest c.held c.state → IsMeant state [] (turn trusted number act (resting before) k) (text rest c)
+  turn_agrees number (acts.Whole batch) state plainly fits st k rest Rest go within proper before h =
+      begins_agrees state plainly number fits st k rest Rest go batch within proper (λ p. executing trusted number (session.Pending p) k) (plain.execution_of keys trusted plainly number)
       (λ p held v. executing_agrees state plainly number fits st k rest Rest go p held) before h
-  turn_agrees (steps_of.Half number batch) state plainly fits st k rest Rest go within proper before h =
-      begins_agrees state plainly number fits st k rest Rest go batch within.1 proper (λ p. Prints (outcome.Described (described_params p.keys (uses_of p))) (k (session.Pending p))) (plain.waits plainly)
+  turn_agrees number (acts.Half batch) state plainly fits st k rest Rest go within proper before h =
+      begins_agrees state plainly number fits st k rest Rest go batch within proper (λ p. Prints (outcome.Described (described_params p.keys (uses_of p))) (k (session.Pending p))) (plain.waits plainly)
       (λ p held v. prints state plainly number fits st k rest Rest go (outcome.Described (described_params p.keys (uses_of p))) (Some p) held) before h
-  turn_agrees (steps_of.Execute number) state plainly fits st k rest Rest go within proper (Some p) h = executing_agrees state plainly number fits st k rest Rest go p h
-  turn_agrees (steps_of.Execute number) state plainly fits st k rest Rest go within proper None h = prints state plainly number fits st k rest Rest go (outcome.Failed NothingPending) None h
+  turn_agrees number acts.Execute state plainly fits st k rest Rest go within proper (Some p) h = executing_agrees state plainly number fits st k rest Rest go p h
+  turn_agrees number acts.Execute state plainly fits st k rest Rest go within proper None h = prints state plainly number fits st k rest Rest go (outcome.Failed NothingPending) None h
 
-  -- ---- the steps
+-- ---- the steps
 
-  talk_agrees : (steps : List Step) → All IsWithinLimits steps → All IsProperStep steps → (holds : List (Option Pending)) (state plainly : State)
-      → StandsFor keys key_for state plainly → AllHold Always state holds → FitThroughout keys key_for steps holds plainly → IsMeant state [] (talk steps (all_resting holds)) (reference keys steps holds plainly)
-  talk_agrees [] within proper holds state plainly st h f = λ taken left a. refl
-  talk_agrees (step ∷ steps) within proper holds state plainly st h f =
-      let number = number_of step in
-      let onward : Session → Talk = λ after. talk steps (with_session (all_resting holds) number after) in
-      let rest : Option Pending → State → List outcomes.Outcome = λ after now. reference keys steps (with_held holds number after) now in
+module _ (laws : LawsBelow) (keys : KeyMap) (key_for : ℕ → List ℕ) where
+  talk_agrees : (steps : List Step) → All IsWithinLimits steps → All IsProperStep steps → (trusted : List (List ℕ)) (holds : List (Option Pending)) (state plainly : State)
+      → StandsFor keys key_for state plainly → AllHold Always state holds → FitThroughout keys key_for steps trusted holds plainly
+      → IsMeant laws keys trusted key_for state [] (talk steps trusted (all_resting holds)) (reference keys steps trusted holds plainly)
+  talk_agrees [] within proper trusted holds state plainly st h f = λ taken left a. refl
+  talk_agrees (steps_of.Trust path ∷ steps) within proper trusted holds state plainly st h f =
+      talk_agrees steps (All-tail IsWithinLimits (steps_of.Trust path) steps within) (All-tail IsProperStep (steps_of.Trust path) steps proper) (trusted ++ path ∷ []) holds state plainly st h f
+  talk_agrees (steps_of.Turn number act ∷ steps) within proper trusted holds state plainly st h f =
+      let step = steps_of.Turn number act in
+      let onward : Session → Talk = λ after. talk steps trusted (with_session (all_resting holds) number after) in
+      let rest : Option Pending → State → List outcomes.Outcome = λ after now. reference keys steps trusted (with_held holds number after) now in
       let fits = seen_fits keys key_for state plainly number (subst (Fits keys key_for) st.stores.shared.worlds.catalog f.0) st in
-      subst (λ before. IsMeant state [] (turn step before onward) (text rest (means keys step (held_at holds number) plainly))) (sym (at_resting holds (number - 1)))
-      (turn_agrees step state plainly fits st onward rest (λ after now. FitThroughout keys key_for steps (with_held holds number after) now)
-      (λ after now beside stands goes further. subst (λ sessions. IsMeant now [] (talk steps sessions) (rest after beside)) (sym (set_resting holds (number - 1) after))
-      (talk_agrees steps (All-tail IsWithinLimits step steps within) (All-tail IsProperStep step steps proper) (with_held holds number after) now beside stands
+      subst (λ before. IsMeant laws keys trusted key_for state [] (turn trusted number act before onward) (text rest (means keys trusted number act (held_at holds number) plainly))) (sym (at_resting holds (number - 1)))
+      (turn_agrees laws keys trusted key_for number act state plainly fits st onward rest (λ after now. FitThroughout keys key_for steps trusted (with_held holds number after) now)
+      (λ after now beside stands goes further. subst (λ sessions. IsMeant laws keys trusted key_for now [] (talk steps trusted sessions) (rest after beside)) (sym (set_resting holds (number - 1) after))
+      (talk_agrees steps (All-tail IsWithinLimits step steps within) (All-tail IsProperStep step steps proper) trusted (with_held holds number after) now beside stands
       (all_go Always state now number holds after goes h) further))
-      (All-head IsWithinLimits step steps within) (All-head IsProperStep step steps proper) (held_at holds number) (hold_place Always state number holds h) f.1)
+      (All-head IsWithinLimits step steps within).1 (All-head IsProperStep step steps proper) (held_at holds number) (hold_place Always state number holds h) f.1)
 
 -- ---- from the beginning
 
 pub served_is_plain : LawsBelow → ServedIsPlain
 served_is_plain laws keys steps within proper alike entropy bytes =
-    talk_agrees laws keys alike.0 steps within proper nothing_held empty_state empty_state (empty_stands keys alike.0 laws.catalogs) (all_held Always) alike.1 0 entropy bytes
+    talk_agrees laws keys alike.0 steps within proper [] nothing_held empty_state empty_state (empty_stands keys alike.0 laws.catalogs) (all_held Always) alike.1 0 entropy bytes

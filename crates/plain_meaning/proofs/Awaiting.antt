@@ -44,17 +44,23 @@ use Rattle.conversation.specs.Batches.{why_unfit, unless}
 use Rattle.conversation.specs.Cells.{read_atoms}
 use Rattle.conversation.specs.Drive.{over}
 use Rattle.conversation.specs.Pending.{Pending, uses_of}
-use Rattle.conversation.specs.Sessions.{nobody, begun, described_params, row_read, titles_of, with_session}
-use Rattle.conversation.specs.Talk.{Talk, Draws, Hears, Opens, Prints, Heard, Said, heard_answer, nothing_shown, with_row}
-use Rattle.conversation.specs.Turns.{asked, described_on, describing, executing, answered_on, rows_on, reading, over_on}
+use Rattle.conversation.specs.Keys.{open_key, trusted_meta}
+use Rattle.ae_base.specs.declared.types.Enc.{Enc}
+use Rattle.wire_messages.specs.Messages.{Description}
+use Rattle.conversation.specs.Sessions as conversation
+use Rattle.conversation.specs.Sessions.{nobody, begun, first_open, described_params, row_read, titles_of, with_session}
+use Rattle.conversation.specs.Talk.{Talk, Draws, Hears, Opens, Prints, Heard, Said, described_outcome, heard_answer, nothing_shown, with_row}
+use Rattle.conversation.specs.Turns.{on_result, opening_by, asked, described_on, describing, executing, answered_on, rows_on, reading, over_on}
 use Rattle.conversation.specs.declared.faults.DriverFault.{DriverFault}
-use Rattle.conversation.specs.declared.faults.DriverFault.TheVariants.{StillPending, NothingPending}
+use Rattle.conversation.specs.declared.faults.DriverFault.TheVariants.{StillPending, NothingPending, NotEncrypted}
 use Rattle.conversation.specs.declared.outcomes.Listing.{Listing}
 use Rattle.conversation.specs.declared.outcomes.Outcome as outcomes
 use Rattle.conversation.specs.declared.outcomes.Outcome.TheVariants as outcome
 use Rattle.conversation.specs.declared.sessions.Session.{Session}
 use Rattle.conversation.specs.declared.sessions.Session.TheVariants as session
-use Rattle.script_lang.specs.Limits.{HasParams, HasProperParams, IsProperStep, IsWithinLimits}
+use Rattle.script_lang.specs.Limits.{OfBatch, HasParams, HasProperParams, IsProperStep, IsWithinLimits}
+use Rattle.script_lang.specs.declared.steps.Act.{Act}
+use Rattle.script_lang.specs.declared.steps.Act.TheVariants as acts
 use Rattle.script_lang.specs.declared.steps.Step.{Step}
 use Rattle.script_lang.specs.declared.steps.Step.TheVariants as steps_of
 use Rattle.wire_messages.specs.declared.requests.Request.TheVariants as request
@@ -62,7 +68,7 @@ use Rattle.plain_meaning.specs.Awaits.{IsHeardBy, IsHeard}
 use Rattle.plain_meaning.specs.Below.{LawsBelow}
 use Rattle.plain_meaning.specs.Laws.{RepliesAreAwaited}
 use Rattle.plain_meaning.specs.PlainOutcomes.{IsPlainFault, IsPlainRefusal}
-use Rattle.plain_meaning.specs.Steps.{number_of, turn, talk}
+use Rattle.script_talk.specs.Steps.{turn, talk}
 use Rattle.plain_meaning.specs.Reference.{declarations_of, nothing_held, held_at, with_held}
 use Rattle.plain_meaning.proofs.Agreement.{whole_count}
 use Rattle.plain_meaning.proofs.Between.{Always, HoldsBatch, HoldsIn, AllHold, Goes, stays_so, goes_by, all_go, all_held, hold_place, resting, all_resting, at_resting, set_resting}
@@ -127,7 +133,7 @@ module _ (columns : List ResultColumn) (total : ℕ) where
 -- where the scripts are proper the keys are a vault's, and no refusal is of a parameter as it is sent
 module _ (laws : LawsBelow) (keys : KeyMap) (Proper : Type 0) where
   abbrev IsAnswer : KeyMeta → Result Keys DriverFault → Type 0
-  IsAnswer m r = Proper → AnswersOf keys m r
+  IsAnswer m r = Proper → open_key keys m ≡ r
 
   abbrev Fine : outcomes.Outcome → Type 0
   Fine comes = Proper → IsPlainRefusal comes
@@ -135,9 +141,17 @@ module _ (laws : LawsBelow) (keys : KeyMap) (Proper : Type 0) where
   abbrev Goes_on : Talk → State → List Reply → Type 0
   Goes_on t state queue = Says IsAnswer Fine t state queue
 
+  -- by the values that are trusted
+  abbrev IsTrustedAnswer : List (List ℕ) → KeyMeta → Result Keys DriverFault → Type 0
+  IsTrustedAnswer trusted m r = Proper → AnswersOf keys trusted m r
+
   module _ (now : State) (queue : List Reply) where
-    opens : (m : KeyMeta) (f g : Result Keys DriverFault → Talk) → ((r : Result Keys DriverFault) → IsAnswer m r → Goes_on (f r) now queue) → Goes_on (Opens m f) now queue
-    opens m f g h = h
+    opens : (trusted : List (List ℕ)) (m : KeyMeta) (f g : Result Keys DriverFault → Talk) → ((r : Result Keys DriverFault) → IsTrustedAnswer trusted m r → Goes_on (f r) now queue) → Goes_on (opening_by trusted m f) now queue
+    opens trusted m f g h = at (trusted_meta trusted m) refl
+      where
+        at : (t : Result KeyMeta DriverFault) → trusted_meta trusted m ≡ t → Goes_on (on_result (λ told. Opens told f) (λ e. f (Err e)) t) now queue
+        at (Ok told) e = λ r answer. h r (λ is. ap (λ t. t >>= open_key keys) e ∙ answer is)
+        at (Err fault) e = h (Err fault) (λ is. ap (λ t. t >>= open_key keys) e)
 
     draws : (f g : List ℕ → Talk) → ((iv vi : List ℕ) → IsBlock iv → IsBlock vi → Goes_on (f iv) now queue) → Goes_on (Draws f) now queue
     draws f g h = λ iv n b. h iv iv (n, b) (n, b)
@@ -146,7 +160,7 @@ module _ (laws : LawsBelow) (keys : KeyMap) (Proper : Type 0) where
   abbrev Onward : State → ℕ → (Session → Talk) → Type 0
   Onward state n k = (after : Option Pending) (now : State) → IsOwnState now → Goes Proper state n now after → Goes_on (k (resting after)) now []
 
-  module _ (state : State) (n : ℕ) (own : IsOwnState state) (k : Session → Talk) (go : Onward state n k) where
+  module _ (trusted : List (List ℕ)) (state : State) (n : ℕ) (own : IsOwnState state) (k : Session → Talk) (go : Onward state n k) where
     abbrev here : Catalog
     here = catalog_of state n
 
@@ -158,15 +172,15 @@ module _ (laws : LawsBelow) (keys : KeyMap) (Proper : Type 0) where
 
     module _ (now : State) (onward : Goes_on (k session.Idle) now []) where
       rows_await : (columns : List ResultColumn) (rows : List (List Atom)) → AreResults any_cell columns rows → AllZip (RowsCorrespond (Related own_cell) (map class_of_result columns)) rows rows
-          → Goes_on (reading (header here columns) k) now (map Row rows ++ Ended (Answered (length rows)) ∷ [])
+          → Goes_on (reading trusted (header here columns) k) now (map Row rows ++ Ended (Answered (length rows)) ∷ [])
       rows_await columns rows t c =
           let queue : List Reply = map Row rows ++ Ended (Answered (length rows)) ∷ [] in
-          reading_goes IsAnswer (λ t u. Goes_on t now queue) (opens now queue) here columns k k
+          reading_goes trusted (IsTrustedAnswer trusted) (λ t u. Goes_on t now queue) (opens now queue trusted) here columns k k
           (λ os none opened. read columns (length rows) IsAnswer Fine (λ comes p is. p) now k onward os rows t c (record { titles = titles_of (header here columns); rows = [] }) 0 (whole_count rows))
           (λ f some. (λ is. tt, skipped columns (length rows) (λ heard left. Goes_on (over_on k heard) now left) rows t c nothing_shown 0 (whole_count rows) onward))
 
       answer_awaits : (x : Result Answer SqlFault) → IfErr x IsPlainFault → IsAnswerOf any_cell x → BothAnswer (AnswersCorrespond (Related own_cell)) x x
-          → let s = answered here x now in Goes_on (Hears session.Sent nothing_shown (answered_on k)) s.after s.replies
+          → let s = answered here x now in Goes_on (Hears session.Sent nothing_shown (answered_on trusted k)) s.after s.replies
       answer_awaits (Ok (Rows columns rows)) b t c = rows_await columns rows t c.1
       answer_awaits (Ok (Changed count)) b t c = (λ is. tt, onward)
       answer_awaits (Ok Defined) b t c = (λ is. tt, onward)
@@ -177,7 +191,7 @@ module _ (laws : LawsBelow) (keys : KeyMap) (Proper : Type 0) where
     step_awaits : (text : List ℕ) (sent : List SentParam) (meant : Meant) (atoms : List Atom) → understood here text (map declaration_of sent) ≡ Ok meant → suited meant.encs sent ≡ Ok atoms
         → let done = transact state n (ask_of (execution meant.bound meant.encs atoms)) in
         let s = answered here done.answer done.after in
-        Goes_on (Hears session.Sent nothing_shown (answered_on k)) s.after s.replies
+        Goes_on (Hears session.Sent nothing_shown (answered_on trusted k)) s.after s.replies
     step_awaits text sent meant atoms u s =
         let b = meant.bound in
         let declarations = map declaration_of sent in
@@ -213,7 +227,7 @@ module _ (laws : LawsBelow) (keys : KeyMap) (Proper : Type 0) where
       suits : suited meant.encs sent ≡ Ok atoms
 
     suits_await : (text : List ℕ) (sent : List SentParam) (meant : Meant) → (Proper → IsSuited text sent) → understood here text (map declaration_of sent) ≡ Ok meant → (r : Result (List Atom) SqlFault) → suited meant.encs sent ≡ r
-        → let s = executed state n (r >>= λ atoms. Ok (meant, atoms)) in Goes_on (Hears session.Sent nothing_shown (answered_on k)) s.after s.replies
+        → let s = executed state n (r >>= λ atoms. Ok (meant, atoms)) in Goes_on (Hears session.Sent nothing_shown (answered_on trusted k)) s.after s.replies
     suits_await text sent meant f u (Ok atoms) s = step_awaits text sent meant atoms u s
     suits_await text sent meant f u (Err e) s = (λ is. never (f is), go None state own (stays_so Proper state n None tt))
       where
@@ -225,39 +239,45 @@ module _ (laws : LawsBelow) (keys : KeyMap) (Proper : Type 0) where
             absurd cc
 
     means_await : (text : List ℕ) (sent : List SentParam) → (Proper → IsSuited text sent) → (r : Result Meant SqlFault) → IfErr r IsPlainFault → understood here text (map declaration_of sent) ≡ r
-        → let s = executed state n (r >>= λ meant. suited meant.encs sent >>= λ atoms. Ok (meant, atoms)) in Goes_on (Hears session.Sent nothing_shown (answered_on k)) s.after s.replies
+        → let s = executed state n (r >>= λ meant. suited meant.encs sent >>= λ atoms. Ok (meant, atoms)) in Goes_on (Hears session.Sent nothing_shown (answered_on trusted k)) s.after s.replies
     means_await text sent f (Ok meant) b u = suits_await text sent meant f u (suited meant.encs sent) refl
     means_await text sent f (Err e) b u = prints (outcome.Refused e) b None tt
 
-    asked_awaits : (p : Pending) → HoldsBatch Proper here p → (sent : List SentParam) → (Proper → AreSealed keys p.keys (uses_of p) sent) → (t : Bool) → (p.version == here.version) ≡ t
+    asked_awaits : (p : Pending) → HoldsBatch Proper here p → (sent : List SentParam) → (Proper → AreSealed keys trusted p.keys (uses_of p) sent) → (t : Bool) → (p.version == here.version) ≡ t
         → let moved : SqlFault = Moved (record { seen = p.version; now = here.version }) in
         let s = executed state n (cond t (understood here p.batch.text (map declaration_of sent)) (Err moved) >>= λ meant. suited meant.encs sent >>= λ atoms. Ok (meant, atoms)) in
-        Goes_on (Hears session.Sent nothing_shown (answered_on k)) s.after s.replies
+        Goes_on (Hears session.Sent nothing_shown (answered_on trusted k)) s.after s.replies
     asked_awaits p h sent sealed true e =
         means_await p.batch.text sent
         (λ is.
         let d = h.same (eqb-true p.version here.version e) in
-        let s = suits laws keys here p (h.sendable is) d sent (sealed is) in
+        let s = suits laws keys trusted here p (h.sendable is) d sent (sealed is) in
         record { meant = record { bound = alone d.meant.bound; encs = encs_alone d.meant }; means = s.understood; atoms = atoms_in sent; suits = s.suited })
         (understood here p.batch.text (map declaration_of sent)) (understood_plain here p.batch.text (map declaration_of sent)) refl
     asked_awaits p h sent sealed false e = prints (outcome.Refused (Moved (record { seen = p.version; now = here.version }))) tt None tt
 
-    pending_awaits : (p : Pending) → HoldsBatch Proper here p → Goes_on (executing n (session.Pending p) k) state []
+    pending_awaits : (p : Pending) → HoldsBatch Proper here p → Goes_on (executing trusted n (session.Pending p) k) state []
     pending_awaits p h =
-        let onward : Session → Talk = λ after. Hears after nothing_shown (answered_on k) in
+        let onward : Session → Talk = λ after. Hears after nothing_shown (answered_on trusted k) in
         let sends : List SentParam → Talk = λ params. asked onward k (Ok (request.Execute n p.version p.batch.text params)) session.Sent in
         let fails : DriverFault → Talk = λ f. asked onward k (Err f) session.Idle in
-        sealing_goes IsAnswer (λ t u. Goes_on t state []) (opens state []) p.keys (draws state []) (uses_of p) (uses_of p) (same_uses (uses_of p)) sends sends fails fails
-        (λ sent other none s z. asked_awaits p h sent (λ is. sealed_as IsAnswer (AnswersOf keys) (λ m r a. a is) p.keys (uses_of p) sent s) (p.version == here.version) refl)
+        sealing_goes trusted (IsTrustedAnswer trusted) (λ t u. Goes_on t state []) (opens state [] trusted) p.keys (draws state []) (uses_of p) (uses_of p) (same_uses (uses_of p)) sends sends fails fails
+        (λ sent other none s z. asked_awaits p h sent (λ is. sealed_as (IsTrustedAnswer trusted) (AnswersOf keys trusted) (λ m r a. a is) p.keys (uses_of p) sent s) (p.version == here.version) refl)
         (λ f some. prints (outcome.Failed f) tt None tt)
 
-    executing_awaits : (before : Option Pending) → HoldsIn Proper state.shared (transaction_at state n) before → Goes_on (executing n (resting before) k) state []
+    executing_awaits : (before : Option Pending) → HoldsIn Proper state.shared (transaction_at state n) before → Goes_on (executing trusted n (resting before) k) state []
     executing_awaits (Some p) h = pending_awaits p h
     executing_awaits None h = prints (outcome.Failed NothingPending) tt None tt
 
     -- ---- a batch is described
 
     module _ (batch : Batch) (params : HasParams batch) (proper : Proper → HasProperParams batch) (ready : Pending → Talk) (ready_awaits : (p : Pending) → HoldsBatch Proper here p → Goes_on (ready p) state []) where
+      readied_awaits : (d : Description) (encs : List (Option Enc)) → HoldsBatch Proper here (record { batch = batch; version = d.version; keys = d.keys; encs = encs }) → (o : Option (List ℕ))
+          → let t = conversation.readied batch d encs o in
+          Goes_on (described_on ready k (Said (described_outcome t.answer) t.after)) state []
+      readied_awaits d encs h None = ready_awaits (record { batch = batch; version = d.version; keys = d.keys; encs = encs }) h
+      readied_awaits d encs h (Some name) = prints (outcome.Failed (NotEncrypted name)) tt None tt
+
       described_awaits : why_unfit batch ≡ None → (r : Result Meant SqlFault) → IfErr r IsPlainFault → understood here batch.text (declarations_of batch) ≡ r
           → let s = described state (r >>= λ meant. Ok (description here (declarations_of batch) meant)) in
           Goes_on (Hears (session.Begun batch) nothing_shown (described_on ready k)) s.after s.replies
@@ -265,7 +285,7 @@ module _ (laws : LawsBelow) (keys : KeyMap) (Proper : Type 0) where
           let h = is_held laws Proper here batch params proper fit meant e in
           let found = h.0 in
           let p : Pending = record { batch = batch; version = here.version; keys = (description here (declarations_of batch) meant).keys; encs = told_among (is_used meant.bound) 0 meant.encs } in
-          rw found (ready_awaits p h.1)
+          rw found (readied_awaits (description here (declarations_of batch) meant) p.encs h.1 (first_open batch.forced batch.params p.encs))
       described_awaits fit (Err f) b e = prints (outcome.Refused f) b None tt
 
       begun_awaits : (o : Option DriverFault) → why_unfit batch ≡ o
@@ -279,26 +299,28 @@ module _ (laws : LawsBelow) (keys : KeyMap) (Proper : Type 0) where
 
   -- ---- a turn
 
-  turn_awaits : (step : Step) (state : State) → IsOwnState state → (k : Session → Talk) → Onward state (number_of step) k → IsWithinLimits step → (Proper → IsProperStep step)
-      → (before : Option Pending) → HoldsIn Proper state.shared (transaction_at state (number_of step)) before → Goes_on (turn step (resting before) k) state []
-  turn_awaits (steps_of.Whole number batch) state own k go within proper before h =
-      describing_awaits state number own k go batch within.1 proper (λ p. executing number (session.Pending p) k) (pending_awaits state number own k go) before h
-  turn_awaits (steps_of.Half number batch) state own k go within proper before h =
-      describing_awaits state number own k go batch within.1 proper (λ p. Prints (outcome.Described (described_params p.keys (uses_of p))) (k (session.Pending p)))
-      (λ p held. prints state number own k go (outcome.Described (described_params p.keys (uses_of p))) tt (Some p) held) before h
-  turn_awaits (steps_of.Execute number) state own k go within proper before h = executing_awaits state number own k go before h
+  turn_awaits : (trusted : List (List ℕ)) (number : ℕ) (act : Act) (state : State) → IsOwnState state → (k : Session → Talk) → Onward state number k → OfBatch HasParams act → (Proper → OfBatch HasProperParams act)
+      → (before : Option Pending) → HoldsIn Proper state.shared (transaction_at state number) before → Goes_on (turn trusted number act (resting before) k) state []
+  turn_awaits trusted number (acts.Whole batch) state own k go within proper before h =
+      describing_awaits trusted state number own k go batch within proper (λ p. executing trusted number (session.Pending p) k) (pending_awaits trusted state number own k go) before h
+  turn_awaits trusted number (acts.Half batch) state own k go within proper before h =
+      describing_awaits trusted state number own k go batch within proper (λ p. Prints (outcome.Described (described_params p.keys (uses_of p))) (k (session.Pending p)))
+      (λ p held. prints trusted state number own k go (outcome.Described (described_params p.keys (uses_of p))) tt (Some p) held) before h
+  turn_awaits trusted number acts.Execute state own k go within proper before h = executing_awaits trusted state number own k go before h
 
-  talk_awaits : (steps : List Step) → All IsWithinLimits steps → (Proper → All IsProperStep steps) → (holds : List (Option Pending)) (state : State) → IsOwnState state → AllHold Proper state holds
-      → Goes_on (talk steps (all_resting holds)) state []
-  talk_awaits [] within proper holds state own h = refl
-  talk_awaits (step ∷ steps) within proper holds state own h =
-      let number = number_of step in
-      let onward : Session → Talk = λ after. talk steps (with_session (all_resting holds) number after) in
-      subst (λ before. Goes_on (turn step before onward) state []) (sym (at_resting holds (number - 1)))
-      (turn_awaits step state own onward
-      (λ after now o goes. subst (λ sessions. Goes_on (talk steps sessions) now []) (sym (set_resting holds (number - 1) after))
-      (talk_awaits steps (All-tail IsWithinLimits step steps within) (λ is. All-tail IsProperStep step steps (proper is)) (with_held holds number after) now o (all_go Proper state now number holds after goes h)))
-      (All-head IsWithinLimits step steps within) (λ is. All-head IsProperStep step steps (proper is)) (held_at holds number) (hold_place Proper state number holds h))
+  talk_awaits : (steps : List Step) → All IsWithinLimits steps → (Proper → All IsProperStep steps) → (trusted : List (List ℕ)) (holds : List (Option Pending)) (state : State) → IsOwnState state → AllHold Proper state holds
+      → Goes_on (talk steps trusted (all_resting holds)) state []
+  talk_awaits [] within proper trusted holds state own h = refl
+  talk_awaits (steps_of.Trust path ∷ steps) within proper trusted holds state own h =
+      talk_awaits steps (All-tail IsWithinLimits (steps_of.Trust path) steps within) (λ is. All-tail IsProperStep (steps_of.Trust path) steps (proper is)) (trusted ++ path ∷ []) holds state own h
+  talk_awaits (steps_of.Turn number act ∷ steps) within proper trusted holds state own h =
+      let step = steps_of.Turn number act in
+      let onward : Session → Talk = λ after. talk steps trusted (with_session (all_resting holds) number after) in
+      subst (λ before. Goes_on (turn trusted number act before onward) state []) (sym (at_resting holds (number - 1)))
+      (turn_awaits trusted number act state own onward
+      (λ after now o goes. subst (λ sessions. Goes_on (talk steps trusted sessions) now []) (sym (set_resting holds (number - 1) after))
+      (talk_awaits steps (All-tail IsWithinLimits step steps within) (λ is. All-tail IsProperStep step steps (proper is)) trusted (with_held holds number after) now o (all_go Proper state now number holds after goes h)))
+      (All-head IsWithinLimits step steps within).1 (λ is. All-head IsProperStep step steps (proper is)) (held_at holds number) (hold_place Proper state number holds h))
 
 -- ---- from the beginning
 
@@ -314,13 +336,13 @@ empty_is_own law = record {
 
 pub replies_are_awaited : LawsBelow → RepliesAreAwaited
 replies_are_awaited laws steps within =
-    awaits_all (IsAnswer laws [] ⊥) (Fine laws [] ⊥) (λ m r is. absurd is) (talk steps (all_resting nothing_held)) empty_state []
-    (talk_awaits laws [] ⊥ steps within (λ is. absurd is) nothing_held empty_state (empty_is_own laws.catalogs) (all_held ⊥))
+    awaits_all (IsAnswer laws [] ⊥) (Fine laws [] ⊥) (λ m r is. absurd is) (talk steps [] (all_resting nothing_held)) empty_state []
+    (talk_awaits laws [] ⊥ steps within (λ is. absurd is) [] nothing_held empty_state (empty_is_own laws.catalogs) (all_held ⊥))
 
 -- whatever the keys open to
 pub refusals_are_plain : LawsBelow → (keys : KeyMap) (steps : List Step) → All IsWithinLimits steps → All IsProperStep steps → (entropy : List ℕ) → AreBytes entropy
-    → All IsPlainRefusal (over serve keys (talk steps nobody) 0 entropy empty_state []).outcomes
+    → All IsPlainRefusal (over serve keys (talk steps [] nobody) 0 entropy empty_state []).outcomes
 refusals_are_plain laws keys steps within proper entropy bytes =
     All-weaker (Fine laws keys Always) IsPlainRefusal (λ comes h. h tt) _
-    (says_all keys (IsAnswer laws keys Always) (Fine laws keys Always) (λ m is. refl) (talk steps (all_resting nothing_held)) empty_state []
-    (talk_awaits laws keys Always steps within (λ is. proper) nothing_held empty_state (empty_is_own laws.catalogs) (all_held Always)) 0 entropy bytes)
+    (says_all keys (IsAnswer laws keys Always) (Fine laws keys Always) (λ m is. refl) (talk steps [] (all_resting nothing_held)) empty_state []
+    (talk_awaits laws keys Always steps within (λ is. proper) [] nothing_held empty_state (empty_is_own laws.catalogs) (all_held Always)) 0 entropy bytes)

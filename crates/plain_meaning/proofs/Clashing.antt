@@ -18,12 +18,11 @@ use Rattle.conversation.specs.Batches.{why_unfit}
 use Rattle.conversation.specs.Pending.{Pending}
 use Rattle.conversation.specs.declared.outcomes.Outcome.{Outcome}
 use Rattle.conversation.specs.declared.outcomes.Outcome.TheVariants as outcome
-use Rattle.script_lang.specs.declared.steps.Step.{Step}
-use Rattle.script_lang.specs.declared.steps.Step.TheVariants.{Whole, Half, Execute}
+use Rattle.script_lang.specs.declared.steps.Act.{Act}
+use Rattle.script_lang.specs.declared.steps.Act.TheVariants.{Whole, Half, Execute}
 use Rattle.plain_meaning.specs.Clashes.{IsClash, IsReached, IsTyped, IsUntypedAt, batch_of}
 use Rattle.plain_meaning.specs.Laws.{ClashesExactly}
-use Rattle.plain_meaning.specs.Reference.{Came, begun, declarations_of, execution_of, means, waits}
-use Rattle.plain_meaning.specs.Steps.{number_of}
+use Rattle.plain_meaning.specs.Reference.{Came, readied, begun, declarations_of, execution_of, means, waits}
 use Rattle.plain_meaning.proofs.Causes.{IsOrdinaryFault, understood_within}
 use Rattle.plain_meaning.proofs.Refusals.{IsWithin, means_within}
 
@@ -38,18 +37,18 @@ ordinary_clashes : (At : ℕ → Type 0) (f : SqlFault) → IsOrdinaryFault f �
 ordinary_clashes At (fault.EncryptionClash at) h = absurd h
 ordinary_clashes At other h = tt
 
--- the statement of a step's batch is bound, and has no typing
-abbrev IsUntypedStep : Step → Option Pending → State → ℕ → Type 0
-IsUntypedStep step held state at = (batch : Batch) × (batch_of step held ≡ Some batch) × IsUntypedAt state (number_of step) batch at
+-- the statement of a turn's batch is bound, and has no typing
+abbrev IsUntypedTurn : ℕ → Act → Option Pending → State → ℕ → Type 0
+IsUntypedTurn number act held state at = (batch : Batch) × (batch_of act held ≡ Some batch) × IsUntypedAt state number batch at
 
 module _ (exact : InferredExactly) (first : RefusedAtFirst) where
-  only_there : (keys : KeyMap) (step : Step) (held : Option Pending) (state : State) (at : ℕ)
-      → (means keys step held state).comes ≡ outcome.Refused (fault.EncryptionClash at) → IsUntypedStep step held state at
-  only_there keys step held state at e =
-      let At = IsUntypedStep step held state in
+  only_there : (keys : KeyMap) (trusted : List (List ℕ)) (number : ℕ) (act : Act) (held : Option Pending) (state : State) (at : ℕ)
+      → (means keys trusted number act held state).comes ≡ outcome.Refused (fault.EncryptionClash at) → IsUntypedTurn number act held state at
+  only_there keys trusted number act held state at e =
+      let At = IsUntypedTurn number act held state in
       subst (IsWithin (ClashesAt At)) e
-      (means_within (ClashesAt At) (ordinary_clashes At) keys step held state (λ batch its.
-      understood_within (ClashesAt At) (ordinary_clashes At) (catalog_of state (number_of step)) batch.text (declarations_of batch) (λ bound at is_bound clash.
+      (means_within (ClashesAt At) (ordinary_clashes At) keys trusted number act held state (λ batch its.
+      understood_within (ClashesAt At) (ordinary_clashes At) (catalog_of state number) batch.text (declarations_of batch) (λ bound at is_bound clash.
       (batch, its, record { bound = bound; is_bound = is_bound; untyped = (exact bound).refused.0 (rw clash refl); place = first bound at clash }))))
 
 -- ---- always there
@@ -74,20 +73,20 @@ begun_clashes : (state : State) (number : ℕ) (batch : Batch) (ready : Pending 
     → IsClash (begun state number batch ready (why_unfit batch)).comes
 begun_clashes state number batch ready fit (at, e) = rw (fit, e) tt
 
-execution_clashes : (keys : KeyMap) (state : State) (p : Pending) (number : ℕ) → IsReached keys state (Execute number) (Some p) → IsRefused state number p.batch
-    → IsClash (execution_of keys state number p).comes
-execution_clashes keys state p number (opened, same) (at, e) =
+execution_clashes : (keys : KeyMap) (trusted : List (List ℕ)) (state : State) (p : Pending) (number : ℕ) → IsReached keys trusted state number Execute (Some p) → IsRefused state number p.batch
+    → IsClash (execution_of keys trusted state number p).comes
+execution_clashes keys trusted state p number (opened, same) (at, e) =
     let current = eq-eqb p.version (catalog_of state number).version same in
     rw (opened, current, e) tt
 
-reached_clashes : (keys : KeyMap) (step : Step) (held : Option Pending) (state : State) → IsReached keys state step held
-    → IfSome (batch_of step held) (IsRefused state (number_of step)) → IsClash (means keys step held state).comes
-reached_clashes keys (Whole number batch) None state fit h = begun_clashes state number batch (execution_of keys state number) fit h
-reached_clashes keys (Whole number batch) (Some p) state fit h = absurd fit
-reached_clashes keys (Half number batch) None state fit h = begun_clashes state number batch (waits state) fit h
-reached_clashes keys (Half number batch) (Some p) state fit h = absurd fit
-reached_clashes keys (Execute number) (Some p) state reached h = execution_clashes keys state p number reached h
-reached_clashes keys (Execute number) None state reached h = absurd reached
+reached_clashes : (keys : KeyMap) (trusted : List (List ℕ)) (number : ℕ) (act : Act) (held : Option Pending) (state : State) → IsReached keys trusted state number act held
+    → IfSome (batch_of act held) (IsRefused state number) → IsClash (means keys trusted number act held state).comes
+reached_clashes keys trusted number (Whole batch) None state fit h = begun_clashes state number batch (readied state (execution_of keys trusted state number)) fit h
+reached_clashes keys trusted number (Whole batch) (Some p) state fit h = absurd fit
+reached_clashes keys trusted number (Half batch) None state fit h = begun_clashes state number batch (readied state (waits state)) fit h
+reached_clashes keys trusted number (Half batch) (Some p) state fit h = absurd fit
+reached_clashes keys trusted number Execute (Some p) state reached h = execution_clashes keys trusted state p number reached h
+reached_clashes keys trusted number Execute None state reached h = absurd reached
 
 -- ---- exactly
 
@@ -98,17 +97,17 @@ clash_place other is = absurd is
 pub clashes_exactly : InferredExactly → RefusedAtFirst → ClashesExactly
 clashes_exactly exact first = record {
   only = only_there exact first;
-  exactly = λ keys step held state batch bound reached its is_bound. (
+  exactly = λ keys trusted number act held state batch bound reached its is_bound. (
     λ is.
-        let clash = clash_place (means keys step held state).comes is in
-        let there = only_there exact first keys step held state clash.0 clash.1 in
+        let clash = clash_place (means keys trusted number act held state).comes is in
+        let there = only_there exact first keys trusted number act held state clash.0 clash.1 in
         let other = there.2.is_bound in
         let same : there.2.bound ≡ bound = let one : Some there.0 ≡ Some batch = sym there.1 ∙ its in cc in
         subst (λ b. ¬ (IsTyped b)) same there.2.untyped,
     λ untyped.
         let refused = refused_typing bound (inferred_encs bound) ((exact bound).refused.1 untyped) in
-        let understood_so = understood_is (catalog_of state (number_of step)) batch.text (declarations_of batch) bound is_bound in
-        reached_clashes keys step held state reached
-        (subst (λ o. IfSome o (IsRefused state (number_of step))) (sym its) (refused.0, understood_so ∙ refused.1)),
+        let understood_so = understood_is (catalog_of state number) batch.text (declarations_of batch) bound is_bound in
+        reached_clashes keys trusted number act held state reached
+        (subst (λ o. IfSome o (IsRefused state number)) (sym its) (refused.0, understood_so ∙ refused.1)),
   );
 }

@@ -1,9 +1,11 @@
 -- What a step of the plaintext meaning may be refused with: the faults of executing, and those of its batch's text.
-use Rattle.std.specs.Prelude.{IfErr, IfSome, ◌==◌, nat_lt, encode_utf8_all}
+use Rattle.std.specs.Prelude.{IfErr, IfSome, ◌==◌, filter, nat_lt, encode_utf8_all}
 use Rattle.std.proofs.Common.{◌≡◌, ◌∷◌, refl, ℕ, List, [], map, length, Bool, true, false, Option, Some, None, Result, Ok, Err, if◌then◌else◌}
 use Rattle.ae_base.specs.Atoms.{plain_atom}
 use Rattle.ae_base.specs.Batches.{first_unfit}
+use Rattle.ae_base.specs.OneOrTwo.{each_of}
 use Rattle.ae_base.specs.Results.{◌>>=◌}
+use Rattle.ae_base.specs.declared.key_values.KeyValue.{KeyValue}
 use Rattle.ae_base.specs.Limits.{most_statement_bytes}
 use Rattle.ae_base.specs.declared.batches.Param.{Param}
 use Rattle.ae_base.specs.declared.batches.Batch.{Batch}
@@ -25,18 +27,18 @@ use Rattle.wire_messages.specs.Messages.{Description}
 use Rattle.statement_analysis.specs.Describing.{Meant, understood, description, keys_of}
 use Rattle.server_core.specs.Serve.{State, catalog_of}
 use Rattle.conversation.specs.Batches.{unfit_by, why_unfit}
-use Rattle.conversation.specs.Keys.{seen, open_key, meta_of}
+use Rattle.conversation.specs.Keys.{seen, open_key, open_trusted, is_trusted, with_values, meta_of}
+use Rattle.conversation.specs.Sessions.{first_open}
 use Rattle.conversation.specs.Pending.{Pending, uses_of}
 use Rattle.conversation.specs.declared.faults.DriverFault.{DriverFault}
 use Rattle.conversation.specs.declared.outcomes.Listing.{Listing}
 use Rattle.conversation.specs.declared.outcomes.Outcome.{Outcome}
 use Rattle.conversation.specs.declared.outcomes.Outcome.TheVariants as outcome
-use Rattle.script_lang.specs.declared.steps.Step.{Step}
-use Rattle.script_lang.specs.declared.steps.Step.TheVariants.{Whole, Half, Execute}
+use Rattle.script_lang.specs.declared.steps.Act.{Act}
+use Rattle.script_lang.specs.declared.steps.Act.TheVariants.{Whole, Half, Execute}
 use Rattle.plain_meaning.specs.Clashes.{batch_of}
 use Rattle.plain_meaning.specs.PlainOutcomes.{IsPlainFailure}
-use Rattle.plain_meaning.specs.Reference.{Came, came, declarations_of, unopened_or, why_unopened, titled, shown, encs_shown, answered, stepped, executed_with, execution_of, pending, described, begun, begins, waits, means}
-use Rattle.plain_meaning.specs.Steps.{number_of}
+use Rattle.plain_meaning.specs.Reference.{Came, came, declarations_of, unopened_or, why_unopened, titled, shown, encs_shown, answered, stepped, executed_with, execution_of, pending, unless_open, readied, described, begun, begins, waits, means}
 use Rattle.plain_meaning.proofs.Causes.{IsOrdinaryFault, Blames, transact_blames}
 
 -- ---- keys
@@ -53,11 +55,19 @@ first_fails : (r : Result Keys DriverFault) (later : Option DriverFault) → IfE
 first_fails (Ok keys) later h k = k
 first_fails (Err f) later h k = h
 
-unopened_fails : (keys : KeyMap) (metas : List KeyMeta) (encs : List Enc) → Fails (why_unopened keys metas encs)
-unopened_fails keys metas [] = tt
-unopened_fails keys metas (enc.Plain ∷ encs) = unopened_fails keys metas encs
-unopened_fails keys metas (enc.Det id ∷ encs) = first_fails (open_key keys (meta_of metas id)) (why_unopened keys metas encs) (seen_fails (store.open_key keys (meta_of metas id))) (unopened_fails keys metas encs)
-unopened_fails keys metas (enc.Rnd id ∷ encs) = first_fails (open_key keys (meta_of metas id)) (why_unopened keys metas encs) (seen_fails (store.open_key keys (meta_of metas id))) (unopened_fails keys metas encs)
+values_fail : (keys : KeyMap) (m : KeyMeta) (values : List KeyValue) → IfErr (with_values m values >>= open_key keys) IsPlainFailure
+values_fail keys m [] = tt
+values_fail keys m (v ∷ []) = seen_fails (store.open_key keys (record { id = m.id; name = m.name; values = record { first = v; second = None } }))
+values_fail keys m (v ∷ w ∷ more) = seen_fails (store.open_key keys (record { id = m.id; name = m.name; values = record { first = v; second = Some w } }))
+
+opened_fails : (keys : KeyMap) (trusted : List (List ℕ)) (m : KeyMeta) → IfErr (open_trusted keys trusted m) IsPlainFailure
+opened_fails keys trusted m = values_fail keys m (filter (λ (value : KeyValue). is_trusted trusted value.path) (each_of m.values))
+
+unopened_fails : (keys : KeyMap) (trusted : List (List ℕ)) (metas : List KeyMeta) (encs : List Enc) → Fails (why_unopened keys trusted metas encs)
+unopened_fails keys trusted metas [] = tt
+unopened_fails keys trusted metas (enc.Plain ∷ encs) = unopened_fails keys trusted metas encs
+unopened_fails keys trusted metas (enc.Det id ∷ encs) = first_fails (open_trusted keys trusted (meta_of metas id)) (why_unopened keys trusted metas encs) (opened_fails keys trusted (meta_of metas id)) (unopened_fails keys trusted metas encs)
+unopened_fails keys trusted metas (enc.Rnd id ∷ encs) = first_fails (open_trusted keys trusted (meta_of metas id)) (why_unopened keys trusted metas encs) (opened_fails keys trusted (meta_of metas id)) (unopened_fails keys trusted metas encs)
 
 -- ---- outcomes
 
@@ -81,15 +91,15 @@ module _ (P : SqlFault → Type 0) (ordinary : (f : SqlFault) → IsOrdinaryFaul
   shown_within listing None h = tt
   shown_within listing (Some f) h = h
 
-  answered_within : (keys : KeyMap) (catalog : Catalog) (r : Result Answer SqlFault) → Blames r → IsWithin P (answered keys catalog r)
-  answered_within keys catalog (Ok (Rows columns rows)) h =
+  answered_within : (keys : KeyMap) (trusted : List (List ℕ)) (catalog : Catalog) (r : Result Answer SqlFault) → Blames r → IsWithin P (answered keys trusted catalog r)
+  answered_within keys trusted catalog (Ok (Rows columns rows)) h =
       let metas = keys_of catalog (encs_shown columns) in
-      shown_within (titled columns rows) (why_unopened keys metas (encs_shown columns)) (unopened_fails keys metas (encs_shown columns))
-  answered_within keys catalog (Ok (Changed count)) h = tt
-  answered_within keys catalog (Ok Defined) h = tt
-  answered_within keys catalog (Err f) h = ordinary f h
+      shown_within (titled columns rows) (why_unopened keys trusted metas (encs_shown columns)) (unopened_fails keys trusted metas (encs_shown columns))
+  answered_within keys trusted catalog (Ok (Changed count)) h = tt
+  answered_within keys trusted catalog (Ok Defined) h = tt
+  answered_within keys trusted catalog (Err f) h = ordinary f h
 
-  module _ (keys : KeyMap) (state : State) (number : ℕ) where
+  module _ (keys : KeyMap) (trusted : List (List ℕ)) (state : State) (number : ℕ) where
     abbrev here : Catalog
     here = catalog_of state number
 
@@ -97,23 +107,30 @@ module _ (P : SqlFault → Type 0) (ordinary : (f : SqlFault) → IsOrdinaryFaul
     abbrev Understood : Batch → Type 0
     Understood batch = IfErr (understood here batch.text (declarations_of batch)) P
 
-    stepped_within : (batch : Batch) (r : Result Meant SqlFault) → IfErr r P → Within (stepped keys state number batch r)
+    stepped_within : (batch : Batch) (r : Result Meant SqlFault) → IfErr r P → Within (stepped keys trusted state number batch r)
     stepped_within batch (Ok meant) h =
         let ask = ask_of (execution meant.bound meant.encs (map (λ (p : Param). plain_atom p.value) batch.params)) in
-        answered_within keys here (transact state number ask).answer (transact_blames state number ask)
+        answered_within keys trusted here (transact state number ask).answer (transact_blames state number ask)
     stepped_within batch (Err f) h = h
 
     versions_within : (p : Pending) → Understood p.batch → (same : Bool) → let moved : SqlFault = Moved (record { seen = p.version; now = here.version }) in
-        Within (if same then stepped keys state number p.batch (understood here p.batch.text (declarations_of p.batch)) else came (outcome.Refused moved) None state)
+        Within (if same then stepped keys trusted state number p.batch (understood here p.batch.text (declarations_of p.batch)) else came (outcome.Refused moved) None state)
     versions_within p h true = stepped_within p.batch (understood here p.batch.text (declarations_of p.batch)) h
     versions_within p h false = ordinary (Moved (record { seen = p.version; now = here.version })) tt
 
-    executed_within : (p : Pending) → Understood p.batch → (o : Option DriverFault) → Fails o → Within (executed_with keys state number p o)
+    executed_within : (p : Pending) → Understood p.batch → (o : Option DriverFault) → Fails o → Within (executed_with keys trusted state number p o)
     executed_within p h (Some f) k = k
     executed_within p h None k = versions_within p h (p.version == here.version)
 
-    execution_within : (p : Pending) → Understood p.batch → Within (execution_of keys state number p)
-    execution_within p h = let encs = map (λ u. u.enc) (uses_of p) in executed_within p h (why_unopened keys p.keys encs) (unopened_fails keys p.keys encs)
+    execution_within : (p : Pending) → Understood p.batch → Within (execution_of keys trusted state number p)
+    execution_within p h = let encs = map (λ u. u.enc) (uses_of p) in executed_within p h (why_unopened keys trusted p.keys encs) (unopened_fails keys trusted p.keys encs)
+
+    unless_within : (o : Option (List ℕ)) (c : Came) → Within c → Within (unless_open state o c)
+    unless_within (Some name) c h = tt
+    unless_within None c h = h
+
+    readied_within : (ready : Pending → Came) (p : Pending) → Within (ready p) → Within (readied state ready p)
+    readied_within ready p h = unless_within (first_open p.batch.forced p.batch.params p.encs) (ready p) h
 
     module _ (batch : Batch) (h : Understood batch) (ready : Pending → Came) (ready_within : (d : Description) → Within (ready (pending batch d))) where
       described_within : (r : Result Meant SqlFault) → IfErr r P → Within (described state batch ready (r >>= λ meant. Ok (description here (declarations_of batch) meant)))
@@ -128,11 +145,12 @@ module _ (P : SqlFault → Type 0) (ordinary : (f : SqlFault) → IsOrdinaryFaul
       begins_within None = begun_within (why_unfit batch) (unfit_fails (first_unfit batch.params) (nat_lt most_statement_bytes (length (encode_utf8_all batch.text))))
       begins_within (Some p) = tt
 
-  -- a step is refused with a fault of P, if its batch is understood, or is refused so
-  pub means_within : (keys : KeyMap) (step : Step) (held : Option Pending) (state : State) → ((batch : Batch) → batch_of step held ≡ Some batch → Understood keys state (number_of step) batch)
-      → Within (means keys step held state)
-  means_within keys (Whole number batch) held state h =
-      begins_within keys state number batch (h batch refl) (execution_of keys state number) (λ d. execution_within keys state number (pending batch d) (h batch refl)) held
-  means_within keys (Half number batch) held state h = begins_within keys state number batch (h batch refl) (waits state) (λ d. tt) held
-  means_within keys (Execute number) (Some p) state h = execution_within keys state number p (h p.batch refl)
-  means_within keys (Execute number) None state h = tt
+  -- a turn is refused with a fault of P, if its batch is understood, or is refused so
+  pub means_within : (keys : KeyMap) (trusted : List (List ℕ)) (number : ℕ) (act : Act) (held : Option Pending) (state : State) → ((batch : Batch) → batch_of act held ≡ Some batch → Understood keys trusted state number batch)
+      → Within (means keys trusted number act held state)
+  means_within keys trusted number (Whole batch) held state h =
+      begins_within keys trusted state number batch (h batch refl) (readied state (execution_of keys trusted state number))
+      (λ d. readied_within keys trusted state number (execution_of keys trusted state number) (pending batch d) (execution_within keys trusted state number (pending batch d) (h batch refl))) held
+  means_within keys trusted number (Half batch) held state h = begins_within keys trusted state number batch (h batch refl) (readied state (waits state)) (λ d. readied_within keys trusted state number (waits state) (pending batch d) tt) held
+  means_within keys trusted number Execute (Some p) state h = execution_within keys trusted state number p (h p.batch refl)
+  means_within keys trusted number Execute None state h = tt

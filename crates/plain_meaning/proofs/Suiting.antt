@@ -49,8 +49,8 @@ pub record Suits (here : Catalog) (p : Pending) (meant : Meant) (sent : List Sen
   pub values : plain_in (uses_of p) ≡ used_among (is_used meant.bound) 0 (plain_atoms_of p.batch)
 
 module _ (laws : LawsBelow) where
-  pub suits : (keys : KeyMap) (here : Catalog) (p : Pending) → Each IsSendableParam p.batch.params → (d : DescribedAs here p) → (sent : List SentParam) → AreSealed keys p.keys (uses_of p) sent → Suits here p d.meant sent
-  suits keys here p sendable d sent s =
+  pub suits : (keys : KeyMap) (trusted : List (List ℕ)) (here : Catalog) (p : Pending) → Each IsSendableParam p.batch.params → (d : DescribedAs here p) → (sent : List SentParam) → AreSealed keys trusted p.keys (uses_of p) sent → Suits here p d.meant sent
+  suits keys trusted here p sendable d sent s =
       let meant = d.meant in
       let b = meant.bound in
       let ps = p.batch.params in
@@ -69,17 +69,17 @@ module _ (laws : LawsBelow) where
       of_uses Ty (λ (u : Use). u.param.declaration.ty) ∙ params_used used (λ (q : Param). q.declaration.ty) 0 ps meant.encs d.long
       ∙ ap (used_among used 0) (types_declared ps ∙ sym (laws.bound here parts.statement (declarations_of p.batch) b parts.binds).params) in
       let names : map declaration_of sent ≡ used_among used 0 (declarations_of p.batch) =
-      sent_declared laws.seals keys p.keys us sent s ∙ of_uses ParamDecl (λ (u : Use). u.param.declaration) ∙ params_used used (λ (q : Param). q.declaration) 0 ps meant.encs d.long in
+      sent_declared laws.seals keys trusted p.keys us sent s ∙ of_uses ParamDecl (λ (u : Use). u.param.declaration) ∙ params_used used (λ (q : Param). q.declaration) 0 ps meant.encs d.long in
       record {
         understood = ap (understood here p.batch.text) names ∙ understood_alone laws.prepared here p.batch.text (declarations_of p.batch) meant parts;
-        suited = ap (λ es. suited es sent) (sym encs_are) ∙ sent_suited laws.seals keys p.keys us sent fit s;
+        suited = ap (λ es. suited es sent) (sym encs_are) ∙ sent_suited laws.seals keys trusted p.keys us sent fit s;
         inferred = ready.is_inferred;
         on = record {
           placed = over_alone.placed;
           tables = over_alone.tables;
           definable = over_alone.definable;
           encs = (laws.typings (alone b) es ready.is_inferred).0;
-          values = sent_long laws.seals keys p.keys us sent s ∙ sym (length-map us (λ (u : Use). u.param.declaration.ty)) ∙ ap length tys_are;
+          values = sent_long laws.seals keys trusted p.keys us sent s ∙ sym (length-map us (λ (u : Use). u.param.declaration.ty)) ∙ ap length tys_are;
         };
         fit = fit;
         encs = encs_are;

@@ -1,5 +1,5 @@
 -- Where the plaintext meaning refuses a step with EncryptionClash.
-use Rattle.std.specs.Prelude.{◌≡◌, ℕ, map, Option, Some, None, Ok}
+use Rattle.std.specs.Prelude.{◌≡◌, ℕ, List, map, Option, Some, None, Ok}
 use Rattle.ae_base.specs.declared.batches.Batch.{Batch}
 use Rattle.ae_base.specs.declared.faults.SqlFault.TheVariants.{EncryptionClash}
 use Rattle.ae_edge.specs.Vaults.{KeyMap}
@@ -13,24 +13,24 @@ use Rattle.conversation.specs.Batches.{why_unfit}
 use Rattle.conversation.specs.Pending.{Pending, uses_of}
 use Rattle.conversation.specs.declared.outcomes.Outcome.{Outcome}
 use Rattle.conversation.specs.declared.outcomes.Outcome.TheVariants.{Refused}
-use Rattle.script_lang.specs.declared.steps.Step.{Step}
-use Rattle.script_lang.specs.declared.steps.Step.TheVariants.{Whole, Half, Execute}
+use Rattle.script_lang.specs.declared.steps.Act.{Act}
+use Rattle.script_lang.specs.declared.steps.Act.TheVariants.{Whole, Half, Execute}
 use Rattle.plain_meaning.specs.Reference.{declarations_of, why_unopened}
 
--- the batch that a step describes or executes: its own, or the one that its session holds
-abbrev pub batch_of : Step → Option Pending → Option Batch
-batch_of (Whole number batch) held = Some batch
-batch_of (Half number batch) held = Some batch
-batch_of (Execute number) None = None
-batch_of (Execute number) (Some p) = Some p.batch
+-- the batch that a turn describes or executes: its own, or the one that its session holds
+abbrev pub batch_of : Act → Option Pending → Option Batch
+batch_of (Whole batch) held = Some batch
+batch_of (Half batch) held = Some batch
+batch_of Execute None = None
+batch_of Execute (Some p) = Some p.batch
 
--- Nothing stops a step before its batch's statement is parsed, bound and typed: a batch of its own may be sent, and the session holds none; of
+-- Nothing stops a turn before its batch's statement is parsed, bound and typed: a batch of its own may be sent, and the session holds none; of
 -- a held batch the keys are opened, and the catalog has the version of its description.
-abbrev pub IsReached : KeyMap → State → Step → Option Pending → Type 0
-IsReached keys state (Whole number batch) None = why_unfit batch ≡ None
-IsReached keys state (Half number batch) None = why_unfit batch ≡ None
-IsReached keys state (Execute number) (Some p) = (why_unopened keys p.keys (map (λ u. u.enc) (uses_of p)) ≡ None) × (p.version ≡ (catalog_of state number).version)
-IsReached keys state step held = ⊥
+abbrev pub IsReached : KeyMap → List (List ℕ) → State → ℕ → Act → Option Pending → Type 0
+IsReached keys trusted state number (Whole batch) None = why_unfit batch ≡ None
+IsReached keys trusted state number (Half batch) None = why_unfit batch ≡ None
+IsReached keys trusted state number Execute (Some p) = (why_unopened keys trusted p.keys (map (λ u. u.enc) (uses_of p)) ≡ None) × (p.version ≡ (catalog_of state number).version)
+IsReached keys trusted state number act held = ⊥
 
 -- a batch's statement is bound so, in the catalog that a session sees
 abbrev pub IsBoundAs : State → ℕ → Batch → Bound → Type 0

@@ -1,5 +1,5 @@
 -- The plaintext meaning of a script: the results of its steps over plain values. No cell, no random byte, no request and no reply is in it.
-use Rattle.std.specs.Prelude.{ℕ, ◌-◌, List, [], ◌∷◌, map, replicate, slice_index_or, slice_set, Option, Some, None, Result, Ok, Err, ◌==◌, if◌then◌else◌, unwrap_or}
+use Rattle.std.specs.Prelude.{ℕ, ◌-◌, List, [], ◌∷◌, ◌++◌, map, replicate, slice_index_or, slice_set, Option, Some, None, Result, Ok, Err, ◌==◌, if◌then◌else◌, unwrap_or}
 use Rattle.ae_base.specs.Atoms.{Atom, plain_atom, value_of_atom}
 use Rattle.ae_base.specs.declared.batches.Batch.{Batch}
 use Rattle.ae_base.specs.declared.keys.KeyMeta.{KeyMeta}
@@ -21,19 +21,20 @@ use Rattle.wire_messages.specs.Messages.{Description}
 use Rattle.statement_analysis.specs.Describing.{Meant, understood, describe, keys_of}
 use Rattle.server_core.specs.Serve.{State, catalog_of}
 use Rattle.conversation.specs.Batches.{why_unfit}
-use Rattle.conversation.specs.Keys.{open_key, meta_of}
+use Rattle.conversation.specs.Keys.{open_trusted, meta_of}
 use Rattle.conversation.specs.Pending.{Pending, uses_of}
-use Rattle.conversation.specs.Sessions.{encs_of, described_params}
+use Rattle.conversation.specs.Sessions.{encs_of, first_open, described_params}
 use Rattle.conversation.specs.declared.faults.DriverFault.{DriverFault}
-use Rattle.conversation.specs.declared.faults.DriverFault.TheVariants.{StillPending, NothingPending}
+use Rattle.conversation.specs.declared.faults.DriverFault.TheVariants.{StillPending, NothingPending, NotEncrypted}
 use Rattle.conversation.specs.declared.outcomes.Listing.{Listing}
 use Rattle.conversation.specs.declared.outcomes.Outcome.{Outcome}
 use Rattle.conversation.specs.declared.outcomes.Outcome.TheVariants as outcome
+use Rattle.script_lang.specs.declared.steps.Act.{Act}
+use Rattle.script_lang.specs.declared.steps.Act.TheVariants.{Whole, Half, Execute}
 use Rattle.script_lang.specs.declared.steps.Step.{Step}
-use Rattle.script_lang.specs.declared.steps.Step.TheVariants.{Whole, Half, Execute}
-use Rattle.plain_meaning.specs.Steps.{number_of}
+use Rattle.script_lang.specs.declared.steps.Step.TheVariants.{Turn, Trust}
 
--- the result of a step, the columns of its answer's rows, what its session holds after it, nothing or a described batch, and the plain state
+-- the result of a turn, the columns of its answer's rows, what its session holds after it, nothing or a described batch, and the plain state
 pub record Came : Type 0 where
   pub comes : Outcome
   pub columns : List ResultColumn
@@ -62,11 +63,11 @@ unopened_or (Ok keys) later = later
 unopened_or (Err f) later = Some f
 
 -- why the first of the keys under which values are protected isn't opened
-abbrev pub why_unopened : KeyMap → List KeyMeta → List Enc → Option DriverFault
-why_unopened keys metas [] = None
-why_unopened keys metas (enc.Plain ∷ encs) = why_unopened keys metas encs
-why_unopened keys metas (enc.Det key ∷ encs) = unopened_or (open_key keys (meta_of metas key)) (why_unopened keys metas encs)
-why_unopened keys metas (enc.Rnd key ∷ encs) = unopened_or (open_key keys (meta_of metas key)) (why_unopened keys metas encs)
+abbrev pub why_unopened : KeyMap → List (List ℕ) → List KeyMeta → List Enc → Option DriverFault
+why_unopened keys trusted metas [] = None
+why_unopened keys trusted metas (enc.Plain ∷ encs) = why_unopened keys trusted metas encs
+why_unopened keys trusted metas (enc.Det key ∷ encs) = unopened_or (open_trusted keys trusted (meta_of metas key)) (why_unopened keys trusted metas encs)
+why_unopened keys trusted metas (enc.Rnd key ∷ encs) = unopened_or (open_trusted keys trusted (meta_of metas key)) (why_unopened keys trusted metas encs)
 
 -- ---- answers
 
@@ -85,12 +86,12 @@ shown listing (Some f) = outcome.Failed f
 abbrev pub encs_shown : List ResultColumn → List Enc
 encs_shown columns = map (λ c. c.enc) columns
 
-abbrev pub answered : KeyMap → Catalog → Result Answer SqlFault → Outcome
-answered keys catalog (Ok (engine.Rows columns rows)) =
-    shown (titled columns rows) (why_unopened keys (keys_of catalog (encs_shown columns)) (encs_shown columns))
-answered keys catalog (Ok (engine.Changed count)) = outcome.Changed count
-answered keys catalog (Ok engine.Defined) = outcome.Defined
-answered keys catalog (Err f) = outcome.Refused f
+abbrev pub answered : KeyMap → List (List ℕ) → Catalog → Result Answer SqlFault → Outcome
+answered keys trusted catalog (Ok (engine.Rows columns rows)) =
+    shown (titled columns rows) (why_unopened keys trusted (keys_of catalog (encs_shown columns)) (encs_shown columns))
+answered keys trusted catalog (Ok (engine.Changed count)) = outcome.Changed count
+answered keys trusted catalog (Ok engine.Defined) = outcome.Defined
+answered keys trusted catalog (Err f) = outcome.Refused f
 
 abbrev pub columns_of : Result Answer SqlFault → List ResultColumn
 columns_of (Ok (engine.Rows columns rows)) = columns
@@ -98,8 +99,8 @@ columns_of (Ok (engine.Changed count)) = []
 columns_of (Ok engine.Defined) = []
 columns_of (Err f) = []
 
-abbrev pub came_by : KeyMap → Catalog → Transacted → Came
-came_by keys catalog done = record { comes = answered keys catalog done.answer; columns = columns_of done.answer; held = None; state = done.after }
+abbrev pub came_by : KeyMap → List (List ℕ) → Catalog → Transacted → Came
+came_by keys trusted catalog done = record { comes = answered keys trusted catalog done.answer; columns = columns_of done.answer; held = None; state = done.after }
 
 -- ---- a described batch is executed
 
@@ -107,21 +108,21 @@ abbrev pub declarations_of : Batch → List ParamDecl
 declarations_of batch = map (λ p. p.declaration) batch.params
 
 -- the statement is bound over all declarations, and takes all values as they are
-abbrev pub stepped : KeyMap → State → ℕ → Batch → Result Meant SqlFault → Came
-stepped keys state number batch (Ok meant) =
-    came_by keys (catalog_of state number) (transact state number (ask_of (execution meant.bound meant.encs (map (λ p. plain_atom p.value) batch.params))))
-stepped keys state number batch (Err f) = came (outcome.Refused f) None state
+abbrev pub stepped : KeyMap → List (List ℕ) → State → ℕ → Batch → Result Meant SqlFault → Came
+stepped keys trusted state number batch (Ok meant) =
+    came_by keys trusted (catalog_of state number) (transact state number (ask_of (execution meant.bound meant.encs (map (λ p. plain_atom p.value) batch.params))))
+stepped keys trusted state number batch (Err f) = came (outcome.Refused f) None state
 
 -- a key that isn't opened is the driver's fault; Moved where the catalog isn't that of the description
-abbrev pub executed_with : KeyMap → State → ℕ → Pending → Option DriverFault → Came
-executed_with keys state number p (Some f) = came (outcome.Failed f) None state
-executed_with keys state number p None =
+abbrev pub executed_with : KeyMap → List (List ℕ) → State → ℕ → Pending → Option DriverFault → Came
+executed_with keys trusted state number p (Some f) = came (outcome.Failed f) None state
+executed_with keys trusted state number p None =
     if p.version == (catalog_of state number).version
-    then stepped keys state number p.batch (understood (catalog_of state number) p.batch.text (declarations_of p.batch))
+    then stepped keys trusted state number p.batch (understood (catalog_of state number) p.batch.text (declarations_of p.batch))
     else came (outcome.Refused (Moved (record { seen = p.version; now = (catalog_of state number).version }))) None state
 
-abbrev pub execution_of : KeyMap → State → ℕ → Pending → Came
-execution_of keys state number p = executed_with keys state number p (why_unopened keys p.keys (map (λ u. u.enc) (uses_of p)))
+abbrev pub execution_of : KeyMap → List (List ℕ) → State → ℕ → Pending → Came
+execution_of keys trusted state number p = executed_with keys trusted state number p (why_unopened keys trusted p.keys (map (λ u. u.enc) (uses_of p)))
 
 -- ---- a batch is described
 
@@ -142,7 +143,7 @@ abbrev pub begun : State → ℕ → Batch → (Pending → Came) → Option Dri
 begun state number batch ready (Some f) = came (outcome.Failed f) None state
 begun state number batch ready None = described state batch ready (describe (catalog_of state number) batch.text (declarations_of batch))
 
--- ---- a step
+-- ---- a turn
 
 -- a session that has a batch begins no other
 abbrev pub begins : State → ℕ → Batch → (Pending → Came) → Option Pending → Came
@@ -150,22 +151,33 @@ begins state number batch ready None = begun state number batch ready (why_unfit
 begins state number batch ready (Some p) = came (outcome.Failed StillPending) (Some p) state
 
 -- one without a described batch executes nothing
-abbrev pub executes : KeyMap → State → ℕ → Option Pending → Came
-executes keys state number (Some p) = execution_of keys state number p
-executes keys state number None = came (outcome.Failed NothingPending) None state
+abbrev pub executes : KeyMap → List (List ℕ) → State → ℕ → Option Pending → Came
+executes keys trusted state number (Some p) = execution_of keys trusted state number p
+executes keys trusted state number None = came (outcome.Failed NothingPending) None state
+
+-- a described batch goes on so, unless a forced parameter would not be sent as a cell
+abbrev pub unless_open : State → Option (List ℕ) → Came → Came
+unless_open state (Some name) c = came (outcome.Failed (NotEncrypted name)) None state
+unless_open state None c = c
+
+abbrev pub readied : State → (Pending → Came) → Pending → Came
+readied state ready p = unless_open state (first_open p.batch.forced p.batch.params p.encs) (ready p)
 
 -- half a batch waits as it was described
 abbrev pub waits : State → Pending → Came
 waits state p = came (outcome.Described (described_params p.keys (uses_of p))) (Some p) state
 
-abbrev pub means : KeyMap → Step → Option Pending → State → Came
-means keys (Whole number batch) before state = begins state number batch (execution_of keys state number) before
-means keys (Half number batch) before state = begins state number batch (waits state) before
-means keys (Execute number) before state = executes keys state number before
+abbrev pub means : KeyMap → List (List ℕ) → ℕ → Act → Option Pending → State → Came
+means keys trusted number (Whole batch) before state = begins state number batch (readied state (execution_of keys trusted state number)) before
+means keys trusted number (Half batch) before state = begins state number batch (readied state (waits state)) before
+means keys trusted number Execute before state = executes keys trusted state number before
 
--- the results of the steps, one after another
-abbrev pub reference : KeyMap → List Step → List (Option Pending) → State → List Outcome
-reference keys [] holds state = []
-reference keys (step ∷ steps) holds state =
-    let c = means keys step (held_at holds (number_of step)) state in
-    c.comes ∷ reference keys steps (with_held holds (number_of step) c.held) c.state
+-- ---- the steps
+
+-- the results of the turns, one after another; a path is trusted from its step on, which has no result
+abbrev pub reference : KeyMap → List Step → List (List ℕ) → List (Option Pending) → State → List Outcome
+reference keys [] trusted holds state = []
+reference keys (Turn number act ∷ steps) trusted holds state =
+    let c = means keys trusted number act (held_at holds number) state in
+    c.comes ∷ reference keys steps trusted (with_held holds number c.held) c.state
+reference keys (Trust path ∷ steps) trusted holds state = reference keys steps (trusted ++ path ∷ []) holds state

@@ -7,18 +7,25 @@ use Rattle.ae_base.specs.Types.{IsType}
 use Rattle.ae_base.specs.Values.{IsProper}
 use Rattle.ae_base.specs.declared.batches.Batch.{Batch}
 use Rattle.ae_base.specs.declared.batches.Param.{Param}
+use Rattle.script_lang.specs.declared.steps.Act.{Act}
+use Rattle.script_lang.specs.declared.steps.Act.TheVariants.{Whole, Half, Execute}
 use Rattle.script_lang.specs.declared.steps.Step.{Step}
-use Rattle.script_lang.specs.declared.steps.Step.TheVariants.{Whole, Half, Execute}
+use Rattle.script_lang.specs.declared.steps.Step.TheVariants.{Turn, Trust}
 
 -- at most 128 parameters, whose names differ
 abbrev pub HasParams : Batch → Type 0
 HasParams batch = (length batch.params ≤ 128) × IsTrue (all_differ (map (λ p. p.declaration.name) batch.params))
 
+-- what holds of a turn's own batch, where it has one
+abbrev pub OfBatch : (Batch → Type 0) → Act → Type 0
+OfBatch P (Whole batch) = P batch
+OfBatch P (Half batch) = P batch
+OfBatch P Execute = Unit {0}
+
 -- the session is one from 1 to 64
 abbrev pub IsWithinLimits : Step → Type 0
-IsWithinLimits (Whole session batch) = IsSession session × HasParams batch
-IsWithinLimits (Half session batch) = IsSession session × HasParams batch
-IsWithinLimits (Execute session) = IsSession session
+IsWithinLimits (Turn session act) = IsSession session × OfBatch HasParams act
+IsWithinLimits (Trust path) = Unit {0}
 
 -- a parameter's value is proper, and its type is one
 abbrev pub IsProperParam : Param → Type 0
@@ -28,6 +35,5 @@ abbrev pub HasProperParams : Batch → Type 0
 HasProperParams batch = All IsProperParam batch.params
 
 abbrev pub IsProperStep : Step → Type 0
-IsProperStep (Whole session batch) = HasProperParams batch
-IsProperStep (Half session batch) = HasProperParams batch
-IsProperStep (Execute session) = Unit {0}
+IsProperStep (Turn session act) = OfBatch HasProperParams act
+IsProperStep (Trust path) = Unit {0}

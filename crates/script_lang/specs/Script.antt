@@ -1,8 +1,9 @@
 -- A script as steps: batches ended by GO or by the end of the script, half batches, and what executes them.
-use Rattle.std.specs.Prelude.{ℕ, ℤ, ◌+◌, ◌-◌, ◌*◌, pos, neg_ℤ, List, [], ◌∷◌, ◌++◌, length, map, take, drop, take_while, codes, Option, Some, None, unwrap_or, is_some, Result, Ok, Err, Bool, false, ◌&&◌, ◌||◌, not, nat_le, int_le, ◌==◌, if◌then◌else◌, slice_index}
+use Rattle.std.specs.Prelude.{ℕ, ℤ, ◌+◌, ◌-◌, ◌*◌, pos, neg_ℤ, List, [], ◌∷◌, ◌++◌, length, map, reverse, take, drop, take_while, codes, Option, Some, None, unwrap_or, is_some, Result, Ok, Err, Bool, false, ◌&&◌, ◌||◌, not, nat_le, int_le, ◌==◌, if◌then◌else◌, slice_index}
+use Rattle.std.specs.List.{list_any}
 use Rattle.std.specs.Option.{option_map, option_and_then}
 use Rattle.std.specs.Str.{bytes_eq, chars, is_utf8}
-use Rattle.ae_base.specs.Names.{admits}
+use Rattle.ae_base.specs.Names.{admits, is_param_char}
 use Rattle.ae_base.specs.declared.values.Value.{Value}
 use Rattle.ae_base.specs.declared.values.Value.TheVariants as value
 use Rattle.ae_base.specs.declared.values.Datum.TheVariants as datum
@@ -16,8 +17,9 @@ use Rattle.sql_tree.specs.declared.lexemes.Lexeme.TheVariants as lexeme
 use Rattle.sql_tree.specs.declared.lexemes.Token.{Token}
 use Rattle.sql_tree.specs.Tokens.{tokens_of, first_wide, in_capitals, begins_word, is_word_byte, is_digit}
 use Rattle.sql_grammar.specs.Making.{type_of}
+use Rattle.script_lang.specs.declared.steps.Act.TheVariants.{Whole, Half, Execute}
 use Rattle.script_lang.specs.declared.steps.Step.{Step}
-use Rattle.script_lang.specs.declared.steps.Step.TheVariants.{Whole, Half, Execute}
+use Rattle.script_lang.specs.declared.steps.Step.TheVariants.{Turn, Trust}
 
 -- ---- lines
 
@@ -130,21 +132,22 @@ declaration_of line = declared_by (tokens_of line)
 
 -- ---- the walk over the lines
 
--- the session, and the batch that is begun: its parameters, and its statement once a line of it has come
+-- the session, and the batch that is begun: its parameters, the names of the forced ones, and its statement once a line of it has come
 pub record Begun : Type 0 where
   pub session : ℕ
   pub params : List Param
+  pub forced : List (List ℕ)
   pub statement : Option (List ℕ)
 
 abbrev pub nothing_begun : ℕ → Begun
-nothing_begun session = record { session = session; params = []; statement = None }
+nothing_begun session = record { session = session; params = []; forced = []; statement = None }
 
 -- neither a DECLARE nor a line of a statement has come
 abbrev pub is_between : Begun → Bool
 is_between begun = (length begun.params == 0) && not (is_some begun.statement)
 
 abbrev pub batch_of : Begun → Batch
-batch_of begun = record { text = chars (unwrap_or begun.statement []); params = begun.params }
+batch_of begun = record { text = chars (unwrap_or begun.statement []); params = begun.params; forced = begun.forced }
 
 -- the steps that a line makes, and what is begun behind it
 pub record After : Type 0 where
@@ -158,7 +161,7 @@ goes_on begun = Some (record { steps = []; begun = begun })
 abbrev pub ended : Begun → After
 ended begun =
     if is_between begun then record { steps = []; begun = begun }
-    else record { steps = Whole begun.session (batch_of begun) ∷ []; begun = nothing_begun begun.session }
+    else record { steps = Turn begun.session (Whole (batch_of begun)) ∷ []; begun = nothing_begun begun.session }
 
 -- ---- lines that begin with a colon
 
@@ -182,29 +185,62 @@ session_of [] = None
 abbrev pub after_describe : Begun → Option After
 after_describe begun =
     if is_between begun then None
-    else Some (record { steps = Half begun.session (batch_of begun) ∷ []; begun = nothing_begun begun.session })
+    else Some (record { steps = Turn begun.session (Half (batch_of begun)) ∷ []; begun = nothing_begun begun.session })
 
--- :execute and :session N stand between batches
+-- :execute, :session N and :trust PATH stand between batches
 abbrev pub after_execute : Begun → Option After
-after_execute begun = if is_between begun then Some (record { steps = Execute begun.session ∷ []; begun = begun }) else None
+after_execute begun = if is_between begun then Some (record { steps = Turn begun.session Execute ∷ []; begun = begun }) else None
 
 abbrev pub in_session : Begun → Option ℕ → Option After
 in_session begun None = None
 in_session begun (Some session) = if is_between begun then goes_on (nothing_begun session) else None
 
+abbrev pub with_trust : Begun → List ℕ → Option After
+with_trust begun path = if is_between begun then Some (record { steps = Trust path ∷ []; begun = begun }) else None
+
+-- :force @name stands in the head of a batch, behind the declaration of that name, once for each name
+abbrev pub with_forced : Begun → List ℕ → Option After
+with_forced begun name =
+    if list_any (bytes_eq name) (map (λ q. q.declaration.name) begun.params) && not (list_any (bytes_eq name) begun.forced) && not (is_some begun.statement)
+    then goes_on (record { session = begun.session; params = begun.params; forced = begun.forced ++ name ∷ []; statement = begun.statement })
+    else None
+
 -- the session that :session N names
 abbrev pub named_session : List ℕ → Option ℕ
 named_session rest = option_and_then session_of (behind (codes ":session ") rest)
+
+-- the path that :trust PATH names: the rest of the line without the blanks at its end, 1 to 1,024 bytes
+abbrev pub before_blanks : List ℕ → List ℕ
+before_blanks line = take (length line - length (take_while is_blank (reverse line))) line
+
+abbrev pub path_of : List ℕ → Option (List ℕ)
+path_of bytes = if nat_le 1 (length bytes) && nat_le (length bytes) 1024 then Some (chars bytes) else None
+
+abbrev pub named_path : List ℕ → Option (List ℕ)
+named_path rest = option_and_then (λ bytes. path_of (before_blanks bytes)) (behind (codes ":trust ") rest)
+
+-- the name that :force @name names, and blanks
+abbrev pub name_of : List ℕ → Option (List ℕ)
+name_of bytes = let name = take_while is_param_char bytes in if is_blank_line (drop (length name) bytes) then Some name else None
+
+abbrev pub named_param : List ℕ → Option (List ℕ)
+named_param rest = option_and_then name_of (behind (codes ":force @") rest)
 
 abbrev pub is_alone : Option (List ℕ) → Bool
 is_alone None = false
 is_alone (Some rest) = is_blank_line rest
 
+-- a line names a path, or a parameter, or a session
+abbrev pub after_named : Begun → Option (List ℕ) → Option (List ℕ) → Option ℕ → Option After
+after_named begun (Some path) name session = with_trust begun path
+after_named begun None (Some name) session = with_forced begun name
+after_named begun None None session = in_session begun session
+
 abbrev pub after_colon : Begun → List ℕ → Option After
 after_colon begun rest =
     if is_alone (behind (codes ":describe") rest) then after_describe begun else
     if is_alone (behind (codes ":execute") rest) then after_execute begun else
-    in_session begun (named_session rest)
+    after_named begun (named_path rest) (named_param rest) (named_session rest)
 
 -- ---- lines of a batch
 
@@ -213,7 +249,7 @@ abbrev pub with_param : Begun → Option Param → Option After
 with_param begun None = None
 with_param begun (Some p) =
     if admits (map (λ q. q.declaration.name) begun.params) p.declaration.name
-    then goes_on (record { session = begun.session; params = begun.params ++ p ∷ []; statement = begun.statement })
+    then goes_on (record { session = begun.session; params = begun.params ++ p ∷ []; forced = begun.forced; statement = begun.statement })
     else None
 
 -- the lines of a statement are joined by LF
@@ -222,7 +258,7 @@ longer None line = line
 longer (Some text) line = text ++ 10 ∷ line
 
 abbrev pub with_statement_line : Begun → List ℕ → Option After
-with_statement_line begun line = goes_on (record { session = begun.session; params = begun.params; statement = Some (longer begun.statement line) })
+with_statement_line begun line = goes_on (record { session = begun.session; params = begun.params; forced = begun.forced; statement = Some (longer begun.statement line) })
 
 abbrev pub after_head_line : Begun → List ℕ → Option After
 after_head_line begun line =

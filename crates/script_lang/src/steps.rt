@@ -1,15 +1,25 @@
 //! The steps of a script.
 
 use ae_base::batches::Batch;
+use ae_base::keys::KeyPath;
 use ae_base::sessions::SessionId;
 
-/// A step of a script, a turn of a session.
+/// What a session does in a turn.
+#[derive(Drop)]
+pub enum Act {
+    /// A batch is described and executed.
+    Whole(Batch),
+    /// Half a batch is described.
+    Half(Batch),
+    /// What is pending is executed.
+    Execute,
+}
+
+/// A step of a script.
 #[derive(Drop)]
 pub enum Step {
-    /// A batch is described and executed.
-    Whole { session: SessionId, batch: Batch },
-    /// Half a batch is described.
-    Half { session: SessionId, batch: Batch },
-    /// What is pending is executed.
-    Execute { session: SessionId },
+    /// A turn of a session.
+    Turn { session: SessionId, act: Act },
+    /// From here on the path of a master key is trusted, in all sessions.
+    Trust(KeyPath),
 }

@@ -1,20 +1,22 @@
 //! A walk through the lines of a script.
 
-ghost use Rattle.std.specs.Prelude.{◌≡◌, ◌<◌, ◌||◌, ◌^◌, ◌∷◌, ◌++◌, [], true, Some, IfOk, OnOk, length, take, codes, string_bytes};
-ghost use Rattle.std.specs.Str.{bytes_eq};
-ghost use Rattle.std.specs.List.{All};
+ghost use Rattle.std.specs.Prelude.{◌≡◌, ◌<◌, ◌||◌, ◌^◌, ◌∷◌, ◌++◌, [], true, false, map, MatchOption, Some, IfOk, OnOk, length, take, codes, string_bytes};
+ghost use Rattle.std.specs.Str.{IsUtf8, bytes_eq};
+ghost use Rattle.std.specs.List.{All, list_any};
 ghost use Rattle.script_lang.specs.Limits.{HasProperParams, IsProperParam, IsProperStep};
 ghost use Rattle.script_lang.specs.Script as spec;
 ghost use Rattle.script_lang.specs.Reading.{Takes, behind_line};
 
 use crate::declarations::declaration_of;
-use crate::steps::Step;
+use crate::steps::{Act, Step};
 use crate::words::{
     begins_with, begins_with_colon, behind_blanks, first_word, is_alone, is_blank_line,
-    named_session,
+    named_param, named_path, named_session,
 };
 use ae_base::batches::{Batch, Param, Params};
-use ae_base::lists::Seq;
+use ae_base::keys::KeyPath;
+use ae_base::lists::{Duplicate, Seq};
+use ae_base::names::ParamName;
 use ae_base::params::ParamList;
 use ae_base::sessions::SessionId;
 use ae_base::texts::Txt;
@@ -30,6 +32,7 @@ pub(crate) struct Reader {
     steps: Seq<Step>,
     session: SessionId,
     params: Params,
+    forced: Seq<ParamName>,
     statement: Option<String>,
 }
 
@@ -46,6 +49,7 @@ impl Model for Reader {
       begun = record {
         session = r.session;
         params = r.params;
+        forced = r.forced;
         statement = option_map string_bytes r.statement;
       };
     } };
@@ -63,6 +67,7 @@ impl Reader {
             steps: Seq::new(alloc),
             session: SessionId::from_number(1).unwrap(),
             params: ParamList::new(alloc),
+            forced: Seq::new(alloc),
             statement: None,
         }
     }
@@ -111,6 +116,7 @@ impl Reader {
         Batch {
             text: Txt::from_string(self.statement.take().unwrap_or(String::new(alloc))),
             params: mem::replace(&mut self.params, ParamList::new(alloc)),
+            forced: mem::replace(&mut self.forced, Seq::new(alloc)),
         }
     }
 
@@ -122,9 +128,9 @@ impl Reader {
             return Ok(());
         }
         let batch = self.take_batch(alloc);
-        self.steps.push(Step::Whole {
+        self.steps.push(Step::Turn {
             session: self.session,
-            batch,
+            act: Act::Whole(batch),
         })
     }
 
@@ -142,6 +148,7 @@ impl Reader {
 
     /// Reads a line that begins with a colon.
     fn read_command(&mut self, alloc: Global, line: &[u8]) -> Result<bool, AllocError>
+        requires { IsUtf8 line.now }
         ensures { IfOk result
             (λ good. Takes self.old (spec.after_colon self.old.begun line.now) good self.new) }
     {
@@ -151,8 +158,44 @@ impl Reader {
         if is_alone(line, b":execute") {
             return self.execute();
         }
+        if let Some(path) = named_path(alloc, line)? {
+            return self.trust(path);
+        }
+        if let Some(name) = named_param(line) {
+            return self.force(name);
+        }
         match named_session(line) {
-            Some(session) => Ok(self.enter(session)),
+            Some(session) => Ok(self.enter(alloc, session)),
+            None => Ok(false),
+        }
+    }
+
+    /// Trusts a path, between batches.
+    fn trust(&mut self, path: KeyPath) -> Result<bool, AllocError>
+        ensures { IfOk result
+            (λ good. Takes self.old (spec.with_trust self.old.begun path) good self.new) }
+    {
+        if !self.is_between() {
+            return Ok(false);
+        }
+        self.steps.push(Step::Trust(path))?;
+        Ok(true)
+    }
+
+    /// Forces a parameter that is declared and isn't forced yet, in the head of a batch.
+    fn force(&mut self, name: &[u8]) -> Result<bool, AllocError>
+        ensures { IfOk result
+            (λ good. Takes self.old (spec.with_forced self.old.begun name.now) good self.new) }
+    {
+        if self.statement.is_some() || is_named(self.forced.as_slice(), name) {
+            return Ok(false);
+        }
+        match declared(self.params.as_slice(), name) {
+            Some(declared) => {
+                let copy = declared.copy()?;
+                self.forced.push(copy)?;
+                Ok(true)
+            }
             None => Ok(false),
         }
     }
@@ -166,9 +209,9 @@ impl Reader {
             return Ok(false);
         }
         let batch = self.take_batch(alloc);
-        self.steps.push(Step::Half {
+        self.steps.push(Step::Turn {
             session: self.session,
-            batch,
+            act: Act::Half(batch),
         })?;
         Ok(true)
     }
@@ -181,20 +224,22 @@ impl Reader {
         if !self.is_between() {
             return Ok(false);
         }
-        self.steps.push(Step::Execute {
+        self.steps.push(Step::Turn {
             session: self.session,
+            act: Act::Execute,
         })?;
         Ok(true)
     }
 
     /// Goes on in a session, between batches.
-    fn enter(&mut self, session: SessionId) -> bool
+    fn enter(&mut self, alloc: Global, session: SessionId) -> bool
         ensures { Takes self.old (spec.in_session self.old.begun (Some session)) result self.new }
     {
         if !self.is_between() {
             return false;
         }
         self.session = session;
+        self.forced = Seq::new(alloc);
         true
     }
 
@@ -269,4 +314,38 @@ fn is_passed_over(line: &[u8]) -> bool
         (codes "--")) }
 {
     is_blank_line(line) || behind_blanks(line).starts_with(b"--")
+}
+
+/// Whether a name is among some.
+fn is_named(names: &[ParamName], name: &[u8]) -> bool
+    ensures { result ≡ list_any (bytes_eq name.now) names.now }
+{
+    for one in names {
+        if has_name(one, name) {
+            return true;
+        }
+    }
+    false
+}
+
+/// Whether a parameter's name has these bytes.
+fn has_name(one: &ParamName, name: &[u8]) -> bool
+    ensures { result ≡ bytes_eq name.now one.now }
+{
+    one.as_str().as_bytes() == name
+}
+
+/// The first of the parameters that has a name.
+fn declared<'a>(params: &'a [Param], name: &[u8]) -> Option<&'a ParamName>
+    ensures { MatchOption result
+        (list_any (bytes_eq name.now) (map (λ q. q.declaration.name) params.now) ≡ false)
+        (λ found. (list_any (bytes_eq name.now) (map (λ q. q.declaration.name) params.now) ≡ true)
+        × (found.now ≡ name.now)) }
+{
+    for param in params {
+        if has_name(&param.declaration.name, name) {
+            return Some(&param.declaration.name);
+        }
+    }
+    None
 }

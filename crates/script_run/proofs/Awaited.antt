@@ -21,7 +21,7 @@ use Rattle.conversation.specs.declared.sessions.Session.{Session}
 use Rattle.conversation.specs.declared.sessions.Session.TheVariants.{Idle, Begun, Pending, Sent, Reading, Skipping}
 use Rattle.conversation.specs.Cells.{is_row_of, read_atoms}
 use Rattle.conversation.specs.Devices.{Devices}
-use Rattle.conversation.specs.Sessions.{described, described_as, encs_of, Told, Tells, Shows, Stray, replied, sent_ended, rows_ended, row_read}
+use Rattle.conversation.specs.Sessions.{described, described_as, readied, first_open, encs_of, Told, Tells, Shows, Stray, replied, sent_ended, rows_ended, row_read}
 use Rattle.conversation.specs.Talk.{Hearing, More, Got, Missed, Said, hear, heard_answer, heard_description, described_outcome, broken, nothing_shown}
 use Rattle.driver.specs.Calls.{SaysAs, ShowsAs, HaltsAs}
 use Rattle.script_run.specs.declared.around.RowHeard.{RowHeard}
@@ -56,8 +56,12 @@ begun_broken Sent shown b = refl
 begun_broken (Reading columns keys count) shown b = absurd b
 begun_broken (Skipping columns count) shown b = refl
 
+known_ready : (batch : Batch) (d : Description) (encs : List (Option Enc)) (o : Option (List ℕ)) → let t = readied batch d encs o in IsDescribed t.answer t.after
+known_ready batch d encs None = (record { batch = batch; version = d.version; keys = d.keys; encs = encs }, refl, refl)
+known_ready batch d encs (Some name) = refl
+
 known_as : (batch : Batch) (d : Description) (encs : Option (List (Option Enc))) → IfSome (described_as batch d encs) (λ t. IsDescribed t.answer t.after)
-known_as batch d (Some encs) = (record { batch = batch; version = d.version; keys = d.keys; encs = encs }, refl, refl)
+known_as batch d (Some encs) = known_ready batch d encs (first_open batch.forced batch.params encs)
 known_as batch d None = tt
 
 known : (session : Session) (r : Reply) → IfSome (described session r) (λ t. IsDescribed t.answer t.after)
@@ -77,28 +81,28 @@ is_described session r a after e = subst (λ w. IfSome w (λ t. IsDescribed t.an
 
 -- ---- the first reply to an execution
 
-of_shown : (x : ReplyAnswer) (header : Header) (after : Session) (before now : Devices) → ShowsAs x header after before now → IsOfFirst x
-of_shown (answer.Header titles) header after before now h = tt
-of_shown (answer.Failed f) header after before now h = tt
-of_shown (answer.Row values) header after before now h = h
-of_shown (answer.Rows count) header after before now h = h
-of_shown (answer.Changed count) header after before now h = tt
-of_shown answer.Defined header after before now h = tt
-of_shown (answer.Refused f) header after before now h = tt
-of_shown answer.Skipped header after before now h = h
-of_shown answer.Over header after before now h = h
+of_shown : (trusted : List (List ℕ)) (x : ReplyAnswer) (header : Header) (after : Session) (before now : Devices) → ShowsAs trusted x header after before now → IsOfFirst x
+of_shown trusted (answer.Header titles) header after before now h = tt
+of_shown trusted (answer.Failed f) header after before now h = tt
+of_shown trusted (answer.Row values) header after before now h = h
+of_shown trusted (answer.Rows count) header after before now h = h
+of_shown trusted (answer.Changed count) header after before now h = tt
+of_shown trusted answer.Defined header after before now h = tt
+of_shown trusted (answer.Refused f) header after before now h = tt
+of_shown trusted answer.Skipped header after before now h = h
+of_shown trusted answer.Over header after before now h = h
 
-of_ended : (x : ReplyAnswer) (d : Done) (after : Session) (before now : Devices) → SaysAs x (sent_ended d) after before now → IsOfFirst x
-of_ended x done.Defined after before now h = subst IsOfFirst (sym h.0) tt
-of_ended x (done.Changed count) after before now h = subst IsOfFirst (sym h.0) tt
-of_ended x (done.Answered count) after before now h = absurd h
+of_ended : (trusted : List (List ℕ)) (x : ReplyAnswer) (d : Done) (after : Session) (before now : Devices) → SaysAs trusted x (sent_ended d) after before now → IsOfFirst x
+of_ended trusted x done.Defined after before now h = subst IsOfFirst (sym h.0) tt
+of_ended trusted x (done.Changed count) after before now h = subst IsOfFirst (sym h.0) tt
+of_ended trusted x (done.Answered count) after before now h = absurd h
 
-pub of_first : (x : ReplyAnswer) (r : Reply) (after : Session) (before now : Devices) → SaysAs x (replied Sent r) after before now → IsOfFirst x
-of_first x (reply.Columns header) after before now h = of_shown x header after before now h
-of_first x (reply.Ended d) after before now h = of_ended x d after before now h
-of_first x (reply.Refused f) after before now h = subst IsOfFirst (sym h.0) tt
-of_first x (reply.Row atoms) after before now h = absurd h
-of_first x (reply.Described d) after before now h = absurd h
+pub of_first : (trusted : List (List ℕ)) (x : ReplyAnswer) (r : Reply) (after : Session) (before now : Devices) → SaysAs trusted x (replied Sent r) after before now → IsOfFirst x
+of_first trusted x (reply.Columns header) after before now h = of_shown trusted x header after before now h
+of_first trusted x (reply.Ended d) after before now h = of_ended trusted x d after before now h
+of_first trusted x (reply.Refused f) after before now h = subst IsOfFirst (sym h.0) tt
+of_first trusted x (reply.Row atoms) after before now h = absurd h
+of_first trusted x (reply.Described d) after before now h = absurd h
 
 -- ---- rows
 
@@ -152,15 +156,15 @@ tells_rows (Pending pending) w r = absurd w
 tells_rows Sent w r = absurd w
 
 -- what is said is what is told, and no device is touched
-pub says_told : (told : Told) → TellsRows told → (x : ReplyAnswer) (after : Session) (before now : Devices) → SaysAs x told after before now → (told ≡ Tells x after) × (now ≡ before)
-says_told (Tells wanted next) w x after before now h = (ap (λ y. Tells y next) (sym h.0) ∙ ap (λ y. Tells x y) (sym h.1), h.2)
-says_told (Shows header) w x after before now h = absurd w
-says_told Stray w x after before now h = absurd h
+pub says_told : (trusted : List (List ℕ)) (told : Told) → TellsRows told → (x : ReplyAnswer) (after : Session) (before now : Devices) → SaysAs trusted x told after before now → (told ≡ Tells x after) × (now ≡ before)
+says_told trusted (Tells wanted next) w x after before now h = (ap (λ y. Tells y next) (sym h.0) ∙ ap (λ y. Tells x y) (sym h.1), h.2)
+says_told trusted (Shows header) w x after before now h = absurd w
+says_told trusted Stray w x after before now h = absurd h
 
-pub halts_told : (told : Told) → TellsRows told → (h : Halt) (before now : Devices) → HaltsAs h told before now → now ≡ before
-halts_told (Tells wanted next) w h before now p = p.1
-halts_told (Shows header) w h before now p = absurd w
-halts_told Stray w h before now p = p.1
+pub halts_told : (trusted : List (List ℕ)) (told : Told) → TellsRows told → (h : Halt) (before now : Devices) → HaltsAs trusted h told before now → now ≡ before
+halts_told trusted (Tells wanted next) w h before now p = p.1
+halts_told trusted (Shows header) w h before now p = absurd w
+halts_told trusted Stray w h before now p = p.1
 
 pub hears_rows : (session : Session) → IsRows session → (shown : Listing) (r : Reply) → hear session shown r ≡ heard_answer shown (replied session r)
 hears_rows (Reading columns keys count) w shown r = refl

@@ -92,10 +92,10 @@ module _ (k : Session → Talk) (after : Session) (params : List DescribedParam)
   pending_ready : (ready : told.Pending → Talk) → pending_on ready k after ≡ ready r.0
   pending_ready ready = let e = r.1 in rw e refl
 
-  pub then_executed : (number : ℕ) → Proceeds t (pending_on (λ p. executing number (Pending p) k) k after) x y → Advances result (executing number after k) (λ o. on) y z → Advances result t (λ o. on) x z
-  then_executed number g h =
-      leads_then result t (executing number after k) (λ o. on) x y z
-      (subst (λ w. Proceeds t w x y) (pending_ready (λ p. executing number (Pending p) k) ∙ ap (λ w. executing number w k) (sym r.1)) g) h
+  pub then_executed : (trusted : List (List ℕ)) (number : ℕ) → Proceeds t (pending_on (λ p. executing trusted number (Pending p) k) k after) x y → Advances result (executing trusted number after k) (λ o. on) y z → Advances result t (λ o. on) x z
+  then_executed trusted number g h =
+      leads_then result t (executing trusted number after k) (λ o. on) x y z
+      (subst (λ w. Proceeds t w x y) (pending_ready (λ p. executing trusted number (Pending p) k) ∙ ap (λ w. executing trusted number w k) (sym r.1)) g) h
 
   pub then_told : Proceeds t (pending_on (λ p. Prints (outcome.Described (described_params p.keys (uses_of p))) (k (Pending p))) k after) x y
       → Advances result (Prints (outcome.Described params) (k after)) (λ o. on) y z → Advances result t (λ o. on) x z

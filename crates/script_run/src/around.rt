@@ -77,7 +77,7 @@ pub trait Around {
     ) -> Result<Result<Request<'r>, DriverFault>, Stop>
         requires { IsOfVault (outside self.old).client.keys driver.old }
         ensures leads { (k : Result Request DriverFault → Session → Talk) → Advances result
-            (turns.execute number (session_of driver.old number) k)
+            (turns.execute driver.old.trusted number (session_of driver.old number) k)
             (λ answer. k answer (session_of driver.new number)) (outside self.old)
             (outside self.new) }
         ensures sent { IfOk result
@@ -112,7 +112,8 @@ pub trait Around {
         requires sent { session_of driver.old number ≡ Sent }
         requires of_vault { IsOfVault (outside self.old).client.keys driver.old }
         ensures leads { (k : Session → Talk) → Advances result
-            (Hears (session_of driver.old number) nothing_shown (turns.answered_on k))
+            (Hears (session_of driver.old number) nothing_shown
+            (turns.answered_on driver.old.trusted k))
             (first_on k (session_of driver.new number)) (outside self.old) (outside self.new) }
         ensures rows { IfOk result (shown_first (session_of driver.new number)) }
         ensures leaves { IfOk result

@@ -198,7 +198,8 @@ fn hear_answer<A: Around>(
     requires sent { session_of driver.old number ≡ Sent }
     requires of_vault { IsOfVault (A.outside env.old).client.keys driver.old }
     ensures leads { (k : Session → Talk) → Advances result
-        (Hears (session_of driver.old number) nothing_shown (turns.answered_on k))
+        (Hears (session_of driver.old number) nothing_shown
+        (turns.answered_on driver.old.trusted k))
         (λ _. k (session_of driver.new number)) (A.outside env.old) (A.outside env.new) }
     ensures leaves { IfOk result
         (λ _. Leaves number driver.old driver.new (A.outside env.new).client.keys) }
@@ -235,7 +236,8 @@ fn answered<A: Around>(
     requires sent { IfOk answer (λ request. session_of driver.old number ≡ Sent) }
     requires of_vault { IsOfVault (A.outside env.old).client.keys driver.old }
     ensures leads { (k : Session → Talk) → Advances result
-        (turns.asked (λ after. Hears after nothing_shown (turns.answered_on k)) k answer.entry
+        (turns.asked (λ after. Hears after nothing_shown
+        (turns.answered_on driver.old.trusted k)) k answer.entry
         (session_of driver.old number))
         (λ _. k (session_of driver.new number)) (A.outside env.old) (A.outside env.new) }
     ensures leaves { IfOk result
@@ -259,7 +261,7 @@ pub fn execute<A: Around>(
 ) -> Result<(), Stop>
     requires { IsOfVault (A.outside env.old).client.keys driver.old }
     ensures leads { (k : Session → Talk) → Advances result
-        (turns.executing number (session_of driver.old number) k)
+        (turns.executing driver.old.trusted number (session_of driver.old number) k)
         (λ _. k (session_of driver.new number)) (A.outside env.old) (A.outside env.new) }
     ensures leaves { IfOk result
         (λ _. Leaves number driver.old driver.new (A.outside env.new).client.keys) }
@@ -319,6 +321,7 @@ fn hear_description<A: Around>(
     match env.hear_description(alloc, driver, number) {
         Ok(DescribeAnswer::Ready(params)) => Ok(Described::Ready(params)),
         Ok(DescribeAnswer::Refused(fault)) => refused(alloc, env, fault),
+        Ok(DescribeAnswer::Failed(fault)) => failed(alloc, env, fault),
         Err(stop) => Err(stop),
     }
 }
@@ -382,7 +385,7 @@ pub fn whole<A: Around>(
 ) -> Result<(), Stop>
     requires { IsOfVault (A.outside env.old).client.keys driver.old }
     ensures leads { (k : Session → Talk) → Advances result
-        (turns.whole number batch (session_of driver.old number) k)
+        (turns.whole driver.old.trusted number batch (session_of driver.old number) k)
         (λ _. k (session_of driver.new number)) (A.outside env.old) (A.outside env.new) }
     ensures leaves { IfOk result
         (λ _. Leaves number driver.old driver.new (A.outside env.new).client.keys) }

@@ -1,5 +1,5 @@
 -- Through the plaintext meaning of a script that gives no key a second value, each number is told as it was first told.
-use Rattle.std.proofs.Common.{◌≡◌, ℕ, ◌-◌, ◌<◌, List, [], ◌∷◌, Option, Some, None, Result, Ok, Err, Bool, true, false, cond, refl, sym, ap, ◌∙◌, subst, arith}
+use Rattle.std.proofs.Common.{◌≡◌, ℕ, ◌-◌, ◌<◌, List, [], ◌∷◌, ◌++◌, Option, Some, None, Result, Ok, Err, Bool, true, false, cond, refl, sym, ap, ◌∙◌, subst, arith}
 use Rattle.std.specs.Prelude.{◌==◌, IfSome, map, get_or, replicate, unwrap_or, zero, suc}
 use Rattle.std.specs.List.{All, find}
 use Rattle.std.specs.Option.{option_and_then, option_map}
@@ -28,13 +28,16 @@ use Rattle.server_core.proofs.Interface.{parts_of}
 use Rattle.wire_messages.specs.Messages.{Description}
 use Rattle.conversation.specs.Batches.{why_unfit}
 use Rattle.conversation.specs.Pending.{Pending, uses_of}
+use Rattle.conversation.specs.Sessions.{first_open}
 use Rattle.conversation.specs.declared.faults.DriverFault.{DriverFault}
 use Rattle.script_lang.specs.declared.steps.Step.{Step}
-use Rattle.script_lang.specs.declared.steps.Step.TheVariants.{Whole, Half, Execute}
+use Rattle.script_lang.specs.Limits.{OfBatch}
+use Rattle.script_lang.specs.declared.steps.Act.{Act}
+use Rattle.script_lang.specs.declared.steps.Act.TheVariants.{Whole, Half, Execute}
+use Rattle.script_lang.specs.declared.steps.Step.TheVariants.{Turn, Trust}
 use Rattle.plain_meaning.specs.Alike.{Fits, FitThroughout, GivesOnly, Throughout}
-use Rattle.plain_meaning.specs.Reference.{Came, nothing_held, held_at, with_held, why_unopened, declarations_of, stepped, executed_with, execution_of, pending, described, begun, begins, executes, waits, means}
-use Rattle.plain_meaning.specs.Steps.{number_of}
-use Rattle.single_values.specs.Single.{TextIsOfSingle, IsSingleStep}
+use Rattle.plain_meaning.specs.Reference.{Came, nothing_held, held_at, with_held, why_unopened, declarations_of, stepped, executed_with, execution_of, pending, unless_open, readied, described, begun, begins, executes, waits, means}
+use Rattle.single_values.specs.Single.{TextIsOfSingle, BatchIsOfSingle, IsSingleStep}
 use Rattle.single_values.specs.Laws.{SingleValuesAreAlike}
 use Rattle.single_values.proofs.Fixed.{AreAs, Goes, IsAs, found_all, stays}
 use Rattle.single_values.proofs.Steps.{binds_one, step_leads}
@@ -51,7 +54,7 @@ record Comes (state : State) (told : ℕ → KeyValue) (c : Came) : Type 0 where
   goes : Goes (shared_of state) told (shared_of c.state)
   held : HoldsSingle c.held
 
-module _ (bound : BoundStatementsAre) (keys : KeyMap) (state : State) (number : ℕ) (told : ℕ → KeyValue) (k : AreAs (shared_of state) told) where
+module _ (bound : BoundStatementsAre) (keys : KeyMap) (trusted : List (List ℕ)) (state : State) (number : ℕ) (told : ℕ → KeyValue) (k : AreAs (shared_of state) told) where
   here : Goes (shared_of state) told (shared_of state)
   here = stays (shared_of state) told k
 
@@ -77,20 +80,27 @@ module _ (bound : BoundStatementsAre) (keys : KeyMap) (state : State) (number : 
   -- ---- a batch
 
   module _ (p : Pending) (one : TextIsOfSingle p.batch.text) where
-    stepped_comes : (r : Result Meant SqlFault) → understood seen p.batch.text (declarations_of p.batch) ≡ r → Comes state told (stepped keys state number p.batch r)
+    stepped_comes : (r : Result Meant SqlFault) → understood seen p.batch.text (declarations_of p.batch) ≡ r → Comes state told (stepped keys trusted state number p.batch r)
     stepped_comes (Ok meant) u = record { goes = understood_goes p.batch.text (declarations_of p.batch) meant (map (λ p. plain_atom p.value) p.batch.params) one u; held = tt }
     stepped_comes (Err f) u = record { goes = here; held = tt }
 
-    version_comes : (t : Bool) (moved : Came) → Comes state told moved → Comes state told (cond t (stepped keys state number p.batch (understood seen p.batch.text (declarations_of p.batch))) moved)
+    version_comes : (t : Bool) (moved : Came) → Comes state told moved → Comes state told (cond t (stepped keys trusted state number p.batch (understood seen p.batch.text (declarations_of p.batch))) moved)
     version_comes true moved h = stepped_comes (understood seen p.batch.text (declarations_of p.batch)) refl
     version_comes false moved h = h
 
-    executed_comes : (o : Option DriverFault) → Comes state told (executed_with keys state number p o)
+    executed_comes : (o : Option DriverFault) → Comes state told (executed_with keys trusted state number p o)
     executed_comes None = version_comes (p.version == seen.version) _ (record { goes = here; held = tt })
     executed_comes (Some f) = record { goes = here; held = tt }
 
-    execution_comes : Comes state told (execution_of keys state number p)
-    execution_comes = executed_comes (why_unopened keys p.keys (map (λ u. u.enc) (uses_of p)))
+    execution_comes : Comes state told (execution_of keys trusted state number p)
+    execution_comes = executed_comes (why_unopened keys trusted p.keys (map (λ u. u.enc) (uses_of p)))
+
+  unless_comes : (o : Option (List ℕ)) (c : Came) → Comes state told c → Comes state told (unless_open state o c)
+  unless_comes (Some name) c h = record { goes = here; held = tt }
+  unless_comes None c h = h
+
+  readied_comes : (ready : Pending → Came) (p : Pending) → Comes state told (ready p) → Comes state told (readied state ready p)
+  readied_comes ready p h = unless_comes (first_open p.batch.forced p.batch.params p.encs) (ready p) h
 
   module _ (batch : Batch) (one : TextIsOfSingle batch.text) (ready : Pending → Came) (go : (d : Description) → Comes state told (ready (pending batch d))) where
     described_comes : (r : Result Description SqlFault) → Comes state told (described state batch ready r)
@@ -105,42 +115,46 @@ module _ (bound : BoundStatementsAre) (keys : KeyMap) (state : State) (number : 
     begins_comes None h = begun_comes (why_unfit batch)
     begins_comes (Some p) h = record { goes = here; held = h }
 
-  executes_comes : (before : Option Pending) → HoldsSingle before → Comes state told (executes keys state number before)
+  executes_comes : (before : Option Pending) → HoldsSingle before → Comes state told (executes keys trusted state number before)
   executes_comes (Some p) h = execution_comes p h
   executes_comes None h = record { goes = here; held = tt }
 
--- ---- a step
+-- ---- a turn
 
-means_comes : BoundStatementsAre → (keys : KeyMap) (step : Step) → IsSingleStep step → (before : Option Pending) → HoldsSingle before → (state : State) (told : ℕ → KeyValue) → AreAs (shared_of state) told
-    → Comes state told (means keys step before state)
-means_comes bound keys (Whole number batch) one before h state told k =
-    begins_comes bound keys state number told k batch one (execution_of keys state number) (λ d. execution_comes bound keys state number told k (pending batch d) one) before h
-means_comes bound keys (Half number batch) one before h state told k =
-    begins_comes bound keys state number told k batch one (waits state) (λ d. record { goes = here bound keys state number told k; held = one }) before h
-means_comes bound keys (Execute number) one before h state told k = executes_comes bound keys state number told k before h
+means_comes : BoundStatementsAre → (keys : KeyMap) (trusted : List (List ℕ)) (number : ℕ) (act : Act) → OfBatch BatchIsOfSingle act → (before : Option Pending) → HoldsSingle before → (state : State) (told : ℕ → KeyValue) → AreAs (shared_of state) told
+    → Comes state told (means keys trusted number act before state)
+means_comes bound keys trusted number (Whole batch) one before h state told k =
+    begins_comes bound keys trusted state number told k batch one (readied state (execution_of keys trusted state number))
+    (λ d. readied_comes bound keys trusted state number told k (execution_of keys trusted state number) (pending batch d) (execution_comes bound keys trusted state number told k (pending batch d) one)) before h
+means_comes bound keys trusted number (Half batch) one before h state told k =
+    begins_comes bound keys trusted state number told k batch one (readied state (waits state)) (λ d. readied_comes bound keys trusted state number told k (waits state) (pending batch d) (record { goes = here bound keys trusted state number told k; held = one })) before h
+means_comes bound keys trusted number Execute one before h state told k = executes_comes bound keys trusted state number told k before h
 
 -- ---- all steps
 
 -- what is told of the numbers in the end; it is so throughout
-record Settles (keys : KeyMap) (steps : List Step) (holds : List (Option Pending)) (state : State) (told : ℕ → KeyValue) : Type 0 where
+record Settles (keys : KeyMap) (steps : List Step) (trusted : List (List ℕ)) (holds : List (Option Pending)) (state : State) (told : ℕ → KeyValue) : Type 0 where
   final : ℕ → KeyValue
   same : (id : ℕ) → id < (shared_of state).next_id → final id ≡ told id
-  throughout : Throughout (λ state. AreAs (shared_of state) final) keys steps holds state
+  throughout : Throughout (λ state. AreAs (shared_of state) final) keys steps trusted holds state
 
 settled : (c : Catalog) (told final : ℕ → KeyValue) → ((id : ℕ) → id < c.next_id → final id ≡ told id) → AreAs c told → AreAs c final
 settled c told final same k i d lt =
     let key = k i d lt in
     (key.0, key.1 ∙ ap Some (sym (same (get_or c.keys i d).id key.0)), key.2)
 
-settles : BoundStatementsAre → (keys : KeyMap) (steps : List Step) → All IsSingleStep steps → (holds : List (Option Pending)) → All HoldsSingle holds → (state : State) (told : ℕ → KeyValue) → AreAs (shared_of state) told
-    → Settles keys steps holds state told
-settles bound keys [] one holds h state told k = record { final = told; same = λ id lt. refl; throughout = k }
-settles bound keys (step ∷ steps) one holds h state told k =
-    let number = number_of step in
-    let c = means_comes bound keys step (All-head IsSingleStep step steps one) (held_at holds number) (all_at HoldsSingle holds (number - 1) None h tt) state told k in
-    let now = means keys step (held_at holds number) state in
+settles : BoundStatementsAre → (keys : KeyMap) (steps : List Step) → All IsSingleStep steps → (trusted : List (List ℕ)) (holds : List (Option Pending)) → All HoldsSingle holds → (state : State) (told : ℕ → KeyValue) → AreAs (shared_of state) told
+    → Settles keys steps trusted holds state told
+settles bound keys [] one trusted holds h state told k = record { final = told; same = λ id lt. refl; throughout = k }
+settles bound keys (Trust path ∷ steps) one trusted holds h state told k =
+    let rest = settles bound keys steps (All-tail IsSingleStep (Trust path) steps one) (trusted ++ path ∷ []) holds h state told k in
+    record { final = rest.final; same = rest.same; throughout = rest.throughout }
+settles bound keys (Turn number act ∷ steps) one trusted holds h state told k =
+    let step = Turn number act in
+    let c = means_comes bound keys trusted number act (All-head IsSingleStep step steps one) (held_at holds number) (all_at HoldsSingle holds (number - 1) None h tt) state told k in
+    let now = means keys trusted number act (held_at holds number) state in
     let g = c.goes in
-    let rest = settles bound keys steps (All-tail IsSingleStep step steps one) (with_held holds number now.held) (all_set HoldsSingle holds (number - 1) now.held h c.held) now.state g.later g.are in
+    let rest = settles bound keys steps (All-tail IsSingleStep step steps one) trusted (with_held holds number now.held) (all_set HoldsSingle holds (number - 1) now.held h c.held) now.state g.later g.are in
     let same : (id : ℕ) → id < (shared_of state).next_id → rest.final id ≡ told id = λ id lt. let le = g.next in rest.same id (omega (arith, lt, le)) ∙ g.same id lt in
     record { final = rest.final; same = same; throughout = (settled (shared_of state) told rest.final same k, rest.throughout) }
 
@@ -181,12 +195,13 @@ fits keys told c k id = at (key_of c id) refl
         let one = found_all (IsAs c told) p c.keys key e k in
         gives_one key key.values.second (value_told c key.values.first) one.2 one.1 (eqb-true key.id id (find_passes p c.keys key e))
 
-fit_throughout : (keys : KeyMap) (told : ℕ → KeyValue) (steps : List Step) (holds : List (Option Pending)) (state : State)
-    → Throughout (λ state. AreAs (shared_of state) told) keys steps holds state → FitThroughout keys (key_of_number keys told) steps holds state
-fit_throughout keys told [] holds state k = fits keys told (shared_of state) k
-fit_throughout keys told (step ∷ steps) holds state k =
-    let c = means keys step (held_at holds (number_of step)) state in
-    (fits keys told (shared_of state) k.0, fit_throughout keys told steps (with_held holds (number_of step) c.held) c.state k.1)
+fit_throughout : (keys : KeyMap) (told : ℕ → KeyValue) (steps : List Step) (trusted : List (List ℕ)) (holds : List (Option Pending)) (state : State)
+    → Throughout (λ state. AreAs (shared_of state) told) keys steps trusted holds state → FitThroughout keys (key_of_number keys told) steps trusted holds state
+fit_throughout keys told [] trusted holds state k = fits keys told (shared_of state) k
+fit_throughout keys told (Turn number act ∷ steps) trusted holds state k =
+    let c = means keys trusted number act (held_at holds number) state in
+    (fits keys told (shared_of state) k.0, fit_throughout keys told steps trusted (with_held holds number c.held) c.state k.1)
+fit_throughout keys told (Trust path ∷ steps) trusted holds state k = fit_throughout keys told steps (trusted ++ path ∷ []) holds state k
 
 -- ---- from the beginning
 
@@ -200,5 +215,5 @@ untold id = record { path = []; wrapped = [] }
 
 pub single_values_are_alike : BoundStatementsAre → SingleValuesAreAlike
 single_values_are_alike bound keys steps one =
-    let s = settles bound keys steps one nothing_held (none_held 64) empty_state untold (All-nil (IsAs (shared_of empty_state) untold)) in
-    (key_of_number keys s.final, fit_throughout keys s.final steps nothing_held empty_state s.throughout)
+    let s = settles bound keys steps one [] nothing_held (none_held 64) empty_state untold (All-nil (IsAs (shared_of empty_state) untold)) in
+    (key_of_number keys s.final, fit_throughout keys s.final steps [] nothing_held empty_state s.throughout)

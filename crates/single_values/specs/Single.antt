@@ -7,7 +7,9 @@ use Rattle.sql_tree.specs.Statements as tree
 use Rattle.sql_tree.specs.declared.statements.Definition.{Definition}
 use Rattle.sql_tree.specs.declared.statements.Definition.TheVariants as written
 use Rattle.script_lang.specs.declared.steps.Step.{Step}
-use Rattle.script_lang.specs.declared.steps.Step.TheVariants.{Whole, Half, Execute}
+use Rattle.script_lang.specs.declared.steps.Step.TheVariants.{Turn, Trust}
+use Rattle.ae_base.specs.declared.batches.Batch.{Batch}
+use Rattle.script_lang.specs.Limits.{OfBatch}
 
 -- one value, and no second
 abbrev pub IsSingle : {A : Type 0} → OneOrTwo A → Type 0
@@ -27,7 +29,9 @@ IsOfSingle other = Unit {0}
 abbrev pub TextIsOfSingle : List ℕ → Type 0
 TextIsOfSingle text = (statement : Statement) → statement_in (encode_utf8_all text) ≡ Ok statement → IsOfSingle statement
 
+abbrev pub BatchIsOfSingle : Batch → Type 0
+BatchIsOfSingle batch = TextIsOfSingle batch.text
+
 abbrev pub IsSingleStep : Step → Type 0
-IsSingleStep (Whole number batch) = TextIsOfSingle batch.text
-IsSingleStep (Half number batch) = TextIsOfSingle batch.text
-IsSingleStep (Execute number) = Unit {0}
+IsSingleStep (Turn number act) = OfBatch BatchIsOfSingle act
+IsSingleStep (Trust path) = Unit {0}
