@@ -158,7 +158,7 @@ def names(document, crates):
 def is_there(document, name):
     """Whether a file is there: from the top, from the document, or as crate/Definition.clause."""
     first, _, rest = name.partition("/")
-    places = [TOP, document.path.parent, TOP / "crates", TOP / "crates/script_tests"]
+    places = [TOP, document.path.parent, TOP / "crates", TOP / "crates/script_tests/data"]
     if any(list(place.glob(name.rstrip("/"))) for place in places if not name.startswith(("/", "~"))):
         return True
     folder = TOP / "crates" / first
