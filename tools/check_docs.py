@@ -166,7 +166,7 @@ def is_there(document, name):
 
 
 def clauses(document, crates):
-    """Clauses that a call doesn't have, where they are cited as `clause` of `Type::call`, or as `crate/Record.field`."""
+    """Clauses that are cited as `clause` of `Type::call`, as `crate/Record.field` or in a table, and don't exist."""
     for number, text in document.texts():
         for cited, _, call in CITED.findall(text):
             labels = crates.clauses.get(call, set())
