@@ -20,14 +20,14 @@ FOR_USERS = {"README.md", "docs/guide.md"}
 HEADLINE = "For every script of interleaved sessions"  # the claim, which is one sentence
 
 # Names in backticks that are no identifier of the repository: examples, and words of other programs.
-KNOWN = set("GO1 HAVING _tests bin exec fsync nohup rustc setsid shellcheck".split())
+KNOWN = set("GO1 HAVING NAME_command _tests bin exec fsync nohup rustc setsid shellcheck".split())
 LINK = re.compile(r"\[([^\]]*)\]\(([^)\s]+)\)")
 CODE = re.compile(r"`([^`]+)`")
 WORD = re.compile(r"[^\W\d]\w*")
 NAME = re.compile(r"^[A-Za-z_]\w*(?:(?:::|\.)[A-Za-z_]\w*)*(?:\(\))?$")
 FILE = re.compile(r"^[\w.~*-]*(?:/[\w.*-]+)*\.(?:md|rt|antt|edit|py|sh|sql|txt|bin|key)$|^[\w.-]+(?:/[\w.*-]*)+$")
 # Files of a user, and patterns of names.
-ABSENT = re.compile(r"\.(bin|key|csv)$|^~|\b(NAME|CRATE)\b|^(text|keys|script\.sql|specs/|proofs/)")
+ABSENT = re.compile(r"\.(bin|key|csv)$|^~|\bNAME(\b|_)|^(text|keys|script\.sql|specs/|proofs/)")
 CITED = re.compile(r"((?:`\w+`(?:, | and )?)+) of `(?:\w+::)*(\w+::)?(\w+)`")
 
 
@@ -50,7 +50,8 @@ class Crates:
             if path.is_file() and path.suffix in {".rt", ".antt", ".edit", ".sql", ".py", ".sh", ".txt", ".ci", ""}:
                 self.read(path)
         self.names = {path.name for path in (TOP / "crates").iterdir()}
-        self.words |= self.names | {path.stem for path in files("*") if path.is_file()}
+        self.files = {path.name for path in files("*") if path.is_file()}
+        self.words |= self.names | {Path(name).stem for name in self.files}
 
     def read(self, path):
         text = path.read_text(encoding="utf-8", errors="replace")
@@ -147,7 +148,7 @@ def names(document, crates):
     for number, text in document.texts():
         for code in CODE.findall(text):
             if FILE.match(code) and ("." in code or "/" in code):
-                if not (is_there(document, code) or ABSENT.search(code)):
+                if not (is_there(document, code, crates) or ABSENT.search(code)):
                     yield number, f"no file `{code}`"
             elif NAME.match(code):
                 missing = [word for word in WORD.findall(code) if word not in crates.words | KNOWN]
@@ -155,10 +156,12 @@ def names(document, crates):
                     yield number, f"no name `{missing[0]}`"
 
 
-def is_there(document, name):
-    """Whether a file is there: from the top, from the document, or as crate/Definition.clause."""
+def is_there(document, name, crates):
+    """Whether a file is there: from the top, from the document, by its name alone, or as crate/Definition.clause."""
     first, _, rest = name.partition("/")
-    places = [TOP, document.path.parent, TOP / "crates", TOP / "crates/script_tests/data"]
+    if not rest and any(it.endswith(name.lstrip("*")) for it in crates.files):
+        return True
+    places = [TOP, document.path.parent, TOP / "crates"]
     if any(list(place.glob(name.rstrip("/"))) for place in places if not name.startswith(("/", "~"))):
         return True
     folder = TOP / "crates" / first
