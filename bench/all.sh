@@ -15,7 +15,7 @@ printf '%-14s %-50s %8s %8s %6s\n' script what N 4N times
 failed=
 for script in "$bench"/*.sh; do
     name=$(basename "$script" .sh)
-    case $name in all | lib | mutate | no_memory | crash | wrong_bodies) continue ;; esac
+    case $name in all | lib) continue ;; esac
     said=$(sh "$script" 2>&1) || failed="$failed $name"
     echo "$said" | while IFS= read -r line; do printf '%-14s %s\n' "$name" "$line"; done
 done

@@ -65,7 +65,8 @@ speed() {
 }
 
 # openssl_round NAME AES HMAC BYTES: notes the seconds of a cell with so many bytes of ciphertext, without the processor's
-# instructions that the mask AES takes from the cipher and the mask HMAC from the HMAC.
+# instructions that the mask AES takes from the cipher and the mask HMAC from the HMAC. Each subshell sets its own mask.
+# shellcheck disable=SC2030,SC2031
 openssl_round() {
     aes=$(
         if [ -n "$2" ]; then export OPENSSL_ia32cap="~$2"; fi
@@ -105,7 +106,7 @@ recorded() {
     mkdir "$1"
     cp -r keys "$1"
     cells "$2" "$3" "$4" >"$1/script"
-    (cd "$1" && run >text && python3 "$top/bench/apart.py")
+    (cd "$1" && run >text && python3 "$top/tools/apart.py")
 }
 
 # One kind: its name, how many rows, how many queries, the bytes of its ciphertext.

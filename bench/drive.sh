@@ -19,7 +19,7 @@ for script in "$top"/examples/*/script.sql; do
     ran=0
     "$top/ae" run <"$script" >text || ran=$?
     cmp text "$example/text"
-    python3 "$top/bench/apart.py"
+    python3 "$top/tools/apart.py"
     drives "$ran"
     cmp text again
     "$top/ae" serve <requests.bin | cmp - replies.bin

@@ -1,8 +1,9 @@
 # shellcheck shell=sh
-# The head of each script of this folder: . "$(dirname "$0")/lib.sh". It enters a new folder, which is removed at the end,
-# and stops at the first command that fails. The program is $top/ae.
+# The head of each script of this folder: . "$(dirname "$0")/lib.sh", and of those in tools/attacks. It enters a new folder, which is
+# removed at the end, and stops at the first command that fails. The program is $top/ae.
 set -eu
-top=$(CDPATH="" cd -- "$(dirname -- "$0")/.." && pwd)
+top=$(CDPATH="" cd -- "$(dirname -- "$0")" && pwd)
+while [ ! -f "$top/crates.txt" ] && [ "$top" != / ]; do top=$(dirname -- "$top"); done
 folder=$(mktemp -d)
 trap 'rm -rf "$folder"' EXIT
 cd "$folder"

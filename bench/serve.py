@@ -1,6 +1,5 @@
 """Serves the requests of tap.bin again, as bench/serve.sh says, and prints its figures. Usage: serve.py PROGRAM MEGABYTES."""
 import os
-import resource
 import subprocess
 import sys
 import time

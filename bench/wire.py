@@ -1,4 +1,4 @@
-"""Frames of requests and replies, as docs/formats.md spells them, for the scripts of this folder."""
+"""Frames of requests and replies, as docs/formats.md spells them, for the scripts of this folder and of tools/attacks."""
 
 
 def execute(text, version, session=1):

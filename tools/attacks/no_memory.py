@@ -1,4 +1,4 @@
-"""Refuses each request for memory in turn, as bench/no_memory.sh says. Usage: no_memory.py PROGRAM SCRIPT, in a folder with keys/,
+"""Refuses each request for memory in turn, as tools/attacks/no_memory.sh says. Usage: no_memory.py PROGRAM SCRIPT, in a folder with keys/,
 refuse.so, requests.bin and replies.bin."""
 import os
 import subprocess

@@ -1,4 +1,4 @@
-"""Changes recorded requests and replies at random, as bench/mutate.sh says.
+"""Changes recorded requests and replies at random, as tools/attacks/mutate.sh says.
 Usage: mutate.py PROGRAM STREAMS SEED REPOSITORY FOLDER, in an empty folder."""
 import collections
 import glob

@@ -3,7 +3,7 @@
 each case, into a folder: data/ and stdout. Frames, cells (AES-256, HMAC), wrapped keys and faults are made from the formats alone, and
 nothing of the program is used.
 
-Usage: bench/hostile.py crates/hostile_tests
+Usage: tools/hostile.py crates/hostile_tests
 """
 import hashlib
 import hmac

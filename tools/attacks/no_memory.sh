@@ -1,8 +1,8 @@
 #!/bin/sh
 # Each request for memory refused in turn, in a run of every_statement.sql, in its check, in driving it and in serving its requests: the
 # output must be that of the whole, or its beginning with status 5. Prints how many requests there were, and how each came out.
-# A library that refuses them is put before the C library's. Usage: bench/no_memory.sh [PROGRAM], with python3 and cc installed
-. "$(dirname "$0")/lib.sh"
+# A library that refuses them is put before the C library's. Usage: tools/attacks/no_memory.sh [PROGRAM], with python3 and cc installed
+. "$(dirname "$0")/../../bench/lib.sh"
 program=${1:-$top/crates/ae_cli/out/ae_cli}
 [ $# -ge 1 ] || "$top/ae" build
 mkdir keys
@@ -38,6 +38,6 @@ void *realloc(void *kept, size_t size) {
     return is_refused() ? NULL : next(kept, size);
 }
 TEXT
-"$program" run <"$top/bench/every_statement.sql" >text
-python3 "$top/bench/apart.py"
-python3 "$top/bench/no_memory.py" "$program" "$top/bench/every_statement.sql"
+"$program" run <"$top/tools/attacks/every_statement.sql" >text
+python3 "$top/tools/apart.py"
+python3 "$top/tools/attacks/no_memory.py" "$program" "$top/tools/attacks/every_statement.sql"

@@ -1,4 +1,4 @@
-"""Kills a durable server at random moments, as bench/crash.sh says. Usage: crash.py PROGRAM REQUESTS RUNS SEED, in an empty folder."""
+"""Kills a durable server at random moments, as tools/attacks/crash.sh says. Usage: crash.py PROGRAM REQUESTS RUNS SEED, in an empty folder."""
 import os
 import random
 import subprocess
