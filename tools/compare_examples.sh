@@ -1,0 +1,33 @@
+#!/bin/sh
+# Runs each example with the program, in a copy of its folder, and compares what it prints with the stored text. Also compares each
+# script with its copy among the scripts of the gate. Prints a line for each example; ends with status 1 if one differs.
+# Usage: tools/compare_examples.sh [PROGRAM], which is ./ae if it is left out; with - for PROGRAM nothing is run.
+set -u
+top=$(CDPATH="" cd -- "$(dirname -- "$0")/.." && pwd) || exit 1
+program=${1:-$top/ae}
+folder=$(mktemp -d) || exit 1
+trap 'rm -rf "$folder"' EXIT
+differ=0
+
+# says WHAT: prints what differs in the example $name, and notes that something does.
+says() {
+    echo "$name: $1"
+    alike='' differ=1
+}
+
+for script in "$top"/examples/*/script.sql; do
+    example=$(dirname "$script")
+    name=$(basename "$example")
+    alike=1
+    gate=$top/crates/script_tests/data/$(echo "$name" | tr - _).sql
+    cmp -s "$script" "$gate" || says "the script differs from ${gate#"$top/"}"
+    if [ "$program" != - ]; then
+        cp -r "$example" "$folder/$name"
+        status=0
+        (cd "$folder/$name" && "$program" run <script.sql >said) || status=$?
+        [ "$status" -le 1 ] || says "status $status"
+        diff "$example/text" "$folder/$name/said" || says "the text differs"
+    fi
+    [ -z "$alike" ] || echo "$name: alike"
+done
+exit "$differ"
