@@ -3,8 +3,8 @@
 
 Usage: tools/csv_to_script.py TABLE [--types TYPES] [--null TEXT] [--rows N] < FILE.csv > SCRIPT
 
-The first line of the file names the columns. Each needs a type: INT, BIGINT, NVARCHAR(n) or VARBINARY(n), exactly as the
-table declares it. It stands behind the name, as in `id INT,name NVARCHAR(20)`, or in TYPES, as in --types
+The first line of the file names the columns. Each needs a type: INT, BIGINT, NVARCHAR(n) or VARBINARY(n), exactly as
+the table declares it. It stands behind the name, as in `id INT,name NVARCHAR(20)`, or in TYPES, as in --types
 'INT,NVARCHAR(20)', which names with blanks need. A field that equals TEXT is NULL; without --null these are the empty
 ones. Each value becomes a parameter, so protected columns are encrypted. A batch inserts N rows, or as many as the
 limits of a batch allow.
@@ -25,7 +25,8 @@ BITS = {"INT": 32, "BIGINT": 64}
 MOST_SIZE = {"NVARCHAR": 4000, "VARBINARY": 8000}
 KEYWORDS = set(
     """ADD ALTER AND AS ASC BEGIN BY COLLATE COLUMN COMMIT CREATE DELETE DESC DISTINCT DROP FROM GROUP IN INNER INSERT
-    INTO IS JOIN KEY NOT NULL ON OR ORDER ROLLBACK SELECT SET TABLE TOP TRANSACTION UNIQUE UPDATE VALUES WHERE WITH""".split()
+    INTO IS JOIN KEY NOT NULL ON OR ORDER ROLLBACK SELECT SET TABLE TOP TRANSACTION UNIQUE UPDATE VALUES WHERE
+    WITH""".split()
 )
 
 
