@@ -1,7 +1,8 @@
 #!/usr/bin/env python3
 """Proves and builds a program and every crate below it, side by side on all processors.
 
-Usage: build.py TOP PROGRAM LINK [WORD ..], where TOP/crates.txt lists the crates, and LINK names a link beside the program.
+Usage: build.py TOP PROGRAM NAME [WORD ..], where TOP/crates.txt lists the crates. TOP/built gets the program under this name, a
+stamp with the toolchain's version, and the logs; the folders of the crates belong to `rt`.
 With words, it shows meanwhile what an unproved trial run of the program on these words prints for standard input.
 The gate's command (`rt ci`) proves the crates. It keeps what is proved beside the kit, and gives what any checkout on this machine
 has proved. Where nothing can be kept there, each crate is built by `rt lib` as soon as those that it uses are built, the longest
@@ -45,7 +46,7 @@ class Crate:
     def __init__(self, top, name, line, deps):
         self.name, self.line, self.deps = name, line, deps
         self.folder = os.path.join(top, "crates", name)
-        self.log = os.path.join(self.folder, "out", "build.log")
+        self.log = os.path.join(top, "built", "logs", name)
         self.seconds = SECONDS.get(name, OTHER)
         self.chain = self.seconds  # with all that waits for it
 
@@ -202,9 +203,16 @@ def is_kept():
     return os.access(os.path.dirname(os.path.dirname(page)), os.W_OK)
 
 
-def build_by_gate(top, crates, program, preview):
+def take(program, made):
+    """Puts a copy of the program where the launcher starts it, whole or not at all."""
+    shutil.copyfile(program, f"{made}.new")
+    os.chmod(f"{made}.new", 0o755)
+    os.replace(f"{made}.new", made)
+
+
+def build_by_gate(top, crates, program, preview, made):
     """Proves the crates by the gate's command, over a copy without wrong bodies. Raises Failed if that ends before the program."""
-    log, made = crates[program].log, os.path.join(crates[program].folder, "out", program)
+    log = crates[program].log
     room = tempfile.mkdtemp(prefix="ae-build-")
     copy_crates(top, crates, room)
     run, progress = start(["ci"], room, log), Progress(crates, preview)
@@ -218,9 +226,7 @@ def build_by_gate(top, crates, program, preview):
                 raise Failed(log)
             progress.show()
             time.sleep(0.5)
-        shutil.copyfile(os.path.join(room, "crates", program, "out", program), f"{made}.new")
-        os.chmod(f"{made}.new", 0o755)
-        os.replace(f"{made}.new", made)
+        take(os.path.join(room, "crates", program, "out", program), made)
     finally:
         stop(run)
         shutil.rmtree(room, ignore_errors=True)
@@ -234,7 +240,7 @@ def command(crate, program, jobs):
     return ["lib", "--jobs", str(jobs)]
 
 
-def build_each(crates, program, preview):
+def build_each(crates, program, preview, made):
     """Builds all crates, and raises Failed at the first that cannot be built. What runs then is stopped."""
     progress = Progress(crates, preview)
     width, left, running = progress.width, dict(crates), {}
@@ -255,6 +261,7 @@ def build_each(crates, program, preview):
                 del left[name]
                 progress.built(name, time.monotonic() - began < 5)
         progress.show()
+        take(os.path.join(crates[program].folder, "out", program), made)
     finally:
         for run, _ in running.values():
             stop(run)
@@ -276,26 +283,24 @@ def main():
         if signal.getsignal(number) != signal.SIG_IGN:  # as under nohup
             signal.signal(number, signal.default_int_handler)
     crates = crates_of(top, program)
-    began = time.time()
+    began, made = time.time(), os.path.join(top, "built", name)
     version = subprocess.run(["rt", "version"], stdout=subprocess.PIPE, text=True, check=True).stdout
     print(f"ae: proving and building the program, {len(crates)} crates", file=sys.stderr)
     try:
         preview = Preview(top, words) if words else None
         if is_kept():
-            build_by_gate(top, crates, program, preview)
+            build_by_gate(top, crates, program, preview, made)
         else:
-            build_each(crates, program, preview)
+            build_each(crates, program, preview, made)
     except Failed as failed:
         (log,) = failed.args
         sys.exit(f"ae: the program could not be built. The end of {log}:\n{said_of_failure(log)}")
     except KeyboardInterrupt:
         sys.exit("ae: the build was interrupted; the next one resumes here")
-    out = os.path.join(crates[program].folder, "out")
-    link = os.path.join(out, name)
-    if not os.path.lexists(link):
-        os.symlink(program, link)
+    except OSError as why:  # a full disk, say
+        sys.exit(f"ae: the program could not be built: {why}")
     # Its time is that of the beginning, so that a source that changed meanwhile is newer.
-    stamp = os.path.join(out, "built")
+    stamp = os.path.join(top, "built", "stamp")
     with open(stamp, "w", encoding="utf-8") as file:
         file.write(version)
     os.utime(stamp, (began, began))

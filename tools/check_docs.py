@@ -44,7 +44,7 @@ class Crates:
     """What stands in the crates: names, clauses by function, and the words of each file."""
 
     def __init__(self):
-        self.words, self.defined = set(), set()
+        self.words, self.defined, self.fields = set(), set(), set()
         self.by_file, self.clauses = defaultdict(set), defaultdict(set)
         for path in files("*"):
             if path.is_file() and path.suffix in {".rt", ".antt", ".edit", ".sql", ".py", ".sh", ".txt", ".ci", ""}:
@@ -61,6 +61,7 @@ class Crates:
         if path.suffix == ".antt":
             self.by_file[path] = set(WORD.findall(text)) | set(re.findall(r"◌(\S+)◌", text))
             self.defined |= set(re.findall(r"\bpub (?:data |record )?(\w+)", text))
+            self.fields |= set(re.findall(r"(?m)^ +pub (\w+) :", text))
         if path.suffix == ".rt":
             function = ""
             for found in re.finditer(r"\bfn (\w+)|\b(?:ensures|requires) (\w+) \{|\bghost fn (\w+)", text):
@@ -173,8 +174,8 @@ def clauses(document, crates):
     for number, text in document.texts():
         for cited, _, call in CITED.findall(text):
             labels = crates.clauses.get(call, set())
-            for label in WORD.findall(cited):
-                if labels and label not in labels and label != "and" and label[0].islower():
+            for label in WORD.findall(cited.replace(" and ", " ")):
+                if labels and label not in labels | crates.fields and label[0].islower():
                     yield number, f"`{call}` has no clause `{label}`"
         for crate, record, field in re.findall(r"`(\w+)/(\w+)\.(\w+)`", text):
             if crate in crates.names and not {record, field} <= crates.all_words(crate):

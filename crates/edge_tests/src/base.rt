@@ -113,6 +113,7 @@ fn batch_of(alloc: Global, name: ParamName) -> Result<Batch, AllocError> {
     Ok(Batch {
         text: Txt::copied(alloc, "SELECT @p FROM t")?,
         params,
+        forced: Seq::new(alloc),
     })
 }
 

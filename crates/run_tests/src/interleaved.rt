@@ -7,6 +7,7 @@ ghost use Rattle.driver.specs.Clients.{IsOfVault};
 use crate::runs::vault;
 use ae_base::batches::Batch;
 use ae_base::frames::FrameVersion;
+use ae_base::lists::Seq;
 use ae_base::params::ParamList;
 use ae_base::sessions::SessionId;
 use ae_base::texts::Txt;
@@ -106,8 +107,12 @@ fn begun<V: Vault>(
     ensures { IsOfVault (V.keys vault.now) driver.new }
 {
     let text = Txt::copied(alloc, text)?;
-    let params = ParamList::new(alloc);
-    framed(alloc, driver.begin(alloc, number, Batch { text, params })?)
+    let batch = Batch {
+        text,
+        params: ParamList::new(alloc),
+        forced: Seq::new(alloc),
+    };
+    framed(alloc, driver.begin(alloc, number, batch)?)
 }
 
 #[tactic(auto, using(crate::proofs::Keeping::of_same))]

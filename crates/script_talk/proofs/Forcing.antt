@@ -17,6 +17,7 @@ use Rattle.conversation.specs.Batches.{why_unfit, unfit_by}
 use Rattle.conversation.specs.Pending.{Use, uses_in}
 use Rattle.conversation.specs.Sessions.{encs_of, first_open, is_forced, is_sealed, described_params}
 use Rattle.script_talk.specs.Forced.{AreAsLong, DiffersWhereForced, BatchesDiffer}
+use Rattle.script_talk.proofs.Lengths.{within_so}
 
 abbrev pub Differ : List (List ℕ) → List Param → List Param → Type 0
 Differ forced ps qs = AllZip (DiffersWhereForced forced) ps qs
@@ -68,7 +69,7 @@ told_same forced metas (p ∷ ps) [] h encs = absurd h
 
 within_same : (ty : Ty) (v u : Value) → AreAsLong ty v u → value_is_within u ty ≡ value_is_within v ty
 within_same ty value.Null value.Null h = refl
-within_same ty (value.Is d) (value.Is e) h = h.1 ∙ sym h.0
+within_same ty (value.Is d) (value.Is e) h = within_so e ty h.1.1 ∙ sym (within_so d ty h.0.1)
 within_same ty v u h = absurd h
 
 one_fits : (forced : List (List ℕ)) (p q : Param) → DiffersWhereForced forced p q → value_is_within q.value q.declaration.ty ≡ value_is_within p.value p.declaration.ty

@@ -17,7 +17,10 @@ use Rattle.ae_base.specs.declared.values.Datum.{Datum}
 use Rattle.ae_base.specs.declared.values.Value.{Value}
 use Rattle.ae_base.specs.declared.values.Value.TheVariants as value
 use Rattle.ae_edge.specs.Vaults.{KeyMap}
+use Rattle.aes_block.specs.Aes.{IsBlock}
 use Rattle.hmac_kdf.specs.Keys.{Keys}
+use Rattle.value_norm.specs.Norm.{norm}
+use Rattle.cell_codec.specs.Cells.{iv_of}
 use Rattle.key_store.specs.Laws.{OpenedAreDerived}
 use Rattle.key_store.specs.Opening as store
 use Rattle.key_store.specs.declared.faults.KeyFault.{KeyFault}
@@ -31,9 +34,10 @@ use Rattle.conversation.specs.Talk.{Talk, Draws}
 use Rattle.conversation.specs.Turns.{drawing, sealing_value, sent_param, sealing_one, sealing}
 use Rattle.conversation.specs.declared.faults.DriverFault.{DriverFault}
 use Rattle.script_talk.specs.Forced.{AreAsLong, DiffersWhereForced}
-use Rattle.script_talk.specs.Sent.{AreTrusted, AreDrawn, AreCells, IsSentAlike, AreSentAlike, none_left, not_used, is_sent}
+use Rattle.script_talk.specs.Sent.{cell_bytes, AreTrusted, AreDrawn, AreCells, IsSentAlike, AreSentAlike, none_left, not_used, is_sent}
 use Rattle.script_talk.proofs.Alike.{Good, draws, key_goes}
 use Rattle.script_talk.proofs.Forcing.{Differ}
+use Rattle.script_talk.proofs.Lengths.{CellLaws, as_long}
 
 -- ---- keys of trusted values
 
@@ -87,21 +91,43 @@ same_unless forced ty v u (inl e) f = e
 same_unless forced ty v u (inr h) f = let t = h.0 in absurd cc
 
 abbrev AtomsAlike : KeyMap → List (List ℕ) → Bool → Enc → Ty → Value → Value → Atom → Atom → Type 0
-AtomsAlike keys paths forced e ty v u a b = (IsTrue forced → AreCells keys paths e ty v u a b) × (forced ≡ false → b ≡ a)
+AtomsAlike keys paths forced e ty v u a b =
+    (IsTrue forced → AreCells keys paths e ty v u a b) × (forced ≡ false → b ≡ a) × (length (cell_bytes b) ≡ length (cell_bytes a))
 
 not_forced : (forced : Bool) → (forced && not false) ≡ false → IsTrue forced → ⊥
 not_forced true e t = absurd cc
 not_forced false e t = absurd cc
 
-module _ (derived : OpenedAreDerived) (keys : KeyMap) (Pairs : Request → Request → Type 0) (paths : List (List ℕ)) (metas : List KeyMeta) where
+-- their atoms have cells that are equally long
+plain_long : (v u : Value) → length (cell_bytes (plain_atom u)) ≡ length (cell_bytes (plain_atom v))
+plain_long value.Null value.Null = refl
+plain_long value.Null (value.Is e) = refl
+plain_long (value.Is d) value.Null = refl
+plain_long (value.Is d) (value.Is e) = refl
+
+rnd_long : CellLaws → (keys : KeyMap) (paths : List (List ℕ)) (found : Keys) → AreTrusted keys paths found → (forced : Bool) (ty : Ty) (d e : Datum) → Fits forced ty (value.Is d) (value.Is e) → (iv : List ℕ) → IsBlock iv
+    → length (cell_bytes (rnd_atom found ty e iv)) ≡ length (cell_bytes (rnd_atom found ty d iv))
+rnd_long below keys paths found t forced ty d e (inl s) iv n = let same : e ≡ d = cc in ap (λ x. length (cell_bytes (rnd_atom found ty x iv))) same
+rnd_long below keys paths found t forced ty d e (inr h) iv n = as_long below found t.key t.derived iv iv n n ty d e h.1
+
+det_long : CellLaws → (keys : KeyMap) (paths : List (List ℕ)) (found : Keys) → AreTrusted keys paths found → (forced : Bool) (ty : Ty) (v u : Value) → Fits forced ty v u
+    → length (cell_bytes (det_atom found ty u)) ≡ length (cell_bytes (det_atom found ty v))
+det_long below keys paths found t forced ty v u (inl s) = ap (λ x. length (cell_bytes (det_atom found ty x))) s
+det_long below keys paths found t forced ty value.Null value.Null (inr h) = refl
+det_long below keys paths found t forced ty (value.Is d) (value.Is e) (inr h) =
+    as_long below found t.key t.derived (iv_of found (norm d ty)) (iv_of found (norm e ty)) (below.vector found (norm d ty)) (below.vector found (norm e ty)) ty d e h.1
+det_long below keys paths found t forced ty v u (inr h) = absurd h.1
+
+module _ (below : CellLaws) (keys : KeyMap) (Pairs : Request → Request → Type 0) (paths : List (List ℕ)) (metas : List KeyMeta) where
   drawing_goes : (forced : Bool) (id : ℕ) (ty : Ty) (found : Keys) → AreTrusted keys paths found → (v u : Value) → Fits forced ty v u → (k j : Atom → Talk)
       → ((a b : Atom) → AtomsAlike keys paths forced (enc.Rnd id) ty v u a b → Good keys Pairs (k a) (j b)) → Good keys Pairs (drawing found ty v k) (drawing found ty u j)
-  drawing_goes forced id ty found t value.Null value.Null f k j h = h atom.Null atom.Null ((λ i. (found, t, (refl, refl))), (λ e. refl))
+  drawing_goes forced id ty found t value.Null value.Null f k j h = h atom.Null atom.Null ((λ i. (found, t, (refl, refl))), (λ e. refl), refl)
   drawing_goes forced id ty found t (value.Is d) (value.Is e) f k j h =
       draws keys Pairs (λ iv. k (rnd_atom found ty d iv)) (λ iv. j (rnd_atom found ty e iv))
       (λ iv n. h (rnd_atom found ty d iv) (rnd_atom found ty e iv) (
         (λ i. (found, t, (iv, n, refl, refl))),
         (λ i. let s = same_unless forced ty (value.Is d) (value.Is e) f i in let same : e ≡ d = cc in ap (λ x. rnd_atom found ty x iv) same),
+        rnd_long below keys paths found t forced ty d e f iv n,
       ))
   drawing_goes forced id ty found t value.Null (value.Is e) (inl s) k j h = absurd cc
   drawing_goes forced id ty found t value.Null (value.Is e) (inr s) k j h = absurd s.1
@@ -112,14 +138,15 @@ module _ (derived : OpenedAreDerived) (keys : KeyMap) (Pairs : Request → Reque
       → ((a b : Atom) → AtomsAlike keys paths forced e ty v u a b → Good keys Pairs (k a) (j b)) → ((f : DriverFault) → Good keys Pairs (fails f) (lacks f))
       → Good keys Pairs (sealing_value paths metas e ty v k fails) (sealing_value paths metas e ty u j lacks)
   value_goes forced enc.Plain ty v u f c k j fails lacks h g =
-      h (plain_atom v) (plain_atom u) ((λ t. absurd (not_forced forced c t)), (λ i. ap plain_atom (same_unless forced ty v u f i)))
+      h (plain_atom v) (plain_atom u) ((λ t. absurd (not_forced forced c t)), (λ i. ap plain_atom (same_unless forced ty v u f i)), plain_long v u)
   value_goes forced (enc.Det id) ty v u f c k j fails lacks h g =
       key_goes keys Pairs paths (meta_of metas id) (λ found. k (det_atom found ty v)) (λ found. j (det_atom found ty u)) fails lacks
-      (λ found told t e. h (det_atom found ty v) (det_atom found ty u)
-      ((λ i. (found, trusted_found derived keys paths (meta_of metas id) told found t e, refl, refl)), (λ i. ap (det_atom found ty) (same_unless forced ty v u f i)))) g
+      (λ found told t e. let trusted = trusted_found below.opened keys paths (meta_of metas id) told found t e in
+      h (det_atom found ty v) (det_atom found ty u)
+      ((λ i. (found, trusted, refl, refl)), (λ i. ap (det_atom found ty) (same_unless forced ty v u f i)), det_long below keys paths found trusted forced ty v u f)) g
   value_goes forced (enc.Rnd id) ty v u f c k j fails lacks h g =
       key_goes keys Pairs paths (meta_of metas id) (λ found. drawing found ty v k) (λ found. drawing found ty u j) fails lacks
-      (λ found told t e. drawing_goes forced id ty found (trusted_found derived keys paths (meta_of metas id) told found t e) v u f k j h) g
+      (λ found told t e. drawing_goes forced id ty found (trusted_found below.opened keys paths (meta_of metas id) told found t e) v u f k j h) g
 
   -- ---- the parameters of a batch
 
@@ -156,6 +183,7 @@ module _ (derived : OpenedAreDerived) (keys : KeyMap) (Pairs : Request → Reque
         same = ap (λ (x : ParamDecl). let s : SentParam = record { name = x.name; ty = x.ty; enc = e; atom = b } in s) d.0.0;
         cells = atoms.0;
         equal = atoms.1;
+        long = atoms.2;
       }) s)) g) g)
   sealing_goes forced [] (q ∷ qs) encs d c k j fails lacks h g = absurd d
   sealing_goes forced (p ∷ ps) [] encs d c k j fails lacks h g = absurd d

@@ -7,7 +7,7 @@ use Rattle.ae_base.specs.declared.batches.Param.{Param}
 use Rattle.ae_base.specs.declared.batches.ParamDecl.{ParamDecl}
 use Rattle.ae_base.specs.declared.types.Enc.{Enc}
 use Rattle.ae_edge.specs.Vaults.{KeyMap}
-use Rattle.key_store.specs.Laws.{OpenedAreDerived}
+use Rattle.aes_block.specs.Bytes.{AreBytes}
 use Rattle.wire_messages.specs.Messages.{Description}
 use Rattle.wire_messages.specs.declared.params.SentParam.{SentParam}
 use Rattle.wire_messages.specs.declared.replies.Reply.{Reply}
@@ -36,6 +36,7 @@ use Rattle.script_talk.specs.Sent.{AreSentAlike, Pair, IsAskedAlike, pair_of}
 use Rattle.script_talk.specs.Steps.{turn}
 use Rattle.script_talk.proofs.Alike.{Good, IsFree, says, asks, sent_goes, missed_goes}
 use Rattle.script_talk.proofs.Forcing.{declarations_same, encs_same, open_same, told_same, unfit_same}
+use Rattle.script_talk.proofs.Lengths.{CellLaws}
 use Rattle.script_talk.proofs.Sealing.{sealing_goes}
 
 -- one of these pairs, described alike, whose forced parameters are sealed
@@ -73,7 +74,7 @@ held_more pairs more number s t (inr (p, q, e, d, h)) = inr (
   },
 )
 
-module _ (derived : OpenedAreDerived) (keys : KeyMap) (Pairs : Request → Request → Type 0) (paths : List (List ℕ)) (pairs : List Pair) (number : ℕ)
+module _ (below : CellLaws) (keys : KeyMap) (Pairs : Request → Request → Type 0) (paths : List (List ℕ)) (pairs : List Pair) (number : ℕ)
     (asked_so : (r s : Request) → IsAskedAlike keys paths pairs number r s → Pairs r s)
     (k j : Session → Talk) (go : (s t : Session) → Held pairs number s t → Good keys Pairs (k s) (j t)) where
   abbrev Follow : Talk → Talk → Type 0
@@ -102,7 +103,7 @@ module _ (derived : OpenedAreDerived) (keys : KeyMap) (Pairs : Request → Reque
       let second : Pending = record { batch = other; version = p.version; keys = p.keys; encs = p.encs } in
       let same : p ≡ first = ap (λ (b : Batch). let x : Pending = record { batch = b; version = p.version; keys = p.keys; encs = p.encs } in x) h.batch in
       subst (λ x. executes x q) (sym same) (subst (λ y. executes first y) (sym h.is)
-      (sealing_goes derived keys Pairs paths p.keys batch.forced batch.params other.params p.encs h.differ.params h.closed (sends p.version batch.text k) (sends p.version other.text j) (refuses k) (refuses j)
+      (sealing_goes below keys Pairs paths p.keys batch.forced batch.params other.params p.encs h.differ.params h.closed (sends p.version batch.text k) (sends p.version other.text j) (refuses k) (refuses j)
       (λ sent others s.
       asks keys Pairs (request.Execute number p.version batch.text sent) (request.Execute number p.version other.text others) (Hears session.Sent nothing_shown (answered_on paths k)) (Hears session.Sent nothing_shown (answered_on paths j))
       (asked_so (request.Execute number p.version batch.text sent) (request.Execute number p.version other.text others)
@@ -149,24 +150,24 @@ module _ (derived : OpenedAreDerived) (keys : KeyMap) (Pairs : Request → Reque
     abbrev heard_at : Batch → ℕ → List Reply → Option (Turn DescribeAnswer) → Listened
     heard_at b taken replies o = heard_one (λ after more. listen replies after more (suc taken)) None taken replies (heard_description o)
 
-    described_goes : (taken : ℕ) (entropy : List ℕ) (replies : List Reply) (d : Description) (o : Option (List (Option Enc))) → encs_of batch.params d.params ≡ o
+    described_goes : (taken : ℕ) (entropy : List ℕ) → AreBytes entropy → (replies : List Reply) (d : Description) (o : Option (List (Option Enc))) → encs_of batch.params d.params ≡ o
         → HeardAlike taken entropy (heard_at batch taken replies (described_as batch d o)) (heard_at other taken replies (described_as other d o))
-    described_goes taken entropy replies d None e = missed_goes keys Pairs None entropy taken
-    described_goes taken entropy replies d (Some encs) e =
+    described_goes taken entropy b replies d None e = missed_goes keys Pairs None entropy taken
+    described_goes taken entropy b replies d (Some encs) e =
         let same : first_open other.forced other.params encs ≡ first_open batch.forced batch.params encs =
         ap (λ forced. first_open forced other.params encs) differ.forced ∙ open_same batch.forced batch.params other.params differ.params encs in
         subst (λ o. HeardAlike taken entropy (heard_at batch taken replies (described_as batch d (Some encs))) (heard_at other taken replies (Some (readied other d encs o)))) (sym same)
-        (readied_goes d encs (first_open batch.forced batch.params encs) refl (suc taken) entropy replies)
+        (readied_goes d encs (first_open batch.forced batch.params encs) refl (suc taken) entropy replies b)
 
     description_goes : Follow (Hears (session.Begun batch) nothing_shown (described_on ready k)) (Hears (session.Begun other) nothing_shown (described_on again j))
-    description_goes taken entropy [] = missed_goes keys Pairs None entropy taken
-    description_goes taken entropy (reply.Described d ∷ replies) =
+    description_goes taken entropy [] b = missed_goes keys Pairs None entropy taken
+    description_goes taken entropy (reply.Described d ∷ replies) b =
         subst (λ o. HeardAlike taken entropy (heard_at batch taken replies (described_as batch d (encs_of batch.params d.params))) (heard_at other taken replies (described_as other d o)))
-        (sym (encs_same batch.forced batch.params other.params differ.params d.params)) (described_goes taken entropy replies d (encs_of batch.params d.params) refl)
-    description_goes taken entropy (reply.Refused f ∷ replies) = says keys Pairs (outcome.Refused f) (k session.Idle) (j session.Idle) (go_free session.Idle tt) (suc taken) entropy replies
-    description_goes taken entropy (reply.Columns header ∷ replies) = missed_goes keys Pairs None entropy taken
-    description_goes taken entropy (reply.Row atoms ∷ replies) = missed_goes keys Pairs None entropy taken
-    description_goes taken entropy (reply.Ended done ∷ replies) = missed_goes keys Pairs None entropy taken
+        (sym (encs_same batch.forced batch.params other.params differ.params d.params)) (described_goes taken entropy b replies d (encs_of batch.params d.params) refl)
+    description_goes taken entropy (reply.Refused f ∷ replies) b = says keys Pairs (outcome.Refused f) (k session.Idle) (j session.Idle) (go_free session.Idle tt) (suc taken) entropy replies b
+    description_goes taken entropy (reply.Columns header ∷ replies) b = missed_goes keys Pairs None entropy taken
+    description_goes taken entropy (reply.Row atoms ∷ replies) b = missed_goes keys Pairs None entropy taken
+    description_goes taken entropy (reply.Ended done ∷ replies) b = missed_goes keys Pairs None entropy taken
 
     abbrev begins_so : Batch → (Pending → Talk) → (Session → Talk) → Option DriverFault → Talk
     begins_so batch ready k o = let t = begun number (unless o batch) in asked (λ after. Hears after nothing_shown (described_on ready k)) k t.answer t.after
@@ -209,7 +210,7 @@ module _ (derived : OpenedAreDerived) (keys : KeyMap) (Pairs : Request → Reque
       (says keys Pairs (outcome.Described (described_params p.keys (uses_of p))) (k (session.Pending p)) (j (session.Pending q)) (go (session.Pending p) (session.Pending q) (inr (p, q, refl, refl, h))))
 
 -- a turn, after which its own batches are among the pairs
-module _ (derived : OpenedAreDerived) (keys : KeyMap) (Pairs : Request → Request → Type 0) (paths : List (List ℕ)) (before : List Pair) (number : ℕ) (k j : Session → Talk) where
+module _ (below : CellLaws) (keys : KeyMap) (Pairs : Request → Request → Type 0) (paths : List (List ℕ)) (before : List Pair) (number : ℕ) (k j : Session → Talk) where
   pub turn_goes : (a b : Act) → ActsDiffer a b → (s t : Session) → Held before number s t
       → let pairs = before ++ pair_of number a b in
       ((x y : Request) → IsAskedAlike keys paths pairs number x y → Pairs x y)
@@ -218,15 +219,15 @@ module _ (derived : OpenedAreDerived) (keys : KeyMap) (Pairs : Request → Reque
   turn_goes (act.Whole batch) (act.Whole other) d s t h asked_so go =
       let pair : Pair = record { session = number; batch = batch; other = other } in
       let pairs = before ++ pair ∷ [] in
-      begins derived keys Pairs paths pairs number asked_so k j go pair (Contains-append_right before (pair ∷ []) pair (0, omega arith, refl)) refl d
+      begins below keys Pairs paths pairs number asked_so k j go pair (Contains-append_right before (pair ∷ []) pair (0, omega arith, refl)) refl d
       (λ p. executing paths number (session.Pending p) k) (λ p. executing paths number (session.Pending p) j)
-      (pair_executes derived keys Pairs paths pairs number asked_so k j go) s t (held_more before (pair ∷ []) number s t h)
+      (pair_executes below keys Pairs paths pairs number asked_so k j go) s t (held_more before (pair ∷ []) number s t h)
   turn_goes (act.Half batch) (act.Half other) d s t h asked_so go =
       let pair : Pair = record { session = number; batch = batch; other = other } in
       let pairs = before ++ pair ∷ [] in
-      begins derived keys Pairs paths pairs number asked_so k j go pair (Contains-append_right before (pair ∷ []) pair (0, omega arith, refl)) refl d
+      begins below keys Pairs paths pairs number asked_so k j go pair (Contains-append_right before (pair ∷ []) pair (0, omega arith, refl)) refl d
       (λ p. Prints (outcome.Described (described_params p.keys (uses_of p))) (k (session.Pending p))) (λ p. Prints (outcome.Described (described_params p.keys (uses_of p))) (j (session.Pending p)))
-      (waits derived keys Pairs paths pairs number asked_so k j go) s t (held_more before (pair ∷ []) number s t h)
+      (waits below keys Pairs paths pairs number asked_so k j go) s t (held_more before (pair ∷ []) number s t h)
   turn_goes act.Execute act.Execute d s t h asked_so go =
-      executes derived keys Pairs paths (before ++ []) number asked_so k j go s t (held_more before [] number s t h)
+      executes below keys Pairs paths (before ++ []) number asked_so k j go s t (held_more before [] number s t h)
   turn_goes a b d s t h asked_so go = absurd d

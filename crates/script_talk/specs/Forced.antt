@@ -1,7 +1,7 @@
 -- Lists of steps that differ in the values of forced parameters alone.
 use Rattle.std.specs.Prelude.{◌≡◌, ◌⊎◌, ℕ, List, length, IsTrue}
 use Rattle.std.specs.List.{AllZip}
-use Rattle.ae_base.specs.Values.{is_within}
+use Rattle.ae_base.specs.Values.{DatumFits}
 use Rattle.ae_base.specs.declared.batches.Batch.{Batch}
 use Rattle.ae_base.specs.declared.batches.Param.{Param}
 use Rattle.ae_base.specs.declared.types.Ty.{Ty}
@@ -14,10 +14,10 @@ use Rattle.script_lang.specs.declared.steps.Act.TheVariants.{Whole, Half, Execut
 use Rattle.script_lang.specs.declared.steps.Step.{Step}
 use Rattle.script_lang.specs.declared.steps.Step.TheVariants.{Turn, Trust}
 
--- NULL goes with NULL; else both fit the type, and their cell bytes are as long
+-- NULL goes with NULL; else both fit the type, and their cell bytes are equally long
 abbrev pub AreAsLong : Ty → Value → Value → Type 0
 AreAsLong ty value.Null value.Null = Unit {0}
-AreAsLong ty (value.Is datum) (value.Is other) = IsTrue (is_within datum ty) × IsTrue (is_within other ty) × (length (norm other ty) ≡ length (norm datum ty))
+AreAsLong ty (value.Is datum) (value.Is other) = DatumFits datum ty × DatumFits other ty × (length (norm other ty) ≡ length (norm datum ty))
 AreAsLong ty v u = ⊥
 
 -- one name and type, and one value, unless the parameter is forced

@@ -1,7 +1,7 @@
 -- What is sent for two lists of steps that differ in the values of forced parameters alone.
 use Rattle.std.specs.Prelude.{◌≡◌, ◌⊎◌, ℕ, List, [], ◌∷◌, ◌++◌, Contains, length, IsTrue, false, Some}
 use Rattle.ae_base.specs.Atoms.{Atom}
-use Rattle.ae_base.specs.declared.atoms.AtomOf.TheVariants.{Null}
+use Rattle.ae_base.specs.declared.atoms.AtomOf.TheVariants.{Null, Plain, Sealed}
 use Rattle.ae_base.specs.declared.batches.Batch.{Batch}
 use Rattle.ae_base.specs.declared.batches.Param.{Param}
 use Rattle.ae_base.specs.declared.key_values.KeyValue.{KeyValue}
@@ -10,6 +10,7 @@ use Rattle.ae_base.specs.declared.types.Enc.TheVariants as enc
 use Rattle.ae_base.specs.declared.types.Ty.{Ty}
 use Rattle.ae_base.specs.declared.values.Value.{Value}
 use Rattle.ae_base.specs.declared.values.Value.TheVariants as value
+use Rattle.aes_block.specs.Aes.{IsBlock}
 use Rattle.ae_edge.specs.Vaults.{KeyMap}
 use Rattle.hmac_kdf.specs.Keys.{Keys, keys_of}
 use Rattle.key_store.specs.Opening.{opened}
@@ -37,7 +38,7 @@ pub record AreTrusted (keys : KeyMap) (paths : List (List ℕ)) (found : Keys) :
 -- NULL and NULL, or the cells of two values under the same 16 bytes
 abbrev pub AreDrawn : Keys → Ty → Value → Value → Atom → Atom → Type 0
 AreDrawn found ty value.Null value.Null a b = (a ≡ Null) × (b ≡ Null)
-AreDrawn found ty (value.Is datum) (value.Is other) a b = (iv : List ℕ) × (length iv ≡ 16) × (a ≡ rnd_atom found ty datum iv) × (b ≡ rnd_atom found ty other iv)
+AreDrawn found ty (value.Is datum) (value.Is other) a b = (iv : List ℕ) × IsBlock iv × (a ≡ rnd_atom found ty datum iv) × (b ≡ rnd_atom found ty other iv)
 AreDrawn found ty v u a b = ⊥
 
 -- what is sent of two values: NULL and NULL, or their cells, under such a key
@@ -48,13 +49,20 @@ AreCells keys paths (enc.Rnd id) ty v u a b = (found : Keys) × AreTrusted keys 
 
 -- ---- requests
 
--- a parameter as it is sent for the one list and for the other: equal, but for the atoms of a forced one
+-- the bytes of an atom's cell, if it is one
+abbrev pub cell_bytes : Atom → List ℕ
+cell_bytes Null = []
+cell_bytes (Plain datum) = []
+cell_bytes (Sealed cell) = cell
+
+-- a parameter as it is sent for the one list and for the other: equal, but for the atoms of a forced one, which are equally long
 pub record IsSentAlike (keys : KeyMap) (paths forced : List (List ℕ)) (p q : Param) (sent other : SentParam) : Type 0 where
   pub name : sent.name ≡ p.declaration.name
   pub typed : sent.ty ≡ p.declaration.ty
   pub same : other ≡ record { name = sent.name; ty = sent.ty; enc = sent.enc; atom = other.atom }
   pub cells : IsTrue (is_forced forced p) → AreCells keys paths sent.enc sent.ty p.value q.value sent.atom other.atom
   pub equal : is_forced forced p ≡ false → other.atom ≡ sent.atom
+  pub long : length (cell_bytes other.atom) ≡ length (cell_bytes sent.atom)
 
 -- those of the parameters that are used, in their order
 pub data AreSentAlike (keys : KeyMap) (paths forced : List (List ℕ)) : List Param → List Param → List SentParam → List SentParam → Type 0 where

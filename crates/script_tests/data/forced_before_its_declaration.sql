@@ -1,0 +1,4 @@
+:force @p
+DECLARE @p INT = 1
+SELECT 1 FROM t
+GO

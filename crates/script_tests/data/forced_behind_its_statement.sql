@@ -1,0 +1,4 @@
+DECLARE @p INT = 1
+SELECT 1 FROM t
+:force @p
+GO

@@ -1,0 +1,4 @@
+DECLARE @p INT = 1
+:force @P
+SELECT 1 FROM t
+GO

@@ -1,0 +1,39 @@
+CREATE COLUMN MASTER KEY M WITH (KEY_STORE_PROVIDER_NAME = N'KEYFILE', KEY_PATH = N'main')
+GO
+CREATE COLUMN ENCRYPTION KEY K WITH VALUES (COLUMN_MASTER_KEY = M, ALGORITHM = 'AES_256_KW', ENCRYPTED_VALUE = 0x28C9F404C4B810F4CBCCB35CFB87F8263F5786E2D80ED326CBC7F0E71A99F43BFB988B9B7A02DD21)
+GO
+CREATE TABLE u (id INT, c NVARCHAR(8) ENCRYPTED WITH (COLUMN_ENCRYPTION_KEY = K, ENCRYPTION_TYPE = DETERMINISTIC, ALGORITHM = 'AEAD_AES_256_CBC_HMAC_SHA256'))
+GO
+DECLARE @p NVARCHAR(8) = N'x'
+INSERT INTO u (id, c) VALUES (1, @p)
+GO
+DECLARE @p NVARCHAR(8) = N'y'
+INSERT INTO u (id, c) VALUES (2, @p)
+:describe
+-- The key was opened and is kept; its path isn't trusted any more.
+:trust other
+:execute
+SELECT id FROM u
+GO
+SELECT c FROM u
+GO
+-- In every session.
+:session 2
+DECLARE @p NVARCHAR(8) = N'y'
+INSERT INTO u (id, c) VALUES (2, @p)
+GO
+-- NULL in a protected column asks for the key too.
+DECLARE @p NVARCHAR(8) = NULL
+INSERT INTO u (id, c) VALUES (2, @p)
+GO
+-- The path ` main`, with a blank at its head.
+:trust  main
+DECLARE @p NVARCHAR(8) = N'y'
+INSERT INTO u (id, c) VALUES (2, @p)
+GO
+:trust main 	
+DECLARE @p NVARCHAR(8) = N'y'
+INSERT INTO u (id, c) VALUES (2, @p)
+GO
+SELECT c FROM u
+GO

@@ -1,0 +1,2 @@
+:trust main
+:trust 
