@@ -5,7 +5,7 @@
 # Usage: bench/frames.sh [N [PROGRAM]], N at most 250000, with python3 and its sqlite3
 . "$(dirname "$0")/lib.sh"
 n=${1:-250000}
-program=${2:-$top/crates/ae_cli/out/ae_cli}
+program=${2:-$top/built/ae}
 [ $# -ge 2 ] || "$top/ae" build
 mkdir keys
 echo 000102030405060708090a0b0c0d0e0f101112131415161718191a1b1c1d1e1f >keys/main.key

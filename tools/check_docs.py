@@ -26,8 +26,8 @@ CODE = re.compile(r"`([^`]+)`")
 WORD = re.compile(r"[^\W\d]\w*")
 NAME = re.compile(r"^[A-Za-z_]\w*(?:(?:::|\.)[A-Za-z_]\w*)*(?:\(\))?$")
 FILE = re.compile(r"^[\w.~*-]*(?:/[\w.*-]+)*\.(?:md|rt|antt|edit|py|sh|sql|txt|bin|key)$|^[\w.-]+(?:/[\w.*-]*)+$")
-# Files of a user, and patterns of names.
-ABSENT = re.compile(r"\.(bin|key|csv)$|^~|\bNAME(\b|_)|^(text|keys|script\.sql|specs/|proofs/)")
+# Files that are made, files of a user, and patterns of names.
+ABSENT = re.compile(r"^built/|\.(bin|key|csv)$|^~|\bNAME(\b|_)|^(text|keys|script\.sql|specs/|proofs/)")
 CITED = re.compile(r"((?:`\w+`(?:, | and )?)+) of `(?:\w+::)*(\w+::)?(\w+)`")
 
 

@@ -1,6 +1,7 @@
 #!/bin/sh
-# Runs each example with the program, in a copy of its folder, and compares what it prints with the stored text. Also compares each
-# script with its copy among the scripts of the gate. Prints a line for each example; ends with status 1 if one differs.
+# Runs each example with the program, in a copy of its folder, and compares what it prints with the stored text. An example with a
+# file replies.bin is driven over it. Also compares each script that is run with its copy among the scripts of the gate. Prints a
+# line for each example; ends with status 1 if one differs.
 # Usage: tools/compare_examples.sh [PROGRAM], which is ./ae if it is left out; with - for PROGRAM nothing is run.
 set -u
 top=$(CDPATH="" cd -- "$(dirname -- "$0")/.." && pwd) || exit 1
@@ -15,18 +16,22 @@ says() {
     alike='' differ=1
 }
 
-for script in "$top"/examples/*/script.sql; do
+for script in "$top"/examples/*/script.sql "$top"/examples/*/*/script.sql; do
     example=$(dirname "$script")
-    name=$(basename "$example")
-    alike=1
-    gate=$top/crates/script_tests/data/$(echo "$name" | tr - _).sql
-    cmp -s "$script" "$gate" || says "the script differs from ${gate#"$top/"}"
+    name=${example#"$top/examples/"}
+    alike=1 command=run
+    if [ -f "$example/replies.bin" ]; then
+        command=drive
+    else
+        gate=$top/crates/script_tests/data/$(echo "$name" | tr - _).sql
+        cmp -s "$script" "$gate" || says "the script differs from ${gate#"$top/"}"
+    fi
     if [ "$program" != - ]; then
-        cp -r "$example" "$folder/$name"
+        rm -rf "$folder/at" && cp -r "$example" "$folder/at"
         status=0
-        (cd "$folder/$name" && "$program" run <script.sql >said) || status=$?
+        (cd "$folder/at" && "$program" "$command" <script.sql >said) || status=$?
         [ "$status" -le 1 ] || says "status $status"
-        diff "$example/text" "$folder/$name/said" || says "the text differs"
+        diff "$example/text" "$folder/at/said" || says "the text differs"
     fi
     [ -z "$alike" ] || echo "$name: alike"
 done

@@ -5,6 +5,6 @@
 # Usage: tools/attacks/mutate.sh [STREAMS [SEED [PROGRAM]]], with python3 installed; STREAMS of each kind, 1,000,000 if left out
 started=$(pwd)
 . "$(dirname "$0")/../../bench/lib.sh"
-program=${3:-$top/crates/ae_cli/out/ae_cli}
+program=${3:-$top/built/ae}
 [ $# -ge 3 ] || "$top/ae" build
 python3 "$top/tools/attacks/mutate.py" "$program" "${1:-1000000}" "${2:-1}" "$top" "$started"

@@ -3,7 +3,7 @@
 # output must be that of the whole, or its beginning with status 5. Prints how many requests there were, and how each came out.
 # A library that refuses them is put before the C library's. Usage: tools/attacks/no_memory.sh [PROGRAM], with python3 and cc installed
 . "$(dirname "$0")/../../bench/lib.sh"
-program=${1:-$top/crates/ae_cli/out/ae_cli}
+program=${1:-$top/built/ae}
 [ $# -ge 1 ] || "$top/ae" build
 mkdir keys
 echo 000102030405060708090a0b0c0d0e0f101112131415161718191a1b1c1d1e1f >keys/main.key
