@@ -37,9 +37,17 @@ def syncs(words):
     if os.path.exists("journal.bin"):
         os.remove("journal.bin")
     with open("requests", "rb") as given:
-        said = subprocess.run(["strace", "-f", "-c", "-e", "trace=fsync,fdatasync", *words], stdin=given,
-                              stdout=subprocess.DEVNULL, stderr=subprocess.PIPE, check=True).stderr.decode()
-    return sum(int(it) for it in re.findall(r"^ *[\d.]+ +[\d.]+ +\d+ +(\d+) .*sync$", said, re.M))
+        traced = ["strace", "-f", "-c", "-e", "trace=fsync,fdatasync", *words]
+        ran = subprocess.run(traced, stdin=given, stdout=subprocess.DEVNULL, stderr=subprocess.PIPE, check=True)
+    return sum(int(it) for it in re.findall(r"^ *[\d.]+ +[\d.]+ +\d+ +(\d+) .*sync$", ran.stderr.decode(), re.M))
+
+
+def durable_syncs():
+    """How often a durable server synced: three times at its start and twice for each record, or it isn't durable."""
+    count = syncs([program, "serve", "--journal"])
+    if count not in ("-", 3 + 2 * (inserts + 1)):
+        sys.exit(f"{count} syncs for {inserts + 1} records")
+    return count
 
 
 def row(what, seconds, count):
@@ -48,7 +56,7 @@ def row(what, seconds, count):
 
 print(f"{inserts} INSERTs: seconds, milliseconds of a request, syncs")
 row("served", timed([program, "serve"]), syncs([program, "serve"]))
-row("served with a journal", timed([program, "serve", "--journal"]), syncs([program, "serve", "--journal"]))
+row("served with a journal", timed([program, "serve", "--journal"]), durable_syncs())
 try:
     import sqlite3
 except ImportError:
