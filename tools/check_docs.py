@@ -88,7 +88,7 @@ class Document:
     def __init__(self, path):
         self.path, self.name = path, of_top(path)
         self.lines = path.read_text(encoding="utf-8").splitlines()
-        self.blocks, self.cells, self.anchors = [], [], set()
+        self.blocks, self.cells, self.anchors, self.columns = [], [], set(), []
         self.take_apart()
 
     def take_apart(self):
@@ -119,13 +119,15 @@ class Document:
         self.anchors.add(re.sub(r" ", "-", re.sub(r"[^\w\- ]", "", title)))
 
     def row(self, number, line):
-        if not re.match(r"^\|[\s:|-]+\|$", line):
-            self.cells.append((number, [cell.strip() for cell in line.strip().strip("|").split("|")]))
+        if re.match(r"^\|( *:?-+:? *\|)+$", line):
+            self.columns = self.cells.pop()[1]
+        else:
+            self.cells.append((number, [cell.strip() for cell in line.strip().strip("|").split("|")], self.columns))
 
     def texts(self):
         """Gives each paragraph and each cell, with its line."""
         yield from self.blocks
-        for number, row in self.cells:
+        for number, row, _ in self.cells:
             for cell in row:
                 yield number, cell
 
@@ -180,9 +182,7 @@ def clauses(document, crates):
         for crate, record, field in re.findall(r"`(\w+)/(\w+)\.(\w+)`", text):
             if crate in crates.names and not {record, field} <= crates.all_words(crate):
                 yield number, f"no clause `{crate}/{record}.{field}`"
-    head = []
-    for number, row in document.cells:
-        head = row if "clause" in row else head
+    for number, row, head in document.cells:
         if "clause" in head and len(row) == len(head):
             for code in CODE.findall(row[head.index("clause")]):
                 if WORD.fullmatch(code) and code not in crates.defined:
@@ -191,10 +191,8 @@ def clauses(document, crates):
 
 def homes(document, crates):
     """Definitions of a table `definition | home` that don't stand in the files of their home."""
-    head = []
-    for number, row in document.cells:
-        head = row if "home" in row else head
-        if "home" not in head or row is head or len(row) != len(head):
+    for number, row, head in document.cells:
+        if "home" not in head or len(row) != len(head):
             continue
         home = re.sub(r"\([^)]*\)", "", row[head.index("home")])
         words = set()
@@ -266,7 +264,7 @@ def sentences(document):
 
 def widths(document):
     """Cells of tables that are paragraphs."""
-    for number, row in document.cells:
+    for number, row, _ in document.cells:
         for cell in row:
             if len(cell) > MOST_CELL:
                 yield number, f"a cell of {len(cell)} characters: {cell[:50]} .."
