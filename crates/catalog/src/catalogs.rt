@@ -147,6 +147,13 @@ impl Catalog {
             .find(|table| table.name == *name)
     }
 
+    /// The tables, in the order of their definitions.
+    pub fn tables(&self) -> &[TableDef]
+        ensures { result.now ≡ self.now.tables }
+    {
+        self.tables.as_slice()
+    }
+
     /// The place of the table of a name among the tables, from 0. It takes no memory.
     pub fn table_place(&self, name: &Name) -> Option<usize>
         ensures { result ≡ table_place self.now name.now }

@@ -1,7 +1,7 @@
 //! Tables: rows in pages, with an index for each unique key.
 
-ghost use Rattle.std.specs.Prelude.{◌≡◌, ◌<◌, ◌≤◌, ◌++◌, [], List, length, map, OnOk, OnErr, IfOk};
-ghost use Rattle.std.specs.List.{All};
+ghost use Rattle.std.specs.Prelude.{◌≡◌, ◌<◌, ◌≤◌, ◌++◌, [], List, length, map, slice_index_or, OnOk, OnErr, IfOk};
+ghost use Rattle.std.specs.List.{All, Contains};
 ghost use Rattle.ae_base.specs.Atoms.{Atom};
 ghost use Rattle.ae_base.specs.Results.{Answers, AnswersAs};
 ghost use Rattle.sql_tree.specs.Bound.{assignment_of};
@@ -91,6 +91,24 @@ impl<K: Same> Table<K> {
         self.rows.rows()
     }
 
+    /// The row at a place, from 0.
+    pub fn get(&self, place: usize) -> &Row<K>
+        requires { place < length self.now.rows }
+        ensures { (default : List Atom)
+            → result.now ≡ slice_index_or self.now.rows place default }
+    {
+        self.rows.get(place)
+    }
+
+    /// The index of a unique key.
+    pub fn index_on(&self, places: &[usize]) -> &UniqueIndex<K>
+        requires { Contains self.now.keys places.now }
+        ensures places { result.now.places ≡ places.now }
+        ensures rows { IndexesRows self.now.rows result.now }
+    {
+        index_among(self.indexes.as_slice(), places)
+    }
+
     /// Puts rows at the end, all of them or, where two rows are alike on a unique key or there is
     /// no memory, none.
     pub fn insert(&mut self, alloc: Global, rows: Rows<K>) -> Result<(), Refusal>
@@ -167,6 +185,21 @@ impl<K: Same> Duplicate for Table<K> {
             rows: self.rows.copy()?,
         })
     }
+}
+
+/// The index of a key that one of some indexes has.
+fn index_among<'i, K: Same>(indexes: &'i [UniqueIndex<K>], places: &[usize]) -> &'i UniqueIndex<K>
+    requires { Contains (keys_of indexes.now) places.now }
+    ensures places { result.now.places ≡ places.now }
+    ensures all { (rows : List (List Atom)) → All (IndexesRows rows) indexes.now
+        → IndexesRows rows result.now }
+{
+    for index in indexes {
+        if index.places() == places {
+            return index;
+        }
+    }
+    unreachable!()
 }
 
 /// Indexes of no rows for these keys.

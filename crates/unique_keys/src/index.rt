@@ -3,7 +3,7 @@
 ghost use Rattle.std.specs.Prelude.{◌≡◌, ◌++◌, List, length, map, not, false, is_some, IfSome, IfOk, OnOk};
 ghost use Rattle.ae_base.specs.Atoms.{Atom};
 ghost use Rattle.operators.specs.Alike.{key_of};
-ghost use Rattle.key_index.specs.Places.{nothing};
+ghost use Rattle.key_index.specs.Places.{nothing, places_at};
 ghost use Rattle.unique_keys.specs.Indexes.{IndexesRows, IndexesFirst};
 ghost use Rattle.unique_keys.specs.Keys.{has_twins};
 
@@ -56,6 +56,13 @@ impl<K: Same> UniqueIndex<K> {
         ensures { result.now ≡ self.now.places }
     {
         self.places.as_slice()
+    }
+
+    /// The places of the rows with a key, in order.
+    pub fn places_of(&self, key: &Key<K>) -> &[usize]
+        ensures { result.now ≡ places_at self.now.keyed key.now }
+    {
+        self.index.places_of(key)
     }
 
     /// The index of no rows for the same key.

@@ -1,0 +1,8 @@
+-- None of the conditions so far says it.
+use Rattle.std.proofs.Common.{◌≡◌, drop}
+use Rattle.lookups.specs.Conjuncts.{lent}
+use Rattle.lookups.specs.Lookups.{first_choice}
+use Rattle.lookups.proofs.finding.first_choice.Given as goal
+
+abbrev pub invariant-loop-condition : goal.invariant-loop-condition
+invariant-loop-condition l = first_choice l.width l.place (lent l.conditions) ≡ first_choice l.width l.place (lent (drop l.condition-index l.conditions))

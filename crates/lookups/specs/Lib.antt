@@ -1,0 +1,5 @@
+pub mod Conjuncts
+pub mod Lent
+pub mod Lookups
+pub mod Reach
+pub mod Uniques
