@@ -1,0 +1,4 @@
+mod ByClass
+pub mod Interface
+mod Numbering
+mod Streaming

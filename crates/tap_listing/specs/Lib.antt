@@ -1,0 +1,4 @@
+pub mod ClassLaws
+pub mod Classes
+pub mod Frames
+pub mod Tables
