@@ -10,7 +10,6 @@ use Rattle.tap_listing.specs.Classes.{classing}
 use Rattle.tap_listing.specs.Frames.{classes_after, frame_spots}
 use Rattle.tap_listing.specs.Tables.{Tables, Tells, no_tables}
 use Rattle.tap_listing.specs.declared.frames.Frame.{Frame}
-use Rattle.tap_listing.specs.declared.frames.Frame.TheVariants.{Asked, Told}
 use Rattle.tap_reading.specs.Reading.{SpellsFrame, is_tap_head}
 use Rattle.tap_text.specs.Text.{frame_text}
 use Rattle.view_command.specs.Viewing.{ReadsTo, ShowsAll, ShowsFront, frames_text, listing_text}
@@ -23,11 +22,6 @@ reads_end (m ∷ ms) at bytes to rest end (frame, more, is, place, spells, behin
 -- the bytes from a place on, as a slice has them
 pub sliced : (at : ℕ) (bytes : List ℕ) → take (length bytes - at) (drop at bytes) ≡ drop at bytes
 sliced at bytes = take_all (length bytes - at) (drop at bytes) (omega (arith, length-drop at bytes))
-
--- a frame has a byte
-some_byte : (m : Frame) (bytes : List ℕ) → SpellsFrame m bytes → 0 < length bytes
-some_byte (Asked asked) bytes s = omega (arith, ap length s.1)
-some_byte (Told told) bytes s = omega (arith, ap length s.1)
 
 -- the frames before a place were put, and whatever stands from there on, the whole is of them and of it
 pub record Going (bytes : List ℕ) (at : ℕ) (tables : Tables) (classes : List Class) (first now : Option (List ℕ)) : Type 0 where
@@ -69,12 +63,6 @@ module _ (bytes : List ℕ) (at : ℕ) (tables : Tables) (classes : List Class) 
             let t = g.goes (record { at = at; message = m } ∷ ms) to rest (step m used few s ms to rest h) in
             (t.0, t.1, t.2 ∙ sym (append_assoc g.text (frame_text false at classes m g.seen) (frames_text (classes_after classes m) ms (seen_past classing g.seen (frame_spots classes m)))));
       })
-
-  -- a frame moves the place on
-  pub nearer : (m : Frame) (used : ℕ) → used ≤ length (drop at bytes) → SpellsFrame m (take used (drop at bytes)) → at < length bytes → (length bytes - (at + used)) < (length bytes - at)
-  nearer m used few s within =
-      let some : 0 < length (take used (drop at bytes)) = some_byte m (take used (drop at bytes)) s in
-      omega (arith, some, length-take-le used (drop at bytes) few)
 
   pub still_within : (used : ℕ) → used ≤ length (drop at bytes) → at ≤ length bytes → (at + used) ≤ length bytes
   still_within used few within = omega (arith, few, length-drop at bytes)
