@@ -1,0 +1,3 @@
+mod Past
+mod Rowwise
+mod Shown
