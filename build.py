@@ -2,7 +2,7 @@
 """Proves and builds a program and every crate below it, side by side on all processors.
 
 Usage: build.py TOP PROGRAM NAME [WORD ..], where TOP/crates.txt lists the crates. TOP/built gets the program under this name, a
-stamp with the toolchain's version, and the logs; the folders of the crates belong to `rt`.
+stamp with the toolchain's version, and the logs. The folders of the crates belong to `rt`.
 With words, it shows meanwhile what an unproved trial run of the program on these words prints for standard input.
 The gate's command (`rt ci`) proves the crates. It keeps what is proved beside the kit, and gives what any checkout on this machine
 has proved. Where nothing can be kept there, each crate is built by `rt lib` as soon as those that it uses are built, the longest
@@ -24,8 +24,9 @@ SECONDS = {
     "ae_base": 141, "ae_cli": 200, "ae_edge": 91, "aes_block": 120, "catalog": 95, "cell_codec": 33, "check_command": 70,
     "command_words": 103, "conversation": 36, "disk": 63, "drive_command": 100, "driver": 198, "enc_types": 61, "engine": 169,
     "expression_binding": 78, "frame_feed": 48, "indexed_tables": 95, "inference": 58, "journal_command": 111,
-    "journal_core": 40, "key_index": 92, "key_store": 40, "keyed_joins": 121, "operators": 107, "outcome_text": 59,
-    "plan_runs": 98, "planner": 76, "query_results": 75, "resolve": 225, "row_changes": 120, "row_store": 68, "run_command": 80,
+    "journal_core": 40, "key_index": 92, "key_store": 40, "keyed_joins": 121, "lookups": 60, "operators": 107, "outcome_text": 59,
+    "plan_runs": 150, "planner": 76, "query_results": 75, "resolve": 225, "row_changes": 120, "row_lookups": 90, "row_store": 68,
+    "run_command": 80,
     "scalar": 99, "script_lang": 100, "script_run": 127, "semantic_checks": 87, "serve_command": 62, "server_core": 121,
     "sql_ddl": 112, "sql_expressions": 152, "sql_parse": 137, "sql_tree": 108, "statement_analysis": 93, "transactions": 203,
     "unique_keys": 61, "value_norm": 36, "wire_bodies": 83, "wire_messages": 87, "wire_parts": 65, "wire_payloads": 33,
@@ -300,7 +301,7 @@ def main():
     except OSError as why:  # a full disk, say
         sys.exit(f"ae: the program could not be built: {why}")
     # Its time is that of the beginning, so that a source that changed meanwhile is newer.
-    stamp = os.path.join(top, "built", "stamp")
+    stamp = f"{made}.stamp"
     with open(stamp, "w", encoding="utf-8") as file:
         file.write(version)
     os.utime(stamp, (began, began))
