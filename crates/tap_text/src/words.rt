@@ -30,7 +30,8 @@ pub fn push_type(text: &mut String, ty: Ty) -> Result<(), AllocError>
 }
 
 fn push_under(text: &mut String, kind: &str, key: KeyId) -> Result<(), AllocError>
-    ensures { OnOk result (string_bytes text.new ≡ string_bytes text.old ++ under_text kind.now key) }
+    ensures { OnOk result (string_bytes text.new ≡ string_bytes text.old
+        ++ under_text kind.now key) }
 {
     text.push_str(kind)?;
     write!(text, " under key {}", key.number())?;
