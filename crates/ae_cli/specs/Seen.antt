@@ -65,4 +65,4 @@ drive_devices version s = record {
 }
 
 abbrev pub wrap_devices : Seen → WrapDevices
-wrap_devices s = record { keys = s.vault.content; out = s.out.content }
+wrap_devices s = record { keys = s.vault.content; vault_faults = s.vault.faults; out = s.out.content }

@@ -44,14 +44,21 @@ EndsLine line bytes =
 abbrev pub wrapped_line : List ℕ → List ℕ → List ℕ
 wrapped_line master key = encode_lower (wrapping_of master key) ++ 10 ∷ []
 
--- what is told of the vault and of the output
+-- what is seen of the vault and of the output
 pub record WrapDevices : Type 0 where
   pub keys : Option KeyMap
+  pub vault_faults : ℕ
   pub out : Option (List ℕ)
+
+-- the vault was asked, which has the keys that it had
+abbrev pub HasAsked : WrapDevices → WrapDevices → Type 0
+HasAsked old new = (new.keys ≡ old.keys) × (old.vault_faults ≤ new.vault_faults)
 
 -- the input is a key, the vault has a master key at the path, and P holds of the line and of the output before and after
 abbrev pub PutsWrapped : (List ℕ → Option (List ℕ) → Option (List ℕ) → Type 0) → List ℕ → List ℕ → WrapDevices → WrapDevices → Type 0
-PutsWrapped P path bytes old new = (key master : List ℕ) × SpellsKey bytes key × IfSome old.keys (λ keys. key_at keys path ≡ Some master) × P (wrapped_line master key) old.out new.out
+PutsWrapped P path bytes old new =
+    (key master : List ℕ) × SpellsKey bytes key × IfSome old.keys (λ keys. key_at keys path ≡ Some master) × P (wrapped_line master key) old.out new.out
+    × HasAsked old new
 
 -- all of a line was put, or a front of it
 abbrev pub Puts : Wrapped → List ℕ → Option (List ℕ) → Option (List ℕ) → Type 0
@@ -64,16 +71,17 @@ Puts ended.BadLine line old new = ⊥
 Puts ended.VaultFault line old new = ⊥
 Puts ended.NoMasterKey line old new = ⊥
 
--- how it ended, with its cause, and what stands at the output: the line, a front of it, or nothing more
+-- how it ended, with its cause, and what stands at the output: the line, a front of it, or nothing more. The vault is asked once the input is
+-- read and is a key; else nothing is touched.
 abbrev pub Wraps : Wrapped → List ℕ → List ℕ → WrapDevices → WrapDevices → Type 0
 Wraps ended.Done path bytes old new = PutsWrapped Adds path bytes old new
 Wraps ended.WriteFault path bytes old new = PutsWrapped AddsFront path bytes old new
-Wraps ended.OutOfMemory path bytes old new = PutsWrapped AddsFront path bytes old new ⊎ (new.out ≡ old.out)
-Wraps ended.ReadFault path bytes old new = new.out ≡ old.out
-Wraps ended.TooLong path bytes old new = (most_script_bytes < length bytes) × (new.out ≡ old.out)
-Wraps ended.BadLine path bytes old new = (length bytes ≤ most_script_bytes) × ((key : List ℕ) → ¬ SpellsKey bytes key) × (new.out ≡ old.out)
-Wraps ended.VaultFault path bytes old new = ((key : List ℕ) × SpellsKey bytes key) × (new.out ≡ old.out)
-Wraps ended.NoMasterKey path bytes old new = ((key : List ℕ) × SpellsKey bytes key) × IfSome old.keys (λ keys. key_at keys path ≡ None) × (new.out ≡ old.out)
+Wraps ended.OutOfMemory path bytes old new = PutsWrapped AddsFront path bytes old new ⊎ (new ≡ old)
+Wraps ended.ReadFault path bytes old new = new ≡ old
+Wraps ended.TooLong path bytes old new = (most_script_bytes < length bytes) × (new ≡ old)
+Wraps ended.BadLine path bytes old new = (length bytes ≤ most_script_bytes) × ((key : List ℕ) → ¬ SpellsKey bytes key) × (new ≡ old)
+Wraps ended.VaultFault path bytes old new = ((key : List ℕ) × SpellsKey bytes key) × (new.out ≡ old.out) × HasAsked old new
+Wraps ended.NoMasterKey path bytes old new = ((key : List ℕ) × SpellsKey bytes key) × IfSome old.keys (λ keys. key_at keys path ≡ None) × (new.out ≡ old.out) × HasAsked old new
 
 -- what was taken of the input: all of it, unless it wasn't read
 abbrev pub Takes : Wrapped → List ℕ → List ℕ → Type 0
