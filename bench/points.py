@@ -16,7 +16,7 @@ STATEMENTS = {
     "SELECT": (1000, 1.5, "SELECT a FROM t WHERE k = {}"),
     "SELECT with IN": (1000, 1.5, "SELECT a FROM t WHERE k IN ({}, {})"),
     "a join": (1000, 1.5, "SELECT y.a FROM t AS x JOIN t AS y ON y.k = x.k WHERE x.k = {}"),
-    "UPDATE of another column": (100, None, "UPDATE t SET a = 1 WHERE k = {}"),
+    "UPDATE of another column": (1000, 1.5, "UPDATE t SET a = 1 WHERE k = {}"),
     "DELETE": (20, None, "DELETE FROM t WHERE k = {}"),
 }
 

@@ -1,12 +1,11 @@
 -- Where the rows lie that a look-up finds.
-use Rattle.std.proofs.Common.{◌≡◌, ◌⊎◌, ℕ, zero, suc, ◌+◌, ◌<◌, ◌≤◌, List, [], ◌∷◌, ◌++◌, length, get_or, drop, map, append_assoc, refl, ap, sym, ◌∙◌, subst, arith, Bool, true, false, cond, not, inl, inr}
+use Rattle.std.proofs.Common.{◌≡◌, ◌⊎◌, ℕ, zero, suc, ◌+◌, ◌<◌, ◌≤◌, List, [], ◌∷◌, ◌++◌, length, get_or, drop, map, append_assoc, refl, ap, sym, ◌∙◌, arith, Bool, true, false, cond, not, inl, inr}
 use Rattle.std.specs.Prelude.{◌||◌, filter}
-use Rattle.std.specs.List.{All, AllPairs, Contains, flat_map, list_any}
-use Rattle.std.specs.Cmp.Lexicographic.{pointwise}
+use Rattle.std.specs.List.{All, Contains, flat_map, list_any}
 use Rattle.std.proofs.lemmas.List.{append-nil, drop_all}
-use Rattle.std.proofs.lemmas.List.Elements.{All-head, All-tail, All-cons, All-nil, Contains-append_cases, Contains-append_left, Contains-append_right}
+use Rattle.std.proofs.lemmas.List.Elements.{All-cons, All-nil, Contains-append_cases, Contains-append_left, Contains-append_right}
 use Rattle.std.proofs.lemmas.List.Kept.{AllPairs-cons}
-use Rattle.ae_base.specs.Atoms.{Atom, atom_eq}
+use Rattle.ae_base.specs.Atoms.{Atom}
 use Rattle.operators.specs.Alike.{key_of, are_alike}
 use Rattle.operators.proofs.Interface.{drop_there}
 use Rattle.sql_tree.specs.Bound.{BoundOperand}
@@ -111,9 +110,19 @@ module _ {V : Type 0} (q : V → Row → Bool) (rows : List Row) where
       by_cases (inl t) more = Contains-append_left (places_where (q v) 0 rows) (each_of vs) x (hit_where (q v) 0 rows x (j, e, lt, t))
       by_cases (inr t) more = Contains-append_right (places_where (q v) 0 rows) (each_of vs) x (more t)
 
+-- ---- there are as many as rows
+
+pub where_long : (p : Row → Bool) (n : ℕ) (rows : List Row) → length (places_where p n rows) ≡ length (filter p rows)
+where_long p n [] = refl
+where_long p n (row ∷ rows) = by_test (p row) (where_long p (n + 1) rows)
+  where
+    by_test : (b : Bool) → length (places_where p (n + 1) rows) ≡ length (filter p rows) → length (cond b (n ∷ places_where p (n + 1) rows) (places_where p (n + 1) rows)) ≡ length (cond b (row ∷ filter p rows) (filter p rows))
+    by_test true e = ap suc e
+    by_test false e = e
+
 -- ---- they rise
 
-where_least : (p : Row → Bool) (m n : ℕ) (rows : List Row) → m < n → All (λ place. m < place) (places_where p n rows)
+pub where_least : (p : Row → Bool) (m n : ℕ) (rows : List Row) → m < n → All (λ place. m < place) (places_where p n rows)
 where_least p m n [] lt = All-nil (λ place. m < place)
 where_least p m n (row ∷ rows) lt = by_test (p row) (where_least p m (n + 1) rows (omega (arith, lt)))
   where
@@ -121,7 +130,7 @@ where_least p m n (row ∷ rows) lt = by_test (p row) (where_least p m (n + 1) r
     by_test true h = All-cons (λ place. m < place) n (places_where p (n + 1) rows) lt h
     by_test false h = h
 
-where_rises : (p : Row → Bool) (n : ℕ) (rows : List Row) → Rises (places_where p n rows)
+pub where_rises : (p : Row → Bool) (n : ℕ) (rows : List Row) → Rises (places_where p n rows)
 where_rises p n [] = λ i j d lt le. absurd (omega (arith, le))
 where_rises p n (row ∷ rows) = by_test (p row) (where_rises p (n + 1) rows)
   where

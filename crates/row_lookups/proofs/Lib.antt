@@ -1,2 +1,3 @@
 mod Finding
+pub mod Interface
 mod Sorted

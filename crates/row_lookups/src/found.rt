@@ -3,7 +3,8 @@
 ghost use Rattle.std.specs.Prelude.{◌≡◌, ◌+◌, ◌<◌, [], ℕ, length, map, get_or, IfOk};
 ghost use Rattle.std.specs.List.{All};
 ghost use Rattle.lookups.specs.Lent.{lookup_made};
-ghost use Rattle.lookups.specs.Lookups.{IsLookedUp, rows_found};
+ghost use Rattle.lookups.specs.Lookups.{IsLookedUp, is_found, rows_found};
+ghost use Rattle.row_lookups.specs.Finding.{places_where};
 
 use crate::places::places_found;
 use ae_base::atoms::{Atom, Row};
@@ -31,9 +32,25 @@ pub fn found<'t, K: Same, L: Ledger>(
         ≡ rows_found params.now (lookup_made lookup.now) row.now table.now.rows) }
     ensures looked { IfOk result (λ found. looked.new ≡ looked.old + length found.items) }
 {
-    let index = table.index_on(lookup.places.as_slice());
-    let places = places_found(alloc, index, lookup.keys.as_slice(), row, params)?;
+    let places = places_in(alloc, table, lookup, row, params)?;
     rows_at(alloc, table, places.as_slice(), looked)
+}
+
+/// The places of the rows of a table that a look-up finds for a row, in their order.
+pub fn places_in<K: Same>(
+    alloc: Global,
+    table: &Table<K>,
+    lookup: &Lookup<'_>,
+    row: &LentRow<'_, K>,
+    params: &[Atom<K>],
+) -> Result<Vec<usize>, AllocError>
+    requires { (more : ℕ) × IsLookedUp table.now.keys (length params.now) (length row.now) more
+        (lookup_made lookup.now) }
+    ensures { IfOk result (λ places. places.items
+        ≡ places_where (is_found params.now (lookup_made lookup.now) row.now) 0 table.now.rows) }
+{
+    let index = table.index_on(lookup.places.as_slice());
+    places_found(alloc, index, lookup.keys.as_slice(), row, params)
 }
 
 /// The rows at some places of a table.

@@ -4,7 +4,6 @@ use Rattle.std.specs.List.{All}
 use Rattle.sql_tree.specs.Placed.{IsPlaced}
 use Rattle.operators.proofs.Interface.{All_there}
 use Rattle.lookups.specs.Lent.{operands_lent}
-use Rattle.lookups.specs.Lookups.{key_at}
 use Rattle.row_lookups.specs.Finding.{places_with}
 use Rattle.row_lookups.proofs.Finding.{each_more, each_over}
 use Rattle.row_lookups.proofs.places.places_of_each.Goals as goal
