@@ -3,5 +3,6 @@ mod Images
 pub mod Interface
 mod MadeCalls
 mod Moments
+mod Noting
 mod Syncing
 mod Told

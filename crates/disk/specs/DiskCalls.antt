@@ -1,9 +1,15 @@
 -- A disk in memory, as contracts see it: the calls that were made, and how each of them changed it.
-use Rattle.std.specs.Prelude.{◌≡◌, ℕ, List, [], ◌∷◌, ◌++◌, length, true, false}
+use Rattle.std.specs.Prelude.{◌≡◌, ◌⊎◌, ℕ, List, [], ◌∷◌, ◌++◌, length, Bool, true, false}
 use Rattle.ae_edge.specs.Memory.{CallState, IsListed, after_call, fresh}
 use Rattle.disk.specs.Calls.{with_bytes, with_length}
 use Rattle.disk.specs.Crashes.{Range, Length, Stand, kept}
 use Rattle.disk.specs.Moments.{Moments}
+use Rattle.disk.specs.declared.disks.Measured.{Measured}
+use Rattle.disk.specs.declared.disks.Measured.TheVariants as measured
+use Rattle.disk.specs.declared.disks.Given.{Given}
+use Rattle.disk.specs.declared.disks.Given.TheVariants as given
+use Rattle.disk.specs.declared.disks.Stored.{Stored}
+use Rattle.disk.specs.declared.disks.Stored.TheVariants as stored
 use Rattle.disk.specs.declared.mem_disk.DiskCall.{DiskCall}
 use Rattle.disk.specs.declared.mem_disk.DiskCall.TheVariants.{Size, Read, Write, Cut, Sync}
 use Rattle.disk.specs.declared.mem_disk.MadeCall.{MadeCall}
@@ -65,3 +71,39 @@ pub record DiskState : Type 0 where
 
 abbrev pub fresh_disk : List ℕ → List ℕ → DiskState
 fresh_disk file failing = record { first = file; made = []; told = record { past = []; now = kept file }; calls = fresh failing }
+
+-- one call more was made
+abbrev pub after_making : DiskCall → Bool → DiskState → DiskState
+after_making call failed disk = record {
+  first = disk.first;
+  made = disk.made ++ record { call = call; failed = failed } ∷ [];
+  told = moments_of disk.first (disk.made ++ record { call = call; failed = failed } ∷ []);
+  calls = after_call disk.calls failed;
+}
+
+-- a call that succeeded, and was none of those that fail
+abbrev pub HasMade : DiskCall → DiskState → DiskState → Type 0
+HasMade call old new = (¬ IsListed old.calls) × (new ≡ after_making call false old)
+
+-- a call that failed, and was one of them
+abbrev pub HasFailed : DiskCall → DiskState → DiskState → Type 0
+HasFailed call old new = IsListed old.calls × (new ≡ after_making call true old)
+
+-- without memory no call was made; at most its number was used up
+abbrev pub IsUnmade : DiskState → DiskState → Type 0
+IsUnmade old new = (new ≡ old) ⊎ (new ≡ record old { calls = after_call old.calls false })
+
+abbrev pub MemMeasures : Measured → DiskState → DiskState → Type 0
+MemMeasures (measured.Bytes count) old new = HasMade Size old new
+MemMeasures measured.Failed old new = HasFailed Size old new
+MemMeasures measured.OutOfMemory old new = IsUnmade old new
+
+abbrev pub MemGives : Given → ℕ → ℕ → DiskState → DiskState → Type 0
+MemGives (given.Bytes bytes) at max old new = HasMade (Read at max) old new
+MemGives given.Failed at max old new = HasFailed (Read at max) old new
+MemGives given.OutOfMemory at max old new = IsUnmade old new
+
+abbrev pub MemStores : Stored → DiskCall → DiskState → DiskState → Type 0
+MemStores stored.Done call old new = HasMade call old new
+MemStores stored.Failed call old new = HasFailed call old new
+MemStores stored.OutOfMemory call old new = IsUnmade old new

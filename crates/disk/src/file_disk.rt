@@ -6,6 +6,7 @@ ghost use Rattle.ae_edge.specs.Sources.{IsPiece};
 ghost use Rattle.disk.specs.Calls.{CountsGiven, CountsMeasured, CountsStored, IsWithin};
 
 use crate::disks::{Disk, Given, Measured, Stored};
+use crate::locked_files::LockedFiles;
 use ae_base::blobs::Blob;
 use ae_edge::adapters::source::StdSource;
 use ae_edge::sources::{Source, Taken};
@@ -14,12 +15,12 @@ use std::fs::{File, OpenFile, OpenOptions};
 use std::io;
 use std::io::{ErrorKind, Read, Seek, SeekFrom, Write};
 use std::path::Path;
-use std::rt::Files;
 
-/// A file of std as a disk. It is opened at the first call, and made where it isn't there. It
-/// doesn't tell what it holds: that such a file is a disk is trusted.
+/// A file of std as a disk. It is opened at the first call, and made where it isn't there; a link to
+/// a file that isn't there is refused. From then on it is held, and a file that is held elsewhere
+/// isn't opened. It doesn't tell what it holds: that such a file is a disk is trusted.
 #[derive(Drop)]
-pub struct FileDisk<'a, R: Files> {
+pub struct FileDisk<'a, R: LockedFiles> {
     files: R,
     path: &'a str,
     file: Option<R::File>,
@@ -34,13 +35,22 @@ fn folder_of(path: &str) -> &str {
     }
 }
 
-/// Opens a file for reads and writes. Where it is made, its name is on the disk too.
-fn opened<R: Files>(files: &R, path: &str) -> io::Result<R::File> {
-    let file = OpenOptions::new()
-        .read(true)
-        .write(true)
-        .create(true)
-        .open(files, path)?;
+/// Opens a file for reads and writes, and makes it where its name isn't there.
+fn opened_or_made<R: LockedFiles>(files: &R, path: &str) -> io::Result<R::File> {
+    let mut options = OpenOptions::new();
+    options.read(true).write(true);
+    match options.open(files, path) {
+        Err(error) if error.kind() == ErrorKind::NotFound => {
+            options.create_new(true).open(files, path)
+        }
+        opened => opened,
+    }
+}
+
+/// Opens a file and holds it. Where it was made, its name is on the disk too.
+fn opened<R: LockedFiles>(files: &R, path: &str) -> io::Result<R::File> {
+    let file = opened_or_made(files, path)?;
+    files.hold(&file)?;
     File::open(files, folder_of(path))?.sync_all()?;
     Ok(file)
 }
@@ -80,8 +90,8 @@ fn not_open() -> io::Error {
     io::Error::from(ErrorKind::NotFound)
 }
 
-impl<'a, R: Files + Drop> FileDisk<'a, R> {
-    /// The file at a path. Nobody else writes to it.
+impl<'a, R: LockedFiles + Drop> FileDisk<'a, R> {
+    /// The file at a path. Nobody writes to it who doesn't hold it.
     pub fn new(files: R, path: &'a str) -> FileDisk<'a, R>
         ensures { result.faults ≡ 0 }
     {
@@ -124,7 +134,7 @@ impl<'a, R: Files + Drop> FileDisk<'a, R> {
     }
 }
 
-impl<'a, R: Files + Drop> Disk for FileDisk<'a, R> {
+impl<'a, R: LockedFiles + Drop> Disk for FileDisk<'a, R> {
     ghost told = { λ d. None };
 
     ghost faults = { λ d. d.faults };

@@ -5,4 +5,5 @@
 pub mod disks;
 pub mod durable;
 pub mod file_disk;
+pub mod locked_files;
 pub mod mem_disk;

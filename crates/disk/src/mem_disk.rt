@@ -3,7 +3,8 @@
 ghost use Rattle.std.specs.Prelude.{◌≡◌, ◌≤◌, ◌<◌, ◌+◌, ◌^◌, Some, [], length, IfOk};
 ghost use Rattle.ae_edge.specs.Memory.{IsListed, fresh};
 ghost use Rattle.disk.specs.Calls.{CountsGiven, CountsMeasured, CountsStored, Cuts, Gives, IsWithin, Measures, Syncs, Writes, written};
-ghost use Rattle.disk.specs.DiskCalls.{Notes, fresh_disk};
+ghost use Rattle.disk.specs.DiskCalls.{MemGives, MemMeasures, MemStores, Notes, fresh_disk};
+ghost use Rattle.disk.specs.declared.mem_disk.DiskCall.TheVariants as asked;
 
 use crate::disks::{Disk, Given, Measured, Stored};
 use ae_base::blobs::Blob;
@@ -180,6 +181,7 @@ impl Disk for MemDisk {
         ensures count { self.old.calls.faults ≤ self.new.calls.faults }
         ensures counts { CountsMeasured result self.old.calls.faults self.new.calls.faults }
         ensures listed { result ≡ Measured.Failed → IsListed self.old.calls }
+        ensures noted { MemMeasures result self.old self.new }
     {
         match self.log.note(DiskCall::Size) {
             Noted::Succeeds => Measured::Bytes(self.bytes.len() as u64),
@@ -195,6 +197,7 @@ impl Disk for MemDisk {
         ensures count { self.old.calls.faults ≤ self.new.calls.faults }
         ensures counts { CountsGiven result self.old.calls.faults self.new.calls.faults }
         ensures listed { result ≡ Given.Failed → IsListed self.old.calls }
+        ensures noted { MemGives result at max self.old self.new }
     {
         let start = (at as usize).min(self.bytes.len());
         let count = max.min(self.bytes.len() - start);
@@ -216,6 +219,7 @@ impl Disk for MemDisk {
         ensures counts { CountsStored result self.old.calls.faults self.new.calls.faults }
         ensures listed { result ≡ Stored.Failed → IsListed self.old.calls }
         ensures spared { result ≡ Stored.Done → ¬ IsListed self.old.calls }
+        ensures noted { MemStores result (asked.Write at bytes.now) self.old self.new }
     {
         let Ok(copy) = Blob::copied(self.alloc, bytes) else {
             return Stored::OutOfMemory;
@@ -240,6 +244,7 @@ impl Disk for MemDisk {
         ensures counts { CountsStored result self.old.calls.faults self.new.calls.faults }
         ensures listed { result ≡ Stored.Failed → IsListed self.old.calls }
         ensures spared { result ≡ Stored.Done → ¬ IsListed self.old.calls }
+        ensures noted { MemStores result (asked.Cut len) self.old self.new }
     {
         match self.log.note(DiskCall::Cut(len)) {
             Noted::Succeeds => {
@@ -257,6 +262,7 @@ impl Disk for MemDisk {
         ensures counts { CountsStored result self.old.calls.faults self.new.calls.faults }
         ensures listed { result ≡ Stored.Failed → IsListed self.old.calls }
         ensures spared { result ≡ Stored.Done → ¬ IsListed self.old.calls }
+        ensures noted { MemStores result asked.Sync self.old self.new }
     {
         match self.log.note(DiskCall::Sync) {
             Noted::Succeeds => Stored::Done,

@@ -7,3 +7,5 @@ pub mod laws;
 pub mod mounting;
 mod parsing;
 pub mod records;
+#[cfg(test)]
+mod tests;

@@ -5,6 +5,7 @@ use Rattle.disk.specs.Crashes.{Length}
 use Rattle.disk.specs.DiskCalls.{DiskState}
 use Rattle.disk.specs.declared.mem_disk.DiskCall.TheVariants.{Cut}
 use Rattle.disk.proofs.MadeCalls.{order_failed, order_done, passes_failed, passes_done}
+use Rattle.disk.proofs.Noting.{has_made, has_failed}
 use Rattle.disk.proofs.mem_disk.MemDiskDisk.cut.Goals as goal
 
 pub invariant_of-self : goal.invariant_of-self
@@ -24,3 +25,9 @@ returns-in-Succeeds-clause-content c =
 pub returns-in-Fails-clause-content : goal.returns-in-Fails-clause-content
 returns-in-Fails-clause-content c =
     passes_failed c.self.inside.first.items c.self.inside.log c.note.new.self (Cut c.args.len) c.self.inside.bytes.items c.self.invariant c.in-Fails.ensures.noted (WasAsked (Length c.args.len)) c.args.self.now.told (ap (λ (d : DiskState). d.told) (sym c.self.view_is)) (refl, refl)
+
+pub returns-in-Succeeds-clause-noted : goal.returns-in-Succeeds-clause-noted
+returns-in-Succeeds-clause-noted c = has_made c.self.inside.first.items c.self.inside.log c.note.new.self (Cut c.args.len) c.args.self.now c.self.view_is c.in-Succeeds.ensures.noted
+
+pub returns-in-Fails-clause-noted : goal.returns-in-Fails-clause-noted
+returns-in-Fails-clause-noted c = has_failed c.self.inside.first.items c.self.inside.log c.note.new.self (Cut c.args.len) c.args.self.now c.self.view_is c.in-Fails.ensures.noted

@@ -4,6 +4,7 @@ use Rattle.disk.specs.Calls.{StaysSynced, IsPart}
 use Rattle.disk.specs.DiskCalls.{DiskState}
 use Rattle.disk.specs.declared.mem_disk.DiskCall.TheVariants.{Read}
 use Rattle.disk.proofs.MadeCalls.{order_noted, part_is, passes_failed, passes_done, unnoted}
+use Rattle.disk.proofs.Noting.{has_made, has_failed, is_unmade}
 use Rattle.disk.proofs.mem_disk.MemDiskDisk.read.Goals.{in-Succeeds, in-Fails, in-OutOfMemory}
 use Rattle.disk.proofs.mem_disk.MemDiskDisk.read.Goals as goal
 
@@ -24,4 +25,12 @@ returns-clause-content c =
           (refl, subst (IsPart c.args.at c.in-Ok.part) (sym c.self.invariant.0) part))
       | in-Fails w ↦ rw w.result-is (passes_failed c.self.inside.first.items c.self.inside.log c.note.new.self (Read c.args.at c.args.max) c.self.inside.bytes.items c.self.invariant w.in-Fails.ensures.noted StaysSynced c.args.self.now.told told (refl, refl))
       | in-OutOfMemory w ↦ rw w.result-is (unnoted c.self.inside.first.items c.self.inside.log c.note.new.self (Read c.args.at c.args.max) c.self.inside.bytes.items c.self.invariant w.in-OutOfMemory.ensures.noted c.args.self.now.told told)
+    ]
+
+pub returns-clause-noted : goal.returns-clause-noted
+returns-clause-noted c =
+    elim c.match-note.branch [
+      | in-Succeeds w ↦ rw w.result-is (has_made c.self.inside.first.items c.self.inside.log c.note.new.self (Read c.args.at c.args.max) c.args.self.now c.self.view_is w.in-Succeeds.ensures.noted)
+      | in-Fails w ↦ rw w.result-is (has_failed c.self.inside.first.items c.self.inside.log c.note.new.self (Read c.args.at c.args.max) c.args.self.now c.self.view_is w.in-Fails.ensures.noted)
+      | in-OutOfMemory w ↦ rw w.result-is (is_unmade c.self.inside.first.items c.self.inside.log c.note.new.self (Read c.args.at c.args.max) c.args.self.now c.self.view_is w.in-OutOfMemory.ensures.noted)
     ]

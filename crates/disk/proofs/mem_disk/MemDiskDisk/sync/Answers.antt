@@ -5,6 +5,7 @@ use Rattle.disk.specs.Crashes.{kept}
 use Rattle.disk.specs.DiskCalls.{DiskState}
 use Rattle.disk.specs.declared.mem_disk.DiskCall.TheVariants.{Sync}
 use Rattle.disk.proofs.MadeCalls.{order_noted, passes_failed, passes_done, unnoted}
+use Rattle.disk.proofs.Noting.{has_made, has_failed, is_unmade}
 use Rattle.disk.proofs.mem_disk.MemDiskDisk.sync.Goals.{in-Succeeds, in-Fails, in-OutOfMemory}
 use Rattle.disk.proofs.mem_disk.MemDiskDisk.sync.Goals as goal
 
@@ -18,4 +19,12 @@ returns-clause-content c =
       | in-Succeeds w ↦ rw w.result-is (passes_done c.self.inside.first.items c.self.inside.log c.note.new.self Sync c.self.inside.bytes.items c.self.invariant w.in-Succeeds.ensures.noted tt (λ before after. after ≡ kept before.seen) c.args.self.now.told told refl)
       | in-Fails w ↦ rw w.result-is (passes_failed c.self.inside.first.items c.self.inside.log c.note.new.self Sync c.self.inside.bytes.items c.self.invariant w.in-Fails.ensures.noted StaysSynced c.args.self.now.told told (refl, refl))
       | in-OutOfMemory w ↦ rw w.result-is (unnoted c.self.inside.first.items c.self.inside.log c.note.new.self Sync c.self.inside.bytes.items c.self.invariant w.in-OutOfMemory.ensures.noted c.args.self.now.told told)
+    ]
+
+pub returns-clause-noted : goal.returns-clause-noted
+returns-clause-noted c =
+    elim c.match-note.branch [
+      | in-Succeeds w ↦ rw w.result-is (has_made c.self.inside.first.items c.self.inside.log c.note.new.self Sync c.args.self.now c.self.view_is w.in-Succeeds.ensures.noted)
+      | in-Fails w ↦ rw w.result-is (has_failed c.self.inside.first.items c.self.inside.log c.note.new.self Sync c.args.self.now c.self.view_is w.in-Fails.ensures.noted)
+      | in-OutOfMemory w ↦ rw w.result-is (is_unmade c.self.inside.first.items c.self.inside.log c.note.new.self Sync c.args.self.now c.self.view_is w.in-OutOfMemory.ensures.noted)
     ]
