@@ -1,1 +1,5 @@
 mod Going
+mod Paged
+mod Sizes
+mod Texts
+mod Told

@@ -1,2 +1,4 @@
 pub mod Endings
+pub mod Laws
 pub mod Viewing
+pub mod Words

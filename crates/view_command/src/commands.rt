@@ -3,9 +3,9 @@
 ghost use Rattle.std.specs.Prelude.{◌≡◌, List, ℕ, IfSome};
 ghost use Rattle.ae_edge.specs.Devices.{Rose};
 ghost use Rattle.view_command.specs.Endings.{number_of};
-ghost use Rattle.view_command.specs.Viewing.{Views};
+ghost use Rattle.view_command.specs.Viewing.{Views, is_listed, listing_text};
 
-use crate::frames::view_bytes;
+use crate::pages::view_bytes;
 use ae_base::limits::MOST_STREAM_BYTES;
 use ae_edge::sinks::Sink;
 use ae_edge::sources::Source;
@@ -32,6 +32,16 @@ pub enum Viewed {
 }
 
 impl Viewed {
+    /// Whether all frames before the end were put.
+    pub(crate) fn is_listed(&self) -> bool
+        ensures { result ≡ is_listed self.now }
+    {
+        match self {
+            Viewed::Done | Viewed::BadFrame(_) | Viewed::CutOff(_) => true,
+            Viewed::ReadFault | Viewed::WriteFault | Viewed::OutOfMemory | Viewed::TooLong => false,
+        }
+    }
+
     /// The number with which the program ends.
     pub fn number(&self) -> u8
         ensures { result ≡ number_of self.now }
@@ -66,18 +76,19 @@ impl fmt::Display for Viewed {
     }
 }
 
-/// Reads a recording of frames, and puts their text to the output, frame by frame, up to the first
-/// place that is no frame. The input is read to its end before anything is put.
-pub fn view<S: Source, W: Sink>(alloc: Global, input: &mut S, out: &mut W) -> Viewed
+/// Reads a recording of frames, and puts them to the output, as lines of text or as a page, frame by
+/// frame, up to the first place that is no frame. The input is read to its end before anything is
+/// put.
+pub fn view<S: Source, W: Sink>(alloc: Global, page: bool, input: &mut S, out: &mut W) -> Viewed
     // There are bytes, the input's where it tells them, of which this is put.
     ensures content { (bytes : List ℕ) × IfSome (S.left input.old) (λ left. bytes ≡ left)
-        × Views result bytes (W.held out.old) (W.held out.new) }
+        × Views (listing_text page) result bytes (W.held out.old) (W.held out.new) }
     // The faults of the outside come only where a count rose.
     ensures read { result ≡ Viewed.ReadFault → Rose (S.faults input.old) (S.faults input.new) }
     ensures write { result ≡ Viewed.WriteFault → Rose (W.faults out.old) (W.faults out.new) }
 {
     match read_all(input, alloc, MOST_STREAM_BYTES) {
-        ReadAll::Whole(bytes) => view_bytes(alloc, bytes.as_slice(), out),
+        ReadAll::Whole(bytes) => view_bytes(alloc, page, bytes.as_slice(), out),
         ReadAll::TooLong => Viewed::TooLong,
         ReadAll::ReadFault => Viewed::ReadFault,
         ReadAll::OutOfMemory => Viewed::OutOfMemory,

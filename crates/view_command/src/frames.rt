@@ -1,7 +1,6 @@
 //! The frames of a recording, one after another.
 
-ghost use Rattle.std.specs.Prelude.{◌≡◌, List, false};
-ghost use Rattle.ae_edge.specs.Devices.{Rose};
+ghost use Rattle.std.specs.Prelude.{◌≡◌, List};
 ghost use Rattle.ae_edge.specs.Streams.{CountsPutAll, PutsAll};
 ghost use Rattle.first_seen.specs.Parts.{Spot, seen_past};
 ghost use Rattle.scalar.specs.Classes.{Class};
@@ -9,7 +8,7 @@ ghost use Rattle.tap_listing.specs.Classes.{classing};
 ghost use Rattle.tap_listing.specs.Frames.{frame_spots};
 ghost use Rattle.tap_listing.specs.Tables.{Tells};
 ghost use Rattle.tap_text.specs.Text.{frame_text};
-ghost use Rattle.view_command.specs.Viewing.{IsRead, Views};
+ghost use Rattle.view_command.specs.Viewing.{CountsViewed, IsRead, Views, frames_text};
 
 use crate::commands::Viewed;
 use ae_edge::sinks::Sink;
@@ -23,6 +22,7 @@ use wire_frames::Decoded;
 /// Puts the text of a frame. Its cells are seen from now on.
 fn put_frame<W: Sink>(
     alloc: Global,
+    page: bool,
     at: u64,
     numbers: &mut CellNumbers,
     classes: &[CellClass],
@@ -30,24 +30,24 @@ fn put_frame<W: Sink>(
     out: &mut W,
 ) -> PutAll
     ensures content { (seen : List (Spot Class)) → Tells numbers.old seen
-        → PutsAll (frame_text false at classes.now frame.now seen) result (W.held out.old)
+        → PutsAll (frame_text page at classes.now frame.now seen) result (W.held out.old)
         (W.held out.new) }
     ensures seen { result ≡ PutAll.Whole → (seen : List (Spot Class)) → Tells numbers.old seen
         → Tells numbers.new (seen_past classing seen (frame_spots classes.now frame.now)) }
     ensures counts { CountsPutAll result (W.faults out.old) (W.faults out.new) }
 {
     let mut text = String::new(alloc);
-    match push_frame(alloc, &mut text, false, at, numbers, classes, frame) {
+    match push_frame(alloc, &mut text, page, at, numbers, classes, frame) {
         Ok(()) => put_all(out, text.as_bytes()),
         Err(_) => PutAll::OutOfMemory,
     }
 }
 
-/// Puts the frames of a recording as text, up to the first place that is no frame.
-pub(crate) fn view_bytes<W: Sink>(alloc: Global, bytes: &[u8], out: &mut W) -> Viewed
-    ensures content { Views result bytes.now (W.held out.old) (W.held out.new) }
+/// Puts the frames of a recording, up to the first place that is no frame.
+pub(crate) fn view_frames<W: Sink>(alloc: Global, page: bool, bytes: &[u8], out: &mut W) -> Viewed
+    ensures content { Views (frames_text page) result bytes.now (W.held out.old) (W.held out.new) }
     ensures read { IsRead result }
-    ensures write { result ≡ Viewed.WriteFault → Rose (W.faults out.old) (W.faults out.new) }
+    ensures counts { CountsViewed result (W.faults out.old) (W.faults out.new) }
 {
     let mut numbers = CellNumbers::new(alloc);
     let mut classes = Vec::new(alloc);
@@ -57,6 +57,7 @@ pub(crate) fn view_bytes<W: Sink>(alloc: Global, bytes: &[u8], out: &mut W) -> V
             Decoded::One(frame, used) => {
                 match put_frame(
                     alloc,
+                    page,
                     at as u64,
                     &mut numbers,
                     classes.as_slice(),

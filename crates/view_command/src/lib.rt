@@ -1,5 +1,8 @@
-//! The command `view`: a recording of frames as text, for one who has no key.
+//! The command `view`: a recording of frames as text, or as a page, for one who has no key.
 #![tactic(auto)]
 
 pub mod commands;
 mod frames;
+pub mod laws;
+mod pages;
+pub mod words;

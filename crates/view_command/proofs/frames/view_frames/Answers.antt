@@ -1,5 +1,5 @@
 -- One frame more, or the end.
-use Rattle.std.proofs.Common.{◌∙◌, ◌+◌, ◌≤◌, ℕ, List, length, take, false, refl, sym, subst, arith}
+use Rattle.std.proofs.Common.{◌∙◌, ◌+◌, ◌≤◌, ℕ, List, length, take, refl, sym, subst, arith}
 use Rattle.ae_edge.specs.Devices.{Adds, AddsFront}
 use Rattle.first_seen.specs.Parts.{Spot, seen_past}
 use Rattle.scalar.specs.Classes.{Class}
@@ -10,7 +10,7 @@ use Rattle.tap_reading.specs.Reading.{SpellsFrame, is_tap_head}
 use Rattle.wire_frames.specs.Frames.{IsNotYet, IsRefused}
 use Rattle.tap_text.specs.Text.{frame_text}
 use Rattle.view_command.proofs.Going.{Going, goes_first, goes_on, still_within, shows_front, shows_refused, shows_rest, shows_so_far, shows_whole, sliced}
-use Rattle.view_command.proofs.frames.view_bytes.Goals as goal
+use Rattle.view_command.proofs.frames.view_frames.Goals as goal
 
 pub frames-init : goal.frames-init
 frames-init g c =
@@ -18,8 +18,8 @@ frames-init g c =
     let bytes = c.args.bytes.now in
     record {
       goes =
-          subst (λ (t : Tables). Going bytes 0 t c.new-classes.result.items first first) (sym c.new-numbers.ensures)
-          (subst (λ (cs : List Class). Going bytes 0 no_tables cs first first) (sym c.new-classes.ensures.items) (goes_first bytes first));
+          subst (λ (t : Tables). Going c.args.page bytes 0 t c.new-classes.result.items first first) (sym c.new-numbers.ensures)
+          (subst (λ (cs : List Class). Going c.args.page bytes 0 no_tables cs first first) (sym c.new-classes.ensures.items) (goes_first c.args.page bytes first));
       within = omega arith;
       count = refl;
     }
@@ -31,8 +31,8 @@ returns-in-WriteFault-clause-content g c =
     let d = subst (λ (l : List ℕ). (c.in-One.used ≤ length l) × SpellsFrame m (take c.in-One.used l)) (sliced f.at c.args.bytes.now) c.in-One.ensures in
     let now = g.W.Sink.held f.out in
     let after = g.W.Sink.held c.put_frame.new.out in
-    shows_front c.args.bytes.now f.at f.numbers f.classes.items (g.W.Sink.held c.args.out.now) now f.invariant.goes m c.in-One.used d.0 d.1 after
-    (subst (λ (cs : List Class). (seen : List (Spot Class)) → Tells f.numbers seen → AddsFront (frame_text false f.at cs m seen) now after) c.as_slice.ensures.value c.in-WriteFault.ensures.content)
+    shows_front c.args.page c.args.bytes.now f.at f.numbers f.classes.items (g.W.Sink.held c.args.out.now) now f.invariant.goes m c.in-One.used d.0 d.1 after
+    (subst (λ (cs : List Class). (seen : List (Spot Class)) → Tells f.numbers seen → AddsFront (frame_text c.args.page f.at cs m seen) now after) c.as_slice.ensures.value c.in-WriteFault.ensures.content)
 
 pub returns-in-OutOfMemory-put_frame-clause-content : goal.returns-in-OutOfMemory-put_frame-clause-content
 returns-in-OutOfMemory-put_frame-clause-content g c =
@@ -41,8 +41,8 @@ returns-in-OutOfMemory-put_frame-clause-content g c =
     let d = subst (λ (l : List ℕ). (c.in-One.used ≤ length l) × SpellsFrame m (take c.in-One.used l)) (sliced f.at c.args.bytes.now) c.in-One.ensures in
     let now = g.W.Sink.held f.out in
     let after = g.W.Sink.held c.put_frame.new.out in
-    shows_front c.args.bytes.now f.at f.numbers f.classes.items (g.W.Sink.held c.args.out.now) now f.invariant.goes m c.in-One.used d.0 d.1 after
-    (subst (λ (cs : List Class). (seen : List (Spot Class)) → Tells f.numbers seen → AddsFront (frame_text false f.at cs m seen) now after) c.as_slice.ensures.value c.in-OutOfMemory-put_frame.ensures.content)
+    shows_front c.args.page c.args.bytes.now f.at f.numbers f.classes.items (g.W.Sink.held c.args.out.now) now f.invariant.goes m c.in-One.used d.0 d.1 after
+    (subst (λ (cs : List Class). (seen : List (Spot Class)) → Tells f.numbers seen → AddsFront (frame_text c.args.page f.at cs m seen) now after) c.as_slice.ensures.value c.in-OutOfMemory-put_frame.ensures.content)
 
 pub returns-in_default-clause-content : goal.returns-in_default-clause-content
 returns-in_default-clause-content g c =
@@ -54,9 +54,9 @@ returns-in_default-clause-content g c =
     let after = g.W.Sink.held c.put_frame.new.out in
     let others = c.put_frame.new.numbers in
     let past = classes_after f.classes.items m in
-    shows_so_far c.args.bytes.now (f.at + c.in-One.used) others past first after
-    (goes_on c.args.bytes.now f.at f.numbers f.classes.items first now f.invariant.goes m c.in-One.used d.0 d.1 others after
-    (subst (λ (cs : List Class). (seen : List (Spot Class)) → Tells f.numbers seen → Adds (frame_text false f.at cs m seen) now after) c.as_slice.ensures.value c.in-Whole.ensures.content)
+    shows_so_far c.args.page c.args.bytes.now (f.at + c.in-One.used) others past first after
+    (goes_on c.args.page c.args.bytes.now f.at f.numbers f.classes.items first now f.invariant.goes m c.in-One.used d.0 d.1 others after
+    (subst (λ (cs : List Class). (seen : List (Spot Class)) → Tells f.numbers seen → Adds (frame_text c.args.page f.at cs m seen) now after) c.as_slice.ensures.value c.in-Whole.ensures.content)
     (subst (λ (cs : List Class). (seen : List (Spot Class)) → Tells f.numbers seen → Tells others (seen_past classing seen (frame_spots cs m))) c.as_slice.ensures.value (c.in-Whole.ensures.seen refl))
     past refl)
 
@@ -71,26 +71,26 @@ frames-preserved g c =
     let others = c.put_frame.new.numbers in
     record {
       goes =
-          goes_on c.args.bytes.now f.at f.numbers f.classes.items first now f.invariant.goes m c.in-One.used d.0 d.1 others after
-          (subst (λ (cs : List Class). (seen : List (Spot Class)) → Tells f.numbers seen → Adds (frame_text false f.at cs m seen) now after) c.as_slice.ensures.value c.in-Whole.ensures.content)
+          goes_on c.args.page c.args.bytes.now f.at f.numbers f.classes.items first now f.invariant.goes m c.in-One.used d.0 d.1 others after
+          (subst (λ (cs : List Class). (seen : List (Spot Class)) → Tells f.numbers seen → Adds (frame_text c.args.page f.at cs m seen) now after) c.as_slice.ensures.value c.in-Whole.ensures.content)
           (subst (λ (cs : List Class). (seen : List (Spot Class)) → Tells f.numbers seen → Tells others (seen_past classing seen (frame_spots cs m))) c.as_slice.ensures.value (c.in-Whole.ensures.seen refl))
           c.in-Ok.past.items c.in-Ok.ensures;
-      within = still_within c.args.bytes.now f.at f.numbers f.classes.items first now f.invariant.goes c.in-One.used d.0 f.invariant.within;
+      within = still_within c.args.page c.args.bytes.now f.at f.numbers f.classes.items first now f.invariant.goes c.in-One.used d.0 f.invariant.within;
       count = c.in-Whole.ensures.counts ∙ f.invariant.count;
     }
 
 pub returns-in-NotYet-clause-content : goal.returns-in-NotYet-clause-content
 returns-in-NotYet-clause-content g c =
-    shows_rest c.args.bytes.now c.frames.at c.frames.numbers c.frames.classes.items (g.W.Sink.held c.args.out.now) (g.W.Sink.held c.frames.out) c.frames.invariant.goes c.frames-test.true (subst (IsNotYet is_tap_head) (sliced c.frames.at c.args.bytes.now) c.in-NotYet.ensures)
+    shows_rest c.args.page c.args.bytes.now c.frames.at c.frames.numbers c.frames.classes.items (g.W.Sink.held c.args.out.now) (g.W.Sink.held c.frames.out) c.frames.invariant.goes c.frames-test.true (subst (IsNotYet is_tap_head) (sliced c.frames.at c.args.bytes.now) c.in-NotYet.ensures)
 
 pub returns-in-Bad-clause-content : goal.returns-in-Bad-clause-content
 returns-in-Bad-clause-content g c =
-    shows_refused c.args.bytes.now c.frames.at c.frames.numbers c.frames.classes.items (g.W.Sink.held c.args.out.now) (g.W.Sink.held c.frames.out) c.frames.invariant.goes (subst (IsRefused is_tap_head SpellsFrame) (sliced c.frames.at c.args.bytes.now) c.in-Bad.ensures)
+    shows_refused c.args.page c.args.bytes.now c.frames.at c.frames.numbers c.frames.classes.items (g.W.Sink.held c.args.out.now) (g.W.Sink.held c.frames.out) c.frames.invariant.goes (subst (IsRefused is_tap_head SpellsFrame) (sliced c.frames.at c.args.bytes.now) c.in-Bad.ensures)
 
 pub returns-in-OutOfMemory-clause-content : goal.returns-in-OutOfMemory-clause-content
 returns-in-OutOfMemory-clause-content g c =
-    shows_so_far c.args.bytes.now c.frames.at c.frames.numbers c.frames.classes.items (g.W.Sink.held c.args.out.now) (g.W.Sink.held c.frames.out) c.frames.invariant.goes
+    shows_so_far c.args.page c.args.bytes.now c.frames.at c.frames.numbers c.frames.classes.items (g.W.Sink.held c.args.out.now) (g.W.Sink.held c.frames.out) c.frames.invariant.goes
 
 pub returns-clause-content : goal.returns-clause-content
 returns-clause-content g c =
-    shows_whole c.args.bytes.now c.frames.at c.frames.numbers c.frames.classes.items (g.W.Sink.held c.args.out.now) (g.W.Sink.held c.frames.out) c.frames.invariant.goes c.frames-test.false
+    shows_whole c.args.page c.args.bytes.now c.frames.at c.frames.numbers c.frames.classes.items (g.W.Sink.held c.args.out.now) (g.W.Sink.held c.frames.out) c.frames.invariant.goes c.frames-test.false

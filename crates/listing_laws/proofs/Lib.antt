@@ -1,0 +1,4 @@
+mod Alike
+mod Blanks
+mod Exchanges
+mod Twins

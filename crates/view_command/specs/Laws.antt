@@ -1,0 +1,16 @@
+-- The text of a recording is told by its entries.
+use Rattle.std.specs.Prelude.{◌≡◌, ℕ, List, map, Bool}
+use Rattle.tap_listing.specs.Frames.{entries_of}
+use Rattle.tap_listing.specs.declared.frames.Frame.{Frame}
+use Rattle.tap_reading.specs.Reading.{TapFrames}
+use Rattle.wire_frames.specs.Frames.{Placed, End}
+use Rattle.view_command.specs.Viewing.{listing_text}
+
+-- frames without their places
+abbrev pub messages_of : List (Placed Frame) → List Frame
+messages_of frames = map (λ (m : Placed Frame). m.message) frames
+
+-- two recordings with one listing have one text and one page: nothing is written that the entries don't tell
+abbrev pub TextsAreOfEntries : Type 0
+TextsAreOfEntries = (page : Bool) (bytes more : List ℕ) (frames others : List (Placed Frame)) (end other : End) → TapFrames bytes frames end → TapFrames more others other
+    → entries_of (messages_of others) ≡ entries_of (messages_of frames) → listing_text page others ≡ listing_text page frames
