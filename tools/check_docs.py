@@ -4,14 +4,16 @@
 Usage: tools/check_docs.py
 
 Tested are links and anchors; files, crates and identifiers in backticks; clauses; definitions and the files that have
-them; the list of crates; counts; the length of sentences and of table cells. Prints a line for each finding and ends
-with status 1, or prints one line and ends with status 0.
+them; the list of crates; counts; the length of sentences and of table cells; that the code of a page stands in a file
+that the page links. Prints a line for each finding and ends with status 1, or prints one line and ends with status 0.
 """
 
 import re
 import sys
 from collections import defaultdict
 from pathlib import Path
+
+from count_trusted import beneath, definition_lines, file_of
 
 TOP = Path(__file__).resolve().parent.parent
 SKIPPED = {".git", "out", "built", "demo"}
@@ -192,24 +194,37 @@ def clauses(document, crates):
 def homes(document, crates):
     """Definitions of a table `definition | home` that don't stand in the files of their home."""
     for number, row, head in document.cells:
-        if "home" not in head or len(row) != len(head):
+        if "home" in head and len(row) == len(head):
+            at = head.index("home")
+            yield from missing(number, row[at], [row[at - 1]], crates)
+
+
+def listed_homes(document, crates):
+    """Definitions of a list `**home**: `names`: what they are. ..` that don't stand in the files of their home."""
+    for number, text in document.blocks if document.name == "docs/definitions.md" else []:
+        found = re.match(r"\*\*([^*]+)\*\*: ", text)
+        if found:
+            named = re.findall(r"(?:^|\. )(`[^`]+`[^:.]*):", text[found.end() :])
+            yield from missing(number, found[1], named, crates)
+
+
+def missing(number, home, cells, crates):
+    """Findings of a home, as `crate, File, File; crate (note)`, that lacks a definition which some text names."""
+    words = set()
+    for part in re.sub(r"\([^)]*\)", "", home).split(";"):
+        crate, *modules = [it.strip() for it in part.split(",")]
+        if crate not in crates.names:
+            yield number, f"no crate {crate}"
             continue
-        home = re.sub(r"\([^)]*\)", "", row[head.index("home")])
-        words = set()
-        for part in home.split(";"):
-            crate, *modules = [it.strip() for it in part.split(",")]
-            if crate not in crates.names:
-                yield number, f"no crate {crate}"
-                continue
-            found = [crates.specs(crate, it) for it in modules] or [crates.all_words(crate)]
-            for module, it in zip(modules, found):
-                if it is None:
-                    yield number, f"no definitions {crate}, {module}"
-            words |= set().union(*(it or set() for it in found))
-            if "(" in row[head.index("home")]:
-                words |= crates.all_words(crate)
-        first = re.sub(r"\([^)]*\)", "", row[head.index("home") - 1])
-        for code in CODE.findall(first):
+        found = [crates.specs(crate, it) for it in modules] or [crates.all_words(crate)]
+        for module, it in zip(modules, found):
+            if it is None:
+                yield number, f"no definitions {crate}, {module}"
+        words |= set().union(*(it or set() for it in found))
+        if "(" in home:
+            words |= crates.all_words(crate)
+    for cell in cells:
+        for code in CODE.findall(re.sub(r"\([^)]*\)", "", cell)):
             if not set(WORD.findall(code)) & words and code not in words and WORD.search(code):
                 yield number, f"`{code}` isn't defined in {home}"
 
@@ -251,11 +266,31 @@ def lists(documents, crates):
         yield page, 1, f"no word about {crate}"
 
 
+def listings(document):
+    """Code of a page, in fences marked rust, that stands in no file that the page links."""
+    linked = [(document.path.parent / target).resolve() for line in document.lines for _, target in LINK.findall(line)]
+    sources = [path.read_text(encoding="utf-8") for path in linked if path.suffix == ".rt" and path.is_file()]
+    for code in re.finditer(r"(?ms)^```rust\n(.*?)^```", "\n".join(document.lines)):
+        if not any(code[1] in source for source in sources):
+            number = "\n".join(document.lines)[: code.start()].count("\n") + 1
+            yield number, "this code stands in no file that the page links"
+
+
+def sizes(document):
+    """Sizes of trusted definitions, `some N lines` beneath a claim, that are off by more than a tenth."""
+    text = " ".join(document.lines)
+    for word, claim in (("beneath `Does` lie", "ae_cli/Does"), ("beneath \"the text is plaintext SQL's\"", "run_command/Plain")):
+        for said in re.findall(re.escape(word) + r" some ([\d,]+)", text, re.IGNORECASE):
+            lines = sum(map(definition_lines, beneath(file_of(*claim.split("/")))))
+            if abs(int(said.replace(",", "")) - lines) > lines / 10:
+                yield 1, f"{word} {said} lines: they are {lines}"
+
+
 def sentences(document):
     """Sentences with too many words. What is in backticks counts as one."""
     most = MOST_WORDS_OF_USERS if document.name in FOR_USERS else MOST_WORDS
     for number, text in document.texts():
-        plain = CODE.sub("code", LINK.sub(r"\1", text))
+        plain = CODE.sub("code", LINK.sub(r"\1", re.sub(r"^\*\*[^*]+\*\*: ", "", text)))
         for sentence in re.split(r"(?<=[.?!])[\"')*]*\s+|(?<=\.\))\s+", plain):
             count = len([it for it in sentence.split() if re.search(r"\w", it)])
             if count > most and HEADLINE.split(" ", 1)[1] not in sentence:
@@ -281,7 +316,10 @@ def main():
             names(document, crates),
             clauses(document, crates),
             homes(document, crates),
+            listed_homes(document, crates),
             counts(document, known),
+            listings(document),
+            sizes(document),
             sentences(document),
             widths(document),
         ):
