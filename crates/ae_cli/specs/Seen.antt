@@ -1,5 +1,5 @@
 -- What is seen of all that the program is lent.
-use Rattle.std.specs.Prelude.{ℕ, List, Option}
+use Rattle.std.specs.Prelude.{ℕ, Bool, List, Option}
 use Rattle.ae_base.specs.declared.frames.FrameVersion.{FrameVersion}
 use Rattle.ae_edge.specs.Vaults.{KeyMap}
 use Rattle.disk.specs.Moments.{Moments}
@@ -22,6 +22,7 @@ pub record PeerSeen : Type 0 where
   pub log : Option (List Exchange)
   pub state : Option State
 
+-- of each device, and whether the tap is closed
 pub record Seen : Type 0 where
   pub script : Device (List ℕ)
   pub vault : Device KeyMap
@@ -29,6 +30,7 @@ pub record Seen : Type 0 where
   pub replies : Device (List ℕ)
   pub out : Device (List ℕ)
   pub tap : Device (List ℕ)
+  pub tap_closed : Bool
   pub peer : PeerSeen
   pub disk : Device Moments
 
@@ -54,6 +56,7 @@ drive_devices version s = record {
   version = version;
   out = s.out.content;
   tap = s.tap.content;
+  tap_closed = s.tap_closed;
   entropy = s.entropy.content;
   keys = s.vault.content;
   replies = s.replies.content;

@@ -10,7 +10,7 @@ use crate::endings::{
 };
 use ae_base::texts::Txt;
 use ae_edge::entropies::Entropy;
-use ae_edge::sinks::Sink;
+use ae_edge::sinks::{Close, Sink};
 use ae_edge::sources::Source;
 use ae_edge::vaults::Vault;
 use check_command::commands::check;
@@ -35,7 +35,7 @@ use wrap_command::commands::wrap;
 ///   and prints what the cells hold. `run --summary` does the same, and puts four lines in the place
 ///   of the text: the steps, the refusals, the result rows and the requests.
 /// - `drive` runs a script against recorded replies: it takes their frames from `replies`, and puts
-///   those of the requests alone to `tap`. The frames of `run` and `drive` are of version 1, and with
+///   those of the requests alone to `tap`, which it closes behind the last. The frames of `run` and `drive` are of version 1, and with
 ///   `--frames 2` of version 2, in which rows share frames.
 /// - `check` reads a script from `script`, executes its definitions, describes every other batch
 ///   without executing it, and puts the result of each to `out`, with the rules that show it for a
@@ -50,7 +50,7 @@ use wrap_command::commands::wrap;
 ///   of it, and two reads.
 ///
 /// Other words are `Usage`.
-pub fn ae_main<S: Source, V: Vault, E: Entropy, L: Source, W: Sink, T: Sink, P: Peer, D: Disk>(
+pub fn ae_main<S: Source, V: Vault, E: Entropy, L: Source, W: Sink, T: Close, P: Peer, D: Disk>(
     alloc: Global,
     words: &[Txt],
     script: &mut S,
@@ -72,6 +72,7 @@ pub fn ae_main<S: Source, V: Vault, E: Entropy, L: Source, W: Sink, T: Sink, P: 
           replies = seen L.left L.faults replies.old;
           out = seen W.held W.faults out.old;
           tap = seen T.held T.faults tap.old;
+          tap_closed = T.closed tap.old;
           peer = record { log = P.log peer.old; state = P.state peer.old };
           disk = seen D.told D.faults disk.old;
         })
@@ -82,6 +83,7 @@ pub fn ae_main<S: Source, V: Vault, E: Entropy, L: Source, W: Sink, T: Sink, P: 
           replies = seen L.left L.faults replies.new;
           out = seen W.held W.faults out.new;
           tap = seen T.held T.faults tap.new;
+          tap_closed = T.closed tap.new;
           peer = record { log = P.log peer.new; state = P.state peer.new };
           disk = seen D.told D.faults disk.new;
         }) }

@@ -4,6 +4,8 @@ use Rattle.ae_edge.specs.Devices.{risen}
 use Rattle.ae_edge.specs.Vaults.{KeyMap}
 use Rattle.ae_edge.specs.declared.sources.Taken.{Taken}
 use Rattle.ae_edge.specs.declared.sources.Taken.TheVariants as taken
+use Rattle.ae_edge.specs.declared.sinks.Closing.{Closing}
+use Rattle.ae_edge.specs.declared.sinks.Closing.TheVariants as closing
 use Rattle.ae_edge.specs.declared.sinks.Put.{Put}
 use Rattle.ae_edge.specs.declared.sinks.Put.TheVariants as put
 use Rattle.ae_edge.specs.declared.vaults.MasterKey.{MasterKey}
@@ -42,6 +44,7 @@ pub record SourceState : Type 0 where
 pub record SinkState : Type 0 where
   pub held : List ℕ
   pub calls : CallState
+  pub closed : Bool
 
 pub record VaultState : Type 0 where
   pub keys : KeyMap
@@ -62,9 +65,14 @@ MemTakes max taken.OutOfMemory old new = new ≡ record old { calls = after_call
 -- a call puts the whole piece; else nothing but the calls changes
 abbrev pub MemPuts : List ℕ → Put → SinkState → SinkState → Type 0
 MemPuts bytes (put.Bytes n) old new =
-    (n ≡ length bytes) × (new ≡ record { held = old.held ++ bytes; calls = after_call old.calls false })
+    (n ≡ length bytes) × (new ≡ record old { held = old.held ++ bytes; calls = after_call old.calls false })
 MemPuts bytes put.Failed old new = new ≡ record old { calls = after_call old.calls true }
 MemPuts bytes put.OutOfMemory old new = new ≡ record old { calls = after_call old.calls false }
+
+-- the sink is closed; else nothing but the calls changes
+abbrev pub MemCloses : Closing → SinkState → SinkState → Type 0
+MemCloses closing.Closed old new = new ≡ record old { calls = after_call old.calls false; closed = true }
+MemCloses closing.Failed old new = new ≡ record old { calls = after_call old.calls true }
 
 -- nothing but the calls changes
 abbrev pub MemFinds : MasterKey → VaultState → VaultState → Type 0

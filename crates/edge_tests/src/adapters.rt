@@ -10,7 +10,7 @@ use ae_edge::adapters::folder::FolderVault;
 use ae_edge::adapters::sink::StdSink;
 use ae_edge::adapters::source::StdSource;
 use ae_edge::entropies::{Draw, Entropy};
-use ae_edge::sinks::{Put, Sink};
+use ae_edge::sinks::{Close, Closing, Put, Sink};
 use ae_edge::sources::{Source, Taken};
 use ae_edge::streams::{PutAll, put_all, read_all};
 use ae_edge::vaults::{MasterKey, Vault};
@@ -240,4 +240,5 @@ fn a_file_that_cannot_be_opened_fails(rt: HostRuntime) {
     assert!(rt; matches!(source.take(rt.alloc(), 9), Taken::Failed));
     let mut sink = FileSink::new(&rt, "no such folder/tap.bin");
     assert!(rt; matches!(sink.put(b"frames"), Put::Failed));
+    assert!(rt; matches!(sink.close(), Closing::Failed));
 }

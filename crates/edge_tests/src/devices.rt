@@ -8,6 +8,7 @@ use ae_edge::memory::entropy::MemEntropy;
 use ae_edge::memory::sink::MemSink;
 use ae_edge::memory::source::MemSource;
 use ae_edge::memory::vault::MemVault;
+use ae_edge::sinks::{Close, Closing};
 use ae_edge::sources::Taken;
 use ae_edge::streams::{PutAll, ReadAll, put_all, read_all};
 use ae_edge::vaults::{MasterKey, Vault};
@@ -73,6 +74,23 @@ fn holds_what_was_put_before_a_failing_call(rt: HostRuntime) -> Result<(), Fail>
     assert_eq!(rt; put_all(&mut lent, b"b"), PutAll::WriteFault);
     assert_eq!(rt; put_all(&mut lent, b"c"), PutAll::Whole);
     assert_eq!(rt; sink.bytes(), b"ac".as_slice());
+    Ok(())
+}
+
+fn close<W: Close>(mut sink: &mut W) -> Closing {
+    Close::close(&mut sink)
+}
+
+#[test]
+fn puts_nothing_after_it_is_closed(rt: HostRuntime) -> Result<(), Fail> {
+    let failing = Vec::from_slice(rt.alloc(), &[1u64])?;
+    let mut sink = MemSink::new(rt.alloc(), failing);
+    assert_eq!(rt; put_all(&mut sink, b"a"), PutAll::Whole);
+    assert_eq!(rt; close(&mut sink), Closing::Failed);
+    assert_eq!(rt; put_all(&mut sink, b"b"), PutAll::Whole);
+    assert_eq!(rt; close(&mut sink), Closing::Closed);
+    assert_eq!(rt; put_all(&mut sink, b"c"), PutAll::WriteFault);
+    assert_eq!(rt; sink.bytes(), b"ab".as_slice());
     Ok(())
 }
 

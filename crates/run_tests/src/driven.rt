@@ -49,17 +49,26 @@ impl Left {
     }
 }
 
-/// Drives the script against replies in pieces of so many bytes, of which the taking of one fails.
+/// The numbers of the calls that fail.
+fn calls(alloc: Global, fails: Option<u64>) -> Result<Vec<u64>, AllocError> {
+    let mut calls = Vec::new(alloc);
+    if let Some(call) = fails {
+        calls.push(call)?;
+    }
+    Ok(calls)
+}
+
+/// Drives the script against replies in pieces of so many bytes, of which the taking of one may
+/// fail, and so may a call of the tap.
 fn driven(
     alloc: Global,
     replies: &[u8],
     piece: usize,
     fails: Option<u64>,
+    tap_fails: Option<u64>,
 ) -> Result<Left, AllocError> {
-    let mut failing = Vec::new(alloc);
-    if let Some(call) = fails {
-        failing.push(call)?;
-    }
+    let failing = calls(alloc, fails)?;
+    let tap_failing = calls(alloc, tap_fails)?;
     let script = Vec::from_slice(alloc, SCRIPT.as_bytes())?;
     let replies = Vec::from_slice(alloc, replies)?;
     let mut vault = vault(alloc)?;
@@ -67,7 +76,7 @@ fn driven(
     let mut entropy = MemEntropy::new(Vec::new(alloc), Vec::new(alloc));
     let mut replies = MemSource::new(replies, piece.max(1), failing);
     let mut out = MemSink::new(alloc, Vec::new(alloc));
-    let mut tap = MemSink::new(alloc, Vec::new(alloc));
+    let mut tap = MemSink::new(alloc, tap_failing);
     let ran = drive(
         alloc,
         &mut script,
@@ -114,7 +123,7 @@ fn drives_to(
     ran: Ran,
     last: &str,
 ) -> Result<bool, AllocError> {
-    let left = driven(alloc, replies, piece, fails)?;
+    let left = driven(alloc, replies, piece, fails, None)?;
     Ok(left.is(ran, last))
 }
 
@@ -123,7 +132,7 @@ fn recorded_replies_give_the_recorded_text(rt: HostRuntime) -> Result<(), Fail> 
     let alloc = rt.alloc();
     let Recording { requests, replies } = passed(alloc, SCRIPT, FrameVersion::V1)?;
     for piece in [1, 2, 7, 4096] {
-        let left = driven(alloc, &replies, piece, None)?;
+        let left = driven(alloc, &replies, piece, None, None)?;
         assert!(rt; left.is(Ran::Done, "c\nN'x'\nN'y'\n(2 rows)\n"));
         assert!(rt; left.tap.bytes() == requests.as_slice());
     }
@@ -163,5 +172,17 @@ fn what_is_left_has_its_place(rt: HostRuntime) -> Result<(), Fail> {
         let whole = "c\nN'x'\nN'y'\n(2 rows)\n";
         assert!(rt; drives_to(alloc, &replies, piece, None, end, whole)?);
     }
+    Ok(())
+}
+
+// Each of the six batches puts the frames of two requests, and then the tap is closed.
+#[test]
+fn a_tap_that_cannot_be_closed_is_a_write_fault(rt: HostRuntime) -> Result<(), Fail> {
+    let alloc = rt.alloc();
+    let Recording { requests, replies } = passed(alloc, SCRIPT, FrameVersion::V1)?;
+    let left = driven(alloc, &replies, 7, None, Some(12))?;
+    let whole = "c\nN'x'\nN'y'\n(2 rows)\n";
+    assert!(rt; left.is(Ran::Stopped(Stop::WriteFault), whole));
+    assert!(rt; left.tap.bytes() == requests.as_slice());
     Ok(())
 }

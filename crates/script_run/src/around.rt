@@ -47,6 +47,9 @@ pub enum RowHeard {
 pub trait Around {
     ghost outside: { Self → Outside };
 
+    /// What holds of it at its end, besides what is told.
+    ghost is_ended: { Self → Type 0 };
+
     /// Asks a request.
     fn ask(&mut self, alloc: Global, request: &Request<'_>) -> Result<(), Stop>
         ensures leads { (t : Talk) → Advances result (Asks request.now t) (λ _. t)
@@ -54,12 +57,13 @@ pub trait Around {
         ensures keys { IfOk result
             (λ _. (outside self.new).client.keys ≡ (outside self.old).client.keys) };
 
-    /// Looks whether any reply is left. None may be.
+    /// Ends it, where nothing more is asked, and looks whether any reply is left. None may be.
     fn finish(&mut self, alloc: Global) -> Result<(), Stop>
         ensures leads { (sessions : List Session) → Advances result (Ends sessions)
             (λ _. Ends sessions) (outside self.old) (outside self.new) }
         ensures read { IfOk result
-            (λ _. IsReadOut (outside self.new).wire.stream (outside self.new).wire.waiting) };
+            (λ _. IsReadOut (outside self.new).wire.stream (outside self.new).wire.waiting) }
+        ensures ended { IfOk result (λ _. is_ended self.new) };
 
     /// Prints an outcome.
     fn print(&mut self, alloc: Global, outcome: &Outcome) -> Result<(), Stop>

@@ -1,14 +1,14 @@
 //! Files that are opened at their first use, as a sink or a source.
 
-ghost use Rattle.std.specs.Prelude.{◌≡◌, ◌≤◌, [], None};
+ghost use Rattle.std.specs.Prelude.{◌≡◌, ◌≤◌, [], IsTrue, None, false};
 ghost use Rattle.ae_edge.specs.Devices.{Rose};
 ghost use Rattle.ae_edge.specs.Files.{IsKept, OpensThen};
-ghost use Rattle.ae_edge.specs.Sinks.{CountsPut, IsPut, PutsKnown};
+ghost use Rattle.ae_edge.specs.Sinks.{Closes, CountsClosing, CountsPut, IsPut, PutsKnown};
 ghost use Rattle.ae_edge.specs.Sources.{CountsTake, IsPiece, TakesKnown};
 
 use crate::adapters::sink::StdSink;
 use crate::adapters::source::StdSource;
-use crate::sinks::{Put, Sink};
+use crate::sinks::{Close, Closing, Put, Sink};
 use crate::sources::{Source, Taken};
 use std::alloc::Global;
 use std::fs::File;
@@ -21,6 +21,7 @@ pub struct LazyFile<R, D> {
     name: &'static str,
     file: Option<D>,
     faults: u64,
+    closed: bool,
 }
 
 /// A file as a sink. It is made, or emptied where it is there, when the first bytes are put.
@@ -54,23 +55,26 @@ impl<R: Files + Drop, D: OpensFile<R>> LazyFile<R, D> {
         ensures name { result.name ≡ name.entry }
         ensures shut { result.file ≡ None }
         ensures faults { result.faults ≡ 0 }
+        ensures fresh { result.closed ≡ false }
     {
         LazyFile {
             files,
             name,
             file: None,
             faults: 0,
+            closed: false,
         }
     }
 
-    // Opens the file, unless it is open or can't be opened.
+    // Opens the file, unless it is open, is closed or can't be opened.
     fn open(&mut self)
         ensures faults { self.new.faults ≡ self.old.faults }
         ensures files { self.new.files ≡ self.old.files }
         ensures name { self.new.name ≡ self.old.name }
         ensures open { IsKept self.old.file self.new.file }
+        ensures closed { self.new.closed ≡ self.old.closed }
     {
-        if self.file.is_none() {
+        if self.file.is_none() && !self.closed {
             self.file = D::open(&self.files, self.name);
         }
     }
@@ -91,6 +95,8 @@ impl<R: Files + Drop> Sink for LazyFile<R, StdSink<R::File>> {
         ensures files { self.new.files ≡ self.old.files }
         ensures name { self.new.name ≡ self.old.name }
         ensures shut { self.new.file ≡ None → result ≡ Put.Failed }
+        ensures closed { self.new.closed ≡ self.old.closed }
+        ensures nothing { IsTrue self.old.closed → result ≡ Put.Failed }
         // The file stays open once it is, and each piece is put behind what was put before.
         ensures known { OpensThen
             (λ old new. PutsKnown bytes.now result (R.File.contents old.writer)
@@ -99,13 +105,38 @@ impl<R: Files + Drop> Sink for LazyFile<R, StdSink<R::File>> {
     {
         self.open();
         let put = match &mut self.file {
-            Some(file) => file.put(bytes),
-            None => Put::Failed,
+            Some(file) if !self.closed => file.put(bytes),
+            _ => Put::Failed,
         };
         if matches!(put, Put::Failed) {
             self.faults = self.faults.saturating_add(1);
         }
         put
+    }
+}
+
+impl<R: Files + Drop> Close for LazyFile<R, StdSink<R::File>> {
+    ghost closed = { λ s. s.closed };
+
+    // The file is let go. One that was never opened is opened first, so that it is emptied, and a
+    // reader of a named pipe sees an end.
+    fn close(&mut self) -> Closing
+        ensures count { self.old.faults ≤ self.new.faults }
+        ensures failed { result ≡ Closing.Failed → Rose self.old.faults self.new.faults }
+        ensures counts { CountsClosing result self.old.faults self.new.faults }
+        ensures closed { Closes result self.old.closed self.new.closed }
+        ensures files { self.new.files ≡ self.old.files }
+        ensures name { self.new.name ≡ self.old.name }
+        ensures gone { result ≡ Closing.Closed → self.new.file ≡ None }
+    {
+        self.open();
+        if self.file.is_none() && !self.closed {
+            self.faults = self.faults.saturating_add(1);
+            return Closing::Failed;
+        }
+        self.file = None;
+        self.closed = true;
+        Closing::Closed
     }
 }
 
