@@ -1,15 +1,14 @@
--- Frames between the head and the foot of a page.
-use Rattle.std.proofs.Common.{◌≡◌, ◌+◌, ℕ, List, [], ◌∷◌, ◌++◌, length, Option, Bool, true, false, refl, ap, subst, sym, append-nil}
+-- Frames between what stands before and behind them.
+use Rattle.std.proofs.Common.{◌≡◌, ℕ, List, [], ◌++◌, Option, Bool, true, false, refl, subst, sym, append-nil, inl, inr}
 use Rattle.ae_edge.specs.Devices.{Adds, AddsFront, Rose}
-use Rattle.ae_edge.proofs.Interface.{adds_front_then, adds_none, adds_then, adds_then_front}
-use Rattle.tap_listing.specs.declared.frames.Frame.{Frame}
-use Rattle.tap_page.specs.Page.{page_foot, page_head}
-use Rattle.tap_reading.specs.Reading.{SpellsFrame, TapFrames, is_tap_head}
+use Rattle.ae_edge.proofs.Interface.{adds_none, adds_then, adds_then_front}
+use Rattle.tap_page.specs.Page.{page_head}
 use Rattle.tap_text.specs.Text.{mark}
-use Rattle.wire_frames.specs.Frames.{Placed, End, Whole, Refused, Rest, ReadsAs}
+use Rattle.wire_frames.specs.Frames.{End, Whole, Refused, Rest}
 use Rattle.view_command.specs.declared.commands.Viewed.{Viewed}
 use Rattle.view_command.specs.declared.commands.Viewed.TheVariants as ended
-use Rattle.view_command.specs.Viewing.{ReadsTo, IsRead, ShowsAll, ShowsFront, Views, CountsViewed, frames_text, listing_text, is_listed}
+use Rattle.tap_counts.specs.Counting.{Tallied}
+use Rattle.view_command.specs.Viewing.{CountsViewed, Lists, ListsAll, ShowsAll, ShowsFrames, ShowsFront, Views, end_text, ended_text, foot_text, frames_text, is_listed, tally_of}
 
 -- a part that only a page has
 pub no_mark : (page : Bool) (html : List ℕ) (out : Option (List ℕ)) → page ≡ false → Adds (mark page html) out out
@@ -20,74 +19,64 @@ pub mark_of_page : (page : Bool) (html : List ℕ) → page ≡ true → html �
 mark_of_page true html e = refl
 mark_of_page false html e = absurd cc
 
--- frames that end so are read up to a place
-read_to : (frames : List (Placed Frame)) (at : ℕ) (bytes : List ℕ) (end : End) → ReadsAs is_tap_head SpellsFrame at bytes frames end → (to : ℕ) × (rest : List ℕ) × ReadsTo at bytes frames to rest
-read_to [] at bytes end h = (at, bytes, (refl, refl))
-read_to (m ∷ ms) at bytes end (frame, more, is, place, spells, behind) =
-    let t = read_to ms (at + length frame) more end behind in
-    (t.0, t.1, (frame, more, is, place, spells, t.2))
-
-module _ (page : Bool) (bytes : List ℕ) (first mid : Option (List ℕ)) where
-  -- the head was put in part
-  pub head_front : AddsFront (mark page page_head) first mid → ShowsFront (listing_text page) bytes first mid
-  head_front put = (
-    [],
-    0,
-    bytes,
-    (refl, refl),
-    adds_front_then (mark page page_head) (listing_text page []) first mid put (record { rest = mark page page_foot; is = ap (λ l. l ++ mark page page_foot) (append-nil (mark page page_head)) }),
-  )
+-- the head was put in part
+pub head_front : (page : Bool) (bytes : List ℕ) (first mid : Option (List ℕ)) → AddsFront (mark page page_head) first mid → ShowsFront page bytes first mid
+head_front page bytes first mid put = inl ([], 0, bytes, (refl, refl), subst (λ (l : List ℕ). AddsFront l first mid) (sym (append-nil (mark page page_head))) put)
 
 module _ (page : Bool) (bytes : List ℕ) (first mid now : Option (List ℕ)) (head : Adds (mark page page_head) first mid) where
   -- the head, and the frames in part
-  frames_front : ShowsFront (frames_text page) bytes mid now → ShowsFront (listing_text page) bytes first now
-  frames_front (frames, to, rest, reads, put) = (
-    frames,
-    to,
-    rest,
-    reads,
-    adds_front_then (mark page page_head ++ frames_text page frames) (listing_text page frames) first now
-        (adds_then_front (mark page page_head) (frames_text page frames) first mid now head put)
-        (record { rest = mark page page_foot; is = refl }),
-  )
+  frames_front : ShowsFrames page [] bytes mid now → ShowsFront page bytes first now
+  frames_front (frames, to, rest, reads, put) = inl (frames, to, rest, reads, adds_then_front (mark page page_head) (frames_text page frames) first mid now head put)
 
-  -- the head and the frames, and the foot in part or whole
-  foot_front : (last : Option (List ℕ)) (end : End) → ShowsAll (frames_text page) end bytes mid now → AddsFront (mark page page_foot) now last → ShowsFront (listing_text page) bytes first last
-  foot_front last end (frames, reads, put) foot =
-      let t = read_to frames 0 bytes end reads in
-      (frames, t.0, t.1, t.2, adds_then_front (mark page page_head ++ frames_text page frames) (mark page page_foot) first now last (adds_then (mark page page_head) (frames_text page frames) first mid now head put) foot)
+  module _ (tally : Tallied) where
+    -- the head and the frames, and the foot in part or whole
+    foot_front : (last : Option (List ℕ)) (end : End) → ListsAll page end bytes tally mid now → AddsFront (foot_text page tally (end_text end)) now last → ShowsFront page bytes first last
+    foot_front last end (frames, reads, is, put) foot =
+        inr (
+          frames,
+          end,
+          reads,
+          adds_then_front (mark page page_head ++ frames_text page frames) (foot_text page (tally_of frames) (end_text end)) first now last
+              (adds_then (mark page page_head) (frames_text page frames) first mid now head put)
+              (subst (λ t. AddsFront (foot_text page t (end_text end)) now last) is foot),
+        )
 
-  foot_whole : (last : Option (List ℕ)) (end : End) → ShowsAll (frames_text page) end bytes mid now → Adds (mark page page_foot) now last → ShowsAll (listing_text page) end bytes first last
-  foot_whole last end (frames, reads, put) foot =
-      (frames, reads, adds_then (mark page page_head ++ frames_text page frames) (mark page page_foot) first now last (adds_then (mark page page_head) (frames_text page frames) first mid now head put) foot)
+    foot_whole : (last : Option (List ℕ)) (end : End) → ListsAll page end bytes tally mid now → Adds (foot_text page tally (end_text end)) now last → ShowsAll page end bytes first last
+    foot_whole last end (frames, reads, is, put) foot = (
+      frames,
+      reads,
+      adds_then (mark page page_head ++ frames_text page frames) (foot_text page (tally_of frames) (end_text end)) first now last
+          (adds_then (mark page page_head) (frames_text page frames) first mid now head put)
+          (subst (λ t. Adds (foot_text page t (end_text end)) now last) is foot),
+    )
 
-  -- by how the frames ended
-  pub unlisted : (v : Viewed) → is_listed v ≡ false → IsRead v → Views (frames_text page) v bytes mid now → Views (listing_text page) v bytes first now
-  unlisted ended.Done e r h = absurd cc
-  unlisted ended.ReadFault e r h = absurd r
-  unlisted ended.WriteFault e r h = frames_front h
-  unlisted ended.OutOfMemory e r h = frames_front h
-  unlisted ended.TooLong e r h = absurd r
-  unlisted (ended.BadFrame place) e r h = absurd cc
-  unlisted (ended.CutOff place) e r h = absurd cc
+    -- by how the frames ended
+    pub unlisted : (v : Viewed) → is_listed v ≡ false → Lists page v bytes tally mid now → Views page v bytes first now
+    unlisted ended.Done e h = absurd cc
+    unlisted ended.ReadFault e h = absurd h
+    unlisted ended.WriteFault e h = frames_front h
+    unlisted ended.OutOfMemory e h = frames_front h
+    unlisted ended.TooLong e h = absurd h
+    unlisted (ended.BadFrame place) e h = absurd cc
+    unlisted (ended.CutOff place) e h = absurd cc
 
-  pub listed : (v : Viewed) (last : Option (List ℕ)) → is_listed v ≡ true → Views (frames_text page) v bytes mid now → Adds (mark page page_foot) now last → Views (listing_text page) v bytes first last
-  listed ended.Done last e h foot = foot_whole last Whole h foot
-  listed ended.ReadFault last e h foot = absurd cc
-  listed ended.WriteFault last e h foot = absurd cc
-  listed ended.OutOfMemory last e h foot = absurd cc
-  listed ended.TooLong last e h foot = absurd cc
-  listed (ended.BadFrame place) last e h foot = foot_whole last (Refused place) h foot
-  listed (ended.CutOff place) last e h foot = foot_whole last (Rest place) h foot
+    pub listed : (v : Viewed) (last : Option (List ℕ)) → is_listed v ≡ true → Lists page v bytes tally mid now → Adds (foot_text page tally (ended_text v)) now last → Views page v bytes first last
+    listed ended.Done last e h foot = foot_whole last Whole h foot
+    listed ended.ReadFault last e h foot = absurd cc
+    listed ended.WriteFault last e h foot = absurd cc
+    listed ended.OutOfMemory last e h foot = absurd cc
+    listed ended.TooLong last e h foot = absurd cc
+    listed (ended.BadFrame place) last e h foot = foot_whole last (Refused place) h foot
+    listed (ended.CutOff place) last e h foot = foot_whole last (Rest place) h foot
 
-  pub listed_in_part : (v : Viewed) (last : Option (List ℕ)) → is_listed v ≡ true → Views (frames_text page) v bytes mid now → AddsFront (mark page page_foot) now last → ShowsFront (listing_text page) bytes first last
-  listed_in_part ended.Done last e h foot = foot_front last Whole h foot
-  listed_in_part ended.ReadFault last e h foot = absurd cc
-  listed_in_part ended.WriteFault last e h foot = absurd cc
-  listed_in_part ended.OutOfMemory last e h foot = absurd cc
-  listed_in_part ended.TooLong last e h foot = absurd cc
-  listed_in_part (ended.BadFrame place) last e h foot = foot_front last (Refused place) h foot
-  listed_in_part (ended.CutOff place) last e h foot = foot_front last (Rest place) h foot
+    pub listed_in_part : (v : Viewed) (last : Option (List ℕ)) → is_listed v ≡ true → Lists page v bytes tally mid now → AddsFront (foot_text page tally (ended_text v)) now last → ShowsFront page bytes first last
+    listed_in_part ended.Done last e h foot = foot_front last Whole h foot
+    listed_in_part ended.ReadFault last e h foot = absurd cc
+    listed_in_part ended.WriteFault last e h foot = absurd cc
+    listed_in_part ended.OutOfMemory last e h foot = absurd cc
+    listed_in_part ended.TooLong last e h foot = absurd cc
+    listed_in_part (ended.BadFrame place) last e h foot = foot_front last (Refused place) h foot
+    listed_in_part (ended.CutOff place) last e h foot = foot_front last (Rest place) h foot
 
 -- no call of the output failed where all frames were put
 pub listed_counts : (v : Viewed) (old new : ℕ) → is_listed v ≡ true → CountsViewed v old new → new ≡ old

@@ -6,7 +6,7 @@ use Rattle.tap_listing.specs.Classes.{classing}
 use Rattle.tap_listing.specs.Frames.{blank_frame, classes_after, classes_behind, blank_payload, entries_of, frame_spots, part_of, parts_of}
 use Rattle.tap_listing.specs.declared.frames.Frame.{Frame}
 use Rattle.tap_listing.specs.declared.frames.Frame.TheVariants.{Asked, Told}
-use Rattle.tap_page.specs.Page.{page_foot, page_head}
+use Rattle.tap_page.specs.Page.{page_head}
 use Rattle.tap_reading.specs.Reading.{SpellsFrame, TapFrames, is_tap_head}
 use Rattle.tap_text.specs.Text.{frame_text, mark}
 use Rattle.wire_frames.specs.Frames.{Placed, End, ReadsAs}
@@ -14,7 +14,9 @@ use Rattle.wire_messages.specs.declared.replies.Reply.TheVariants.{Described, Co
 use Rattle.wire_payloads.specs.declared.payloads.Payload.{Payload}
 use Rattle.wire_payloads.specs.declared.payloads.Payload.TheVariants.{One, Rows}
 use Rattle.view_command.specs.Laws.{messages_of}
-use Rattle.view_command.specs.Viewing.{frames_behind, frames_text, listing_text}
+use Rattle.tap_counts.specs.Counting.{Tallied, frame_places, no_tally, tallied_from}
+use Rattle.tap_counts.proofs.Interface.{frame_counted_alike}
+use Rattle.view_command.specs.Viewing.{end_text, foot_text, frames_behind, frames_text, listing_text, tallied_behind, tally_of}
 use Rattle.view_command.proofs.Sizes.{frame_size_told, size_of, size_of_frame, frame_bytes}
 use Rattle.view_command.proofs.Texts.{frame_alike}
 
@@ -70,7 +72,31 @@ module _ (page : Bool) where
       ap (λ n. frame_text page n classes g.message past) (placed ∙ sym place) ∙ frame_alike page f.at classes f.message g.message seen past shown marks in
       ap (λ l. l ++ frames_behind page (classes_after classes g.message) gs after) head ∙ ap (λ l. frame_text page f.at classes f.message seen ++ l) behind
 
+  tallied_alike : (fs gs : List (Placed Frame)) (tally : Tallied) (classes : List Class) (seen past : List (Spot Class)) → listing_from classing past (parts_of classes (messages_of gs)) ≡ listing_from classing seen (parts_of classes (messages_of fs))
+      → tallied_behind tally classes gs past ≡ tallied_behind tally classes fs seen
+  tallied_alike [] [] tally classes seen past e = refl
+  tallied_alike [] (g ∷ gs) tally classes seen past e = absurd cc
+  tallied_alike (f ∷ fs) [] tally classes seen past e = absurd cc
+  tallied_alike (f ∷ fs) (g ∷ gs) tally classes seen past e =
+      let mine = entry_of classing seen (part_of classes f.message) in
+      let yours = entry_of classing past (part_of classes g.message) in
+      let later = seen_past classing seen (frame_spots classes f.message) in
+      let after = seen_past classing past (frame_spots classes g.message) in
+      let ms = listing_from classing later (parts_of (classes_after classes f.message) (messages_of fs)) in
+      let same : yours ≡ mine = ap (λ zs. get_or zs 0 yours) e in
+      let shown : blank_frame classes g.message ≡ blank_frame classes f.message = ap (λ (l : Listed Frame Class). l.shown) same in
+      let marks = ap (λ (l : Listed Frame Class). l.labels) same in
+      let classes_same = after_same classes f.message g.message shown in
+      let tail : listing_from classing after (parts_of (classes_after classes f.message) (messages_of gs)) ≡ ms =
+      ap (λ cs. listing_from classing after (parts_of cs (messages_of gs))) (sym classes_same) ∙ ap (drop 1) e in
+      let one : tallied_from tally (frame_places classes g.message) past ≡ tallied_from tally (frame_places classes f.message) seen = frame_counted_alike classes f.message g.message seen past tally shown marks in
+      ap (λ cs. tallied_behind (tallied_from tally (frame_places classes g.message) past) cs gs after) classes_same
+      ∙ ap (λ t. tallied_behind t (classes_after classes f.message) gs after) one
+      ∙ tallied_alike fs gs (tallied_from tally (frame_places classes f.message) seen) (classes_after classes f.message) later after tail
+
 pub told_by_entries : (page : Bool) (bytes more : List ℕ) (frames others : List (Placed Frame)) (end other : End) → TapFrames bytes frames end → TapFrames more others other
-    → entries_of (messages_of others) ≡ entries_of (messages_of frames) → listing_text page others ≡ listing_text page frames
-told_by_entries page bytes more frames others end other h k e =
-    ap (λ l. mark page page_head ++ l ++ mark page page_foot) (behind_alike page frames others 0 bytes more end other h k [] [] [] e)
+    → entries_of (messages_of others) ≡ entries_of (messages_of frames) → other ≡ end → listing_text page others other ≡ listing_text page frames end
+told_by_entries page bytes more frames others end other h k e same =
+    ap (λ l. mark page page_head ++ l ++ foot_text page (tally_of others) (end_text other)) (behind_alike page frames others 0 bytes more end other h k [] [] [] e)
+    ∙ ap (λ t. mark page page_head ++ frames_text page frames ++ foot_text page t (end_text other)) (tallied_alike page frames others no_tally [] [] [] e)
+    ∙ ap (λ n. mark page page_head ++ frames_text page frames ++ foot_text page (tally_of frames) (end_text n)) same

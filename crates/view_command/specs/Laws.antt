@@ -10,7 +10,8 @@ use Rattle.view_command.specs.Viewing.{listing_text}
 abbrev pub messages_of : List (Placed Frame) → List Frame
 messages_of frames = map (λ (m : Placed Frame). m.message) frames
 
--- two recordings with one listing have one text and one page: nothing is written that the entries don't tell
+-- two recordings with one listing, which end alike, have one text and one page: nothing is written that the entries and the end don't
+-- tell, and no count
 abbrev pub TextsAreOfEntries : Type 0
 TextsAreOfEntries = (page : Bool) (bytes more : List ℕ) (frames others : List (Placed Frame)) (end other : End) → TapFrames bytes frames end → TapFrames more others other
-    → entries_of (messages_of others) ≡ entries_of (messages_of frames) → listing_text page others ≡ listing_text page frames
+    → entries_of (messages_of others) ≡ entries_of (messages_of frames) → other ≡ end → listing_text page others other ≡ listing_text page frames end

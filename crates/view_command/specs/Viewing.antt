@@ -1,5 +1,5 @@
 -- The command `view`: what is put of a recording, and how that ends.
-use Rattle.std.specs.Prelude.{◌≡◌, ◌<◌, ◌+◌, ℕ, List, [], ◌∷◌, ◌++◌, length, Option, Bool, true, false}
+use Rattle.std.specs.Prelude.{◌≡◌, ◌<◌, ◌+◌, ◌⊎◌, ℕ, List, [], ◌∷◌, ◌++◌, length, codes, decimal, Option, Bool, true, false}
 use Rattle.ae_base.specs.Limits.{most_stream_bytes}
 use Rattle.ae_edge.specs.Devices.{Adds, AddsFront, Rose}
 use Rattle.first_seen.specs.Parts.{Spot, seen_past}
@@ -9,7 +9,9 @@ use Rattle.tap_listing.specs.Frames.{classes_after, frame_spots}
 use Rattle.tap_listing.specs.declared.frames.Frame.{Frame}
 use Rattle.tap_reading.specs.Reading.{SpellsFrame, TapFrames}
 use Rattle.tap_page.specs.Page.{page_foot, page_head}
-use Rattle.tap_text.specs.Text.{frame_text, mark}
+use Rattle.tap_counts.specs.Counting.{Tallied, frame_places, no_tally, tallied_from}
+use Rattle.tap_counts.specs.Lines.{tally_text}
+use Rattle.tap_text.specs.Text.{frame_text, line, mark}
 use Rattle.wire_frames.specs.Frames.{Placed, End, Whole, Refused, Rest}
 use Rattle.view_command.specs.declared.commands.Viewed.{Viewed}
 use Rattle.view_command.specs.declared.commands.Viewed.TheVariants as ended
@@ -24,9 +26,28 @@ frames_behind page classes (m ∷ ms) seen =
 abbrev pub frames_text : Bool → List (Placed Frame) → List ℕ
 frames_text page frames = frames_behind page [] frames []
 
--- on a page they stand between its head and its foot
-abbrev pub listing_text : Bool → List (Placed Frame) → List ℕ
-listing_text page frames = mark page page_head ++ frames_text page frames ++ mark page page_foot
+-- what is counted in frames one after another, behind the cells seen
+abbrev pub tallied_behind : Tallied → List Class → List (Placed Frame) → List (Spot Class) → Tallied
+tallied_behind tally classes [] seen = tally
+tallied_behind tally classes (m ∷ ms) seen =
+    tallied_behind (tallied_from tally (frame_places classes m.message) seen) (classes_after classes m.message) ms (seen_past classing seen (frame_spots classes m.message))
+
+abbrev pub tally_of : List (Placed Frame) → Tallied
+tally_of frames = tallied_behind no_tally [] frames []
+
+-- how a recording ends
+abbrev pub end_text : End → List ℕ
+end_text Whole = line (codes "whole")
+end_text (Refused place) = line (codes "bad frame at " ++ decimal place)
+end_text (Rest place) = line (codes "cut off at " ++ decimal place)
+
+-- what stands behind the frames: what can be counted, how the recording ends, and the end of a page
+abbrev pub foot_text : Bool → Tallied → List ℕ → List ℕ
+foot_text page tally how = tally_text page tally ++ how ++ mark page page_foot
+
+-- on a page all stands between its head and its foot
+abbrev pub listing_text : Bool → List (Placed Frame) → End → List ℕ
+listing_text page frames end = mark page page_head ++ frames_text page frames ++ foot_text page (tally_of frames) (end_text end)
 
 -- the bytes from a place on are these frames, up to another place, and the rest
 abbrev pub ReadsTo : ℕ → List ℕ → List (Placed Frame) → ℕ → List ℕ → Type 0
@@ -34,25 +55,58 @@ ReadsTo at bytes [] to rest = (to ≡ at) × (rest ≡ bytes)
 ReadsTo at bytes (m ∷ ms) to rest =
     (frame more : List ℕ) × (bytes ≡ frame ++ more) × (m.at ≡ at) × SpellsFrame m.message frame × ReadsTo (at + length frame) more ms to rest
 
--- ---- what was put of a recording, whose frames have this text
+-- ---- what was put of the frames of a recording, and counted in them
 
 -- the bytes are frames that end so, and all of them were put
-abbrev pub ShowsAll : (List (Placed Frame) → List ℕ) → End → List ℕ → Option (List ℕ) → Option (List ℕ) → Type 0
-ShowsAll text end bytes old new = (frames : List (Placed Frame)) × TapFrames bytes frames end × Adds (text frames) old new
+abbrev pub ListsAll : Bool → End → List ℕ → Tallied → Option (List ℕ) → Option (List ℕ) → Type 0
+ListsAll page end bytes tally old new = (frames : List (Placed Frame)) × TapFrames bytes frames end × (tally ≡ tally_of frames) × Adds (frames_text page frames) old new
 
--- the bytes begin with frames, of whose text a front was put
-abbrev pub ShowsFront : (List (Placed Frame) → List ℕ) → List ℕ → Option (List ℕ) → Option (List ℕ) → Type 0
-ShowsFront text bytes old new = (frames : List (Placed Frame)) × (to : ℕ) × (rest : List ℕ) × ReadsTo 0 bytes frames to rest × AddsFront (text frames) old new
+-- the bytes begin with frames, of whose text behind another a front was put
+abbrev pub ShowsFrames : Bool → List ℕ → List ℕ → Option (List ℕ) → Option (List ℕ) → Type 0
+ShowsFrames page head bytes old new = (frames : List (Placed Frame)) × (to : ℕ) × (rest : List ℕ) × ReadsTo 0 bytes frames to rest × AddsFront (head ++ frames_text page frames) old new
 
 -- by how it ended
-abbrev pub Views : (List (Placed Frame) → List ℕ) → Viewed → List ℕ → Option (List ℕ) → Option (List ℕ) → Type 0
-Views text ended.Done bytes old new = ShowsAll text Whole bytes old new
-Views text ended.ReadFault bytes old new = new ≡ old
-Views text ended.WriteFault bytes old new = ShowsFront text bytes old new
-Views text ended.OutOfMemory bytes old new = ShowsFront text bytes old new
-Views text ended.TooLong bytes old new = (most_stream_bytes < length bytes) × (new ≡ old)
-Views text (ended.BadFrame place) bytes old new = ShowsAll text (Refused place) bytes old new
-Views text (ended.CutOff place) bytes old new = ShowsAll text (Rest place) bytes old new
+abbrev pub Lists : Bool → Viewed → List ℕ → Tallied → Option (List ℕ) → Option (List ℕ) → Type 0
+Lists page ended.Done bytes tally old new = ListsAll page Whole bytes tally old new
+Lists page ended.ReadFault bytes tally old new = ⊥
+Lists page ended.WriteFault bytes tally old new = ShowsFrames page [] bytes old new
+Lists page ended.OutOfMemory bytes tally old new = ShowsFrames page [] bytes old new
+Lists page ended.TooLong bytes tally old new = ⊥
+Lists page (ended.BadFrame place) bytes tally old new = ListsAll page (Refused place) bytes tally old new
+Lists page (ended.CutOff place) bytes tally old new = ListsAll page (Rest place) bytes tally old new
+
+abbrev pub ended_text : Viewed → List ℕ
+ended_text ended.Done = end_text Whole
+ended_text ended.ReadFault = []
+ended_text ended.WriteFault = []
+ended_text ended.OutOfMemory = []
+ended_text ended.TooLong = []
+ended_text (ended.BadFrame place) = end_text (Refused place)
+ended_text (ended.CutOff place) = end_text (Rest place)
+
+-- ---- what was put of a recording
+
+-- the bytes are frames that end so, and their listing was put
+abbrev pub ShowsAll : Bool → End → List ℕ → Option (List ℕ) → Option (List ℕ) → Type 0
+ShowsAll page end bytes old new = (frames : List (Placed Frame)) × TapFrames bytes frames end × Adds (listing_text page frames end) old new
+
+-- the bytes are frames that end somehow, and a front of their listing was put
+abbrev pub ShowsInPart : Bool → List ℕ → Option (List ℕ) → Option (List ℕ) → Type 0
+ShowsInPart page bytes old new = (frames : List (Placed Frame)) × (end : End) × TapFrames bytes frames end × AddsFront (listing_text page frames end) old new
+
+-- it stopped among the frames, or behind them
+abbrev pub ShowsFront : Bool → List ℕ → Option (List ℕ) → Option (List ℕ) → Type 0
+ShowsFront page bytes old new = ShowsFrames page (mark page page_head) bytes old new ⊎ ShowsInPart page bytes old new
+
+-- by how it ended
+abbrev pub Views : Bool → Viewed → List ℕ → Option (List ℕ) → Option (List ℕ) → Type 0
+Views page ended.Done bytes old new = ShowsAll page Whole bytes old new
+Views page ended.ReadFault bytes old new = new ≡ old
+Views page ended.WriteFault bytes old new = ShowsFront page bytes old new
+Views page ended.OutOfMemory bytes old new = ShowsFront page bytes old new
+Views page ended.TooLong bytes old new = (most_stream_bytes < length bytes) × (new ≡ old)
+Views page (ended.BadFrame place) bytes old new = ShowsAll page (Refused place) bytes old new
+Views page (ended.CutOff place) bytes old new = ShowsAll page (Rest place) bytes old new
 
 -- all frames were put
 abbrev pub is_listed : Viewed → Bool

@@ -3,7 +3,7 @@
 ghost use Rattle.std.specs.Prelude.{◌≡◌, List, ℕ, IfSome};
 ghost use Rattle.ae_edge.specs.Devices.{Rose};
 ghost use Rattle.view_command.specs.Endings.{number_of};
-ghost use Rattle.view_command.specs.Viewing.{Views, is_listed, listing_text};
+ghost use Rattle.view_command.specs.Viewing.{Views, is_listed};
 
 use crate::pages::view_bytes;
 use ae_base::limits::MOST_STREAM_BYTES;
@@ -77,12 +77,13 @@ impl fmt::Display for Viewed {
 }
 
 /// Reads a recording of frames, and puts them to the output, as lines of text or as a page, frame by
-/// frame, up to the first place that is no frame. The input is read to its end before anything is
-/// put.
+/// frame, up to the first place that is no frame; behind them how many NULLs, plain values and cells
+/// there were of each class, with the commonest cells, and how the recording ended. The input is read
+/// to its end before anything is put.
 pub fn view<S: Source, W: Sink>(alloc: Global, page: bool, input: &mut S, out: &mut W) -> Viewed
     // There are bytes, the input's where it tells them, of which this is put.
     ensures content { (bytes : List ℕ) × IfSome (S.left input.old) (λ left. bytes ≡ left)
-        × Views (listing_text page) result bytes (W.held out.old) (W.held out.new) }
+        × Views page result bytes (W.held out.old) (W.held out.new) }
     // The faults of the outside come only where a count rose.
     ensures read { result ≡ Viewed.ReadFault → Rose (S.faults input.old) (S.faults input.new) }
     ensures write { result ≡ Viewed.WriteFault → Rose (W.faults out.old) (W.faults out.new) }

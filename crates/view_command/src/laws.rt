@@ -2,7 +2,8 @@
 
 ghost use Rattle.view_command.specs.Laws.{TextsAreOfEntries};
 
-/// Two recordings whose frames have the same entries have one text, and one page.
+/// Two recordings whose frames have the same entries, and which end alike, have one text, and one
+/// page.
 pub fn texts_are_of_entries()
     ensures { TextsAreOfEntries }
 {}

@@ -1,16 +1,19 @@
 //! A recording as lines of text, or as a page.
 
-ghost use Rattle.std.specs.Prelude.{◌≡◌};
+ghost use Rattle.std.specs.Prelude.{◌≡◌, ◌++◌, IfOk, OnOk, string_bytes};
 ghost use Rattle.ae_edge.specs.Devices.{Rose};
 ghost use Rattle.ae_edge.specs.Streams.{CountsPutAll, PutsAll};
+ghost use Rattle.tap_page.specs.Page.{page_foot};
 ghost use Rattle.tap_text.specs.Text.{mark};
-ghost use Rattle.view_command.specs.Viewing.{IsRead, Views, listing_text};
+ghost use Rattle.view_command.specs.Viewing.{IsRead, Views, ended_text, foot_text};
 
 use crate::commands::Viewed;
-use crate::frames::view_frames;
+use crate::frames::{Seen, view_frames};
 use ae_edge::sinks::Sink;
 use ae_edge::streams::{PutAll, put_all};
-use std::alloc::Global;
+use std::alloc::{AllocError, Global};
+use std::fmt::Write;
+use tap_counts::{Tally, push_tally};
 
 /// Puts a part that only a page has.
 fn put_mark<W: Sink>(page: bool, html: &str, out: &mut W) -> PutAll
@@ -24,10 +27,62 @@ fn put_mark<W: Sink>(page: bool, html: &str, out: &mut W) -> PutAll
     }
 }
 
+/// Puts how a recording ended.
+fn push_ended(text: &mut String, viewed: Viewed) -> Result<(), AllocError>
+    ensures { OnOk result (string_bytes text.new ≡ string_bytes text.old ++ ended_text viewed) }
+{
+    match viewed {
+        Viewed::Done => text.push_str("whole\n")?,
+        Viewed::BadFrame(place) => write!(text, "bad frame at {place}\n")?,
+        Viewed::CutOff(place) => write!(text, "cut off at {place}\n")?,
+        Viewed::ReadFault | Viewed::WriteFault | Viewed::OutOfMemory | Viewed::TooLong => {}
+    }
+    Ok(())
+}
+
+/// Puts the end of a page.
+fn push_foot(text: &mut String, page: bool) -> Result<(), AllocError>
+    ensures { OnOk result (string_bytes text.new ≡ string_bytes text.old
+        ++ mark page page_foot) }
+{
+    if page {
+        text.push_str(tap_page::foot())?;
+    }
+    Ok(())
+}
+
+/// What stands behind the frames.
+fn foot_of(alloc: Global, page: bool, tally: &Tally, viewed: Viewed) -> Result<String, AllocError>
+    ensures { IfOk result (λ text. string_bytes text ≡ foot_text page tally.now (ended_text viewed)) }
+{
+    let mut text = String::new(alloc);
+    push_tally(alloc, &mut text, page, tally)?;
+    push_ended(&mut text, viewed)?;
+    push_foot(&mut text, page)?;
+    Ok(text)
+}
+
+/// Puts what stands behind the frames.
+fn put_foot<W: Sink>(
+    alloc: Global,
+    page: bool,
+    tally: &Tally,
+    viewed: Viewed,
+    out: &mut W,
+) -> PutAll
+    ensures content { PutsAll (foot_text page tally.now (ended_text viewed)) result
+        (W.held out.old) (W.held out.new) }
+    ensures counts { CountsPutAll result (W.faults out.old) (W.faults out.new) }
+{
+    match foot_of(alloc, page, tally, viewed) {
+        Ok(text) => put_all(out, text.as_bytes()),
+        Err(_) => PutAll::OutOfMemory,
+    }
+}
+
 /// Puts a recording, up to the first place that is no frame.
 pub(crate) fn view_bytes<W: Sink>(alloc: Global, page: bool, bytes: &[u8], out: &mut W) -> Viewed
-    ensures content { Views (listing_text page) result bytes.now (W.held out.old)
-        (W.held out.new) }
+    ensures content { Views page result bytes.now (W.held out.old) (W.held out.new) }
     ensures read { IsRead result }
     ensures write { result ≡ Viewed.WriteFault → Rose (W.faults out.old) (W.faults out.new) }
 {
@@ -36,11 +91,12 @@ pub(crate) fn view_bytes<W: Sink>(alloc: Global, page: bool, bytes: &[u8], out: 
         PutAll::WriteFault => return Viewed::WriteFault,
         PutAll::OutOfMemory => return Viewed::OutOfMemory,
     }
-    let viewed = view_frames(alloc, page, bytes, out);
+    let mut seen = Seen::new(alloc);
+    let viewed = view_frames(alloc, page, bytes, &mut seen, out);
     if !viewed.is_listed() {
         return viewed;
     }
-    match put_mark(page, tap_page::foot(), out) {
+    match put_foot(alloc, page, &seen.tally, viewed, out) {
         PutAll::Whole => viewed,
         PutAll::WriteFault => Viewed::WriteFault,
         PutAll::OutOfMemory => Viewed::OutOfMemory,

@@ -1,7 +1,8 @@
 -- What is put where the input wasn't read whole.
-use Rattle.std.proofs.Common.{refl}
+use Rattle.std.proofs.Common.{inl, refl}
 use Rattle.ae_edge.proofs.Interface.{some_bytes, too_many_bytes}
-use Rattle.view_command.specs.Viewing.{listing_text}
+use Rattle.tap_page.specs.Page.{page_head}
+use Rattle.tap_text.specs.Text.{mark}
 use Rattle.view_command.proofs.Going.{shows_nothing}
 use Rattle.view_command.proofs.commands.view.Goals as goal
 
@@ -12,4 +13,4 @@ pub returns-in-ReadFault-clause-content : goal.returns-in-ReadFault-clause-conte
 returns-in-ReadFault-clause-content g c = let t = some_bytes _ in (t.0, t.1, refl)
 
 pub returns-in-OutOfMemory-clause-content : goal.returns-in-OutOfMemory-clause-content
-returns-in-OutOfMemory-clause-content g c = let t = some_bytes _ in (t.0, t.1, shows_nothing (listing_text c.args.page) t.0 _)
+returns-in-OutOfMemory-clause-content g c = let t = some_bytes _ in (t.0, t.1, inl (shows_nothing c.args.page (mark c.args.page page_head) t.0 _))

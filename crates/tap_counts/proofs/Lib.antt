@@ -1,0 +1,6 @@
+mod Behind
+pub mod Interface
+mod Lined
+mod Noting
+mod Showing
+mod Told
