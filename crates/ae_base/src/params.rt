@@ -75,16 +75,6 @@ impl<P: Named> ParamList<P> {
         self.items.as_slice()
     }
 
-    /// The parameters as a list. It takes no memory.
-    pub fn into_seq(self) -> Seq<P>
-        ensures items { result ≡ self }
-        ensures few { length self ≤ 128 }
-        ensures differ { IsTrue (all_differ (map P.called self)) }
-    {
-        let ParamList { items } = self;
-        items
-    }
-
     /// Whether a further parameter may stand at the end: fewer than 128 are there, and none has its
     /// name.
     pub fn admits(&self, item: &P) -> bool

@@ -43,15 +43,6 @@ impl Txt {
         })
     }
 
-    /// The text as a string. It takes no memory.
-    pub fn into_string(self) -> String
-        ensures bytes { string_bytes result ≡ encode_utf8_all self }
-        ensures characters { chars (string_bytes result) ≡ self }
-    {
-        let Txt { text } = self;
-        text
-    }
-
     /// The text as a borrowed one, in UTF-8.
     pub fn as_str(&self) -> &str
         ensures bytes { result.now ≡ encode_utf8_all self.now }

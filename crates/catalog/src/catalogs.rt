@@ -256,7 +256,7 @@ impl Catalog {
     }
 
     /// Whether no further master key can be defined: there are 64, or the last version is used.
-    pub fn is_full_of_masters(&self) -> bool
+    pub(crate) fn is_full_of_masters(&self) -> bool
         ensures { result ≡ is_full_of_masters self.now }
     {
         self.masters.len() >= MOST_MASTER_KEYS || self.is_at_last_version()
@@ -264,7 +264,7 @@ impl Catalog {
 
     /// Whether no further column key can be defined: there are 64, or the last number or the last
     /// version is used.
-    pub fn is_full_of_keys(&self) -> bool
+    pub(crate) fn is_full_of_keys(&self) -> bool
         ensures { result ≡ is_full_of_keys self.now }
     {
         self.keys.len() >= MOST_COLUMN_KEYS
@@ -273,7 +273,7 @@ impl Catalog {
     }
 
     /// Whether no further table can be defined: there are 256, or the last version is used.
-    pub fn is_full_of_tables(&self) -> bool
+    pub(crate) fn is_full_of_tables(&self) -> bool
         ensures { result ≡ is_full_of_tables self.now }
     {
         self.tables.len() >= MOST_TABLES || self.is_at_last_version()

@@ -42,14 +42,14 @@ impl Drop for ColumnKey {
 }
 
 /// Whether a value is under the master key of a name.
-pub fn is_value_under(value: &EncryptedValue, master: &Name) -> bool
+pub(crate) fn is_value_under(value: &EncryptedValue, master: &Name) -> bool
     ensures { result ≡ is_value_under master.now value.now }
 {
     value.master == *master
 }
 
 /// Whether one of the values is under the master key of a name.
-pub fn has_value(values: &OneOrTwo<EncryptedValue>, master: &Name) -> bool
+pub(crate) fn has_value(values: &OneOrTwo<EncryptedValue>, master: &Name) -> bool
     ensures { result ≡ has_value master.now values.now }
 {
     if is_value_under(&values.first, master) {
@@ -62,7 +62,7 @@ pub fn has_value(values: &OneOrTwo<EncryptedValue>, master: &Name) -> bool
 }
 
 /// The value beside the one under the master key of a name. It takes no memory.
-pub fn other_value<'a>(
+pub(crate) fn other_value<'a>(
     values: &'a OneOrTwo<EncryptedValue>,
     master: &Name,
 ) -> Option<&'a EncryptedValue>

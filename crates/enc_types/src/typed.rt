@@ -34,13 +34,6 @@ impl Typed {
         &self.bound
     }
 
-    /// The statement. It takes no memory.
-    pub fn into_bound(self) -> Bound
-        ensures { result ≡ self.bound }
-    {
-        self.bound
-    }
-
     /// The statement, and the encryption of each of its parameters.
     pub fn into_parts(self) -> (Bound, Seq<Enc>)
         ensures bound { result.0 ≡ self.bound }

@@ -14,7 +14,7 @@ use wire_frames::Way;
 use wire_messages::replies::{Reply, RowParts};
 use wire_parts::atoms::AtomPart;
 use wire_payloads::payloads::Payload;
-use wire_spelling::{encode_request, pack};
+use wire_spelling::{encode_reply, encode_request, pack};
 
 // How a stream ends: after a frame, at what is no frame, or inside a frame.
 #[derive(Clone, Copy, PartialEq, Eq, Debug)]
@@ -25,25 +25,25 @@ enum End {
     OutOfMemory,
 }
 
-// The replies that a frame carries.
-fn replies_of(alloc: Global, payload: &Payload<'_>) -> Result<Vec<Reply<'static>>, AllocError> {
+// The replies of a frame of rows.
+fn rows_of(alloc: Global, rows: &[RowParts<'_>]) -> Result<Vec<Reply<'static>>, AllocError> {
     let mut replies = Vec::new(alloc);
-    match payload {
-        Payload::One(reply) => replies.push(reply.to_own(alloc)?)?,
-        Payload::Rows(batch) => {
-            for row in batch.rows() {
-                replies.push(Reply::Row(row.to_own(alloc)?))?;
-            }
-        }
+    for row in rows {
+        replies.push(Reply::Row(row.to_own(alloc)?))?;
     }
     Ok(replies)
 }
 
+// The frame of a payload, which in version 2 has no row alone.
 fn told_frame(alloc: Global, way: Way, payload: &Payload<'_>) -> Result<Vec<u8>, AllocError> {
-    let replies = replies_of(alloc, payload)?;
-    match way {
-        Way::ToServer => Ok(Vec::new(alloc)),
-        Way::ToDriver(version) => pack(alloc, version, &replies),
+    match (way, payload) {
+        (Way::ToServer, _) | (Way::ToDriver(FrameVersion::V2), Payload::One(Reply::Row(_))) => {
+            Ok(Vec::new(alloc))
+        }
+        (Way::ToDriver(version), Payload::One(reply)) => encode_reply(alloc, version, reply),
+        (Way::ToDriver(version), Payload::Rows(batch)) => {
+            pack(alloc, version, &rows_of(alloc, batch.rows())?)
+        }
     }
 }
 

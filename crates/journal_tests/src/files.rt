@@ -7,7 +7,7 @@ use journal_core::journal::{Appended, Journal};
 use std::test::Fail;
 use std::{env, fs, process};
 
-fn file_name(rt: &HostRuntime, name: &str) -> Result<String, Fail> {
+pub(crate) fn file_name(rt: &HostRuntime, name: &str) -> Result<String, Fail> {
     let parent = env::temp_dir(rt)?;
     let number = process::id(rt.process());
     Ok(format!(in rt.alloc(); "{}/{name}_{number}", parent.display())?)

@@ -9,6 +9,8 @@ mod files;
 #[cfg(test)]
 mod journals;
 #[cfg(test)]
+mod noted;
+#[cfg(test)]
 mod served;
 #[cfg(test)]
 mod stops;

@@ -92,19 +92,6 @@ impl<'a> Description<'a> {
         &self.params
     }
 
-    /// The keys, by value. It takes no memory.
-    pub fn into_keys(self) -> Seq<KeyPart<'a>>
-        ensures keys { result ≡ self.entry.keys }
-        ensures description { told.IsDescription self.entry }
-    {
-        let Description {
-            version: _,
-            keys,
-            params: _,
-        } = self;
-        keys
-    }
-
     /// The keys and the parameters, by value. It takes no memory.
     pub fn into_parts(self) -> (Seq<KeyPart<'a>>, UsedParams<'a>)
         ensures keys { result.0 ≡ self.entry.keys }
@@ -252,15 +239,6 @@ impl<'a> RowParts<'a> {
         ensures few { IsFew self.now }
     {
         self.atoms.as_slice()
-    }
-
-    /// The atoms, by value. It takes no memory.
-    pub fn into_atoms(self) -> Seq<AtomPart<'a>>
-        ensures atoms { result ≡ self.entry }
-        ensures few { IsFew self.entry }
-    {
-        let RowParts { atoms } = self;
-        atoms
     }
 
     /// A copy that borrows nothing.
