@@ -3,14 +3,15 @@
 
 Usage: tools/check_docs.py
 
-Tested are links and anchors; files, crates and identifiers in backticks; clauses; definitions and the files that have
-them; the list of crates; counts; the length of sentences and of table cells; that the code of a page stands in a file
-that the page links. Prints a line for each finding and ends with status 1, or prints one line and ends with status 0.
+Tested are links and anchors; files, crates and identifiers in backticks; clauses with their places; definitions and the
+files that have them; the list of crates; counts; the length of sentences and of table cells; that the code of a page
+stands in a file that the page links. Prints a line for each finding and ends with status 1, or prints one line and ends with status 0.
 """
 
 import re
 import sys
 from collections import defaultdict
+from functools import cache
 from pathlib import Path
 
 from count_trusted import beneath, definition_lines, file_of
@@ -22,7 +23,7 @@ FOR_USERS = {"README.md", "docs/guide.md"}
 HEADLINE = "For every script of interleaved sessions"  # the claim, which is one sentence
 
 # Names in backticks that are no identifier of the repository: examples, and words of other programs.
-KNOWN = set("GO1 HAVING NAME_command _tests bin exec fsync nohup rustc setsid shellcheck".split())
+KNOWN = set("GO1 HAVING NAME_command _tests authorized_keys bin exec fsync nohup pem rustc setsid shellcheck socat socket".split())
 LINK = re.compile(r"\[([^\]]*)\]\(([^)\s]+)\)")
 CODE = re.compile(r"`([^`]+)`")
 WORD = re.compile(r"[^\W\d]\w*")
@@ -31,6 +32,9 @@ FILE = re.compile(r"^[\w.~*-]*(?:/[\w.*-]+)*\.(?:md|rt|antt|edit|py|sh|sql|txt|b
 # Files that are made, files of a user, and patterns of names.
 ABSENT = re.compile(r"^built/|\.(bin|key|csv)$|^~|\bNAME(\b|_)|^(text|keys|script\.sql|specs/|proofs/)")
 CITED = re.compile(r"((?:`\w+`(?:, | and )?)+) of `(?:\w+::)*(\w+::)?(\w+)`")
+# A place with what is cited there: `crate::call`, `call`: `clause`; or `crate/File`: `Record`, `field`.
+CALL = re.compile(r"`(\w+)::([\w:]+)`((?:, `[\w:]+`)*)(?:: ((?:`\w+`(?:, | and )?)+))?")
+MODULE = re.compile(r"`(\w+)/(\w+)`: ((?:`\w+`(?:, | and )?)+)")
 
 
 def files(pattern):
@@ -48,6 +52,7 @@ class Crates:
     def __init__(self):
         self.words, self.defined, self.fields = set(), set(), set()
         self.by_file, self.clauses = defaultdict(set), defaultdict(set)
+        self.calls, self.ghosts = defaultdict(lambda: defaultdict(set)), defaultdict(set)
         for path in files("*"):
             if path.is_file() and path.suffix in {".rt", ".antt", ".edit", ".sql", ".py", ".sh", ".txt", ".ci", ""}:
                 self.read(path)
@@ -68,9 +73,12 @@ class Crates:
             function = ""
             for found in re.finditer(r"\bfn (\w+)|\b(?:ensures|requires) (\w+) \{|\bghost fn (\w+)", text):
                 function = found[1] or found[3] or function
+                labels = self.calls[path.relative_to(TOP).parts[1]][function]
                 if found[2]:
                     self.clauses[function].add(found[2])
+                    labels.add(found[2])
             self.defined |= set(re.findall(r"\b(?:fn|enum|struct|trait|ensures|ghost) (\w+)", text))
+            self.ghosts[path.relative_to(TOP).parts[1]] |= set(re.findall(r"\bghost (\w+)", text))
 
     def specs(self, crate, name):
         """Returns the words of the definitions in a file of a crate."""
@@ -78,6 +86,7 @@ class Crates:
         found = [words for path, words in self.by_file.items() if path.stem == name and folder in path.parents]
         return set().union(*found) if found else None
 
+    @cache
     def all_words(self, crate):
         folder = TOP / "crates" / crate
         texts = [path.read_text(encoding="utf-8") for path in folder.rglob("*") if path.suffix in {".rt", ".antt"}]
@@ -189,6 +198,31 @@ def clauses(document, crates):
             for code in CODE.findall(row[head.index("clause")]):
                 if WORD.fullmatch(code) and code not in crates.defined:
                     yield number, f"no clause, law or definition `{code}`"
+
+
+def places(document, crates):
+    """Calls, laws and definitions that are cited with their crate, and stand elsewhere; clauses that they don't have."""
+    for number, text in document.texts():
+        for crate, call, others, labels in CALL.findall(text):
+            if crate not in crates.names:
+                continue
+            known = set()
+            for it in [call, *re.findall(r"[\w:]+", others)]:
+                first, _, rest = it.partition("::")
+                crate, it = (first, rest) if rest and first in crates.names else (crate, it)
+                if not set(it.split("::")) <= crates.all_words(crate):
+                    yield number, f"no `{it}` in {crate}"
+                known |= crates.calls[crate][it.split("::")[-1]]
+                if re.search(r"\b[A-Z]", it):  # the clauses of the calls of a type, and the ghost members of a trait
+                    known |= set().union(*crates.calls[crate].values()) | crates.ghosts[crate]
+            for label in WORD.findall(labels.replace(" and ", " ")):
+                if label not in known and not (label[0].isupper() and label in crates.words):
+                    yield number, f"`{crate}::{call}` has no clause `{label}`"
+        for crate, module, cited in MODULE.findall(text):
+            found = crates.specs(crate, module) if crate in crates.names else set()
+            for name in WORD.findall(cited.replace(" and ", " ")):
+                if not found or name not in found:
+                    yield number, f"`{name}` isn't in `{crate}/{module}`"
 
 
 def homes(document, crates):
@@ -315,6 +349,7 @@ def main():
             links(document, documents),
             names(document, crates),
             clauses(document, crates),
+            places(document, crates),
             homes(document, crates),
             listed_homes(document, crates),
             counts(document, known),

@@ -1,7 +1,7 @@
 #!/bin/sh
 # Runs each example with the program, in a copy of its folder, and compares what it prints with the stored text. An example with a
-# file replies.bin is driven over it. Also compares each script that is run with its copy among the scripts of the gate. Prints a
-# line for each example; ends with status 1 if one differs.
+# file replies.bin is driven over it, and the days of two_machines are run over one journal. Also compares each script that is run
+# with its copy among the scripts of the gate. Prints a line for each example; ends with status 1 if one differs.
 # Usage: tools/compare_examples.sh [PROGRAM], which is ./ae if it is left out; with - for PROGRAM nothing is run.
 set -u
 top=$(CDPATH="" cd -- "$(dirname -- "$0")/.." && pwd) || exit 1
@@ -35,4 +35,16 @@ for script in "$top"/examples/*/script.sql "$top"/examples/*/*/script.sql; do
     fi
     [ -z "$alike" ] || echo "$name: alike"
 done
+
+if [ "$program" != - ]; then
+    name=two_machines alike=1
+    rm -rf "$folder/at" && cp -r "$top/examples/$name" "$folder/at"
+    for day in first second; do
+        status=0
+        (cd "$folder/at" && python3 "$top/relay.py" "$program" "$program" serve --journal <"${day}_day.sql" >said) || status=$?
+        [ "$status" = 1 ] || says "$day day: status $status"
+        diff "$folder/at/${day}_day.text" "$folder/at/said" || says "$day day: the text differs"
+    done
+    [ -z "$alike" ] || echo "$name: alike"
+fi
 exit "$differ"

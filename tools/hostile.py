@@ -669,6 +669,8 @@ def devices_table():
             calls.does("tap", look)
             takes(end) if calls is driven else calls.does("tap", end)
             calls.does("out", line)
+    # The tap is closed before the end of the replies is read.
+    driven.does("tap")
     driven.does("replies")
     case("three keys", "run", "script vault entropy out tap", ran, "@three_keys.sql")
     case("three keys", "drive", "script replies vault entropy out tap", driven, "@three_keys.sql", everything)
@@ -849,6 +851,7 @@ def devices_of_shared_rows(table):
     takes(two, b"a\n5\n")
     takes(end, b"a\n5\n7\nNULL\n")
     drives.does("out", b"a\n5\n7\nNULL\n(3 rows)\n")
+    drives.does("tap")
     drives.does("replies")
     failing(table, "devices of rows that share a frame", "drive2", "replies out tap", drives, words(b"SELECT a FROM t"), told + head + one + two + end)
 
