@@ -1,4 +1,3 @@
-#!/usr/bin/env python3
 """A prompt over a server that a command starts: `ae shell`.
 
 Usage: shell.py PROGRAM COMMAND ..
@@ -24,18 +23,21 @@ except ImportError:
     pass
 
 HELP = """\
-Type a batch, with its DECLARE lines first, and end it with a line GO. Each batch is a client of its own over the one server: a
-transaction stays open from batch to batch, but half a batch ends with its client.
+Type a batch, with its DECLARE lines first, and end it with a line GO. Each
+batch is a client of its own over the one server: a transaction stays open from
+batch to batch, but half a batch ends with its client.
   :session N     the batches that follow run in session N, from 1 to 64
   :trust PATH    from here on column keys are opened by trusted paths alone
-  :force @name   behind its DECLARE: the parameter is sent as a cell or not at all
+  :force @name   behind its DECLARE: it is sent as a cell or not at all
   :describe      in place of GO: shows how each parameter would be sent
-  :quit          ends the shell and the server, with its open transactions; so does the end of the input
-Ctrl-C drops the lines that were typed, or stops an answer. A change that was sent is not undone by it."""
+  :quit          ends the shell, the server and its open transactions
+Ctrl-C drops the lines that were typed, or stops an answer. A change that was
+sent is not undone by it. The end of the input is as :quit."""
 SAMPLE = 500  # rows from which the widths of columns are taken
 WIDEST = 48  # a column isn't padded further
 FIELD = re.compile(r"(?:^|\t)((?:N'(?:[^']|'')*'|[^\t])*)")
 NUMBER = re.compile(r"-?\d+|NULL")
+HEAD = re.compile(r"[ \t]*(--|$)")  # a line that may stand between batches
 
 
 def whole_lines(lines):
@@ -117,6 +119,10 @@ class Shell:
 
     def run(self, text):
         """Runs a batch by a client of its own, and prints what it prints."""
+        if self.server.asked:
+            self.note("waiting for the end of the answer that was stopped")
+            for _ in self.server.answer():
+                pass
         head = [*self.trusted, *([self.session] if self.session else [])]
         client = Client(self.program, stdin=subprocess.PIPE, stdout=subprocess.PIPE, stderr=subprocess.PIPE)
         relay = threading.Thread(target=client.over, args=(self.server, lambda _: None), daemon=True)
@@ -129,7 +135,7 @@ class Shell:
             except KeyboardInterrupt:
                 client.run.kill()
                 print()
-                self.note("stopped; the rest of the answer is dropped as it comes")
+                self.note("stopped; the rest of the answer is dropped before the next batch")
             except BrokenPipeError:
                 pass  # the client ended before it had read all
             relay.join()
@@ -138,8 +144,6 @@ class Shell:
             said = re.sub(r"(?<=bad script line )\d+", lambda it: str(int(it[0]) - len(head)), said)
             for line in said.splitlines():
                 self.printer.line(line)
-            for _ in self.server.answer():
-                pass
         finally:
             client.run.kill()
             client.end()
@@ -154,14 +158,16 @@ class Shell:
         elif word == ":help":
             print(HELP)
         elif word == ":execute":
-            self.note("half a batch ends with its client, so nothing waits here; a script that `ae over` runs may have both halves")
+            self.note("nothing waits: half a batch ends with its client")
         else:
-            self.note("no such line; :help shows what there is")
+            self.note("no such line here; :help shows what there is")
 
     def take(self, line):
         """Takes a line that was typed."""
         word = line.strip(" \t")
-        if not self.typed and word.startswith(":") and word.partition(" ")[0] != ":force":
+        is_between = all(HEAD.match(it) for it in self.typed)
+        if is_between and word.startswith(":") and not word.startswith((":force", ":describe")):
+            self.typed = []
             self.colon(line)
         elif word.upper() == "GO" or word == ":describe":
             text, self.typed = "\n".join([*self.typed, line]), []
@@ -203,7 +209,7 @@ def main():
     shell.loop()
     is_first, ended = shell.server.replies.is_ended, shell.server.end()
     if is_first or ended:
-        shell.note(f"the server ended {'first, ' if is_first else ''}with status {ended if ended >= 0 else 128 - ended}")
+        shell.note(f"the server ended {'first, ' if is_first else ''}with status {ended}")
     sys.exit(1 if is_first or ended else 0)
 
 

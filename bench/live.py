@@ -12,8 +12,20 @@ from relay import Client, Server  # noqa: E402
 
 ae, program = os.path.join(top, "ae"), os.path.join(top, "built", "ae")
 example = os.path.join(top, "examples", "two_machines")
-MOST_SECONDS = 100  # of a command: a pair that waits for ever fails
+MOST_SECONDS = 600  # of a command: a pair that waits for ever fails
 MOST_MORE = 0.25  # milliseconds of a processor that a step over the pair may cost more
+
+
+# Starts a server, hands so many bytes of its replies on, and kills it.
+CUT = """
+import subprocess, sys
+left, run = int(sys.argv[1]), subprocess.Popen(sys.argv[2:], stdout=subprocess.PIPE)
+while left and (piece := run.stdout.read1(left)):
+    sys.stdout.buffer.write(piece)
+    sys.stdout.buffer.flush()
+    left -= len(piece)
+run.kill()
+"""
 
 
 def expect(what, found, wanted):
@@ -58,15 +70,22 @@ def rows_kept():
     return int(text.splitlines()[1])
 
 
-def least(words):
-    """The least seconds and processor seconds of three runs of the load, each with no journal at first."""
+def least(words, count):
+    """The least seconds and processor seconds of three runs of so many changes, each with no journal at first."""
     runs = []
     for _ in range(3):
         no_journal()
-        status, text, _, *cost = ran(words, inserts(steps))
-        expect(" ".join(words), (status, text), (0, "ok\n" + "(1 affected)\n" * steps))
+        status, text, _, *cost = ran(words, inserts(count))
+        expect(" ".join(words), (status, text), (0, "ok\n" + "(1 affected)\n" * count))
         runs.append(cost)
     return [min(it) for it in zip(*runs)]
+
+
+def costs(words):
+    """The seconds of the changes, and their processor seconds without those of the start, which are printed."""
+    start, whole = least(words, 0), least(words, steps)
+    print(f"start of {' '.join(map(os.path.basename, words)):41} {start[0]:8.3f} {1000 * start[0]:8.3f} {1000 * start[1]:8.3f}")
+    return whole[0], whole[1] - start[1]
 
 
 def in_sqlite():
@@ -82,16 +101,16 @@ def in_sqlite():
 
 
 def times():
+    print(f"{steps} changes: seconds, milliseconds of a change (or of a start), of which of a processor")
     rows = {
-        "ae run": least([program, "run", "--frames", "2"]),
-        "ae over": least(over(program, "serve")),
-        "ae over, with a journal": least(over(program, "serve", "--journal")),
+        "ae run": costs([program, "run", "--frames", "2"]),
+        "ae over": costs(over(program, "serve")),
+        "ae over, with a journal": costs(over(program, "serve", "--journal")),
     }
     try:
         rows["sqlite3, synchronous=FULL"] = in_sqlite()
     except ImportError:
         print("sqlite3 of Python is not installed")
-    print(f"{steps} changes: seconds, milliseconds of a change, of which of a processor")
     for what, (took, used) in rows.items():
         print(f"{what:50} {took:8.3f} {1000 * took / steps:8.3f} {1000 * used / steps:8.3f}")
     more = 1000 * (rows["ae over"][1] - rows["ae run"][1]) / steps
@@ -119,7 +138,7 @@ def killed_after(count, script, which):
 
 
 def ends_that_die():
-    for which, wanted in ("server", (11, -9)), ("client", (137, 0)):
+    for which, wanted in ("server", (11, 137)), ("client", (137, 0)):
         expect(f"a {which} that is killed", killed_after(100, inserts(1000), which), wanted)
         kept = rows_kept()
         if kept not in (100, 101):
@@ -128,7 +147,7 @@ def ends_that_die():
 
 
 def half_an_answer():
-    """5,000 rows are answered in two frames, of 4,096 and of 904 rows; the server's output ends inside the second."""
+    """5,000 rows are answered in two frames, of 4,096 and of 904 rows; the server is killed inside the second."""
     rows = ["(" + "),(".join(str(1000 * block + it) for it in range(1000)) + ")" for block in range(5)]
     script = "CREATE TABLE t (a INT)\nGO\n" + "".join(f"INSERT INTO t (a) VALUES {it}\nGO\n" for it in rows)
     script += "SELECT a FROM t\nGO\n"
@@ -138,12 +157,12 @@ def half_an_answer():
     # Six times Described (6 + 10 bytes) and Done of a change (6 + 9), once Described and Columns of an INT called a (6 + 8), and
     # Rows of a count, a number of columns and atoms of 9 bytes.
     place = 6 * (16 + 15) + 16 + 14 + 6 + 4 + 9 * 4096
-    cut = ["sh", "-c", f"'{program}' serve --journal | head -c {place + 1000}"]
-    status, said, why, *_ = ran(over(*cut), script)
+    cut = over(sys.executable, "-c", CUT, str(place + 1000), program, "serve", "--journal")
+    status, said, why, *_ = ran(cut, script)
     expect("an answer that breaks off", (status, said), (11, "".join(text.splitlines(True)[: 6 + 1 + 4096])))
     expect("its place", why.splitlines()[0], f"ae: bad reply at {place}")
     expect("its rows in the journal", rows_kept(), 5000)
-    print(f"a server whose output ends in an answer: status 11 at {place}, what was printed stays, all rows are kept")
+    print(f"a server that is killed in its answer: status 11 at {place}, what was printed stays, all rows are kept")
 
 
 def two_days():
@@ -155,13 +174,21 @@ def two_days():
         client = Client(program, stdin=given, stdout=out)
     client.over(server, lambda _: None)
     server.run.kill()
-    expect("the first day", (client.end(), read("text"), server.end()), (1, read(example, "first_day.text"), -9))
+    expect("the first day", (client.end(), read("text"), server.end()), (1, read(example, "first_day.text"), 137))
     status, text, *_ = ran(over(program, "serve", "--journal"), read(example, "second_day.sql"))
     expect("the second day", (status, text), (1, read(example, "second_day.text")))
     print("two days over one journal, with the server killed between: both texts are those of the example")
 
 
+def a_prompt():
+    """The first day, typed into the shell."""
+    status, text, *_ = ran([ae, "shell", program, "serve"], read(example, "first_day.sql"))
+    expect("the first day in the shell", (status, text), (0, read(example, "first_day.text")))
+    print("the first day in the shell: the text is that of the example")
+
+
 two_days()
+a_prompt()
 ends_that_die()
 half_an_answer()
 times()

@@ -41,7 +41,7 @@ if [ "$program" != - ]; then
     rm -rf "$folder/at" && cp -r "$top/examples/$name" "$folder/at"
     for day in first second; do
         status=0
-        (cd "$folder/at" && python3 "$top/relay.py" "$program" "$program" serve --journal <"${day}_day.sql" >said) || status=$?
+        (cd "$folder/at" && python3 "$top/over.py" "$program" "$program" serve --journal <"${day}_day.sql" >said) || status=$?
         [ "$status" = 1 ] || says "$day day: status $status"
         diff "$folder/at/${day}_day.text" "$folder/at/said" || says "$day day: the text differs"
     done
