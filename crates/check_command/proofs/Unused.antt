@@ -14,7 +14,7 @@ use Rattle.sql_tree.specs.Bound as bound
 use Rattle.sql_tree.specs.Statements.{Statement}
 use Rattle.sql_tree.specs.Statements as tree
 use Rattle.sql_tree.specs.Sorts as sorts
-use Rattle.sql_tree.specs.Sorts.{is_definition, sort_written, target}
+use Rattle.sql_tree.specs.Sorts.{is_definition, is_written_defining, target}
 use Rattle.sql_tree.specs.Uses.{uses}
 use Rattle.semantic_checks.specs.Checks.{check_of}
 use Rattle.catalog.specs.Catalogs.{Catalog}
@@ -61,7 +61,7 @@ IsDefining (bound.Control control) = ⊥
 bound_so : (b c : Bound) → (let r : Result Bound SqlFault = Ok b in r ≡ Ok c) → IsDefining b.statement → IsDefining c.statement
 bound_so b c e h = let i : b ≡ c = cc in subst (λ (x : Bound). IsDefining x.statement) i h
 
-named_defines : (catalog : Catalog) (s : Statement) (declarations : List ParamDecl) (b : Bound) → sorts.defines (sort_written s) ≡ true → binding.resolution catalog s declarations ≡ Ok b → IsDefining b.statement
+named_defines : (catalog : Catalog) (s : Statement) (declarations : List ParamDecl) (b : Bound) → is_written_defining s ≡ true → binding.resolution catalog s declarations ≡ Ok b → IsDefining b.statement
 named_defines catalog (tree.Definition definition) declarations b d e =
     let p = bind_ok (bind_definition catalog definition) (λ made. Ok (bound_over declarations (new_sites made) (bound.Definition made))) b e in
     bound_so _ b p.2 tt
@@ -71,7 +71,7 @@ named_defines catalog (tree.Delete table filter) declarations b d e = absurd cc
 named_defines catalog (tree.Select query) declarations b d e = absurd cc
 named_defines catalog (tree.Control control) declarations b d e = absurd cc
 
-bind_defines : (catalog : Catalog) (s : Statement) (declarations : List ParamDecl) (b : Bound) → sorts.defines (sort_written s) ≡ true → bind catalog s declarations ≡ Ok b → IsDefining b.statement
+bind_defines : (catalog : Catalog) (s : Statement) (declarations : List ParamDecl) (b : Bound) → is_written_defining s ≡ true → bind catalog s declarations ≡ Ok b → IsDefining b.statement
 unfolding bind
 bind_defines catalog s declarations b d e =
     let p = bind_ok (binding.resolution catalog s declarations) (λ bound. check_of bound >>= λ fine. Ok bound) b e in
