@@ -492,6 +492,23 @@ impl Catalog {
         Ok(())
     }
 
+    /// Takes out the table of a name. `NoSuch` where there is none, else `Full` where the last
+    /// version is used. After a fault or out of memory, which a fault's name may take, the
+    /// catalog is as before.
+    fn drop_table(&mut self, name: &Name) -> Result<(), Refusal>
+        ensures { Defines result self.old self.new (without_table self.old name.now) }
+    {
+        let Some(place) = self.table_place(name) else {
+            return Err(Refusal::Fault(SqlFault::NoSuch(name.copy()?)));
+        };
+        if self.is_at_last_version() {
+            return Err(Refusal::Fault(SqlFault::Full));
+        }
+        self.tables.remove(place);
+        self.version += 1;
+        Ok(())
+    }
+
     /// Puts the table `new` in the place of the table `old`, which is taken out: it has the name
     /// `old` then. `Full` where the last version is used. After a fault or out of memory the
     /// catalog is as before.
@@ -512,23 +529,6 @@ impl Catalog {
             uniques: table.uniques.copy()?,
         };
         self.tables.set(from, named);
-        self.tables.remove(place);
-        self.version += 1;
-        Ok(())
-    }
-
-    /// Takes out the table of a name. `NoSuch` where there is none, else `Full` where the last
-    /// version is used. After a fault or out of memory, which a fault's name may take, the
-    /// catalog is as before.
-    fn drop_table(&mut self, name: &Name) -> Result<(), Refusal>
-        ensures { Defines result self.old self.new (without_table self.old name.now) }
-    {
-        let Some(place) = self.table_place(name) else {
-            return Err(Refusal::Fault(SqlFault::NoSuch(name.copy()?)));
-        };
-        if self.is_at_last_version() {
-            return Err(Refusal::Fault(SqlFault::Full));
-        }
         self.tables.remove(place);
         self.version += 1;
         Ok(())
