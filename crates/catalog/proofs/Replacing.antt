@@ -40,14 +40,14 @@ pub replaced_there : (catalog : Catalog) (old new : List ℕ) (place from : ℕ)
     → with_replacement catalog old new ≡ Ok (record catalog { tables = after; version = catalog.version + 1 })
 replaced_there catalog old new place from table copied after differ last at at_new is name_is columns_are uniques_are made =
     let same : copied ≡ called old table =
-        ap (λ n. record copied { name = n }) name_is
-        ∙ ap (λ xs. record copied { name = old; columns = xs }) columns_are
-        ∙ ap (λ xs. record table { name = old; uniques = xs }) uniques_are in
+    ap (λ n. record copied { name = n }) name_is
+    ∙ ap (λ xs. record copied { name = old; columns = xs }) columns_are
+    ∙ ap (λ xs. record table { name = old; uniques = xs }) uniques_are in
     let p = position-Some (λ (t : TableDef). bytes_eq t.name old) catalog.tables place table at in
     let q = position-Some (λ (t : TableDef). bytes_eq t.name new) catalog.tables from table at_new in
     let moved : after ≡ renamed_tables new old (remove catalog.tables place) =
-        made ∙ ap (λ x. remove (set catalog.tables from x) place) (same ∙ ap (called old) is)
-        ∙ replaced_at old new catalog.tables place from table differ p.0 p.1 q.0 q.1 q.2 in
+    made ∙ ap (λ x. remove (set catalog.tables from x) place) (same ∙ ap (called old) is)
+    ∙ replaced_at old new catalog.tables place from table differ p.0 p.1 q.0 q.1 q.2 in
     ap (λ b. if b then Err fault.Full else Ok (record catalog { tables = renamed_tables new old (remove catalog.tables (unwrap_or (table_place catalog old) 0)); version = catalog.version + 1 })) last
     ∙ ap (λ o. Ok (record catalog { tables = renamed_tables new old (remove catalog.tables (unwrap_or o 0)); version = catalog.version + 1 })) at
     ∙ ap (λ xs. Ok (record catalog { tables = xs; version = catalog.version + 1 })) (sym moved)
