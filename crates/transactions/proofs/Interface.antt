@@ -12,6 +12,8 @@ pub use Rattle.transactions.proofs.Journaling.{IsKeptSo, committed_catalog, idle
 pub use Rattle.transactions.proofs.Serializing.{AreLogged}
 -- A state that can stand stays one.
 pub use Rattle.transactions.proofs.Keeping.{all_at, all_set, transact_keeps}
+-- Of every state, whatever was asked: while no definition came since its BEGIN, a transaction has the shared keys.
+pub use Rattle.transactions.proofs.Catalogs.{AreBegun, IsNext, none_begun, shared_by, store_begun, transact_begun}
 -- The world that a session sees.
 pub use Rattle.transactions.proofs.Seen.{IsOwnCatalog, IsSlotOf, seen_alike, seen_well, set_back}
-pub use Rattle.transactions.proofs.Seen.{shared_by, slot_of, work_catalog}
+pub use Rattle.transactions.proofs.Seen.{slot_of, work_catalog}

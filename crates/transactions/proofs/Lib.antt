@@ -1,6 +1,8 @@
 mod Alike
 mod Apart
 mod Asking
+mod Between
+mod Catalogs
 mod Counting
 mod Forgetting
 mod Frame
@@ -8,6 +10,7 @@ pub mod Interface
 mod Journaling
 mod Keeping
 mod Noting
+mod Over
 mod Padding
 mod Places
 mod Renaming
@@ -18,3 +21,4 @@ mod Since
 mod Storing
 mod Taking
 mod Tracking
+mod UsedTables

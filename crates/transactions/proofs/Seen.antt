@@ -1,5 +1,5 @@
 -- The world that a session sees.
-use Rattle.std.proofs.Common.{◌≡◌, ℕ, zero, suc, ◌-◌, List, [], ◌∷◌, refl, ap, sym, ◌∙◌, Option, Some, None, Result, Ok, Err, Bool, true, false}
+use Rattle.std.proofs.Common.{◌≡◌, ℕ, zero, suc, ◌-◌, List, [], ◌∷◌, refl, ap, sym, subst, ◌∙◌, Option, Some, None, Result, Ok, Err, Bool, true, false}
 use Rattle.std.specs.Prelude.{slice_set, slice_index_or, if◌then◌else◌}
 use Rattle.std.specs.List.{All}
 use Rattle.ae_base.specs.declared.faults.SqlFault.{SqlFault}
@@ -12,7 +12,7 @@ use Rattle.engine.specs.Worlds.{World}
 use Rattle.sql_tree.specs.Sorts.{is_definition, tables_of, target}
 use Rattle.transactions.specs.Counted.{Counted, CountedOutcome, Execution, changed_by, counts_behind, is_at_last_count, counted, step_of, counted_step, raised_at}
 use Rattle.transactions.specs.Correspond.{CountedCorrespond, SessionsCorrespond, StoresCorrespond}
-use Rattle.transactions.specs.Stores.{Transaction, Store, Ask, Begins, Commits, RollsBack, Executes, Transacted, refused, transaction_at, with_transaction, seen_by, world_of, stepped_in, why_not, with_own_table, with_tables, committed, executed_in, transacted, transact}
+use Rattle.transactions.specs.Stores.{Transaction, Store, Ask, Begins, Commits, RollsBack, Executes, Transacted, refused, transaction_at, with_transaction, seen_by, world_of, stepped_in, why_not, is_used, over, committed, executed_in, transacted, transact}
 use Rattle.transactions.specs.WellKept.{IsCountedWell, IsOpen, IsStore}
 use Rattle.transactions.proofs.Alike.{zip_at}
 use Rattle.transactions.proofs.Frame.{counted_reads}
@@ -37,55 +37,6 @@ alike_by R c d (Some t) (Some u) h k = k.own
 pub seen_alike : (R : Pairing) (s o : Store) (session : ℕ) → StoresCorrespond R s o → CountedCorrespond R (world_of s session) (world_of o session)
 seen_alike R s o session h =
     alike_by R s.shared o.shared (transaction_at s session) (transaction_at o session) h.shared (zip_at (SessionsCorrespond R) s.sessions o.sessions (session - 1) None None h.sessions tt)
-
--- ---- what a session's call leaves
-
--- the worlds after a step, with counts: the statement's, or the old one
-counted_by : (P : World → Type 0) (c : Counted) (s : BoundStatement) (a : Result Answer SqlFault) (w : World) → P c.world → P w → P (counted c s a w).after.world
-counted_by P c s (Err f) w h k = h
-counted_by P c s (Ok answer) w h k = by (is_at_last_count c (target s))
-  where
-    by : (b : Bool) → let o : CountedOutcome = if b then record { answer = Err fault.Full; after = c } else record { answer = Ok answer; after = record { world = w; counts = counts_behind c s } } in P o.after.world
-    by true = h
-    by false = k
-
-raised_by : (P : World → Type 0) (c : Counted) (name : Option (List ℕ)) → P c.world → P (raised_at c name).world
-raised_by P c None h = h
-raised_by P c (Some name) h = h
-
-placed_by : (P : Catalog → Type 0) (own : Counted) (names : List (List ℕ)) (c : Counted) → P c.world.catalog → P (with_tables c own names).world.catalog
-placed_by P own [] c h = h
-placed_by P own (name ∷ names) c h = placed_by P own names (with_own_table c name own) h
-
-committed_by : (P : Catalog → Type 0) (store : Store) (session : ℕ) (t : Transaction) (f : Option SqlFault) → P store.shared.world.catalog → P (committed store session t f).after.shared.world.catalog
-committed_by P store session t None h = placed_by P t.own t.changed store.shared h
-committed_by P store session t (Some f) h = h
-
-executed_by : (P : Catalog → Type 0) (store : Store) (session : ℕ) (t : Transaction) (e : Execution) → P store.shared.world.catalog → P (executed_in store session t e).after.shared.world.catalog
-executed_by P store session t e h = by (is_definition e.bound.statement)
-  where
-    by : (b : Bool) → let x : Transacted = if b then refused store fault.InTransaction else record { answer = (counted_step t.own e).answer; after = with_transaction store session (Some (stepped_in t e (counted_step t.own e))) } in P x.after.shared.world.catalog
-    by true = h
-    by false = h
-
--- the shared catalog stays, or is that of the step of a statement outside transactions
-pub shared_by : (P : Catalog → Type 0) (store : Store) (session : ℕ) (ask : Ask) → P store.shared.world.catalog
-    → ((e : Execution) → ask ≡ Executes e → transaction_at store session ≡ None → P (step_of store.shared e).world.catalog)
-    → P (transact store session ask).after.shared.world.catalog
-shared_by P store session ask h k = by ask (transaction_at store session) k refl
-  where
-    by : (ask : Ask) (o : Option Transaction) → ((e : Execution) → ask ≡ Executes e → transaction_at store session ≡ None → P (step_of store.shared e).world.catalog) → transaction_at store session ≡ o → P (transacted store session o ask).after.shared.world.catalog
-    by Begins None k is = h
-    by Commits None k is = h
-    by RollsBack None k is = h
-    by (Executes e) None k is =
-        let o = counted_step store.shared e in
-        raised_by (λ w. P w.catalog) o.after (changed_by e.bound.statement o.answer)
-        (counted_by (λ w. P w.catalog) store.shared e.bound.statement (step_of store.shared e).answer (step_of store.shared e).world h (k e refl is))
-    by Begins (Some t) k is = h
-    by Commits (Some t) k is = committed_by P store session t (why_not store.shared t) h
-    by RollsBack (Some t) k is = h
-    by (Executes e) (Some t) k is = executed_by P store session t e h
 
 -- ---- rows are a step's
 

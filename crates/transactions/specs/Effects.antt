@@ -1,4 +1,4 @@
--- What raises a count, what COMMIT does to two worlds, and what is answered at the last count.
+-- What raises a count, what gives a table other rows, and what is answered at the last count.
 use Rattle.std.specs.Prelude.{◌≡◌, ℕ, ◌+◌, List, [], ◌∷◌, ◌++◌, Option, Some, None, Result, Ok, Err, unwrap_or, slice_set}
 use Rattle.std.specs.List.{slice_get}
 use Rattle.ae_base.specs.Atoms.{Atom}

@@ -8,6 +8,7 @@ pub mod Frames
 pub mod Journal
 pub mod Laws
 pub mod Noted
+pub mod Over
 pub mod Serial
 pub mod Slots
 pub mod Stores

@@ -3,15 +3,16 @@ use Rattle.std.specs.Prelude.{ℕ, ◌-◌, List, [], ◌∷◌, ◌++◌, Optio
 use Rattle.std.specs.List.{list_any}
 use Rattle.std.specs.Str.{bytes_eq}
 use Rattle.ae_base.specs.declared.faults.SqlFault.{SqlFault}
+use Rattle.ae_base.specs.declared.tables.TableDef.{TableDef}
 use Rattle.ae_base.specs.declared.faults.SqlFault.TheVariants as fault
 use Rattle.sql_tree.specs.Bound.{BoundStatement}
 use Rattle.sql_tree.specs.Sorts.{control_in, is_definition, tables_of}
 use Rattle.sql_tree.specs.declared.statements.TransactionControl.{TransactionControl}
 use Rattle.sql_tree.specs.declared.statements.TransactionControl.TheVariants as control
 use Rattle.engine.specs.Step.{Answer, Defined}
-use Rattle.engine.specs.Worlds.{rows_of, with_rows}
+use Rattle.engine.specs.Worlds.{rows_of}
 use Rattle.transactions.specs.declared.uses.Used.{Used}
-use Rattle.transactions.specs.Counted.{Execution, Counted, CountedOutcome, nothing_counted, count_of, changed_by, counted_step, raised, alone}
+use Rattle.transactions.specs.Counted.{Execution, Counted, CountedOutcome, nothing_counted, count_of, changed_by, counted_step, raised_all, alone}
 
 -- ---- the state
 
@@ -94,11 +95,15 @@ abbrev pub with_changed : List (List ℕ) → Option (List ℕ) → List (List �
 with_changed changed None = changed
 with_changed changed (Some name) = if list_any (λ n. bytes_eq n name) changed then changed else changed ++ name ∷ []
 
+-- the changed tables behind a statement
+abbrev pub changed_behind : List (List ℕ) → BoundStatement → Result Answer SqlFault → List (List ℕ)
+changed_behind changed s answer = with_changed changed (changed_by s answer)
+
 abbrev pub stepped_in : Transaction → Execution → CountedOutcome → Transaction
 stepped_in t e o = record t {
   own = o.after;
   used = with_uses t.own t.used (tables_of e.bound.statement);
-  changed = with_changed t.changed (changed_by e.bound.statement o.answer);
+  changed = changed_behind t.changed e.bound.statement o.answer;
 }
 
 -- a definition has no place in a transaction
@@ -118,19 +123,27 @@ abbrev pub why_not : Counted → Transaction → Option SqlFault
 why_not shared t =
     if shared.world.catalog.version == t.version then conflict shared t.used else Some (fault.Moved (record { seen = t.version; now = shared.world.catalog.version }))
 
--- a table has these rows, and was changed once more
-abbrev pub with_own_table : Counted → List ℕ → Counted → Counted
-with_own_table c name own = raised (record c { world = with_rows c.world name (rows_of own.world name) }) name
+-- an item for each table: its own where the table is used, else theirs
+abbrev pub merged : {A : Type 0} → (List ℕ → Bool) → (List ℕ → A) → List TableDef → List A → List A
+merged is_own theirs [] items = []
+merged is_own theirs (def ∷ defs) [] = []
+merged is_own theirs (def ∷ defs) (item ∷ items) = (if is_own def.name then item else theirs def.name) ∷ merged is_own theirs defs items
 
--- the changed tables take the place of the shared ones
-abbrev pub with_tables : Counted → Counted → List (List ℕ) → Counted
-with_tables shared own [] = shared
-with_tables shared own (name ∷ names) = with_tables (with_own_table shared name own) own names
+-- the own world, in which the tables that were not used are the shared ones
+abbrev pub over : (List ℕ → Bool) → Counted → Counted → Counted
+over is_own shared own = record {
+  world = record { catalog = own.world.catalog; contents = merged is_own (rows_of shared.world) own.world.catalog.tables own.world.contents };
+  counts = merged is_own (count_of shared) own.world.catalog.tables own.counts;
+}
+
+-- the used tables take the place of the shared ones, and the changed ones were changed once more
+abbrev pub taken_over : Counted → Transaction → Counted
+taken_over shared t = raised_all (over (is_used t.used) shared t.own) t.changed
 
 -- whether it is accepted or not, the transaction has ended
 abbrev pub committed : Store → ℕ → Transaction → Option SqlFault → Transacted
 committed store session t None =
-    record { answer = Ok Defined; after = with_transaction (record store { shared = with_tables store.shared t.own t.changed }) session None }
+    record { answer = Ok Defined; after = with_transaction (record store { shared = taken_over store.shared t }) session None }
 committed store session t (Some f) = record { answer = Err f; after = with_transaction store session None }
 
 -- ---- all together

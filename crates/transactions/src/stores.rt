@@ -23,6 +23,7 @@ use ae_base::sameness::Same;
 use ae_base::sessions::SessionId;
 use ae_base::types::Enc;
 use catalog::catalogs::Catalog;
+use catalog::laws::definitions_keep_catalogs;
 use engine::answers::Answer;
 use sql_tree::bound::Bound;
 use sql_tree::statements::TransactionControl;
@@ -61,6 +62,7 @@ impl<K: Same> Store<K> {
     pub fn new(alloc: Global) -> Store<K>
         ensures { result ≡ spec.empty_store }
     {
+        definitions_keep_catalogs();
         Store {
             shared: Counted::new(alloc),
             slots: Slots::new(alloc),

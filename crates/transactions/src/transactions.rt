@@ -4,14 +4,15 @@ ghost use Rattle.std.specs.Prelude.{◌≡◌, ◌≤◌, ◌<◌, IfOk, None, O
 ghost use Rattle.std.specs.List.{All, list_any};
 ghost use Rattle.std.specs.Str.{bytes_eq};
 ghost use Rattle.sql_tree.specs.Bound.{bound_of, statement_of};
+ghost use Rattle.catalog.specs.WellFormed.{IsCatalog};
 ghost use Rattle.engine.specs.BoundOn.{IsBoundOn};
 ghost use Rattle.sql_tree.specs.Sorts.{tables_of, target};
 ghost use Rattle.transactions.specs.Answers.{StepsIn};
 ghost use Rattle.transactions.specs.Counted.{count_of, execution};
 ghost use Rattle.transactions.specs.Effects.{with_name};
-ghost use Rattle.transactions.specs.Noted.{IsNoted};
+ghost use Rattle.transactions.specs.Noted.{IsInShape, IsNoted, MayLieOver};
 ghost use Rattle.transactions.specs.Stores as spec;
-ghost use Rattle.transactions.specs.Stores.{with_changed, with_uses, with_tables};
+ghost use Rattle.transactions.specs.Stores.{is_used, over, taken_over, with_changed, with_uses};
 
 use crate::counts::Counted;
 use crate::uses::{Used, note_tables};
@@ -150,19 +151,34 @@ impl<K: Same> Transaction<K> {
         conflict(shared, self.used.as_slice())
     }
 
-    /// Has the changed tables take the place of the shared ones. It takes no memory.
+    /// Has the used tables take the place of the shared ones, and raises the counts of those that
+    /// it has changed. It takes no memory.
     pub(crate) fn commit(self, shared: &mut Counted<K>)
+        requires catalog { IsCatalog shared.old.world.catalog }
+        requires shape { IsInShape shared.old }
         requires noted { IsNoted shared.old self }
         requires free { spec.why_not shared.old self ≡ None }
-        ensures { shared.new ≡ with_tables shared.old self.own self.changed }
+        ensures { shared.new ≡ taken_over shared.old self }
     {
         let Transaction {
             mut own,
             version: _,
-            used: _,
+            used,
             changed,
         } = self;
-        shared.take_tables(&mut own, changed.as_slice());
+        swap_tables(shared, &mut own, used.as_slice());
+        shared.raise_tables(changed.as_slice());
+    }
+}
+
+/// Has the used tables take the rows that they have in another world of the same catalog: so that
+/// one is laid over this one. It takes no memory.
+fn swap_tables<K: Same>(shared: &mut Counted<K>, own: &mut Counted<K>, used: &[Used])
+    requires { MayLieOver shared.old own.old used.now }
+    ensures { shared.new ≡ over (is_used used.now) shared.old own.old }
+{
+    for u in used {
+        shared.swap_table(own, &u.table);
     }
 }
 
