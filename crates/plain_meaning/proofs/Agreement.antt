@@ -16,7 +16,7 @@ use Rattle.engine.specs.Step.{Answer, Rows, Changed, Defined, step}
 use Rattle.transactions.specs.Counted.{Execution, execution}
 use Rattle.transactions.specs.WellKept.{MayAsk}
 use Rattle.transactions.specs.Stores.{ask_of, Transacted, transaction_at, world_of, transact}
-use Rattle.transactions.proofs.Interface.{asks_alike, may_ask, seen_alike, slot_of}
+use Rattle.transactions.proofs.Interface.{asks_alike, may_ask, seen_alike, slot_of, store_begun}
 use Rattle.engine.specs.WellTyped.{AreValuesOf, IsAnswerOf, AreResults}
 use Rattle.engine.specs.declared.answers.ResultColumn.{ResultColumn}
 use Rattle.wire_messages.specs.declared.columns.SentColumn.{SentColumn}
@@ -163,7 +163,7 @@ module _ (laws : LawsBelow) (keys : KeyMap) (trusted : List (List ℕ)) (key_for
       let slot = slot_of state n (ask_of e) in
       record {
         stands = record { fits = sessions_fit keys key_for state did.after n slot fits st.fits; stores = sim.stores; state = kept.0 };
-        goes = goes_by Always state n e;
+        goes = goes_by Always state n e (store_begun is_short state st.state);
         answers = sim.answers;
         typed = kept.1;
       }

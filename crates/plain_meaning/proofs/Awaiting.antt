@@ -27,7 +27,7 @@ use Rattle.catalog.specs.Laws.{DefinitionsKeepCatalogs}
 use Rattle.transactions.specs.Counted.{Execution, nothing_counted, execution}
 use Rattle.transactions.specs.Stores.{ask_of, transaction_at, world_of, transact}
 use Rattle.transactions.specs.WellKept.{IsOpen}
-use Rattle.transactions.proofs.Interface.{asks_alike, may_ask}
+use Rattle.transactions.proofs.Interface.{asks_alike, may_ask, store_begun}
 use Rattle.server_core.proofs.Interface.{no_sessions, parts_of, own_cell, own_cells, own_is_one_to_one, own_is_within}
 use Rattle.engine.specs.Step.{Answer, Rows, Changed, Defined}
 use Rattle.engine.specs.Typed.{param_classes}
@@ -40,6 +40,7 @@ use Rattle.wire_messages.specs.declared.replies.Reply.TheVariants.{Row, Ended}
 use Rattle.statement_analysis.specs.Describing.{Meant, understood, description}
 use Rattle.statement_analysis.specs.Params.{declaration_of, suited}
 use Rattle.server_core.specs.Serve.{State, empty_state, catalog_of, serve, header, described, answered, executed}
+use Rattle.server_core.specs.States.{any_cell}
 use Rattle.conversation.specs.Batches.{why_unfit, unless}
 use Rattle.conversation.specs.Cells.{read_atoms}
 use Rattle.conversation.specs.Drive.{over}
@@ -73,7 +74,7 @@ use Rattle.plain_meaning.specs.Reference.{declarations_of, nothing_held, held_at
 use Rattle.plain_meaning.proofs.Agreement.{whole_count}
 use Rattle.plain_meaning.proofs.Between.{Always, HoldsBatch, HoldsIn, AllHold, Goes, stays_so, goes_by, all_go, all_held, hold_place, resting, all_resting, at_resting, set_resting}
 use Rattle.plain_meaning.proofs.Causes.{understood_plain, transact_plain}
-use Rattle.plain_meaning.proofs.ItsOwn.{any_cell, are_own, IsOwnState}
+use Rattle.plain_meaning.proofs.ItsOwn.{are_own, IsOwnState}
 use Rattle.plain_meaning.proofs.Saying.{Says, awaits_all, says_all}
 use Rattle.plain_meaning.proofs.Sending.{told_among}
 use Rattle.plain_meaning.proofs.Suiting.{encs_alone, suits, is_held}
@@ -217,7 +218,7 @@ module _ (laws : LawsBelow) (keys : KeyMap) (Proper : Type 0) where
         let kept = laws.keeps_stores any_cell state n (ask_of e) own.typed may in
         let sim = laws.simulates any_cell own_cell state state n (ask_of e) (ask_of e) own_is_one_to_one own_is_within own.typed own.paired alike_asked may in
         let done = transact state n (ask_of e) in
-        answer_awaits done.after (go None done.after (record { typed = kept.0; paired = sim.stores }) (goes_by Proper state n e)) done.answer (transact_plain state n (ask_of e)) kept.1 sim.answers
+        answer_awaits done.after (go None done.after (record { typed = kept.0; paired = sim.stores }) (goes_by Proper state n e (store_begun any_cell state own.typed))) done.answer (transact_plain state n (ask_of e)) kept.1 sim.answers
 
     -- what is sent suits what it means
     record IsSuited (text : List ℕ) (sent : List SentParam) : Type 0 where
