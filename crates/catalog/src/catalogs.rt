@@ -147,6 +147,27 @@ impl Catalog {
             .find(|table| table.name == *name)
     }
 
+    /// The master keys, in the order of their definitions.
+    pub fn masters(&self) -> &[MasterKey]
+        ensures { result.now ≡ self.now.masters }
+    {
+        self.masters.as_slice()
+    }
+
+    /// The column keys, in the order of their definitions.
+    pub fn keys(&self) -> &[ColumnKey]
+        ensures { result.now ≡ self.now.keys }
+    {
+        self.keys.as_slice()
+    }
+
+    /// The number of the next column key.
+    pub fn next_id(&self) -> u64
+        ensures { result ≡ self.now.next_id }
+    {
+        self.next_id
+    }
+
     /// The tables, in the order of their definitions.
     pub fn tables(&self) -> &[TableDef]
         ensures { result.now ≡ self.now.tables }

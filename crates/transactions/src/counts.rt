@@ -73,6 +73,13 @@ impl<K: Same> Counted<K> {
         self.world.catalog()
     }
 
+    /// The world.
+    pub(crate) fn world(&self) -> &World<K>
+        ensures { result.now ≡ self.now.world }
+    {
+        &self.world
+    }
+
     /// The place of a table; 0 for one that isn't there.
     fn place_of(&self, name: &Name) -> usize
         ensures { result ≡ worlds.place_of self.now.world name.now }

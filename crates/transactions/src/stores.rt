@@ -24,6 +24,7 @@ use ae_base::sessions::SessionId;
 use ae_base::types::Enc;
 use catalog::catalogs::Catalog;
 use engine::answers::Answer;
+use engine::worlds::World;
 use sql_tree::bound::Bound;
 use sql_tree::statements::TransactionControl;
 use std::alloc::Global;
@@ -82,6 +83,13 @@ impl<K: Same> Store<K> {
         ensures { result.now ≡ self.now.shared.world.catalog }
     {
         self.shared.catalog()
+    }
+
+    /// The shared world.
+    pub fn shared_world(&self) -> &World<K>
+        ensures { result.now ≡ self.now.shared.world }
+    {
+        self.shared.world()
     }
 
     /// Whether a session has a transaction.
