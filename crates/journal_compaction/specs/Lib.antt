@@ -1,0 +1,6 @@
+pub mod Checking
+pub mod Compacting
+pub mod Compactions
+pub mod Endings
+pub mod Finding
+pub mod Writing
