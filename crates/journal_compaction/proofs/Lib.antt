@@ -1,0 +1,5 @@
+mod Checking
+mod Compacting
+mod Equalities
+mod Finding
+mod Writing

@@ -50,7 +50,10 @@ pub(crate) fn find<D: Disk>(alloc: Global, disk: &mut D) -> Found
     ensures counts { CountsFound result (D.faults disk.old) (D.faults disk.new) }
 {
     match Journal::mount(alloc, disk) {
-        Mounted::Ready(_, entries) => serve_found(alloc, entries),
+        Mounted::Ready(journal, entries) => {
+            drop(journal);
+            serve_found(alloc, entries)
+        }
         Mounted::Damaged(place) => Found::Damaged(place),
         Mounted::DiskFault => Found::DiskFault,
         Mounted::OutOfMemory => Found::OutOfMemory,

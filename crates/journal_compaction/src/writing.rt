@@ -22,8 +22,8 @@ pub(crate) fn last_gate(records: &[Blob]) -> Option<u64>
         (λ gate. (gate ≡ place_behind records.now) × (gate + 1 ≤ most_bytes)) }
 {
     let mut gate = 0u64;
-    'records: for record in records {
-        let len = record.len() as u64;
+    'records: for entry in records {
+        let len = entry.len() as u64;
         if len > MOST_BYTES || gate > MOST_BYTES {
             return None;
         }
@@ -33,13 +33,13 @@ pub(crate) fn last_gate(records: &[Blob]) -> Option<u64>
 }
 
 /// The bytes of a record in the file, behind an open gate.
-fn opened_record(alloc: Global, record: &[u8]) -> Result<Vec<u8>, AllocError>
-    ensures { IfOk result (λ bytes. bytes.items ≡ 1 ∷ framed record.now) }
+fn opened_record(alloc: Global, entry: &[u8]) -> Result<Vec<u8>, AllocError>
+    ensures { IfOk result (λ bytes. bytes.items ≡ 1 ∷ framed entry.now) }
 {
     let mut bytes = Vec::new(alloc);
     bytes.push(1)?;
-    bytes.extend_from_slice(&(record.len() as u64).to_be_bytes())?;
-    bytes.extend_from_slice(record)?;
+    bytes.extend_from_slice(&(entry.len() as u64).to_be_bytes())?;
+    bytes.extend_from_slice(entry)?;
     Ok(bytes)
 }
 
@@ -55,15 +55,15 @@ fn put_behind<E: Disk>(disk: &mut E, at: u64, bytes: &[u8]) -> Stored
 }
 
 /// Puts a record behind an open gate at the end of the file.
-fn put_record<E: Disk>(alloc: Global, disk: &mut E, at: u64, record: &[u8]) -> Stored
+fn put_record<E: Disk>(alloc: Global, disk: &mut E, at: u64, entry: &[u8]) -> Stored
     requires end { IfSome (E.told disk.old) (HasAt at) }
-    requires room { at + 10 + length record.now < 2 ^ 64 }
-    ensures content { WhereTold (PutsBehind result (1 ∷ framed record.now))
+    requires room { at + 10 + length entry.now < 2 ^ 64 }
+    ensures content { WhereTold (PutsBehind result (1 ∷ framed entry.now))
         (E.told disk.old) (E.told disk.new) }
     ensures same { E.names disk.new ≡ E.names disk.old }
     ensures counts { CountsStored result (E.faults disk.old) (E.faults disk.new) }
 {
-    match opened_record(alloc, record) {
+    match opened_record(alloc, entry) {
         Ok(bytes) => put_behind(disk, at, bytes.as_slice()),
         Err(_) => Stored::OutOfMemory,
     }
@@ -79,9 +79,9 @@ fn put_records<E: Disk>(alloc: Global, disk: &mut E, records: &[Blob]) -> Stored
     ensures counts { CountsStored result (E.faults disk.old) (E.faults disk.new) }
 {
     let mut at = 0u64;
-    'records: for record in records {
-        match put_record(alloc, disk, at, record.as_slice()) {
-            Stored::Done => at += 9 + record.len() as u64,
+    'records: for entry in records {
+        match put_record(alloc, disk, at, entry.as_slice()) {
+            Stored::Done => at += 9 + entry.len() as u64,
             Stored::Failed => return Stored::Failed,
             Stored::OutOfMemory => return Stored::OutOfMemory,
         }
