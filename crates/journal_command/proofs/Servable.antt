@@ -170,7 +170,7 @@ module _ (reading : HasOneReading SpellsRequest) where
       none [] h = refl
       none (r ∷ more) h = absurd (omega (arith, ap length h, length-append (asked_frame r) (frames_in more)))
 
-  refused_not : (state : State) (before records : List (List Asked)) (entry : List ℕ) (others : List (List ℕ)) → All (All IsProper) before → All (All IsProper) records
+  pub refused_not : (state : State) (before records : List (List Asked)) (entry : List ℕ) (others : List (List ℕ)) → All (All IsProper) before → All (All IsProper) records
       → entries_of records ≡ entries_of before ++ entry ∷ others → AreServedAgain state (messages_in records) → ((requests : List Asked) → IsServedRecord (state_behind state before) requests entry → ⊥) → ⊥
   refused_not state [] [] entry others p q e s refused = absurd (omega (arith, ap length e))
   refused_not state [] (r ∷ records) entry others p q e s refused =

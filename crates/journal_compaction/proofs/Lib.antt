@@ -1,5 +1,6 @@
-mod Checking
 mod Compacting
 mod Equalities
-mod Finding
-mod Writing
+mod Leading
+mod Mounting
+mod Putting
+mod Same

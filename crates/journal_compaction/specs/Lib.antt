@@ -3,4 +3,5 @@ pub mod Compacting
 pub mod Compactions
 pub mod Endings
 pub mod Finding
+pub mod Laws
 pub mod Writing

@@ -17,7 +17,7 @@ use std::alloc::{AllocError, Global};
 pub(crate) fn are_records(alloc: Global, entries: &[Blob]) -> Result<bool, AllocError>
     ensures { IfOk result (λ all. IsTrue all → All IsRecord entries.now) }
 {
-    for entry in entries {
+    'entries: for entry in entries {
         if !is_record(alloc, entry.as_slice())? {
             return Ok(false);
         }

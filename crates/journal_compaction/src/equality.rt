@@ -24,7 +24,7 @@ pub(crate) fn equal_items<T: Equal>(items: &[T], others: &[T]) -> bool
     if items.len() != others.len() {
         return false;
     }
-    for i in 0..items.len() {
+    'items: for i in 0..items.len() {
         if !items[i].equals(&others[i]) {
             return false;
         }

@@ -8,6 +8,7 @@ mod definitions;
 mod equality;
 mod finding;
 mod inserts;
+pub mod laws;
 mod records;
 mod statements;
 mod worlds;

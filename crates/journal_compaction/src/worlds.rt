@@ -30,7 +30,7 @@ fn same_lent(rows: &[&Row<Cell>], others: &[&Row<Cell>]) -> bool
     if rows.len() != others.len() {
         return false;
     }
-    for i in 0..rows.len() {
+    'rows: for i in 0..rows.len() {
         if !rows[i].equals(others[i]) {
             return false;
         }
@@ -63,7 +63,7 @@ fn same_contents(
     if tables.len() != others.len() {
         return Ok(false);
     }
-    for i in 0..tables.len() {
+    'tables: for i in 0..tables.len() {
         if !same_rows(alloc, &tables[i], &others[i])? {
             return Ok(false);
         }

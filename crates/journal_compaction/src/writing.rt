@@ -7,10 +7,11 @@ ghost use Rattle.disk.specs.Calls.{CountsStored};
 ghost use Rattle.journal_core.specs.Appends.{most_bytes};
 ghost use Rattle.journal_core.specs.Journals.{framed, place_behind};
 ghost use Rattle.journal_core.specs.Records.{IsRecord};
-ghost use Rattle.journal_compaction.specs.Writing.{Empties, HasAt, PutsBehind, PutsEach, WritesJournal, opened};
+ghost use Rattle.journal_compaction.specs.Writing.{HasAt, PutsBehind, WritesJournal, opened};
 
 use ae_base::blobs::Blob;
 use disk::disks::{Disk, Stored};
+use journal_core::laws::journals_are_read_back;
 use std::alloc::{AllocError, Global};
 
 // The most bytes that the file of a journal has.
@@ -106,6 +107,25 @@ fn put_journal<E: Disk>(alloc: Global, disk: &mut E, records: &[Blob], gate: u64
     }
 }
 
+/// Makes an empty file the journal of some records, and syncs it.
+fn write_empty<E: Disk>(alloc: Global, disk: &mut E, records: &[Blob], gate: u64) -> Stored
+    requires records { All IsRecord records.now }
+    requires empty { IfSome (E.told disk.old) (HasAt 0) }
+    requires gate { gate ≡ place_behind records.now }
+    requires room { gate + 1 ≤ most_bytes }
+    ensures content { WhereTold (WritesJournal result records.now)
+        (E.told disk.old) (E.told disk.new) }
+    ensures same { E.names disk.new ≡ E.names disk.old }
+    ensures counts { CountsStored result (E.faults disk.old) (E.faults disk.new) }
+{
+    journals_are_read_back();
+    match put_journal(alloc, disk, records, gate) {
+        Stored::Done => disk.sync(),
+        Stored::Failed => Stored::Failed,
+        Stored::OutOfMemory => Stored::OutOfMemory,
+    }
+}
+
 /// Makes a file the journal of some records, and syncs it. What it was before is lost.
 pub(crate) fn write_journal<E: Disk>(
     alloc: Global,
@@ -122,12 +142,7 @@ pub(crate) fn write_journal<E: Disk>(
     ensures counts { CountsStored result (E.faults disk.old) (E.faults disk.new) }
 {
     match disk.cut(0) {
-        Stored::Done => {}
-        Stored::Failed => return Stored::Failed,
-        Stored::OutOfMemory => return Stored::OutOfMemory,
-    }
-    match put_journal(alloc, disk, records, gate) {
-        Stored::Done => disk.sync(),
+        Stored::Done => write_empty(alloc, disk, records, gate),
         Stored::Failed => Stored::Failed,
         Stored::OutOfMemory => Stored::OutOfMemory,
     }

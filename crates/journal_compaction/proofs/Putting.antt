@@ -3,7 +3,7 @@ use Rattle.std.proofs.Common.{◌≡◌, ℕ, ◌+◌, ◌≤◌, List, [], ◌�
 use Rattle.std.specs.Int.{w64, to_be_bytes}
 use Rattle.std.specs.List.{All}
 use Rattle.std.specs.Prelude.{IfSome}
-use Rattle.std.proofs.lemmas.List.{take_all, drop_all}
+use Rattle.std.proofs.lemmas.List.{take_all, drop_all, nil_from_length}
 use Rattle.std.proofs.lemmas.List.Elements.{All-nil, All-cons, All-head, All-tail}
 use Rattle.ae_edge.specs.Devices.{WhereTold}
 use Rattle.ae_edge.proofs.Interface.{told_map, told_same, told_then}
@@ -115,33 +115,39 @@ emptied None (Some y) p = absurd p
 abbrev IsAll : List (List ℕ) → Moments → Moments → Type 0
 IsAll entries old new = new.now.seen ≡ journal_of entries
 
-all_put : (entries : List (List ℕ)) (a b c : Option Moments) → WhereTold (Cuts stored.Done 0) a b → WhereTold (PutsBehind stored.Done (opened entries ++ 0 ∷ [])) b c → WhereTold (IsAll entries) a c
-all_put entries a b c =
-    told_then (Cuts stored.Done 0) (PutsBehind stored.Done (opened entries ++ 0 ∷ [])) (IsAll entries)
-    (λ x y z p q. q ∙ ap (λ (s : Stand). s.seen ++ (opened entries ++ 0 ∷ [])) p.here ∙ sym (journal_is entries)) a b c
+all_put : (entries : List (List ℕ)) (a b : Option Moments) → IfSome a (HasAt 0) → WhereTold (PutsBehind stored.Done (opened entries ++ 0 ∷ [])) a b → WhereTold (IsAll entries) a b
+all_put entries a b h p =
+    told_from (HasAt 0) (PutsBehind stored.Done (opened entries ++ 0 ∷ [])) (IsAll entries)
+    (λ x y k q. q ∙ ap (λ (w : List ℕ). w ++ (opened entries ++ 0 ∷ [])) (nil_from_length x.now.seen k) ∙ sym (journal_is entries)) a b h p
 
-pub journal_put : JournalsAreReadBack → (result : Stored) (entries : List (List ℕ)) (a b c d : Option Moments) → All IsEntry entries → WhereTold (Cuts stored.Done 0) a b
-    → WhereTold (PutsBehind stored.Done (opened entries ++ 0 ∷ [])) b c → WhereTold (Syncs result) c d → WhereTold (WritesJournal result entries) a d
-journal_put law stored.Done entries a b c d all p q s =
+pub journal_put : JournalsAreReadBack → (result : Stored) (entries : List (List ℕ)) (a b c : Option Moments) → All IsEntry entries → IfSome a (HasAt 0)
+    → WhereTold (PutsBehind stored.Done (opened entries ++ 0 ∷ [])) a b → WhereTold (Syncs result) b c → WhereTold (WritesJournal result entries) a c
+journal_put law stored.Done entries a b c all h p s =
     told_then (IsAll entries) (Syncs stored.Done) (WritesJournal stored.Done entries)
     (λ x y z e t.
         let now : z.now ≡ kept (journal_of entries) = t.here ∙ ap (λ (file : List ℕ). kept file) e in
         record { now = now; from_now = kept_leaves (ReadsAs (Records entries)) (journal_of entries) z.now now (law entries all) })
-    a c d (all_put entries a b c p q) s
-journal_put law stored.Failed entries a b c d all p q s =
-    told_then (IsAll entries) (Syncs stored.Failed) (WritesJournal stored.Failed entries) (λ x y z e t. tt) a c d (all_put entries a b c p q) s
-journal_put law stored.OutOfMemory entries a b c d all p q s =
-    told_then (IsAll entries) (Syncs stored.OutOfMemory) (WritesJournal stored.OutOfMemory entries) (λ x y z e t. tt) a c d (all_put entries a b c p q) s
+    a b c (all_put entries a b h p) s
+journal_put law stored.Failed entries a b c all h p s =
+    told_then (IsAll entries) (Syncs stored.Failed) (WritesJournal stored.Failed entries) (λ x y z e t. tt) a b c (all_put entries a b h p) s
+journal_put law stored.OutOfMemory entries a b c all h p s =
+    told_then (IsAll entries) (Syncs stored.OutOfMemory) (WritesJournal stored.OutOfMemory entries) (λ x y z e t. tt) a b c (all_put entries a b h p) s
 
--- or a call before the sync failed
-pub uncut : (result : Stored) (entries : List (List ℕ)) (a b : Option Moments) → (result ≡ stored.Done → ⊥) → WhereTold (Cuts result 0) a b → WhereTold (WritesJournal result entries) a b
-uncut stored.Done entries a b no p = absurd (no refl)
-uncut stored.Failed entries a b no p = told_map (Cuts stored.Failed 0) (WritesJournal stored.Failed entries) (λ x y q. tt) a b p
-uncut stored.OutOfMemory entries a b no p = told_map (Cuts stored.OutOfMemory 0) (WritesJournal stored.OutOfMemory entries) (λ x y q. tt) a b p
+-- what was there before is cut off
+pub cut_then : (result : Stored) (entries : List (List ℕ)) (a b c : Option Moments) → WhereTold (Cuts stored.Done 0) a b → WhereTold (WritesJournal result entries) b c → WhereTold (WritesJournal result entries) a c
+cut_then stored.Done entries a b c = told_then (Cuts stored.Done 0) (WritesJournal stored.Done entries) (WritesJournal stored.Done entries) (λ x y z p q. q) a b c
+cut_then stored.Failed entries a b c = told_then (Cuts stored.Done 0) (WritesJournal stored.Failed entries) (WritesJournal stored.Failed entries) (λ x y z p q. tt) a b c
+cut_then stored.OutOfMemory entries a b c = told_then (Cuts stored.Done 0) (WritesJournal stored.OutOfMemory entries) (WritesJournal stored.OutOfMemory entries) (λ x y z p q. tt) a b c
 
-pub unput : (entries : List (List ℕ)) (bytes : List ℕ) (a b c : Option Moments) → WhereTold (Cuts stored.Done 0) a b → WhereTold (PutsBehind stored.Failed bytes) b c → WhereTold (WritesJournal stored.Failed entries) a c
-unput entries bytes a b c = told_then (Cuts stored.Done 0) (PutsBehind stored.Failed bytes) (WritesJournal stored.Failed entries) (λ x y z p q. tt) a b c
+-- or a call before the sync failed, or had no memory
+pub cut_failed : (entries : List (List ℕ)) (a b : Option Moments) → WhereTold (Cuts stored.Failed 0) a b → WhereTold (WritesJournal stored.Failed entries) a b
+cut_failed entries a b p = told_map (Cuts stored.Failed 0) (WritesJournal stored.Failed entries) (λ x y q. tt) a b p
 
-pub unmade : (entries : List (List ℕ)) (bytes : List ℕ) (a b c : Option Moments) → WhereTold (Cuts stored.Done 0) a b → WhereTold (PutsBehind stored.OutOfMemory bytes) b c
-    → WhereTold (WritesJournal stored.OutOfMemory entries) a c
-unmade entries bytes a b c = told_then (Cuts stored.Done 0) (PutsBehind stored.OutOfMemory bytes) (WritesJournal stored.OutOfMemory entries) (λ x y z p q. tt) a b c
+pub cut_unmade : (entries : List (List ℕ)) (a b : Option Moments) → WhereTold (Cuts stored.OutOfMemory 0) a b → WhereTold (WritesJournal stored.OutOfMemory entries) a b
+cut_unmade entries a b p = told_map (Cuts stored.OutOfMemory 0) (WritesJournal stored.OutOfMemory entries) (λ x y q. tt) a b p
+
+pub unput : (entries : List (List ℕ)) (bytes : List ℕ) (a b : Option Moments) → WhereTold (PutsBehind stored.Failed bytes) a b → WhereTold (WritesJournal stored.Failed entries) a b
+unput entries bytes a b p = told_map (PutsBehind stored.Failed bytes) (WritesJournal stored.Failed entries) (λ x y q. tt) a b p
+
+pub unmade : (entries : List (List ℕ)) (bytes : List ℕ) (a b : Option Moments) → WhereTold (PutsBehind stored.OutOfMemory bytes) a b → WhereTold (WritesJournal stored.OutOfMemory entries) a b
+unmade entries bytes a b p = told_map (PutsBehind stored.OutOfMemory bytes) (WritesJournal stored.OutOfMemory entries) (λ x y q. tt) a b p
