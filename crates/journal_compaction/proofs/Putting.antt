@@ -3,7 +3,7 @@ use Rattle.std.proofs.Common.{◌≡◌, ℕ, ◌+◌, ◌≤◌, List, [], ◌�
 use Rattle.std.specs.Int.{w64, to_be_bytes}
 use Rattle.std.specs.List.{All}
 use Rattle.std.specs.Prelude.{IfSome}
-use Rattle.std.proofs.lemmas.List.{take_all, drop_all, nil_from_length}
+use Rattle.std.proofs.lemmas.List.{take_all, drop_all, length-take, nil_from_length}
 use Rattle.std.proofs.lemmas.List.Elements.{All-nil, All-cons, All-head, All-tail}
 use Rattle.ae_edge.specs.Devices.{WhereTold}
 use Rattle.ae_edge.proofs.Interface.{told_map, told_same, told_then}
@@ -107,7 +107,7 @@ ends_at at entries a b e h p =
 -- ---- the whole file
 
 pub emptied : (a b : Option Moments) → WhereTold (Cuts stored.Done 0) a b → IfSome b (HasAt 0)
-emptied (Some x) (Some y) p = ap (λ (s : Stand). length s.seen) p.here
+emptied (Some x) (Some y) p = omega (arith, ap (λ (s : Stand). length s.seen) p.here, length-take 0 x.now.seen)
 emptied None None p = tt
 emptied (Some x) None p = absurd p
 emptied None (Some y) p = absurd p
