@@ -1,3 +1,4 @@
+mod Dropping
 mod Finding
 mod Hitting
 mod Placed

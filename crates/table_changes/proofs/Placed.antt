@@ -40,12 +40,12 @@ spread_later n count [] h = refl
 spread_later n count (c ∷ cs) h = ap (λ b. cond b (Some c.row ∷ spread (n + 1) count cs) (None ∷ spread (n + 1) count (c ∷ cs))) (is_other n c.place h)
 
 -- a row that fails the test stays
-others_stay : (p : Row → Bool) (row : Row) (rows : List Row) (made : List Tested) → p row ≡ false → among_others p not_hit (row ∷ rows) made ≡ not_hit row ∷ among_others p not_hit rows made
+pub others_stay : (p : Row → Bool) (row : Row) (rows : List Row) (made : List Tested) → p row ≡ false → among_others p not_hit (row ∷ rows) made ≡ not_hit row ∷ among_others p not_hit rows made
 others_stay p row rows [] e = refl
 others_stay p row rows (x ∷ made) e = ap (λ b. cond b (x ∷ among_others p not_hit rows made) (not_hit row ∷ among_others p not_hit rows (x ∷ made))) e
 
 -- and one that passes is what was made of it
-others_made : (p : Row → Bool) (row : Row) (rows : List Row) (x : Tested) (made : List Tested) → p row ≡ true → among_others p not_hit (row ∷ rows) (x ∷ made) ≡ x ∷ among_others p not_hit rows made
+pub others_made : (p : Row → Bool) (row : Row) (rows : List Row) (x : Tested) (made : List Tested) → p row ≡ true → among_others p not_hit (row ∷ rows) (x ∷ made) ≡ x ∷ among_others p not_hit rows made
 others_made p row rows x made e = ap (λ b. cond b (x ∷ among_others p not_hit rows made) (not_hit row ∷ among_others p not_hit rows (x ∷ made))) e
 
 module _ (p : Row → Bool) (at : ℕ → ℕ) where
