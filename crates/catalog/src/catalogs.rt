@@ -1,9 +1,9 @@
 //! The catalog: what is defined, with its version.
 
-ghost use Rattle.std.specs.Prelude.{◌≡◌, ◌≤◌, IfOk, OnErr, OnOk};
+ghost use Rattle.std.specs.Prelude.{◌≡◌, ◌≢◌, ◌≤◌, IsSome, IfOk, OnErr, OnOk};
 ghost use Rattle.std.specs.List.{list_any};
 ghost use Rattle.std.specs.Option.{option_copied, option_map};
-ghost use Rattle.catalog.specs.Catalogs.{nothing_defined, master_named, key_named, table_named, master_place, key_place, table_place, key_of, key_meta, value_told, values_told, is_under, is_table_under, is_master_used, is_key_used, is_at_last_version, is_full_of_masters, is_full_of_keys, is_full_of_tables, with_master, with_key, with_value, revalued, with_table, without_master, without_key, without_value, without_table};
+ghost use Rattle.catalog.specs.Catalogs.{nothing_defined, master_named, key_named, table_named, master_place, key_place, table_place, key_of, key_meta, value_told, values_told, is_under, is_table_under, is_master_used, is_key_used, is_at_last_version, is_full_of_masters, is_full_of_keys, is_full_of_tables, with_master, with_key, with_value, revalued, with_table, without_master, without_key, without_value, without_table, with_replacement};
 ghost use Rattle.catalog.specs.Definitions.{defined_by, effect_of, Defines, IsDefinable};
 ghost use Rattle.catalog.specs.WellFormed.{AreMastersThere, MastersDiffer};
 
@@ -145,6 +145,27 @@ impl Catalog {
             .as_slice()
             .iter()
             .find(|table| table.name == *name)
+    }
+
+    /// The master keys, in the order of their definitions.
+    pub fn masters(&self) -> &[MasterKey]
+        ensures { result.now ≡ self.now.masters }
+    {
+        self.masters.as_slice()
+    }
+
+    /// The column keys, in the order of their definitions.
+    pub fn keys(&self) -> &[ColumnKey]
+        ensures { result.now ≡ self.now.keys }
+    {
+        self.keys.as_slice()
+    }
+
+    /// The number of the next column key.
+    pub fn next_id(&self) -> u64
+        ensures { result ≡ self.now.next_id }
+    {
+        self.next_id
     }
 
     /// The tables, in the order of their definitions.
@@ -298,6 +319,7 @@ impl Catalog {
             BoundDefinition::DropTable(name) => self.drop_table(&name),
             BoundDefinition::DropMaster(name) => self.drop_master(&name),
             BoundDefinition::DropKey(name) => self.drop_key(&name),
+            BoundDefinition::ReplaceTable { old, new } => self.replace_table(old, &new),
         }
     }
 
@@ -309,6 +331,9 @@ impl Catalog {
             BoundDefinition::CreateTable(_) => Effect::Adds,
             BoundDefinition::DropTable(name) => {
                 Effect::Removes(self.table_place(name).unwrap_or(0))
+            }
+            BoundDefinition::ReplaceTable { old, .. } => {
+                Effect::Removes(self.table_place(old).unwrap_or(0))
             }
             BoundDefinition::CreateMaster { .. }
             | BoundDefinition::CreateKey { .. }
@@ -500,6 +525,31 @@ impl Catalog {
         if self.is_at_last_version() {
             return Err(Refusal::Fault(SqlFault::Full));
         }
+        self.tables.remove(place);
+        self.version += 1;
+        Ok(())
+    }
+
+    /// Puts the table `new` in the place of the table `old`, which is taken out: it has the name
+    /// `old` then. `Full` where the last version is used. After a fault or out of memory the
+    /// catalog is as before.
+    fn replace_table(&mut self, old: Name, new: &Name) -> Result<(), Refusal>
+        requires there { IsSome (table_named self.old old) × IsSome (table_named self.old new.now) }
+        requires differ { old ≢ new.now }
+        ensures { Defines result self.old self.new (with_replacement self.old old new.now) }
+    {
+        if self.is_at_last_version() {
+            return Err(Refusal::Fault(SqlFault::Full));
+        }
+        let place = self.table_place(&old).unwrap();
+        let from = self.table_place(new).unwrap();
+        let table = self.tables.get(from);
+        let named = TableDef {
+            name: old,
+            columns: table.columns.copy()?,
+            uniques: table.uniques.copy()?,
+        };
+        self.tables.set(from, named);
         self.tables.remove(place);
         self.version += 1;
         Ok(())

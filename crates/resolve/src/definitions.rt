@@ -7,6 +7,7 @@ ghost use Rattle.ae_base.specs.Results.{each, Answers};
 ghost use Rattle.expression_binding.specs.Walks.{each_from};
 ghost use Rattle.resolve.specs.Definitions.{alone, bind_column, bind_definition, column_behind, key_column_behind, bind_key_column, bind_table, bind_unique, enc_for, enc_of, key_for, key_path, listed_name, master_for, bind_key_value, bind_second_value, bind_key_values, name_of, new_name, place_of_key, places_of_list, word_keys, wrapped_key};
 
+use crate::sources::table_for;
 use ae_base::blobs::Blob;
 use ae_base::faults::SqlFault;
 use ae_base::keys::{EncryptedValue, KeyPath, WrappedKey};
@@ -368,5 +369,15 @@ pub(crate) fn bind_definition(
         Definition::DropTable(name) => Ok(BoundDefinition::DropTable(name.copy()?)),
         Definition::DropMaster(name) => Ok(BoundDefinition::DropMaster(name.copy()?)),
         Definition::DropKey(name) => Ok(BoundDefinition::DropKey(name.copy()?)),
+        Definition::ReplaceTable { old, new } => {
+            table_for(catalog, old)?;
+            table_for(catalog, new)?;
+            if *old == *new {
+                return Err(Refusal::Fault(SqlFault::Ambiguous(old.copy()?)));
+            }
+            let old = old.copy()?;
+            let new = new.copy()?;
+            Ok(BoundDefinition::ReplaceTable { old, new })
+        }
     }
 }

@@ -7,7 +7,7 @@ use Rattle.sql_tree.specs.Statements.{Statement}
 use Rattle.sql_grammar.specs.Readers.{Reading, next_among, both, made, choice_by}
 use Rattle.sql_grammar.specs.Readers as terminal
 use Rattle.sql_grammar.specs.Making as make
-use Rattle.sql_grammar.specs.Parse.{word, next_reads, create, create_table, create_master, create_key}
+use Rattle.sql_grammar.specs.Parse.{word, next_reads, create, create_table, create_master, create_key, alter, replace_table, alter_key}
 use Rattle.sql_expressions.proofs.Interface.{here, away, behind}
 
 abbrev is_next : Keyword → List Token → Bool
@@ -36,3 +36,11 @@ creates_master tokens rest after at place e h f m = creates_column tokens rest a
 pub creates_key : (tokens rest after : List Token) (at place : ℕ) → word keyword.Create tokens ≡ Some (at, rest) → is_next keyword.Table rest ≡ false → word keyword.Column rest ≡ Some (place, after)
     → master_next after ≡ false → create tokens ≡ create_key after
 creates_key tokens rest after at place e h f m = creates_column tokens rest after at place e h f ∙ away master_next create_master create_key after m
+
+pub alters_table : (tokens rest : List Token) (at : ℕ) → word keyword.Alter tokens ≡ Some (at, rest) → is_next keyword.Table rest ≡ true → alter tokens ≡ replace_table rest
+alters_table tokens rest at e h =
+    behind keyword.Alter (choice_by (is_next keyword.Table) replace_table alter_key) tokens rest at e ∙ here (is_next keyword.Table) replace_table alter_key rest h
+
+pub alters_key : (tokens rest : List Token) (at : ℕ) → word keyword.Alter tokens ≡ Some (at, rest) → is_next keyword.Table rest ≡ false → alter tokens ≡ alter_key rest
+alters_key tokens rest at e h =
+    behind keyword.Alter (choice_by (is_next keyword.Table) replace_table alter_key) tokens rest at e ∙ away (is_next keyword.Table) replace_table alter_key rest h

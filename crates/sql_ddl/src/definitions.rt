@@ -92,11 +92,10 @@ fn dropped_master(tokens: &mut Cursor) -> Result<Name, Refusal>
     Ok(master)
 }
 
-/// ALTER of a column key, which adds a value or drops one.
-pub fn alter(alloc: Global, tokens: &mut Cursor) -> Result<Statement, Refusal>
-    ensures { Gives statement_of result tokens.new (parse.alter tokens.old) }
+/// ALTER COLUMN ENCRYPTION KEY, which adds a value or drops one.
+fn alter_key(alloc: Global, tokens: &mut Cursor) -> Result<Statement, Refusal>
+    ensures { Gives statement_of result tokens.new (parse.alter_key tokens.old) }
 {
-    tokens.word(Keyword::Alter)?;
     tokens.word(Keyword::Column)?;
     tokens.reads("ENCRYPTION")?;
     tokens.word(Keyword::Key)?;
@@ -107,6 +106,29 @@ pub fn alter(alloc: Global, tokens: &mut Cursor) -> Result<Statement, Refusal>
     }
     let master = dropped_master(tokens)?;
     Ok(Statement::Definition(Definition::DropValue { key, master }))
+}
+
+/// ALTER TABLE, which puts another table in the place of one.
+fn replace_table(tokens: &mut Cursor) -> Result<Statement, Refusal>
+    ensures { Gives statement_of result tokens.new (parse.replace_table tokens.old) }
+{
+    tokens.word(Keyword::Table)?;
+    let old = tokens.name()?;
+    tokens.reads("REPLACE")?;
+    tokens.word(Keyword::By)?;
+    let new = tokens.name()?;
+    Ok(Statement::Definition(Definition::ReplaceTable { old, new }))
+}
+
+/// ALTER of a column key or a table.
+pub fn alter(alloc: Global, tokens: &mut Cursor) -> Result<Statement, Refusal>
+    ensures { Gives statement_of result tokens.new (parse.alter tokens.old) }
+{
+    tokens.word(Keyword::Alter)?;
+    if tokens.next_is(Keyword::Table) {
+        return replace_table(tokens);
+    }
+    alter_key(alloc, tokens)
 }
 
 fn drop_key(tokens: &mut Cursor) -> Result<Statement, Refusal>

@@ -8,8 +8,8 @@ use Rattle.sql_grammar.specs.Readers.{Reading, Terminal}
 use Rattle.sql_grammar.specs.Readers as terminal
 use Rattle.sql_grammar.specs.Spelling.{Spelling, Both, Made, Either}
 use Rattle.sql_grammar.specs.Making as make
-use Rattle.sql_grammar.specs.Grammar.{Word, Sign, Reads, Name, Text, IsText, SpellsType, SpellsMasterSetting, SpellsKeySetting, SpellsKind, SpellsColumnSetting, SpellsWrappedSetting, SpellsPart, SpellsDropColumn, SpellsEncryption, SpellsNullity, SpellsColumn, SpellsUnique, SpellsParts, SpellsCreateTable, SpellsCreateMaster, SpellsKeyValue, SpellsKeyValues, SpellsCreateKey, SpellsCreate, SpellsMasterName, SpellsAddValue, SpellsDropValue, SpellsAlter, SpellsDrop}
-use Rattle.sql_grammar.specs.Parse.{type, master_setting, key_setting, encryption_kind, column_setting, wrapped_setting, table_part, drop_column, encryption, nullity, column, unique, table_parts, create_table, create_master, key_value, key_values, create_key, create, master_name, add_value, drop_value, alter, drop, next_reads}
+use Rattle.sql_grammar.specs.Grammar.{Word, Sign, Reads, Name, Text, IsText, SpellsType, SpellsMasterSetting, SpellsKeySetting, SpellsKind, SpellsColumnSetting, SpellsWrappedSetting, SpellsPart, SpellsDropColumn, SpellsEncryption, SpellsNullity, SpellsColumn, SpellsUnique, SpellsParts, SpellsCreateTable, SpellsCreateMaster, SpellsKeyValue, SpellsKeyValues, SpellsCreateKey, SpellsCreate, SpellsMasterName, SpellsAddValue, SpellsDropValue, SpellsAlterKey, SpellsReplaceTable, SpellsAlter, SpellsDrop}
+use Rattle.sql_grammar.specs.Parse.{type, master_setting, key_setting, encryption_kind, column_setting, wrapped_setting, table_part, drop_column, encryption, nullity, column, unique, table_parts, create_table, create_master, key_value, key_values, create_key, create, master_name, add_value, drop_value, alter_key, replace_table, alter, drop, next_reads}
 use Rattle.sql_grammar.proofs.Sets.{disjoint, subset, narrower}
 use Rattle.sql_grammar.proofs.Agreement.{Agrees, Tells, both_agrees, made_agrees, choice_agrees, choice_by_agrees, optional_agrees, wider}
 use Rattle.sql_grammar.proofs.Pieces.{word_agrees, sign_agrees, reads_agrees, name_agrees, placed_name_agrees, number_agrees, text_agrees, is_text_agrees, binary_agrees, in_parens_agrees, behind_comma_agrees, listed_agrees}
@@ -110,8 +110,14 @@ add_value_agrees = wider (terminal.Word keyword.Add ∷ []) [] (made_agrees make
 pub drop_value_agrees : Agrees (terminal.Word keyword.Drop ∷ []) false [] drop_value SpellsDropValue
 drop_value_agrees = wider (terminal.Word keyword.Drop ∷ []) [] (made_agrees make.drops (made_agrees make.behind (both_agrees (word_agrees keyword.Drop) (made_agrees make.behind (both_agrees (reads_agrees (codes "VALUE")) (in_parens_agrees master_name_agrees refl refl) refl)) refl))) refl refl
 
+pub alter_key_agrees : Agrees (terminal.Word keyword.Column ∷ []) false [] alter_key SpellsAlterKey
+alter_key_agrees = wider (terminal.Word keyword.Column ∷ []) [] (made_agrees make.alter_key (made_agrees make.behind (both_agrees (word_agrees keyword.Column) (made_agrees make.behind (both_agrees (reads_agrees (codes "ENCRYPTION")) (made_agrees make.behind (both_agrees (word_agrees keyword.Key) (both_agrees name_agrees (choice_agrees (terminal.Word keyword.Add ∷ []) add_value_agrees drop_value_agrees refl refl) refl) refl)) refl)) refl))) refl refl
+
+pub replace_table_agrees : Agrees (terminal.Word keyword.Table ∷ []) false [] replace_table SpellsReplaceTable
+replace_table_agrees = wider (terminal.Word keyword.Table ∷ []) [] (made_agrees make.replace_table (made_agrees make.behind (both_agrees (word_agrees keyword.Table) (both_agrees name_agrees (made_agrees make.behind (both_agrees (reads_agrees (codes "REPLACE")) (made_agrees make.behind (both_agrees (word_agrees keyword.By) name_agrees refl)) refl)) refl) refl))) refl refl
+
 pub alter_agrees : Agrees (terminal.Word keyword.Alter ∷ []) false [] alter SpellsAlter
-alter_agrees = wider (terminal.Word keyword.Alter ∷ []) [] (made_agrees make.alter_key (made_agrees make.behind (both_agrees (word_agrees keyword.Alter) (made_agrees make.behind (both_agrees (word_agrees keyword.Column) (made_agrees make.behind (both_agrees (reads_agrees (codes "ENCRYPTION")) (made_agrees make.behind (both_agrees (word_agrees keyword.Key) (both_agrees name_agrees (choice_agrees (terminal.Word keyword.Add ∷ []) add_value_agrees drop_value_agrees refl refl) refl) refl)) refl)) refl)) refl))) refl refl
+alter_agrees = wider (terminal.Word keyword.Alter ∷ []) [] (made_agrees make.behind (both_agrees (word_agrees keyword.Alter) (choice_agrees (terminal.Word keyword.Table ∷ []) replace_table_agrees alter_key_agrees refl refl) refl)) refl refl
 
 drop_tells : Tells (next_reads (codes "MASTER")) [] (Made make.drop_master (Made make.behind (Both (Reads (codes "MASTER")) (Made make.behind (Both (Word keyword.Key) Name)))))
     (Made make.drop_key (Made make.behind (Both (Reads (codes "ENCRYPTION")) (Made make.behind (Both (Word keyword.Key) Name)))))

@@ -233,9 +233,17 @@ SpellsAddValue = Made make.adds (Made make.behind (Both (Word keyword.Add) (Made
 abbrev pub SpellsDropValue : Spelling KeyChange
 SpellsDropValue = Made make.drops (Made make.behind (Both (Word keyword.Drop) (Made make.behind (Both (Reads (codes "VALUE")) (InParens SpellsMasterName)))))
 
--- ALTER COLUMN ENCRYPTION KEY name (ADD VALUE value | DROP VALUE ( .. ))
+-- COLUMN ENCRYPTION KEY name (ADD VALUE value | DROP VALUE ( .. ))
+abbrev pub SpellsAlterKey : Spelling Statement
+SpellsAlterKey = Made make.alter_key (Made make.behind (Both (Word keyword.Column) (Made make.behind (Both (Reads (codes "ENCRYPTION")) (Made make.behind (Both (Word keyword.Key) (Both Name (Either SpellsAddValue SpellsDropValue))))))))
+
+-- TABLE name REPLACE BY name
+abbrev pub SpellsReplaceTable : Spelling Statement
+SpellsReplaceTable = Made make.replace_table (Made make.behind (Both (Word keyword.Table) (Both Name (Made make.behind (Both (Reads (codes "REPLACE")) (Made make.behind (Both (Word keyword.By) Name)))))))
+
+-- ALTER TABLE name REPLACE BY name | ALTER COLUMN ENCRYPTION KEY name (ADD VALUE value | DROP VALUE ( .. ))
 abbrev pub SpellsAlter : Spelling Statement
-SpellsAlter = Made make.alter_key (Made make.behind (Both (Word keyword.Alter) (Made make.behind (Both (Word keyword.Column) (Made make.behind (Both (Reads (codes "ENCRYPTION")) (Made make.behind (Both (Word keyword.Key) (Both Name (Either SpellsAddValue SpellsDropValue))))))))))
+SpellsAlter = Made make.behind (Both (Word keyword.Alter) (Either SpellsReplaceTable SpellsAlterKey))
 
 abbrev pub SpellsDropColumn : Spelling Statement
 SpellsDropColumn = Made make.behind (Both (Word keyword.Column) (Either (Made make.drop_master (Made make.behind (Both (Reads (codes "MASTER")) (Made make.behind (Both (Word keyword.Key) Name))))) (Made make.drop_key (Made make.behind (Both (Reads (codes "ENCRYPTION")) (Made make.behind (Both (Word keyword.Key) Name)))))))

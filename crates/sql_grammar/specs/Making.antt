@@ -386,6 +386,9 @@ altered key (Drops master) = definition.DropValue key master
 abbrev pub alter_key : List ℕ × KeyChange → Option Statement
 alter_key x = Some (tree.Definition (altered x.0 x.1))
 
+abbrev pub replace_table : List ℕ × List ℕ → Option Statement
+replace_table x = Some (tree.Definition (definition.ReplaceTable x.0 x.1))
+
 abbrev pub drop_table : List ℕ → Option Statement
 drop_table name = Some (tree.Definition (definition.DropTable name))
 

@@ -300,9 +300,17 @@ add_value = made make.adds (made make.behind (both (word keyword.Add) (made make
 abbrev pub drop_value : Reading KeyChange
 drop_value = made make.drops (made make.behind (both (word keyword.Drop) (made make.behind (both (reads (codes "VALUE")) (in_parens master_name)))))
 
--- ALTER COLUMN ENCRYPTION KEY name (ADD VALUE value | DROP VALUE ( .. ))
+-- COLUMN ENCRYPTION KEY name (ADD VALUE value | DROP VALUE ( .. ))
+abbrev pub alter_key : Reading Statement
+alter_key = made make.alter_key (made make.behind (both (word keyword.Column) (made make.behind (both (reads (codes "ENCRYPTION")) (made make.behind (both (word keyword.Key) (both name (choice (terminal.Word keyword.Add ∷ []) add_value drop_value))))))))
+
+-- TABLE name REPLACE BY name
+abbrev pub replace_table : Reading Statement
+replace_table = made make.replace_table (made make.behind (both (word keyword.Table) (both name (made make.behind (both (reads (codes "REPLACE")) (made make.behind (both (word keyword.By) name)))))))
+
+-- ALTER TABLE name REPLACE BY name | ALTER COLUMN ENCRYPTION KEY name (ADD VALUE value | DROP VALUE ( .. ))
 abbrev pub alter : Reading Statement
-alter = made make.alter_key (made make.behind (both (word keyword.Alter) (made make.behind (both (word keyword.Column) (made make.behind (both (reads (codes "ENCRYPTION")) (made make.behind (both (word keyword.Key) (both name (choice (terminal.Word keyword.Add ∷ []) add_value drop_value))))))))))
+alter = made make.behind (both (word keyword.Alter) (choice (terminal.Word keyword.Table ∷ []) replace_table alter_key))
 
 abbrev pub drop_column : Reading Statement
 drop_column = made make.behind (both (word keyword.Column) (choice_by (next_reads (codes "MASTER")) (made make.drop_master (made make.behind (both (reads (codes "MASTER")) (made make.behind (both (word keyword.Key) name))))) (made make.drop_key (made make.behind (both (reads (codes "ENCRYPTION")) (made make.behind (both (word keyword.Key) name)))))))

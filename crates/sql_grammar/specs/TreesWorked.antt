@@ -1,4 +1,4 @@
--- What some tokens and texts on the values of column keys parse to, computed.
+-- What some tokens and texts of CREATE and ALTER parse to, computed.
 use Rattle.std.specs.Prelude.{◌≡◌, ℕ, suc, List, [], ◌∷◌, ◌++◌, codes, Some, Result, Ok, Err, refl}
 use lib.Utf8.{encode}
 use Rattle.ae_base.specs.OneOrTwo.{only}
@@ -107,3 +107,15 @@ pub not_dropped : (statement_in (codes "ALTER COLUMN ENCRYPTION KEY k DROP VALUE
     × (statement_in (codes "ALTER COLUMN ENCRYPTION KEY k DROP VALUE (COLUMN_MASTER_KEY = m, COLUMN_MASTER_KEY = m)") ≡ Err fault.Syntax)
 unfolding statement_in tree_of
 not_dropped = (refl, refl)
+
+-- a name may be REPLACE, which isn't reserved
+pub replaced : (statement_in (codes "ALTER TABLE t Replace BY u;") ≡ defines (definition.ReplaceTable (codes "t") (codes "u")))
+    × (statement_in (codes "alter table replace replace by replace") ≡ defines (definition.ReplaceTable (codes "replace") (codes "replace")))
+unfolding statement_in tree_of
+replaced = (refl, refl)
+
+pub not_replaced : (statement_in (codes "ALTER TABLE t REPLACE u") ≡ Err fault.Syntax)
+    × (statement_in (codes "ALTER TABLE t REPLACE BY u, v") ≡ Err fault.Syntax)
+    × (statement_in (codes "ALTER TABLE t ADD VALUE (COLUMN_MASTER_KEY = m)") ≡ Err fault.Syntax)
+unfolding statement_in tree_of
+not_replaced = (refl, refl, refl)

@@ -2,6 +2,8 @@
 use Rattle.std.specs.Prelude.{ℕ, List, [], ◌∷◌, map, Option, Some, None, Bool, true, false}
 use Rattle.sql_tree.specs.Bound.{BoundStatement}
 use Rattle.sql_tree.specs.Bound as bound
+use Rattle.sql_tree.specs.declared.bound.BoundDefinition.{BoundDefinition}
+use Rattle.sql_tree.specs.declared.bound.BoundDefinition.TheVariants as definition
 use Rattle.sql_tree.specs.OnTables.{sources_of}
 use Rattle.sql_tree.specs.Statements as tree
 use Rattle.sql_tree.specs.declared.sorts.Sort.{Sort}
@@ -10,24 +12,20 @@ use Rattle.sql_tree.specs.declared.statements.TransactionControl.{TransactionCon
 
 -- ---- the sort
 
+-- REPLACE BY is a change: it is allowed in a transaction
+abbrev pub sort_in : BoundDefinition → Sort
+sort_in (definition.ReplaceTable old new) = sort.Change
+sort_in other = sort.Definition
+
 abbrev pub sort_of : BoundStatement → Sort
-sort_of (bound.Definition d) = sort.Definition
+sort_of (bound.Definition d) = sort_in d
 sort_of (bound.Insert i) = sort.Change
 sort_of (bound.Update u) = sort.Change
 sort_of (bound.Delete d) = sort.Change
 sort_of (bound.Select q) = sort.Query
 sort_of (bound.Control control) = sort.Control
 
--- that of a statement as it is written
-abbrev pub sort_written : tree.Statement → Sort
-sort_written (tree.Definition d) = sort.Definition
-sort_written (tree.Insert table columns rows) = sort.Change
-sort_written (tree.Update table assignments filter) = sort.Change
-sort_written (tree.Delete table filter) = sort.Change
-sort_written (tree.Select q) = sort.Query
-sort_written (tree.Control control) = sort.Control
-
--- that of CREATE and DROP
+-- that of a definition that a transaction refuses
 abbrev pub defines : Sort → Bool
 defines sort.Definition = true
 defines sort.Change = false
@@ -37,15 +35,39 @@ defines sort.Control = false
 abbrev pub is_definition : BoundStatement → Bool
 is_definition s = defines (sort_of s)
 
+-- whether it makes another catalog: a definition, or REPLACE BY
+abbrev pub is_defining : BoundStatement → Bool
+is_defining (bound.Definition d) = true
+is_defining other = false
+
+-- as it is written
+abbrev pub is_written_defining : tree.Statement → Bool
+is_written_defining (tree.Definition d) = true
+is_written_defining other = false
+
+-- the tables of REPLACE BY: the one that goes, and the one that gets its name
+abbrev pub replaced_in : BoundDefinition → Option (List ℕ × List ℕ)
+replaced_in (definition.ReplaceTable old new) = Some (old, new)
+replaced_in other = None
+
+abbrev pub replaced_of : BoundStatement → Option (List ℕ × List ℕ)
+replaced_of (bound.Definition d) = replaced_in d
+replaced_of other = None
+
 abbrev pub control_in : BoundStatement → Option TransactionControl
 control_in (bound.Control control) = Some control
 control_in other = None
 
 -- ---- the tables
 
--- those whose rows it reads or changes, in the order of its text
+-- those that REPLACE BY names
+abbrev pub tables_in : BoundDefinition → List (List ℕ)
+tables_in (definition.ReplaceTable old new) = old ∷ new ∷ []
+tables_in other = []
+
+-- those whose rows it reads or changes, or which REPLACE BY names, in the order of its text
 abbrev pub tables_of : BoundStatement → List (List ℕ)
-tables_of (bound.Definition d) = []
+tables_of (bound.Definition d) = tables_in d
 tables_of (bound.Insert i) = i.table ∷ []
 tables_of (bound.Update u) = u.table ∷ []
 tables_of (bound.Delete d) = d.table ∷ []

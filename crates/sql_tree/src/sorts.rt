@@ -6,12 +6,12 @@ ghost use Rattle.sql_tree.specs.Bound.{statement_of};
 ghost use Rattle.sql_tree.specs.Sorts as sorts;
 ghost use Rattle.sql_tree.specs.Statements as written;
 
-use crate::bound::BoundStatement;
+use crate::bound::{BoundDefinition, BoundStatement};
 use crate::statements::{Statement, TransactionControl};
 use ae_base::names::Name;
 
-/// What sort a statement is: it defines keys or tables, changes rows, asks for rows, or begins or
-/// ends a transaction.
+/// What sort a statement is: it defines keys or tables, changes rows (or puts one table in the
+/// place of another), asks for rows, or begins or ends a transaction.
 #[derive(Clone, Copy, PartialEq, Eq, Debug)]
 pub enum Sort {
     Definition,
@@ -21,7 +21,7 @@ pub enum Sort {
 }
 
 impl Sort {
-    /// Whether it is that of CREATE and DROP.
+    /// Whether it is that of a definition, which a transaction refuses.
     pub fn defines(self) -> bool
         ensures { result ≡ sorts.defines self }
     {
@@ -33,17 +33,17 @@ impl Sort {
 }
 
 impl Statement {
-    /// What sort the statement is.
-    pub fn sort(&self) -> Sort
-        ensures { result ≡ sorts.sort_written (written.statement_of self.now) }
+    /// Whether it makes another catalog: CREATE, ALTER or DROP.
+    pub fn is_defining(&self) -> bool
+        ensures { result ≡ sorts.is_written_defining (written.statement_of self.now) }
     {
         match self {
-            Statement::Definition(_) => Sort::Definition,
-            Statement::Insert { .. } | Statement::Update { .. } | Statement::Delete { .. } => {
-                Sort::Change
-            }
-            Statement::Select(_) => Sort::Query,
-            Statement::Control(_) => Sort::Control,
+            Statement::Definition(_) => true,
+            Statement::Insert { .. }
+            | Statement::Update { .. }
+            | Statement::Delete { .. }
+            | Statement::Select(_)
+            | Statement::Control(_) => false,
         }
     }
 }
@@ -54,6 +54,7 @@ impl BoundStatement {
         ensures { result ≡ sorts.sort_of (statement_of self.now) }
     {
         match self {
+            BoundStatement::Definition(BoundDefinition::ReplaceTable { .. }) => Sort::Change,
             BoundStatement::Definition(_) => Sort::Definition,
             BoundStatement::Insert(_) | BoundStatement::Update(_) | BoundStatement::Delete(_) => {
                 Sort::Change

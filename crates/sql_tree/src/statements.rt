@@ -141,7 +141,7 @@ pub struct WrittenValue {
     pub wrapped: Blob,
 }
 
-/// A CREATE, ALTER or DROP of a key, or a CREATE or DROP of a table.
+/// A CREATE, ALTER or DROP of a key or a table.
 #[derive(Drop)]
 pub enum Definition {
     CreateMaster {
@@ -170,6 +170,11 @@ pub enum Definition {
     DropTable(Name),
     DropMaster(Name),
     DropKey(Name),
+    /// ALTER TABLE .. REPLACE BY, which puts the table `new` in the place of `old`.
+    ReplaceTable {
+        old: Name,
+        new: Name,
+    },
 }
 
 /// A statement, as its text has it.

@@ -2,6 +2,8 @@
 use Rattle.std.specs.Prelude.{ℕ, List, Result, Ok, Err, encode_utf8_all}
 use Rattle.ae_base.specs.declared.faults.SqlFault.{SqlFault}
 use Rattle.sql_tree.specs.Statements as tree
+use Rattle.sql_tree.specs.declared.statements.Definition.{Definition}
+use Rattle.sql_tree.specs.declared.statements.Definition.TheVariants as definition
 use Rattle.sql_tree.specs.declared.statements.TransactionControl.{TransactionControl}
 use Rattle.sql_tree.specs.declared.statements.TransactionControl.TheVariants as control
 use Rattle.sql_grammar.specs.Texts.{statement_in}
@@ -13,8 +15,13 @@ sort_of_control control.Begin = Begins
 sort_of_control control.Commit = Commits
 sort_of_control control.Rollback = RollsBack
 
+-- REPLACE BY is a change, which a transaction may make
+abbrev pub sort_of_definition : Definition → Sort
+sort_of_definition (definition.ReplaceTable old new) = Changes
+sort_of_definition other = Defines
+
 abbrev pub sort_of_statement : tree.Statement → Sort
-sort_of_statement (tree.Definition d) = Defines
+sort_of_statement (tree.Definition d) = sort_of_definition d
 sort_of_statement (tree.Insert table columns rows) = Changes
 sort_of_statement (tree.Update table assignments filter) = Changes
 sort_of_statement (tree.Delete table filter) = Changes

@@ -6,12 +6,12 @@ ghost use Rattle.statement_analysis.specs.Sorts as spec;
 
 use ae_base::refusals::Refusal;
 use sql_parse::parsing::{discard, parse};
-use sql_tree::statements::{Statement, TransactionControl};
+use sql_tree::statements::{Definition, Statement, TransactionControl};
 use std::alloc::{AllocError, Global};
 use wire_parts::texts::StatementPart;
 
-/// What sort a text is: a statement that asks for rows, changes rows, or defines keys or tables;
-/// BEGIN, COMMIT or ROLLBACK; or no statement.
+/// What sort a text is: a statement that asks for rows, makes a change that a transaction may make,
+/// or defines keys or tables; BEGIN, COMMIT or ROLLBACK; or no statement.
 #[derive(Clone, Copy, PartialEq, Eq, Debug)]
 pub enum Sort {
     Reads,
@@ -45,12 +45,28 @@ fn of_statement(statement: &Statement) -> Sort
     ensures { result ≡ spec.sort_of_statement (statement_of statement.now) }
 {
     match statement {
-        Statement::Definition(_) => Sort::Defines,
+        Statement::Definition(definition) => of_definition(definition),
         Statement::Insert { .. } | Statement::Update { .. } | Statement::Delete { .. } => {
             Sort::Changes
         }
         Statement::Select(_) => Sort::Reads,
         Statement::Control(control) => of_control(*control),
+    }
+}
+
+fn of_definition(definition: &Definition) -> Sort
+    ensures { result ≡ spec.sort_of_definition definition.now }
+{
+    match definition {
+        Definition::ReplaceTable { .. } => Sort::Changes,
+        Definition::CreateMaster { .. }
+        | Definition::CreateKey { .. }
+        | Definition::AddValue { .. }
+        | Definition::DropValue { .. }
+        | Definition::CreateTable { .. }
+        | Definition::DropTable(_)
+        | Definition::DropMaster(_)
+        | Definition::DropKey(_) => Sort::Defines,
     }
 }
 
