@@ -2,6 +2,7 @@ mod Adding
 mod Appending
 mod Exactly
 mod Holding
+pub mod Interface
 mod Pieces
 mod Recording
 mod Restarting

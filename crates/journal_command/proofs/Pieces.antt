@@ -11,10 +11,11 @@ use Rattle.frame_feed.specs.Feeding.{Feeding, empty_feed}
 use Rattle.recording.specs.Recorded.{nothing_held}
 use Rattle.server_core.specs.Laws.{AreServedSeriallyFrom, RequestsAreSerialFrom}
 use Rattle.server_core.specs.Serve.{State}
+use Rattle.server_core.specs.States.{any_cell}
 use Rattle.serve_command.specs.ServeAll.{messages_of}
 use Rattle.serve_command.specs.Serving.{AnswersAll, AnswersFirst, AnswersOpen, Begins, most_stream_bytes}
 use Rattle.serve_command.proofs.Interface.{answers_all, answers_first, answers_open, at_end, begins_fed, removes_end, removes_failed, removes_piece, removes_unheld}
-use Rattle.transactions.specs.WellKept.{HasNoTransactions}
+use Rattle.transactions.specs.WellKept.{HasNoTransactions, IsStore}
 use Rattle.journal_command.specs.Durable.{DurableState}
 use Rattle.journal_command.specs.Endings.{ended_by}
 use Rattle.journal_command.specs.Keeping.{Asked, frames_of}
@@ -43,8 +44,8 @@ goes_first feed durable source old e h =
     (record { taken = []; lost = removes_none source; few = refl; so_far = so_far_first durable old h; waits = inl (omega arith) })
 
 module _ (law : RequestsAreSerialFrom) (start : State) (count : ℕ) (feed : Feeding) (durable : DurableState) (source left : Option (List ℕ)) (first now : Outside) (g : Going start count feed durable source left first now) where
-  serially : (bytes : List ℕ) → HasNoTransactions start → (requests : List Asked) (others : List ℕ) → Begins bytes requests others → AreServedSeriallyFrom start (messages_of requests)
-  serially bytes = λ none requests others b. law start none (messages_of requests)
+  serially : (bytes : List ℕ) → IsStore any_cell start → HasNoTransactions start → (requests : List Asked) (others : List ℕ) → Begins bytes requests others → AreServedSeriallyFrom start (messages_of requests)
+  serially bytes = λ store none requests others b. law start store none (messages_of requests)
 
   lost_more : (piece : List ℕ) (after : Option (List ℕ)) → WhereTold (Takes (taken.Bytes piece)) left after → Removes (g.taken ++ piece) source after
   lost_more piece after h = removes_then g.taken piece source left after g.lost (removes_piece piece left after h)

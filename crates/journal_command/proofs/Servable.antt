@@ -13,6 +13,7 @@ use Rattle.journal_core.proofs.Interface.{one_reading}
 use Rattle.recording.specs.Laws.{AreServedAgain, FrontsAreAccepted}
 use Rattle.recording.specs.Recorded.{nothing_held, requests_recorded, session_of}
 use Rattle.recording.proofs.Interface.{map_append, records_forget}
+use Rattle.server_core.specs.Laws.{RequestsMayBeAsked}
 use Rattle.server_core.specs.Serve.{State, empty_state, serve}
 use Rattle.serve_command.specs.ServeAll.{messages_of, state_after}
 use Rattle.serve_command.specs.Serving.{IsProper}
@@ -88,7 +89,7 @@ front_of_messages start requests front f = record {
   is = sym (records_forget (λ (a : Asked). a.message) (λ (r : Request). r) start requests) ∙ ap messages_in f.is ∙ messages_append front f.rest;
 }
 
-module _ (law : FrontsAreAccepted) where
+module _ (may : RequestsMayBeAsked) (law : FrontsAreAccepted) where
   -- the records that were found, and a front of those of a run
   run_servable : (records : List (List Asked)) (requests : List Asked) (image : List ℕ) → AreServedRecords empty_state records (entries_of records) → All IsProper requests
       → HasFront (entries_of records) (entries_of (records_of (state_behind empty_state records) nothing_held requests)) image → IsServable image
@@ -105,7 +106,7 @@ module _ (law : FrontsAreAccepted) where
           proper = All-append (All IsProper) records f.ones s.proper (all_front f.ones f.of_all.rest (subst (All (All IsProper)) f.of_all.is proper));
           whole = refl;
           served = subst (AreServedAgain empty_state) (sym (messages_append records f.ones))
-              (law empty_state (messages_in records) (messages_in f.ones) (messages_of requests) (record { counts = refl; none = refl }) s.served
+              (law empty_state (messages_in records) (messages_in f.ones) (messages_of requests) may.0 (record { counts = refl; none = refl }) s.served
               (front_of_messages (state_behind empty_state records) requests f.ones f.of_all));
         };
       }
@@ -170,7 +171,7 @@ module _ (reading : HasOneReading SpellsRequest) where
       none [] h = refl
       none (r ∷ more) h = absurd (omega (arith, ap length h, length-append (asked_frame r) (frames_in more)))
 
-  refused_not : (state : State) (before records : List (List Asked)) (entry : List ℕ) (others : List (List ℕ)) → All (All IsProper) before → All (All IsProper) records
+  pub refused_not : (state : State) (before records : List (List Asked)) (entry : List ℕ) (others : List (List ℕ)) → All (All IsProper) before → All (All IsProper) records
       → entries_of records ≡ entries_of before ++ entry ∷ others → AreServedAgain state (messages_in records) → ((requests : List Asked) → IsServedRecord (state_behind state before) requests entry → ⊥) → ⊥
   refused_not state [] [] entry others p q e s refused = absurd (omega (arith, ap length e))
   refused_not state [] (r ∷ records) entry others p q e s refused =

@@ -11,7 +11,8 @@ use Rattle.journal_core.specs.Mounts.{Finds, IsSomeImage, Mounts}
 use Rattle.journal_core.specs.States.{JournalState}
 use Rattle.journal_core.specs.declared.mounting.Mounted.TheVariants as mounted
 use Rattle.recording.specs.Recorded.{nothing_held}
-use Rattle.recording.proofs.Interface.{none_behind}
+use Rattle.recording.proofs.Interface.{none_behind, store_behind}
+use Rattle.server_core.specs.Laws.{RequestsMayBeAsked}
 use Rattle.server_core.specs.Serve.{State, empty_state}
 use Rattle.journal_command.specs.Journaling.{IsBad, IsDurable, IsFull, IsntFull, IsRefused, IsUnserved, KeepsRecords, Runs, ServesFound, ServesFrom, ServesJournal}
 use Rattle.journal_command.specs.Keeping.{Asked, entries_of, messages_in, records_of}
@@ -26,7 +27,7 @@ use Rattle.journal_command.proofs.Recording.{entries_append}
 
 -- ---- they were
 
-module _ (journal : JournalState) (entries : List (List ℕ)) (a b : Option Moments) (w : WhereTold (Mounts (mounted.Ready journal entries)) a b) (sound : journal.gate ≡ place_behind entries) where
+module _ (may : RequestsMayBeAsked) (journal : JournalState) (entries : List (List ℕ)) (a b : Option Moments) (w : WhereTold (Mounts (mounted.Ready journal entries)) a b) (sound : journal.gate ≡ place_behind entries) where
   -- and refused, or there was no memory to serve them
   found_unserved : (source left out out_after : Option (List ℕ)) (c : Option Moments) → left ≡ source → c ≡ b → out_after ≡ out → IsUnserved source left a c out out_after
   found_unserved source left out out_after c l d o = record {
@@ -140,7 +141,7 @@ module _ (journal : JournalState) (entries : List (List ℕ)) (a b : Option Mome
           lost = s.lost;
           puts = s.puts;
           keeps = keeps how s.taken s.keeps;
-          serial = s.serial (none_behind (messages_in records) empty_state (record { counts = refl; none = refl }) served.served);
+          serial = s.serial (store_behind may (messages_in records) empty_state may.0) (none_behind may (messages_in records) empty_state may.0 (record { counts = refl; none = refl }) served.served);
         }
 
   -- a run, or no memory for one

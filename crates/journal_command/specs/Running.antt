@@ -5,11 +5,12 @@ use Rattle.journal_core.specs.Appends.{most_bytes}
 use Rattle.journal_core.specs.Journals.{place_behind}
 use Rattle.server_core.specs.Laws.{AreServedSeriallyFrom}
 use Rattle.server_core.specs.Serve.{State}
+use Rattle.server_core.specs.States.{any_cell}
 use Rattle.recording.specs.Recorded.{nothing_held}
 use Rattle.serve_command.specs.ServeAll.{messages_of, reply_frames}
 use Rattle.serve_command.specs.Serving.{Begins, AnswersFirst, BreaksOff, Ends, most_stream_bytes}
 use Rattle.serve_command.specs.declared.commands.Served.TheVariants as served
-use Rattle.transactions.specs.WellKept.{HasNoTransactions}
+use Rattle.transactions.specs.WellKept.{HasNoTransactions, IsStore}
 use Rattle.journal_command.specs.Keeping.{Asked, entries_of, frames_in, records_of}
 use Rattle.journal_command.specs.Records.{HaveRoom, TriesEntries}
 use Rattle.journal_command.specs.Stopping.{Outside}
@@ -76,11 +77,11 @@ KeepsSo ended.JournalFull start taken old new = HasNoRoomFor start taken old new
 KeepsSo ended.OutOfMemory start taken old new = HasKept start taken old new
 KeepsSo other start taken old new = HasRoomFor start taken old new
 
--- So much was taken of the input, from a first state on. If no transaction was open there, then whichever of its requests were
--- answered, transactions took effect one after another, each whole at its COMMIT.
+-- So much was taken of the input, from a first state on. If it can stand and no transaction was open there, then whichever of its
+-- requests were answered, transactions took effect one after another, each whole at its COMMIT.
 pub record ServesPieces (how : Ended) (start : State) (source left : Option (List ℕ)) (old new : Outside) : Type 0 where
   pub taken : List ℕ
   pub lost : Removes taken source left
   pub puts : PutsSo how start taken left old.out new.out
   pub keeps : KeepsSo how start taken old new
-  pub serial : HasNoTransactions start → (requests : List Asked) (others : List ℕ) → Begins taken requests others → AreServedSeriallyFrom start (messages_of requests)
+  pub serial : IsStore any_cell start → HasNoTransactions start → (requests : List Asked) (others : List ℕ) → Begins taken requests others → AreServedSeriallyFrom start (messages_of requests)

@@ -30,7 +30,7 @@ use frame_feed::FrameFeed;
 use journal_core::journal::Journal;
 use journal_core::mounting::Mounted;
 use recording::laws::fronts_are_accepted;
-use server_core::laws::requests_are_serial_from;
+use server_core::laws::{requests_are_serial_from, requests_may_be_asked};
 use server_core::server::Server;
 use std::alloc::Global;
 use wire_frames::{Way, frames_are_read_back, one_reading, streams_are_read_once};
@@ -189,6 +189,7 @@ fn serve_mounted<S: Source, W: Sink, D: Disk>(
     ensures write { result ≡ Ended.WriteFault → Rose (W.faults out.old) (W.faults out.new) }
     ensures stored { result ≡ Ended.DiskFault → Rose (D.faults disk.old) (D.faults disk.new) }
 {
+    requests_may_be_asked();
     match Journal::mount(alloc, disk) {
         Mounted::Ready(journal, entries) => serve_found(alloc, input, out, disk, journal, entries),
         Mounted::Damaged(place) => Ended::Damaged(place),
@@ -229,6 +230,7 @@ pub fn serve_journal<S: Source, W: Sink, D: Disk>(
     one_reading();
     streams_are_read_once();
     frames_are_read_back();
+    requests_may_be_asked();
     fronts_are_accepted();
     serve_mounted(alloc, input, out, disk)
 }

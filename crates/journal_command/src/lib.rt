@@ -7,5 +7,5 @@ mod durable;
 pub mod endings;
 mod keepers;
 mod replies;
-mod restarts;
+pub mod restarts;
 mod turns;

@@ -43,7 +43,7 @@ fn serve_front(alloc: Global, bytes: &[u8], server: &mut Server) -> Front
 
 /// What came of records.
 #[derive(Clone, Copy)]
-pub(crate) enum Again {
+pub enum Again {
     /// Each was served: its requests were done, and no transaction is open behind it.
     Served,
     /// The first of which this isn't so stands behind the gate at this place.
@@ -72,7 +72,7 @@ fn serve_entry(alloc: Global, entry: &[u8], server: &mut Server) -> Again
 }
 
 /// Serves records again, one after another.
-pub(crate) fn serve_again(alloc: Global, entries: &[Blob], server: &mut Server) -> Again
+pub fn serve_again(alloc: Global, entries: &[Blob], server: &mut Server) -> Again
     requires { place_behind entries.now < 2 ^ 64 }
     ensures { ServesAgain result entries.now server.old server.new }
 {

@@ -1,4 +1,5 @@
 mod Asked
+mod Catalogs
 mod Forgetting
 mod Held
 pub mod Interface

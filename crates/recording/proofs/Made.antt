@@ -1,19 +1,18 @@
 -- Requests that make some calls are done where the calls are accepted.
 use Rattle.std.proofs.Common.{◌≡◌, ◌<◌, ℕ, ◌-◌, List, [], ◌∷◌, ◌++◌, map, refl, ap, sym, subst, ◌∙◌, Option, Some, None, Result, Ok, Err, Bool, true, false}
 use Rattle.std.specs.Prelude.{slice_set, slice_index_or, IsOk, is_some, ◌||◌, if◌then◌else◌}
-use Rattle.std.specs.List.{AllZip}
 use Rattle.ae_base.specs.Atoms.{Atom}
 use Rattle.ae_base.specs.declared.faults.SqlFault.{SqlFault}
 use Rattle.ae_base.specs.declared.faults.SqlFault.TheVariants as fault
 use Rattle.catalog.specs.Catalogs.{Catalog}
 use Rattle.engine.specs.Step.{Answer, Rows, Changed, Defined}
 use Rattle.engine.specs.declared.answers.ResultColumn.{ResultColumn}
-use Rattle.sql_tree.specs.Sorts.{is_definition, target}
+use Rattle.sql_tree.specs.Sorts.{is_definition, is_defining, target}
 use Rattle.transactions.specs.Counted.{Counted, counted_step}
 use Rattle.transactions.specs.Journal.{call_of, calls_in, AreAccepted}
 use Rattle.transactions.specs.Serial.{Deed, Call, all_after}
 use Rattle.transactions.specs.Stores.{Ask, Begins, Commits, RollsBack, Executes, Transaction, Transacted, refused, transaction_at, with_transaction, seen_by, begun_over, stepped_in, why_not, committed, transacted, transact}
-use Rattle.transactions.proofs.Interface.{IsKeptSo, changes_show_no_rows, idle, length_nobody, none_at, work_catalog}
+use Rattle.transactions.proofs.Interface.{IsKeptSo, changes_show_no_rows, idle, length_nobody, none_at}
 use Rattle.wire_messages.specs.Exchanges.{Served}
 use Rattle.wire_messages.specs.declared.requests.Request.{Request}
 use Rattle.wire_messages.specs.declared.requests.Request.TheVariants.{Describe, Execute}
@@ -22,7 +21,8 @@ use Rattle.server_core.specs.Serve.{State, answered, prepared, ask_of, catalog_o
 use Rattle.server_core.proofs.Interface.{answered_after}
 use Rattle.recording.specs.Recorded.{is_done, session_of, after_requests, after_records}
 use Rattle.recording.specs.Laws.{AreDone, AreServedAgain, by_place, calls_of_records}
-use Rattle.recording.proofs.Held.{AsksSo, IsChange, called_at, called_is}
+use Rattle.recording.proofs.Catalogs.{catalog_behind, step_leaves}
+use Rattle.recording.proofs.Held.{AreChanges, AsksSo, called_at, called_is, catalog_made}
 use Rattle.recording.proofs.Slots.{set_there, set_within}
 
 -- ---- sessions go by their places
@@ -61,7 +61,7 @@ abbrev pub ShowsNoRows : Ask → Type 0
 ShowsNoRows Begins = Unit {0}
 ShowsNoRows Commits = Unit {0}
 ShowsNoRows RollsBack = Unit {0}
-ShowsNoRows (Executes e) = (is_definition e.bound.statement || is_some (target e.bound.statement)) ≡ true
+ShowsNoRows (Executes e) = (is_defining e.bound.statement || is_some (target e.bound.statement)) ≡ true
 
 pub no_rows : (s : State) (session : ℕ) (ask : Ask) (columns : List ResultColumn) (rows : List (List Atom)) → ShowsNoRows ask → (transact s session ask).answer ≡ Ok (Rows columns rows) → ⊥
 no_rows s session Begins columns rows n h = by (transaction_at s session) h
@@ -186,8 +186,8 @@ asks_over s session catalog ask request is h n = record {
 pub one_makes : (shared : Counted) (session : ℕ) (ask : Ask) (request : Request) → AsksSo shared.world.catalog (session - 1) ask request → ShowsNoRows ask → Makes (idle shared) (request ∷ []) (call_of session ask ∷ [])
 one_makes shared session ask request h n = (asks_over (idle shared) session shared.world.catalog ask request (idle_catalog shared session) h n, tt)
 
-rest_makes : (rest : List Request) (deeds : List Deed) (s : State) (session : ℕ) (t : Transaction) (commit : Request) → transaction_at s session ≡ Some t → AllZip (IsChange t.own.world.catalog (session - 1)) rest deeds
-    → AsksSo t.own.world.catalog (session - 1) Commits commit → Makes s (rest ++ commit ∷ []) (calls_in session deeds ++ call_of session Commits ∷ [])
+rest_makes : (rest : List Request) (deeds : List Deed) (s : State) (session : ℕ) (t : Transaction) (commit : Request) → transaction_at s session ≡ Some t → AreChanges t.own.world.catalog (session - 1) rest deeds
+    → AsksSo (catalog_made t.own.world.catalog deeds) (session - 1) Commits commit → Makes s (rest ++ commit ∷ []) (calls_in session deeds ++ call_of session Commits ∷ [])
 rest_makes [] [] s session t commit is h k = (asks_over s session t.own.world.catalog Commits commit (ap (λ o. (seen_by s.shared o).world.catalog) is) k tt, tt)
 rest_makes [] (d ∷ deeds) s session t commit is h k = absurd h
 rest_makes (r ∷ rest) [] s session t commit is h k = absurd h
@@ -198,16 +198,16 @@ rest_makes (r ∷ rest) (d ∷ deeds) s session t commit is h k =
     let after : (transact s session (Executes e)).after ≡ with_transaction s session (Some next) =
     ap (λ x. (transacted s session x (Executes e)).after) is
     ∙ ap (λ b. let x : Transacted = if b then refused s fault.InTransaction else record { answer = o.answer; after = with_transaction s session (Some next) } in x.after) h.0.work in
-    let same : next.own.world.catalog ≡ t.own.world.catalog = work_catalog t.own e h.0.work in
+    let made : next.own.world.catalog ≡ catalog_behind t.own.world.catalog e.bound.statement = step_leaves t.own e in
     let more = rest_makes rest deeds (with_transaction s session (Some next)) session next commit (set_there s.sessions (session - 1) t (Some next) is)
-    (subst (λ c. AllZip (IsChange c (session - 1)) rest deeds) (sym same) h.1) (subst (λ c. AsksSo c (session - 1) Commits commit) (sym same) k) in (
+    (subst (λ c. AreChanges c (session - 1) rest deeds) (sym made) h.1) (subst (λ c. AsksSo (catalog_made c deeds) (session - 1) Commits commit) (sym made) k) in (
       asks_over s session t.own.world.catalog (Executes e) r (ap (λ x. (seen_by s.shared x).world.catalog) is) h.0.so h.0.changes,
       subst (λ x. Makes x (rest ++ commit ∷ []) (calls_in session deeds ++ call_of session Commits ∷ [])) (sym after) more,
     )
 
 -- BEGIN, changes, and COMMIT; the session is one of 64
 pub whole_makes : (shared : Counted) (session : ℕ) (begin : Request) (rest : List Request) (deeds : List Deed) (commit : Request) → session - 1 < 64 → AsksSo shared.world.catalog (session - 1) Begins begin
-    → AllZip (IsChange shared.world.catalog (session - 1)) rest deeds → AsksSo shared.world.catalog (session - 1) Commits commit
+    → AreChanges shared.world.catalog (session - 1) rest deeds → AsksSo (catalog_made shared.world.catalog deeds) (session - 1) Commits commit
     → Makes (idle shared) (begin ∷ rest ++ commit ∷ []) (call_of session Begins ∷ calls_in session deeds ++ call_of session Commits ∷ [])
 whole_makes shared session begin rest deeds commit lt b h k =
     let t = begun_over shared in

@@ -4,9 +4,10 @@ use Rattle.ae_edge.specs.Devices.{IsFront}
 use Rattle.transactions.specs.Journal.{journal}
 use Rattle.transactions.specs.Serial.{Call, no_logs}
 use Rattle.transactions.specs.Stores.{Ask}
-use Rattle.transactions.specs.WellKept.{HasNoTransactions}
+use Rattle.transactions.specs.WellKept.{HasNoTransactions, IsStore}
 use Rattle.wire_messages.specs.declared.requests.Request.{Request}
 use Rattle.server_core.specs.Serve.{State, calls_of, serve}
+use Rattle.server_core.specs.States.{any_cell}
 use Rattle.recording.specs.Recorded.{is_done, nothing_held, requests_recorded, after_requests, after_records}
 
 -- no session has a transaction
@@ -28,9 +29,9 @@ pub record IsReplayed (state : State) (requests : List Request) : Type 0 where
   pub served : AreServedAgain state (requests_recorded state nothing_held requests)
   pub shared : (after_records state (requests_recorded state nothing_held requests)).shared ≡ (after_requests state requests).shared
 
--- so it is from every state without transactions
+-- so it is from every state that can stand and has no transactions
 abbrev pub ReplayLaw : Type 0
-ReplayLaw = (state : State) (requests : List Request) → HasNoTransactions state → IsReplayed state requests
+ReplayLaw = (state : State) (requests : List Request) → IsStore any_cell state → HasNoTransactions state → IsReplayed state requests
 
 -- ---- what the records ask
 
@@ -45,12 +46,12 @@ by_place call = (call.session - 1, call.ask)
 
 -- served again, the records of some requests make the calls that the journal of the requests' calls holds
 abbrev pub RecordsAreJournals : Type 0
-RecordsAreJournals = (state : State) (requests : List Request) → HasNoTransactions state
+RecordsAreJournals = (state : State) (requests : List Request) → IsStore any_cell state → HasNoTransactions state
     → map (map by_place) (calls_of_records state (requests_recorded state nothing_held requests)) ≡ map (map by_place) (journal state no_logs (calls_of state requests))
 
 -- ---- fronts
 
 -- behind records that are served again, each front of what is recorded from the state that they lead to is served again too
 abbrev pub FrontsAreAccepted : Type 0
-FrontsAreAccepted = (state : State) (records front : List (List Request)) (requests : List Request) → HasNoTransactions state → AreServedAgain state records
+FrontsAreAccepted = (state : State) (records front : List (List Request)) (requests : List Request) → IsStore any_cell state → HasNoTransactions state → AreServedAgain state records
     → IsFront front (requests_recorded (after_records state records) nothing_held requests) → AreServedAgain state (records ++ front)

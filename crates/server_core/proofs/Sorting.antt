@@ -1,6 +1,7 @@
 -- The sort of a text is that of the statement that it means.
 use Rattle.std.proofs.Common.{◌≡◌, ℕ, List, [], Result, Ok, Err, ap, ◌∙◌, Bool, true, false}
 use Rattle.std.specs.Prelude.{◌==◌, map, if◌then◌else◌}
+use Rattle.std.specs.Str.{bytes_eq}
 use Rattle.ae_base.specs.Atoms.{Atom}
 use Rattle.ae_base.specs.Results.{◌>>=◌}
 use Rattle.ae_base.specs.declared.batches.ParamDecl.{ParamDecl}
@@ -9,11 +10,15 @@ use Rattle.ae_base.specs.declared.faults.SqlFault.TheVariants as fault
 use Rattle.sql_tree.specs.Bound.{BoundStatement, Bound}
 use Rattle.sql_tree.specs.Bound as bound
 use Rattle.sql_tree.specs.Statements.{Statement}
+use Rattle.sql_tree.specs.declared.bound.BoundDefinition.{BoundDefinition}
+use Rattle.sql_tree.specs.declared.bound.BoundDefinition.TheVariants as definition
+use Rattle.sql_tree.specs.declared.statements.Definition.{Definition}
+use Rattle.sql_tree.specs.declared.statements.Definition.TheVariants as written
 use Rattle.sql_tree.specs.Statements as tree
 use Rattle.catalog.specs.Catalogs.{Catalog}
 use Rattle.resolve.specs.Bind.{bound_over, resolution, bind}
 use Rattle.resolve.specs.Changes.{bind_insert, bind_update, bind_delete}
-use Rattle.resolve.specs.Definitions.{bind_definition, table_sites, new_sites}
+use Rattle.resolve.specs.Definitions.{bind_definition, bind_key_value, bind_key_values, bind_table, key_for, key_path, master_for, table_sites, new_sites}
 use Rattle.resolve.specs.Queries.{bind_query}
 use Rattle.expression_binding.specs.Scopes.{sites_of}
 use Rattle.resolve.specs.Tables.{table_for, sources_for, all_sources}
@@ -21,15 +26,19 @@ use Rattle.semantic_checks.specs.Checks.{check_of}
 use Rattle.wire_messages.specs.declared.params.SentParam.{SentParam}
 use Rattle.statement_analysis.specs.Describing.{Meant, understood}
 use Rattle.statement_analysis.specs.Params.{declaration_of, suited}
-use Rattle.statement_analysis.specs.Sorts.{sort_of_control, sort_of_statement, sort_of_parsed, sort_of}
+use Rattle.statement_analysis.specs.Sorts.{sort_of_control, sort_of_definition, sort_of_statement, sort_of_parsed, sort_of}
 use Rattle.statement_analysis.specs.declared.sorts.Sort.{Sort}
 use Rattle.statement_analysis.specs.declared.sorts.Sort.TheVariants.{Reads, Changes, Defines}
 use Rattle.server_core.specs.Serve.{understood_at, prepared}
 use Rattle.server_core.proofs.Understanding.{went_on, parts_of}
 
 -- the sort of a bound statement
+abbrev pub sort_defined : BoundDefinition → Sort
+sort_defined (definition.ReplaceTable old new) = Changes
+sort_defined other = Defines
+
 abbrev pub sort_bound : BoundStatement → Sort
-sort_bound (bound.Definition d) = Defines
+sort_bound (bound.Definition d) = sort_defined d
 sort_bound (bound.Insert i) = Changes
 sort_bound (bound.Update u) = Changes
 sort_bound (bound.Delete d) = Changes
@@ -43,10 +52,37 @@ sort_in (Err f) = Reads
 same_sort : (b c : Bound) → (let r : Result Bound SqlFault = Ok b in r ≡ Ok c) → sort_bound b.statement ≡ sort_bound c.statement
 same_sort b c e = ap sort_in e
 
+abbrev sort_made : Result BoundDefinition SqlFault → Sort
+sort_made (Ok d) = sort_defined d
+sort_made (Err f) = Reads
+
+defined_sort : (catalog : Catalog) (d : Definition) (made : BoundDefinition) → bind_definition catalog d ≡ Ok made → sort_of_definition d ≡ sort_defined made
+defined_sort catalog (written.CreateMaster name path) made e = let p = went_on (key_path path) (λ p. Ok (definition.CreateMaster name p)) made e in ap sort_made p.2
+defined_sort catalog (written.CreateKey name values) made e = let p = went_on (bind_key_values catalog values) (λ v. Ok (definition.CreateKey name v)) made e in ap sort_made p.2
+defined_sort catalog (written.AddValue key value) made e =
+    let k = went_on (key_for catalog key) (λ there. bind_key_value catalog value >>= λ v. Ok (definition.AddValue key v)) made e in
+    let p = went_on (bind_key_value catalog value) (λ v. Ok (definition.AddValue key v)) made k.2 in ap sort_made p.2
+defined_sort catalog (written.DropValue key master) made e =
+    let k = went_on (key_for catalog key) (λ there. master_for catalog master >>= λ under. Ok (definition.DropValue key master)) made e in
+    let p = went_on (master_for catalog master) (λ under. Ok (definition.DropValue key master)) made k.2 in ap sort_made p.2
+defined_sort catalog (written.CreateTable table columns uniques) made e =
+    let p = went_on (bind_table catalog table columns uniques) (λ made. Ok (definition.CreateTable made)) made e in ap sort_made p.2
+defined_sort catalog (written.DropTable name) made e = ap sort_made e
+defined_sort catalog (written.DropMaster name) made e = ap sort_made e
+defined_sort catalog (written.DropKey name) made e = ap sort_made e
+defined_sort catalog (written.ReplaceTable old new) made e =
+    let o = went_on (table_for catalog old) (λ replaced. table_for catalog new >>= λ by. if bytes_eq old new then Err (fault.Ambiguous old) else Ok (definition.ReplaceTable old new)) made e in
+    let n = went_on (table_for catalog new) (λ by. if bytes_eq old new then Err (fault.Ambiguous old) else Ok (definition.ReplaceTable old new)) made o.2 in
+    unlike (bytes_eq old new) n.2
+  where
+    unlike : (same : Bool) → (if same then Err (fault.Ambiguous old) else Ok (definition.ReplaceTable old new)) ≡ Ok made → Changes ≡ sort_defined made
+    unlike true h = absurd cc
+    unlike false h = ap sort_made h
+
 resolved_sort : (catalog : Catalog) (s : Statement) (declarations : List ParamDecl) (b : Bound) → resolution catalog s declarations ≡ Ok b → sort_of_statement s ≡ sort_bound b.statement
-resolved_sort catalog (tree.Definition definition) declarations b e =
-    let p = went_on (bind_definition catalog definition) (λ made. Ok (bound_over declarations (new_sites made) (bound.Definition made))) b e in
-    same_sort (bound_over declarations (new_sites p.0) (bound.Definition p.0)) b p.2
+resolved_sort catalog (tree.Definition d) declarations b e =
+    let p = went_on (bind_definition catalog d) (λ made. Ok (bound_over declarations (new_sites made) (bound.Definition made))) b e in
+    defined_sort catalog d p.0 p.1 ∙ same_sort (bound_over declarations (new_sites p.0) (bound.Definition p.0)) b p.2
 resolved_sort catalog (tree.Insert table columns rows) declarations b e =
     let t = went_on (table_for catalog table) (λ def. bind_insert declarations def table columns rows >>= λ insert. Ok (bound_over declarations (table_sites def) (bound.Insert insert))) b e in
     let p = went_on (bind_insert declarations t.0 table columns rows) (λ insert. Ok (bound_over declarations (table_sites t.0) (bound.Insert insert))) b t.2 in

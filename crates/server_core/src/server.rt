@@ -17,6 +17,7 @@ use ae_base::cells::Cell;
 use ae_base::lists::Seq;
 use ae_base::sessions::SessionId;
 use catalog::laws::definitions_keep_catalogs;
+use engine::worlds::World;
 use statement_analysis::explaining::explain;
 use statement_analysis::sorts::{Sort, sort_of};
 use std::alloc::{AllocError, Global};
@@ -95,6 +96,13 @@ impl Server {
             text,
             declarations.as_slice(),
         )
+    }
+
+    /// The world that requests outside transactions see.
+    pub fn shared_world(&self) -> &World<Cell>
+        ensures { result.now ≡ self.now.shared.world }
+    {
+        self.store.shared_world()
     }
 
     /// What sort a text is, by the grammar alone, whatever is defined: NoStatement exactly where it

@@ -7,7 +7,7 @@ use Rattle.ae_base.specs.declared.faults.SqlFault.TheVariants as fault
 use Rattle.sql_tree.specs.Bound.{BoundStatement}
 use Rattle.engine.specs.Step.{Answer, Outcome}
 use Rattle.engine.specs.Worlds.{World, place_of}
-use Rattle.sql_tree.specs.Sorts.{is_definition, tables_of, target}
+use Rattle.sql_tree.specs.Sorts.{is_defining, tables_of, target}
 use Rattle.transactions.specs.Counted.{Counted, CountedOutcome, Execution, count_of, changed_by, counts_behind, is_at_last_count, counted, step_of, counted_step, raised_at}
 use Rattle.transactions.proofs.Frame.{lies, counted_reads}
 use Rattle.transactions.proofs.Places.{set_length}
@@ -20,9 +20,6 @@ pub accepted : (c : Counted) (s : BoundStatement) (a : Answer) (w : World) → i
     → counted c s (Ok a) w ≡ record { answer = Ok a; after = record { world = w; counts = counts_behind c s } }
 accepted c s a w e =
     ap (λ b. let o : CountedOutcome = if b then record { answer = Err fault.Full; after = c } else record { answer = Ok a; after = record { world = w; counts = counts_behind c s } } in o) e
-
-pub full : (c : Counted) (s : BoundStatement) (a : Answer) (w : World) → is_at_last_count c (target s) ≡ true → counted c s (Ok a) w ≡ record { answer = Err fault.Full; after = c }
-full c s a w e = ap (λ b. let o : CountedOutcome = if b then record { answer = Err fault.Full; after = c } else record { answer = Ok a; after = record { world = w; counts = counts_behind c s } } in o) e
 
 -- what is accepted was not at its last count
 not_last : (c : Counted) (s : BoundStatement) (a : Result Answer SqlFault) (w : World) (x : Answer) → (counted c s a w).answer ≡ Ok x → is_at_last_count c (target s) ≡ false
@@ -39,8 +36,11 @@ pub record IsSame (c after : Counted) : Type 0 where
   pub counts : after.counts ≡ c.counts
   pub long : length after.world.contents ≡ length c.world.contents
 
--- a statement that is no definition leaves the catalog and the counts
-pub work_same : (c : Counted) (e : Execution) → is_definition e.bound.statement ≡ false → IsSame c (counted_step c e).after
+pub same_refl : (c : Counted) → IsSame c c
+same_refl c = record { catalog = refl; counts = refl; long = refl }
+
+-- a statement that makes no other catalog leaves it and the counts
+pub work_same : (c : Counted) (e : Execution) → is_defining e.bound.statement ≡ false → IsSame c (counted_step c e).after
 work_same c e d =
     let w = c.world in
     let f = counted_reads w.catalog w.contents w.contents c.counts c.counts e (λ name. Unit {0}) d (anything (tables_of e.bound.statement)) (λ name u. refl) (λ name u. refl) in

@@ -17,18 +17,19 @@ use Rattle.engine.specs.Columns.{result_column}
 use Rattle.engine.specs.Answers.{answer_of}
 use Rattle.engine.specs.Queries.{found_in}
 use Rattle.engine.specs.Step as step
-use Rattle.engine.specs.Step.{Answer, Outcome, Done, Rows, outcome, done_by, rows_to_insert, rows_to_update, rows_to_delete}
+use Rattle.engine.specs.Step.{Answer, Outcome, Rows, outcome, done_by, rows_to_insert, rows_to_update, rows_to_delete}
 use Rattle.engine.specs.Worlds.{World, rows_of, with_rows}
 use Rattle.engine.specs.declared.answers.Answer as code
 use Rattle.engine.specs.declared.answers.ResultColumn.{ResultColumn}
-use Rattle.sql_tree.specs.Sorts.{control_in, is_definition, tables_of, target}
+use Rattle.sql_tree.specs.Sorts.{control_in, is_definition, is_defining, tables_of, target}
 use Rattle.transactions.specs.Answers.{Transacts}
 use Rattle.transactions.specs.Counted.{Counted, CountedOutcome, Execution, changed_by, counts_behind, is_at_last_count, counted, step_of, counted_step, raised_at}
 use Rattle.transactions.specs.Forgotten.{used_in, used_by, forgotten_in, forgotten, HasNoted, IsUndone}
-use Rattle.transactions.specs.Stores.{Transaction, Store, Transacted, Executes, asked, ask_of, refused, transaction_at, with_transaction, seen_by, world_of, with_changed, stepped_in, executed_in, transacted, transact}
+use Rattle.transactions.specs.Stores.{Transaction, Store, Transacted, Executes, asked, ask_of, refused, transaction_at, with_transaction, seen_by, world_of, with_changed, changed_behind, stepped_in, executed_in, transacted, transact}
 use Rattle.transactions.specs.declared.uses.Used.{Used}
 use Rattle.transactions.proofs.Asking.{control_shows_no_rows}
 use Rattle.transactions.proofs.Noting.{noted_front}
+use Rattle.transactions.proofs.Replacing.{work_behind}
 use Rattle.transactions.proofs.Padding.{set_twice}
 use Rattle.transactions.proofs.Seen.{set_back, answered_by_step}
 
@@ -40,7 +41,7 @@ module _ (c : Counted) (columns : List ResultColumn) (rows : List (List Atom)) w
 
   -- they change nothing
   pub record IsReading (s : BoundStatement) (o : Outcome) : Type 0 where
-    pub work : is_definition s ≡ false
+    pub work : is_defining s ≡ false
     pub target : target s ≡ None
     pub world : o.world ≡ c.world
     pub counts : counts_behind c s ≡ c.counts
@@ -70,7 +71,7 @@ module _ (c : Counted) (columns : List ResultColumn) (rows : List (List Atom)) w
   reading b encs params (bound.Control control) h = absurd cc
 
   -- so nothing is changed with counts
-  pub read_only : (e : Execution) → AnswersRows (step_of c e) → (is_definition e.bound.statement ≡ false) × (target e.bound.statement ≡ None) × ((counted_step c e).after ≡ c)
+  pub read_only : (e : Execution) → AnswersRows (step_of c e) → (is_defining e.bound.statement ≡ false) × (target e.bound.statement ≡ None) × ((counted_step c e).after ≡ c)
   read_only e h =
       let r = reading e.bound e.encs e.params e.bound.statement h in
       (r.work, r.target, stays (step_of c e).answer (step_of c e).world r.target r.world r.counts)
@@ -82,16 +83,20 @@ module _ (c : Counted) (columns : List ResultColumn) (rows : List (List Atom)) w
           ∙ ap (λ w. let x : Counted = record { world = w; counts = counts_behind c e.bound.statement } in x) same
           ∙ ap (λ ns. let x : Counted = record { world = c.world; counts = ns } in x) counts
 
+no_definition : (s : BoundStatement) → is_defining s ≡ false → is_definition s ≡ false
+no_definition (bound.Definition d) h = absurd cc
+no_definition other h = refl
+
 changed_none : (s : BoundStatement) (a : Result Answer SqlFault) → target s ≡ None → changed_by s a ≡ None
 changed_none s (Ok answer) n = n
 changed_none s (Err f) n = refl
 
 -- a change or a definition is not answered by rows
-pub changes_show_no_rows : (store : Store) (session : ℕ) (e : Execution) (columns : List ResultColumn) (rows : List (List Atom)) → (is_definition e.bound.statement || is_some (target e.bound.statement)) ≡ true
+pub changes_show_no_rows : (store : Store) (session : ℕ) (e : Execution) (columns : List ResultColumn) (rows : List (List Atom)) → (is_defining e.bound.statement || is_some (target e.bound.statement)) ≡ true
     → (transact store session (Executes e)).answer ≡ Ok (Rows columns rows) → ⊥
 changes_show_no_rows store session e columns rows changes h =
     let r = read_only (world_of store session) columns rows e (answered_by_step store session e (Rows columns rows) h) in
-    neither (is_definition e.bound.statement) (target e.bound.statement) r.0 r.1 changes
+    neither (is_defining e.bound.statement) (target e.bound.statement) r.0 r.1 changes
   where
     neither : (b : Bool) (o : Option (List ℕ)) → b ≡ false → o ≡ None → (b || is_some o) ≡ true → ⊥
     neither true o d n h = cc
@@ -151,15 +156,15 @@ module _ (store : Store) (session : ℕ) (e : Execution) (columns : List ResultC
       let u = stepped_in t e o in
       let own : record { own = o.after; version = t.version; used = take (length t.used) u.used; changed = u.changed } ≡ t =
       ap (λ c. made c (take (length t.used) u.used) u.changed) r.2 ∙ ap (λ us. made t.own us u.changed) (noted_front t.own (tables_of e.bound.statement) t.used)
-      ∙ unchanged t o.answer r.1 in
-      ap (λ b. let x : Transacted = if b then refused store fault.InTransaction else record { answer = o.answer; after = with_transaction store session (Some u) } in forgotten x.after session (length t.used)) r.0
+      ∙ unchanged t o.answer r.0 r.1 in
+      ap (λ b. let x : Transacted = if b then refused store fault.InTransaction else record { answer = o.answer; after = with_transaction store session (Some u) } in forgotten x.after session (length t.used)) (no_definition e.bound.statement r.0)
       ∙ slot_back store session (length t.used) t u is (ap Some own)
     where
       made : Counted → List Used → List (List ℕ) → Transaction
       made c used changed = record { own = c; version = t.version; used = used; changed = changed }
 
-      unchanged : (t : Transaction) (a : Result Answer SqlFault) → target e.bound.statement ≡ None → made t.own t.used (with_changed t.changed (changed_by e.bound.statement a)) ≡ made t.own t.used t.changed
-      unchanged t a n = ap (λ o. made t.own t.used (with_changed t.changed o)) (changed_none e.bound.statement a n)
+      unchanged : (t : Transaction) (a : Result Answer SqlFault) → is_defining e.bound.statement ≡ false → target e.bound.statement ≡ None → made t.own t.used (changed_behind t.changed e.bound.statement a) ≡ made t.own t.used t.changed
+      unchanged t a w n = ap (made t.own t.used) (work_behind t.changed e.bound.statement a w) ∙ ap (λ o. made t.own t.used (with_changed t.changed o)) (changed_none e.bound.statement a n)
 
   undone_by : (o : Option Transaction) → transaction_at store session ≡ o → (step_of (seen_by store.shared o) e).answer ≡ Ok (Rows columns rows) → forgotten (transacted store session o (Executes e)).after session (used_in o) ≡ store
   undone_by None is h =

@@ -20,10 +20,10 @@ use Rattle.row_changes.specs.Changes.{Tested, row_to_update, row_to_delete}
 use Rattle.engine.specs.Columns.{result_column}
 use Rattle.engine.specs.Queries.{joined_all, found_in}
 use Rattle.engine.specs.Step as step
-use Rattle.engine.specs.Step.{Answer, Outcome, Done, outcome, columns_of, uniques_of, rows_to_insert, rows_to_update, rows_to_delete, done_by}
+use Rattle.engine.specs.Step.{Answer, Done, outcome, columns_of, uniques_of, rows_to_insert, rows_to_update, rows_to_delete, done_by}
 use Rattle.engine.specs.Worlds.{World, place_of, rows_of, with_rows}
 use Rattle.engine.proofs.Interface.{inserted_done, updated_done, deleted_done, selected_done}
-use Rattle.sql_tree.specs.Sorts.{is_definition, tables_of, target}
+use Rattle.sql_tree.specs.Sorts.{is_defining, tables_of, target}
 use Rattle.transactions.specs.Counted.{Counted, CountedOutcome, Execution, changed_by, count_of, counts_behind, is_at_last_count, counted, counted_step}
 use Rattle.transactions.specs.Frames.{put, written, AreDoneAlike}
 
@@ -96,7 +96,7 @@ module _ (world : World) (more : List (List (List Atom))) where
       (both_then world other None (found_in world q params) (λ rows. selected_done world shown rows) (λ rows. selected_done other shown rows)
       (λ rows. (refl, ([], refl, refl))))
 
-  done_both : (b : Bound) (encs : List Enc) (params : List Atom) (s : BoundStatement) → is_definition s ≡ false → All Same (tables_of s) → Both world other (target s) (done_by world b encs s params) (done_by other b encs s params)
+  done_both : (b : Bound) (encs : List Enc) (params : List Atom) (s : BoundStatement) → is_defining s ≡ false → All Same (tables_of s) → Both world other (target s) (done_by world b encs s params) (done_by other b encs s params)
   done_both b encs params (bound.Definition x) d h = absurd cc
   done_both b encs params (bound.Insert i) d h = insert_both i params (All-head Same i.table [] h)
   done_both b encs params (bound.Update u) d h = update_both u params (All-head Same u.table [] h)
@@ -110,7 +110,7 @@ module _ (world : World) (more : List (List (List Atom))) where
   outcomes_both s (Err f) (Ok b) m = absurd m
   outcomes_both s (Err f) (Err g) m = record { answer = ap Err m; rows = []; left_after = refl; right_after = refl }
 
-pub step_reads : (world other : World) (e : Execution) → is_definition e.bound.statement ≡ false → other.catalog ≡ world.catalog → All (λ name. rows_of other name ≡ rows_of world name) (tables_of e.bound.statement)
+pub step_reads : (world other : World) (e : Execution) → is_defining e.bound.statement ≡ false → other.catalog ≡ world.catalog → All (λ name. rows_of other name ≡ rows_of world name) (tables_of e.bound.statement)
     → AreDoneAlike world other e.bound.statement (step.step world e.bound e.encs e.params) (step.step other e.bound e.encs e.params)
 step_reads world other e d same h =
     let is : world_at world.catalog other.contents ≡ other = ap (λ c. world_at c other.contents) (sym same) in
@@ -135,7 +135,7 @@ pub record Changes (catalog : Catalog) (contents others : List (List (List Atom)
   pub left_after : left.after ≡ made catalog (put (lies catalog) (changed_by s left.answer) rows contents) counts
   pub right_after : right.after ≡ made catalog (put (lies catalog) (changed_by s left.answer) rows others) more
 
-counts_same : (c : Counted) (s : BoundStatement) → is_definition s ≡ false → counts_behind c s ≡ c.counts
+counts_same : (c : Counted) (s : BoundStatement) → is_defining s ≡ false → counts_behind c s ≡ c.counts
 counts_same c (bound.Definition x) d = absurd cc
 counts_same c (bound.Insert i) d = refl
 counts_same c (bound.Update u) d = refl
@@ -151,7 +151,7 @@ target_named P c d (bound.Delete x) h g = ap (λ n. n == 18446744073709551615) (
 target_named P c d (bound.Select q) h g = refl
 target_named P c d (bound.Control control) h g = refl
 
-module _ (catalog : Catalog) (contents others : List (List (List Atom))) (counts more : List ℕ) (s : BoundStatement) (d : is_definition s ≡ false) where
+module _ (catalog : Catalog) (contents others : List (List (List Atom))) (counts more : List ℕ) (s : BoundStatement) (d : is_defining s ≡ false) where
   abbrev left_world : Counted
   left_world = made catalog contents counts
 
@@ -174,7 +174,7 @@ module _ (catalog : Catalog) (contents others : List (List (List Atom))) (counts
           let m = counts_same right_world s d in
           record { answer = refl; rows = rows; left_after = cc; right_after = cc }
 
-pub counted_reads : (catalog : Catalog) (contents others : List (List (List Atom))) (counts more : List ℕ) (e : Execution) (U : List ℕ → Type 0) → is_definition e.bound.statement ≡ false → All U (tables_of e.bound.statement)
+pub counted_reads : (catalog : Catalog) (contents others : List (List (List Atom))) (counts more : List ℕ) (e : Execution) (U : List ℕ → Type 0) → is_defining e.bound.statement ≡ false → All U (tables_of e.bound.statement)
     → ((name : List ℕ) → U name → rows_of (world_at catalog others) name ≡ rows_of (world_at catalog contents) name) → ((name : List ℕ) → U name → count_of (made catalog others more) name ≡ count_of (made catalog contents counts) name)
     → Changes catalog contents others counts more e.bound.statement (counted_step (made catalog contents counts) e) (counted_step (made catalog others more) e)
 counted_reads catalog contents others counts more e U d h rows counted_alike =

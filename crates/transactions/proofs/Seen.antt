@@ -1,22 +1,26 @@
 -- The world that a session sees.
-use Rattle.std.proofs.Common.{◌≡◌, ℕ, zero, suc, ◌-◌, List, [], ◌∷◌, refl, ap, sym, ◌∙◌, Option, Some, None, Result, Ok, Err, Bool, true, false}
+use Rattle.std.proofs.Common.{◌≡◌, ◌<◌, ◌⊎◌, inl, inr, arith, ℕ, zero, suc, ◌-◌, List, [], ◌∷◌, refl, ap, sym, subst, ◌∙◌, Option, Some, None, Result, Ok, Err, Bool, true, false}
 use Rattle.std.specs.Prelude.{slice_set, slice_index_or, if◌then◌else◌}
 use Rattle.std.specs.List.{All}
+use Rattle.std.specs.Result.{result_unwrap_or}
 use Rattle.ae_base.specs.declared.faults.SqlFault.{SqlFault}
 use Rattle.ae_base.specs.declared.faults.SqlFault.TheVariants as fault
 use Rattle.sql_tree.specs.Bound.{BoundStatement}
+use Rattle.sql_tree.specs.Bound as bound
 use Rattle.catalog.specs.Catalogs.{Catalog}
+use Rattle.catalog.specs.Definitions.{defined_by}
 use Rattle.scalar.specs.Classes.{Pairing}
-use Rattle.engine.specs.Step.{Answer}
+use Rattle.engine.specs.Step.{Answer, Defined}
 use Rattle.engine.specs.Worlds.{World}
-use Rattle.sql_tree.specs.Sorts.{is_definition, tables_of, target}
-use Rattle.transactions.specs.Counted.{Counted, CountedOutcome, Execution, changed_by, counts_behind, is_at_last_count, counted, step_of, counted_step, raised_at}
+use Rattle.sql_tree.specs.Sorts.{is_definition, is_defining, tables_of, target}
+use Rattle.transactions.specs.Counted.{Counted, CountedOutcome, Execution, counts_behind, is_at_last_count, counted, step_of, counted_step}
 use Rattle.transactions.specs.Correspond.{CountedCorrespond, SessionsCorrespond, StoresCorrespond}
-use Rattle.transactions.specs.Stores.{Transaction, Store, Ask, Begins, Commits, RollsBack, Executes, Transacted, refused, transaction_at, with_transaction, seen_by, world_of, stepped_in, why_not, with_own_table, with_tables, committed, executed_in, transacted, transact}
+use Rattle.transactions.specs.Stores.{Transaction, Store, Ask, Begins, Commits, RollsBack, Executes, Transacted, refused, transaction_at, with_transaction, seen_by, world_of, stepped_in, why_not, committed, transacted, transact}
 use Rattle.transactions.specs.WellKept.{IsCountedWell, IsOpen, IsStore}
 use Rattle.transactions.proofs.Alike.{zip_at}
 use Rattle.transactions.proofs.Frame.{counted_reads}
 use Rattle.transactions.proofs.Keeping.{all_at}
+use Rattle.transactions.proofs.Replacing.{IsReplacing, IsReplaced, at_last, step_cases}
 
 well_by : (cell : List ℕ → Bool) (shared : Counted) (o : Option Transaction) → IsCountedWell cell shared → IsOpen cell shared o → IsCountedWell cell (seen_by shared o)
 well_by cell shared None h k = h
@@ -37,55 +41,6 @@ alike_by R c d (Some t) (Some u) h k = k.own
 pub seen_alike : (R : Pairing) (s o : Store) (session : ℕ) → StoresCorrespond R s o → CountedCorrespond R (world_of s session) (world_of o session)
 seen_alike R s o session h =
     alike_by R s.shared o.shared (transaction_at s session) (transaction_at o session) h.shared (zip_at (SessionsCorrespond R) s.sessions o.sessions (session - 1) None None h.sessions tt)
-
--- ---- what a session's call leaves
-
--- the worlds after a step, with counts: the statement's, or the old one
-counted_by : (P : World → Type 0) (c : Counted) (s : BoundStatement) (a : Result Answer SqlFault) (w : World) → P c.world → P w → P (counted c s a w).after.world
-counted_by P c s (Err f) w h k = h
-counted_by P c s (Ok answer) w h k = by (is_at_last_count c (target s))
-  where
-    by : (b : Bool) → let o : CountedOutcome = if b then record { answer = Err fault.Full; after = c } else record { answer = Ok answer; after = record { world = w; counts = counts_behind c s } } in P o.after.world
-    by true = h
-    by false = k
-
-raised_by : (P : World → Type 0) (c : Counted) (name : Option (List ℕ)) → P c.world → P (raised_at c name).world
-raised_by P c None h = h
-raised_by P c (Some name) h = h
-
-placed_by : (P : Catalog → Type 0) (own : Counted) (names : List (List ℕ)) (c : Counted) → P c.world.catalog → P (with_tables c own names).world.catalog
-placed_by P own [] c h = h
-placed_by P own (name ∷ names) c h = placed_by P own names (with_own_table c name own) h
-
-committed_by : (P : Catalog → Type 0) (store : Store) (session : ℕ) (t : Transaction) (f : Option SqlFault) → P store.shared.world.catalog → P (committed store session t f).after.shared.world.catalog
-committed_by P store session t None h = placed_by P t.own t.changed store.shared h
-committed_by P store session t (Some f) h = h
-
-executed_by : (P : Catalog → Type 0) (store : Store) (session : ℕ) (t : Transaction) (e : Execution) → P store.shared.world.catalog → P (executed_in store session t e).after.shared.world.catalog
-executed_by P store session t e h = by (is_definition e.bound.statement)
-  where
-    by : (b : Bool) → let x : Transacted = if b then refused store fault.InTransaction else record { answer = (counted_step t.own e).answer; after = with_transaction store session (Some (stepped_in t e (counted_step t.own e))) } in P x.after.shared.world.catalog
-    by true = h
-    by false = h
-
--- the shared catalog stays, or is that of the step of a statement outside transactions
-pub shared_by : (P : Catalog → Type 0) (store : Store) (session : ℕ) (ask : Ask) → P store.shared.world.catalog
-    → ((e : Execution) → ask ≡ Executes e → transaction_at store session ≡ None → P (step_of store.shared e).world.catalog)
-    → P (transact store session ask).after.shared.world.catalog
-shared_by P store session ask h k = by ask (transaction_at store session) k refl
-  where
-    by : (ask : Ask) (o : Option Transaction) → ((e : Execution) → ask ≡ Executes e → transaction_at store session ≡ None → P (step_of store.shared e).world.catalog) → transaction_at store session ≡ o → P (transacted store session o ask).after.shared.world.catalog
-    by Begins None k is = h
-    by Commits None k is = h
-    by RollsBack None k is = h
-    by (Executes e) None k is =
-        let o = counted_step store.shared e in
-        raised_by (λ w. P w.catalog) o.after (changed_by e.bound.statement o.answer)
-        (counted_by (λ w. P w.catalog) store.shared e.bound.statement (step_of store.shared e).answer (step_of store.shared e).world h (k e refl is))
-    by Begins (Some t) k is = h
-    by Commits (Some t) k is = committed_by P store session t (why_not store.shared t) h
-    by RollsBack (Some t) k is = h
-    by (Executes e) (Some t) k is = executed_by P store session t e h
 
 -- ---- rows are a step's
 
@@ -110,9 +65,19 @@ answered_by_step store session e x h = by (transaction_at store session) h
 
 -- ---- one session alone is touched
 
+-- a catalog with the same keys, and of a later version unless it is the same
+pub record IsNext (shared own : Catalog) : Type 0 where
+  pub masters : own.masters ≡ shared.masters
+  pub keys : own.keys ≡ shared.keys
+  pub next_id : own.next_id ≡ shared.next_id
+  pub newer : (own ≡ shared) ⊎ (shared.version < own.version)
+
+pub same_next : (c own : Catalog) → own ≡ c → IsNext c own
+same_next c own is = subst (IsNext c) (sym is) (record { masters = refl; keys = refl; next_id = refl; newer = inl refl })
+
 abbrev pub IsOwnCatalog : Catalog → Option Transaction → Type 0
 IsOwnCatalog catalog None = Unit {0}
-IsOwnCatalog catalog (Some t) = t.own.world.catalog ≡ catalog
+IsOwnCatalog catalog (Some t) = IsNext catalog t.own.world.catalog
 
 pub record IsSlotOf (store : Store) (session : ℕ) (after : Store) : Type 0 where
   pub slot : Option Transaction
@@ -126,7 +91,7 @@ set_back (x ∷ xs) (suc k) d = ap (λ ys. x ∷ ys) (set_back xs k d)
 
 own_catalog : (shared : Counted) (o : Option Transaction) → IsOwnCatalog (seen_by shared o).world.catalog o
 own_catalog shared None = tt
-own_catalog shared (Some t) = refl
+own_catalog shared (Some t) = same_next t.own.world.catalog t.own.world.catalog refl
 
 pub same_slot : (store after : Store) (session : ℕ) → after.sessions ≡ store.sessions → IsSlotOf store session after
 same_slot store after session e = record { slot = transaction_at store session; sessions = e ∙ set_back store.sessions (session - 1) None; own = own_catalog store.shared (transaction_at store session) }
@@ -135,8 +100,8 @@ sessions_committed : (store : Store) (session : ℕ) (t : Transaction) (f : Opti
 sessions_committed store session t None = refl
 sessions_committed store session t (Some f) = refl
 
--- a statement that is no definition leaves the catalog
-pub work_catalog : (c : Counted) (e : Execution) → is_definition e.bound.statement ≡ false → (counted_step c e).after.world.catalog ≡ c.world.catalog
+-- a statement that defines nothing leaves the catalog
+pub work_catalog : (c : Counted) (e : Execution) → is_defining e.bound.statement ≡ false → (counted_step c e).after.world.catalog ≡ c.world.catalog
 work_catalog c e d =
     let w = c.world in
     let f = counted_reads w.catalog w.contents w.contents c.counts c.counts e (λ name. Unit {0}) d (anything (tables_of e.bound.statement)) (λ name u. refl) (λ name u. refl) in
@@ -144,6 +109,47 @@ work_catalog c e d =
   where
     anything : (names : List (List ℕ)) → All (λ name. Unit {0}) names
     anything names = λ i d lt. tt
+
+-- one that may stand in a transaction leaves it, or REPLACE BY does another one
+pub next_catalog : (c : Counted) (e : Execution) → is_definition e.bound.statement ≡ false → IsNext c.world.catalog (counted_step c e).after.world.catalog
+next_catalog c e d = by (step_cases c e d)
+  where
+    replaced : (r : IsReplacing c e) → (counted_step c e ≡ at_last c) ⊎ IsReplaced c e r.old r.new → IsNext c.world.catalog (counted_step c e).after.world.catalog
+    replaced r (inl is) = same_next c.world.catalog _ (ap (λ (o : CountedOutcome). o.after.world.catalog) is)
+    replaced r (inr done) = subst (λ (o : CountedOutcome). IsNext c.world.catalog o.after.world.catalog) (sym done.step) (record { masters = refl; keys = refl; next_id = refl; newer = inr (omega arith) })
+
+    by : (is_defining e.bound.statement ≡ false) ⊎ IsReplacing c e → IsNext c.world.catalog (counted_step c e).after.world.catalog
+    by (inl w) = same_next c.world.catalog _ (work_catalog c e w)
+    by (inr r) = replaced r r.done
+
+-- the catalog behind a statement that was answered so
+abbrev pub catalog_behind : Catalog → BoundStatement → Result Answer SqlFault → Catalog
+catalog_behind catalog (bound.Definition d) (Ok answer) = result_unwrap_or (defined_by catalog d) catalog
+catalog_behind catalog s answer = catalog
+
+pub step_catalog : (c : Counted) (e : Execution) → is_definition e.bound.statement ≡ false → (counted_step c e).after.world.catalog ≡ catalog_behind c.world.catalog e.bound.statement (counted_step c e).answer
+step_catalog c e d = by (step_cases c e d)
+  where
+    still : (s : BoundStatement) (a : Result Answer SqlFault) → is_defining s ≡ false → catalog_behind c.world.catalog s a ≡ c.world.catalog
+    still (bound.Definition x) a h = absurd cc
+    still other a h = refl
+
+    refused_still : (s : BoundStatement) (f : SqlFault) → catalog_behind c.world.catalog s (Err f) ≡ c.world.catalog
+    refused_still (bound.Definition x) f = refl
+    refused_still other f = refl
+
+    replaced : (r : IsReplacing c e) → (counted_step c e ≡ at_last c) ⊎ IsReplaced c e r.old r.new → (counted_step c e).after.world.catalog ≡ catalog_behind c.world.catalog e.bound.statement (counted_step c e).answer
+    replaced r (inl is) =
+        ap (λ (o : CountedOutcome). o.after.world.catalog) is ∙ sym (refused_still e.bound.statement fault.Full)
+        ∙ ap (λ (o : CountedOutcome). catalog_behind c.world.catalog e.bound.statement o.answer) (sym is)
+    replaced r (inr done) =
+        ap (λ (o : CountedOutcome). o.after.world.catalog) done.step ∙ ap (λ x. result_unwrap_or x c.world.catalog) (sym done.defined)
+        ∙ ap (λ s. catalog_behind c.world.catalog s (Ok Defined)) (sym r.is)
+        ∙ ap (λ (o : CountedOutcome). catalog_behind c.world.catalog e.bound.statement o.answer) (sym done.step)
+
+    by : (is_defining e.bound.statement ≡ false) ⊎ IsReplacing c e → (counted_step c e).after.world.catalog ≡ catalog_behind c.world.catalog e.bound.statement (counted_step c e).answer
+    by (inl w) = work_catalog c e w ∙ sym (still e.bound.statement (counted_step c e).answer w)
+    by (inr r) = replaced r r.done
 
 pub slot_of : (store : Store) (session : ℕ) (ask : Ask) → IsSlotOf store session (transact store session ask).after
 slot_of store session ask = by ask (transaction_at store session) refl
@@ -156,7 +162,7 @@ slot_of store session ask = by ask (transaction_at store session) refl
         record {
           slot = Some (stepped_in t e (counted_step t.own e));
           sessions = refl;
-          own = work_catalog t.own e d ∙ ap (λ o. (seen_by store.shared o).world.catalog) (sym is);
+          own = subst (λ o. IsNext (seen_by store.shared o).world.catalog (counted_step t.own e).after.world.catalog) (sym is) (next_catalog t.own e d);
         }
 
     ends : (after : Store) → after.sessions ≡ slice_set store.sessions (session - 1) None → IsSlotOf store session after
@@ -166,7 +172,7 @@ slot_of store session ask = by ask (transaction_at store session) refl
     by Begins None is = record {
       slot = Some (record { own = store.shared; version = store.shared.world.catalog.version; used = []; changed = [] });
       sessions = refl;
-      own = ap (λ o. (seen_by store.shared o).world.catalog) (sym is);
+      own = same_next (seen_by store.shared (transaction_at store session)).world.catalog store.shared.world.catalog (ap (λ o. (seen_by store.shared o).world.catalog) (sym is));
     }
     by Commits None is = same_slot store store session refl
     by RollsBack None is = same_slot store store session refl

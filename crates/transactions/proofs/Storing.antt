@@ -13,7 +13,7 @@ use Rattle.transactions.specs.Answers.{GivesCounted, StepsIn, StepsWhere, Transa
 use Rattle.transactions.specs.Counted.{Counted, CountedOutcome, Execution, counted_step, alone}
 use Rattle.transactions.specs.Forgotten.{forgotten_in, forgotten}
 use Rattle.transactions.specs.Noted.{IsHeld}
-use Rattle.transactions.specs.Stores.{Transaction, Store, Transacted, Begins, Commits, Executes, refused, begun_over, transaction_at, with_transaction, stepped_in, why_not, with_tables, committed, executed_in, transacted, transact}
+use Rattle.transactions.specs.Stores.{Transaction, Store, Transacted, Begins, Commits, Executes, refused, begun_over, transaction_at, with_transaction, stepped_in, why_not, taken_over, committed, executed_in, transacted, transact}
 use Rattle.transactions.proofs.Padding.{set_twice}
 use Rattle.transactions.proofs.Seen.{set_back}
 
@@ -95,7 +95,7 @@ module _ (store : Store) (session : ℕ) where
       ap (λ o. transacted store session o Begins) is
       ∙ ap (λ xs. let x : Transacted = record { answer = Ok Defined; after = store_of store.shared xs } in x) (sym (s ∙ ap (λ x. set store.sessions k (Some x)) e))
 
-  pub commits : (t : Transaction) (shared : Counted) (sessions : List (Option Transaction)) → transaction_at store session ≡ Some t → sessions ≡ set store.sessions k None → why_not store.shared t ≡ None → shared ≡ with_tables store.shared t.own t.changed
+  pub commits : (t : Transaction) (shared : Counted) (sessions : List (Option Transaction)) → transaction_at store session ≡ Some t → sessions ≡ set store.sessions k None → why_not store.shared t ≡ None → shared ≡ taken_over store.shared t
       → transact store session Commits ≡ record { answer = Ok Defined; after = store_of shared sessions }
   commits t shared sessions is s w e =
       ap (λ o. transacted store session o Commits) is ∙ ap (committed store session t) w

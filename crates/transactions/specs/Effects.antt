@@ -1,5 +1,5 @@
--- What raises a count, what COMMIT does to two worlds, and what is answered at the last count.
-use Rattle.std.specs.Prelude.{◌≡◌, ℕ, ◌+◌, List, [], ◌∷◌, ◌++◌, Option, Some, None, Result, Ok, Err, unwrap_or, slice_set}
+-- What raises a count, what gives a table other rows, what is answered at the last count, and what is noted of the changed tables.
+use Rattle.std.specs.Prelude.{◌≡◌, ℕ, ◌+◌, List, [], ◌∷◌, ◌++◌, Option, Some, None, Result, Ok, Err, Bool, if◌then◌else◌, unwrap_or, slice_set}
 use Rattle.std.specs.List.{slice_get}
 use Rattle.ae_base.specs.Atoms.{Atom}
 use Rattle.ae_base.specs.declared.faults.SqlFault.{SqlFault}
@@ -7,23 +7,45 @@ use Rattle.ae_base.specs.declared.faults.SqlFault.TheVariants as fault
 use Rattle.ae_base.specs.declared.refusals.Refusal.{Refusal}
 use Rattle.ae_base.specs.declared.refusals.Refusal.TheVariants.{Fault}
 use Rattle.engine.specs.declared.answers.Answer as code
-use Rattle.engine.specs.Worlds.{with_rows}
+use Rattle.engine.specs.Worlds as worlds
+use Rattle.ae_base.specs.declared.tables.TableDef.{TableDef}
+use Rattle.sql_tree.specs.Bound.{BoundStatement}
+use Rattle.sql_tree.specs.Sorts.{replaced_of, target}
 use Rattle.transactions.specs.Counted.{Counted}
+use Rattle.transactions.specs.Stores.{renamed_names, with_changed}
+use Rattle.transactions.specs.declared.transactions.Note.{Note}
+use Rattle.transactions.specs.declared.transactions.Note.TheVariants as note
+
+abbrev pub count_at : Counted → ℕ → ℕ
+count_at c place = unwrap_or (slice_get c.counts place) 0
 
 -- the count of the table at a place is raised
 abbrev pub raised_place : Counted → ℕ → Counted
-raised_place c place = record c { counts = slice_set c.counts place (unwrap_or (slice_get c.counts place) 0 + 1) }
+raised_place c place = record c { counts = slice_set c.counts place (count_at c place + 1) }
 
--- a table has these rows
-abbrev pub exchanged : Counted → List ℕ → List (List Atom) → Counted
-exchanged c name rows = record c { world = with_rows c.world name rows }
+-- the table at a place has these rows
+abbrev pub with_rows_at : Counted → ℕ → List (List Atom) → Counted
+with_rows_at c place rows = record c { world = worlds.with_rows_at c.world place rows }
+
+-- so it has, and this count
+abbrev pub given : Counted → ℕ → List (List Atom) → ℕ → Counted
+given c place rows count = record { world = worlds.with_rows_at c.world place rows; counts = slice_set c.counts place count }
+
+-- where the shared world has a table that was not used
+abbrev pub place_unused : (is_used : List ℕ → Bool) → Counted → Option TableDef → Option ℕ
+place_unused is_used shared None = None
+place_unused is_used shared (Some def) = if is_used def.name then None else Some (worlds.place_of shared.world def.name)
 
 -- what is accepted is Full
 abbrev pub IsFullWhereAccepted : {K : Type 0} → Result (code.Answer K) (Refusal SqlFault) → Result (code.Answer K) (Refusal SqlFault) → Type 0
 IsFullWhereAccepted (Ok answer) result = result ≡ Err (Fault fault.Full)
 IsFullWhereAccepted (Err refusal) result = result ≡ Err refusal
 
--- a further name at the end
-abbrev pub with_name : List (List ℕ) → Option (List ℕ) → List (List ℕ)
-with_name names None = names
-with_name names (Some name) = names ++ name ∷ []
+-- the changed tables behind a statement that was accepted
+abbrev pub changed_where_accepted : List (List ℕ) → BoundStatement → List (List ℕ)
+changed_where_accepted changed s = with_changed (renamed_names (replaced_of s) changed) (target s)
+
+abbrev pub noted : Note → List (List ℕ) → List (List ℕ)
+noted note.Stays names = names
+noted (note.Joins name) names = names ++ name ∷ []
+noted (note.Renames old new) names = renamed_names (Some (old, new)) names

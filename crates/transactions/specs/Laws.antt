@@ -16,7 +16,7 @@ use Rattle.transactions.specs.Counted.{execution}
 use Rattle.transactions.specs.Journal.{journal, AreReplayed, after_records}
 use Rattle.transactions.specs.Serial.{Call, all_after, after_units, AreUnitsAnswered, history, no_logs}
 use Rattle.transactions.specs.Stores.{Ask, Executes, Store, transact, world_of}
-use Rattle.transactions.specs.WellKept.{IsStore, MayAsk, HasNoTransactions}
+use Rattle.transactions.specs.WellKept.{IsStore, MayAsk, AreAllowed, HasNoTransactions}
 
 -- the shared world is that of the units of the history one after another, and each statement of a unit was answered as it is
 -- answered there
@@ -24,9 +24,9 @@ pub record IsSerial (store : Store) (calls : List Call) : Type 0 where
   pub shared : (all_after store calls).shared ≡ after_units store.shared (history store no_logs calls)
   pub answers : AreUnitsAnswered store.shared (history store no_logs calls)
 
--- so it is whatever the sessions ask, from every state without transactions
+-- so it is whatever the sessions may ask, from every state that can stand and has no transactions
 abbrev pub TransactionsAreSerial : Type 0
-TransactionsAreSerial = (store : Store) (calls : List Call) → HasNoTransactions store → IsSerial store calls
+TransactionsAreSerial = (cell : List ℕ → Bool) (store : Store) (calls : List Call) → IsStore cell store → HasNoTransactions store → AreAllowed cell store calls → IsSerial store calls
 
 -- over any pairing that is one-to-one in deterministic classes, of values within their types: from states that correspond a session
 -- gets answers and states that do, fault for fault
@@ -45,13 +45,13 @@ abbrev pub TransactionsRenamed : Type 0
 TransactionsRenamed = (store : Store) (session : ℕ) (b : Bound) (f : ℕ → ℕ) (tys : List Ty) (encs others : List Enc) (params moved : List Atom) → AreMoved (λ place. uses place b) f params moved → AreTypesMoved b f encs tys others
     → transact store session (Executes (execution (renamed f tys b) others moved)) ≡ transact store session (Executes (execution b encs params))
 
--- from a state without transactions, the records of some calls lead to the shared world that the calls lead to
+-- from a state that can stand and has no transactions, the records of some calls lead to the shared world that the calls lead to
 pub record IsMadeAgain (store : Store) (calls : List Call) : Type 0 where
   pub replayed : AreReplayed store (journal store no_logs calls)
   pub shared : (after_records store (journal store no_logs calls)).shared ≡ (all_after store calls).shared
 
 abbrev pub JournalsMakeAgain : Type 0
-JournalsMakeAgain = (store : Store) (calls : List Call) → HasNoTransactions store → IsMadeAgain store calls
+JournalsMakeAgain = (cell : List ℕ → Bool) (store : Store) (calls : List Call) → IsStore cell store → HasNoTransactions store → AreAllowed cell store calls → IsMadeAgain store calls
 
 -- a session that leaves the shared world leaves no trace: it is what the other sessions' calls alone give
 abbrev pub OthersAlone : Type 0

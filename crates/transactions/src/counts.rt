@@ -12,7 +12,6 @@ ghost use Rattle.transactions.specs.Answers.{GivesCounted};
 ghost use Rattle.transactions.specs.Noted.{AreApart};
 ghost use Rattle.transactions.specs.Counted as spec;
 ghost use Rattle.transactions.specs.Effects as effects;
-ghost use Rattle.transactions.specs.Stores.{with_tables, with_own_table};
 
 use ae_base::atoms::Atom;
 use ae_base::faults::SqlFault;
@@ -73,8 +72,15 @@ impl<K: Same> Counted<K> {
         self.world.catalog()
     }
 
+    /// The world.
+    pub(crate) fn world(&self) -> &World<K>
+        ensures { result.now ≡ self.now.world }
+    {
+        &self.world
+    }
+
     /// The place of a table; 0 for one that isn't there.
-    fn place_of(&self, name: &Name) -> usize
+    pub(crate) fn place_of(&self, name: &Name) -> usize
         ensures { result ≡ worlds.place_of self.now.world name.now }
     {
         self.catalog().table_place(name).unwrap_or(0)
@@ -214,35 +220,43 @@ impl<K: Same> Counted<K> {
         }
     }
 
-    /// Has a table take the rows that it has in another world of the same catalog, which takes this
-    /// one's, and raises its count. It takes no memory.
-    fn take_table(&mut self, own: &mut Counted<K>, name: &Name)
-        requires same { own.old.world.catalog ≡ self.old.world.catalog }
-        requires there { IsSome (table_among self.old.world.catalog.tables name.now) }
-        requires further { spec.is_at_last_count self.old (Some name.now) ≡ false }
-        ensures here { self.new ≡ with_own_table self.old name.now own.old }
-        ensures own { own.new
-            ≡ effects.exchanged own.old name.now (worlds.rows_of self.old.world name.now) }
+    /// Raises the count of a table.
+    fn raise_table(&mut self, name: &Name)
+        requires { spec.is_at_last_count self.old (Some name.now) ≡ false }
+        ensures { self.new ≡ spec.raised self.old name.now }
     {
-        self.world.swap_table(&mut own.world, name);
         let place = self.place_of(name);
         self.raise(place);
     }
 
-    /// Has these tables take the rows that they have in another world of the same catalog, and
-    /// raises their counts. It takes no memory.
-    pub(crate) fn take_tables(&mut self, own: &mut Counted<K>, names: &[Name])
-        requires same { own.old.world.catalog ≡ self.old.world.catalog }
+    /// Raises the counts of these tables.
+    pub(crate) fn raise_tables(&mut self, names: &[Name])
         requires there { All (λ name. IsSome (table_among self.old.world.catalog.tables name))
             names.now }
         requires further { All (λ name. spec.is_at_last_count self.old (Some name) ≡ false)
             names.now }
         requires apart { AreApart names.now }
-        ensures { self.new ≡ with_tables self.old own.old names.now }
+        ensures { self.new ≡ spec.raised_all self.old names.now }
     {
         for name in names {
-            self.take_table(own, name);
+            self.raise_table(name);
         }
+    }
+
+    /// Has the table at a place take the rows and the count of another world's table, which is
+    /// defined alike and takes the rows of this one. It takes no memory.
+    pub(crate) fn take_table(&mut self, place: usize, other: &mut Counted<K>, from: usize)
+        requires place { place < length self.old.world.contents }
+        requires from { from < length other.old.world.contents }
+        requires alike { slice_get other.old.world.catalog.tables from
+            ≡ slice_get self.old.world.catalog.tables place }
+        ensures here { self.new ≡ effects.given self.old place
+            (worlds.rows_at other.old.world from) (effects.count_at other.old from) }
+        ensures other { other.new
+            ≡ effects.with_rows_at other.old from (worlds.rows_at self.old.world place) }
+    {
+        self.world.swap_tables(place, &mut other.world, from);
+        self.counts[place] = other.counts[from];
     }
 }
 

@@ -7,7 +7,7 @@ ghost use Rattle.engine.specs.Answers.{answer_of};
 ghost use Rattle.engine.specs.BoundOn.{IsBoundOn};
 ghost use Rattle.transactions.specs.Answers.{StepsWhere, Transacts};
 ghost use Rattle.transactions.specs.Counted.{execution};
-ghost use Rattle.transactions.specs.Noted.{IsHeld};
+ghost use Rattle.transactions.specs.Noted.{AreApart, IsHeld};
 ghost use Rattle.transactions.specs.Forgotten.{IsUndone, forgotten, used_by};
 ghost use Rattle.transactions.specs.Stores as spec;
 ghost use Rattle.transactions.specs.Stores.{ask_of, transact, transaction_at, world_of};
@@ -23,7 +23,9 @@ use ae_base::sameness::Same;
 use ae_base::sessions::SessionId;
 use ae_base::types::Enc;
 use catalog::catalogs::Catalog;
+use catalog::laws::definitions_keep_catalogs;
 use engine::answers::Answer;
+use engine::worlds::World;
 use sql_tree::bound::Bound;
 use sql_tree::statements::TransactionControl;
 use std::alloc::Global;
@@ -61,6 +63,7 @@ impl<K: Same> Store<K> {
     pub fn new(alloc: Global) -> Store<K>
         ensures { result ≡ spec.empty_store }
     {
+        definitions_keep_catalogs();
         Store {
             shared: Counted::new(alloc),
             slots: Slots::new(alloc),
@@ -82,6 +85,13 @@ impl<K: Same> Store<K> {
         ensures { result.now ≡ self.now.shared.world.catalog }
     {
         self.shared.catalog()
+    }
+
+    /// The shared world.
+    pub fn shared_world(&self) -> &World<K>
+        ensures { result.now ≡ self.now.shared.world }
+    {
+        self.shared.world()
     }
 
     /// Whether a session has a transaction.
@@ -245,7 +255,7 @@ impl<K: Same> Store<K> {
     }
 }
 
-/// Executes a statement in a transaction, in which a definition has no place.
+/// Executes a statement in a transaction, in which a definition other than REPLACE BY has no place.
 fn step_in<K: Same>(
     alloc: Global,
     transaction: &mut Transaction<K>,
@@ -253,7 +263,9 @@ fn step_in<K: Same>(
     encs: &[Enc],
     params: &[Atom<K>],
 ) -> Result<Answer<K>, Refusal>
-    requires { IsBoundOn transaction.old.own.world.catalog (bound_of bound) encs.now params.now }
+    requires bound { IsBoundOn transaction.old.own.world.catalog (bound_of bound) encs.now
+        params.now }
+    requires apart { AreApart transaction.old.changed }
     ensures { StepsWhere (is_definition (statement_of bound.statement)) result transaction.old
         transaction.new (execution (bound_of bound) encs.now params.now) }
 {

@@ -1,20 +1,21 @@
 //! A transaction: its own world, and what it notes for its COMMIT.
 
-ghost use Rattle.std.specs.Prelude.{◌≡◌, ◌≤◌, ◌<◌, IfOk, None, OnErr, OnOk, length, take, vec_capacity, vec_len};
-ghost use Rattle.std.specs.List.{All, list_any};
+ghost use Rattle.std.specs.Prelude.{◌≡◌, ◌≤◌, ◌<◌, IfOk, List, None, OnErr, OnOk, Some, filter, length, not, take, vec_capacity, vec_len, ℕ};
+ghost use Rattle.std.specs.List.{All, list_any, position, slice_get};
 ghost use Rattle.std.specs.Str.{bytes_eq};
 ghost use Rattle.sql_tree.specs.Bound.{bound_of, statement_of};
 ghost use Rattle.engine.specs.BoundOn.{IsBoundOn};
-ghost use Rattle.sql_tree.specs.Sorts.{tables_of, target};
+ghost use Rattle.sql_tree.specs.Sorts.{replaced_in, tables_of};
 ghost use Rattle.transactions.specs.Answers.{StepsIn};
 ghost use Rattle.transactions.specs.Counted.{count_of, execution};
-ghost use Rattle.transactions.specs.Effects.{with_name};
-ghost use Rattle.transactions.specs.Noted.{IsNoted};
+ghost use Rattle.transactions.specs.Effects as effects;
+ghost use Rattle.transactions.specs.Effects.{changed_where_accepted, noted};
+ghost use Rattle.transactions.specs.Noted.{AreApart, IsInShape, IsNoted, MayLieOver};
 ghost use Rattle.transactions.specs.Stores as spec;
-ghost use Rattle.transactions.specs.Stores.{with_changed, with_uses, with_tables};
+ghost use Rattle.transactions.specs.Stores.{is_used, over, renamed_names, taken_over, with_changed, with_uses};
 
 use crate::counts::Counted;
-use crate::uses::{Used, note_tables};
+use crate::uses::{Used, is_used, note_tables};
 use ae_base::atoms::Atom;
 use ae_base::faults::SqlFault;
 use ae_base::lists::Duplicate;
@@ -25,7 +26,7 @@ use ae_base::types::Enc;
 use ae_base::versions::{ChangeCounts, Versions};
 use catalog::catalogs::Catalog;
 use engine::answers::Answer;
-use sql_tree::bound::{Bound, BoundStatement};
+use sql_tree::bound::{Bound, BoundDefinition, BoundStatement};
 use std::alloc::{AllocError, Global};
 use std::marker::Model;
 
@@ -105,7 +106,8 @@ impl<K: Same> Transaction<K> {
         encs: &[Enc],
         params: &[Atom<K>],
     ) -> Result<Answer<K>, Refusal>
-        requires { IsBoundOn self.old.own.world.catalog (bound_of bound) encs.now params.now }
+        requires bound { IsBoundOn self.old.own.world.catalog (bound_of bound) encs.now params.now }
+        requires apart { AreApart self.old.changed }
         ensures { StepsIn result self.old self.new
             (execution (bound_of bound) encs.now params.now) }
     {
@@ -116,21 +118,21 @@ impl<K: Same> Transaction<K> {
             &self.own,
             &bound.statement,
         );
-        let Ok(name) = prepared else {
+        let Ok(note) = prepared else {
             drop(bound);
             return Err(Refusal::OutOfMemory);
         };
         match self.own.execute(alloc, bound, encs, params) {
             Ok(answer) => {
-                join(&mut self.changed, name);
+                carry_out(&mut self.changed, note);
                 Ok(answer)
             }
             Err(Refusal::Fault(fault)) => {
-                drop(name);
+                drop(note);
                 Err(Refusal::Fault(fault))
             }
             Err(Refusal::OutOfMemory) => {
-                drop(name);
+                drop(note);
                 self.used.truncate(before);
                 Err(Refusal::OutOfMemory)
             }
@@ -150,20 +152,55 @@ impl<K: Same> Transaction<K> {
         conflict(shared, self.used.as_slice())
     }
 
-    /// Has the changed tables take the place of the shared ones. It takes no memory.
+    /// Has its own world, laid over the shared one, take the place of that, and raises the counts of
+    /// the tables that it has changed. It takes no memory.
     pub(crate) fn commit(self, shared: &mut Counted<K>)
+        requires shape { IsInShape shared.old }
         requires noted { IsNoted shared.old self }
         requires free { spec.why_not shared.old self ≡ None }
-        ensures { shared.new ≡ with_tables shared.old self.own self.changed }
+        ensures { shared.new ≡ taken_over shared.old self }
     {
         let Transaction {
             mut own,
             version: _,
-            used: _,
+            used,
             changed,
         } = self;
-        shared.take_tables(&mut own, changed.as_slice());
+        take_over(&mut own, shared, used.as_slice());
+        own.raise_tables(changed.as_slice());
+        *shared = own;
     }
+}
+
+/// Has each table that wasn't used take the rows and the count that the shared world has under its
+/// name, so that the own world is laid over the shared one. It takes no memory.
+fn take_over<K: Same>(own: &mut Counted<K>, shared: &mut Counted<K>, used: &[Used])
+    requires { MayLieOver shared.old own.old used.now }
+    ensures { own.new ≡ over (is_used used.now) shared.old own.old }
+{
+    for place in 0..own.catalog().tables().len() {
+        if let Some(from) = place_unused(own, place, shared, used) {
+            own.take_table(place, shared, from);
+        }
+    }
+}
+
+/// Where the shared world has the table at a place, unless it was used.
+fn place_unused<K: Same>(
+    own: &Counted<K>,
+    place: usize,
+    shared: &Counted<K>,
+    used: &[Used],
+) -> Option<usize>
+    requires { place < length own.now.world.catalog.tables }
+    ensures { result ≡ effects.place_unused (is_used used.now) shared.now
+        (slice_get own.now.world.catalog.tables place) }
+{
+    let name = &own.catalog().tables()[place].name;
+    if is_used(used, name) {
+        return None;
+    }
+    Some(shared.place_of(name))
 }
 
 /// The first used table that was changed since it was first used.
@@ -180,54 +217,87 @@ fn conflict<K: Same>(shared: &Counted<K>, used: &[Used]) -> Result<Option<SqlFau
     Ok(None)
 }
 
-/// Notes the tables of a statement as used, and answers the name to be joined to the changed ones,
-/// for which there is room then. Without memory nothing changes.
+/// What becomes of the changed tables where a statement is accepted.
+#[derive(Drop)]
+pub(crate) enum Note {
+    /// They stay.
+    Stays,
+    /// There is a further one.
+    Joins(Name),
+    /// REPLACE BY: the old one is gone, and the new one has its name.
+    Renames { old: Name, new: Name },
+}
+
+/// Notes the tables of a statement as used, and answers what becomes of the changed ones, for which
+/// there is room then. Without memory nothing changes.
 fn prepare<K: Same>(
     used: &mut Vec<Used>,
     changed: &mut Vec<Name>,
     own: &Counted<K>,
     statement: &BoundStatement,
-) -> Result<Option<Name>, AllocError>
+) -> Result<Note, AllocError>
     ensures used { OnOk result
         (used.new.items
         ≡ with_uses own.now used.old.items (tables_of (statement_of statement.now))) }
     ensures unused { OnErr result (used.new.items ≡ used.old.items) }
     ensures front { take (length used.old.items) used.new.items ≡ used.old.items }
     ensures changed { changed.new.items ≡ changed.old.items }
-    ensures name { IfOk result
-        (λ name. with_changed changed.old.items (target (statement_of statement.now))
-        ≡ with_name changed.old.items name) }
+    ensures note { IfOk result
+        (λ note. noted note changed.old.items
+        ≡ changed_where_accepted changed.old.items (statement_of statement.now)) }
     ensures room { OnOk result (vec_len changed.new < vec_capacity changed.new) }
 {
-    let name = name_to_join(changed, statement)?;
+    let note = note_of(changed, statement)?;
     match note_tables(used, own, statement) {
-        Ok(()) => Ok(name),
+        Ok(()) => Ok(note),
         Err(AllocError) => {
-            drop(name);
+            drop(note);
             Err(AllocError)
         }
     }
 }
 
-/// The table that a statement changes, where it isn't among those that were changed.
-fn name_to_join(
-    changed: &mut Vec<Name>,
-    statement: &BoundStatement,
-) -> Result<Option<Name>, AllocError>
+/// What becomes of the changed tables, for which there is room then.
+fn note_of(changed: &mut Vec<Name>, statement: &BoundStatement) -> Result<Note, AllocError>
     ensures changed { changed.new.items ≡ changed.old.items }
-    ensures name { IfOk result
-        (λ name. with_changed changed.old.items (target (statement_of statement.now))
-        ≡ with_name changed.old.items name) }
+    ensures note { IfOk result
+        (λ note. noted note changed.old.items
+        ≡ changed_where_accepted changed.old.items (statement_of statement.now)) }
     ensures room { OnOk result (vec_len changed.new < vec_capacity changed.new) }
 {
     changed.reserve(1)?;
-    let Some(name) = statement.target() else {
-        return Ok(None);
-    };
-    if is_among(changed, name) {
-        return Ok(None);
+    if let BoundStatement::Definition(definition) = statement {
+        return note_of_definition(definition);
     }
-    Ok(Some(name.copy()?))
+    match statement.target() {
+        Some(name) => note_of_change(changed, name),
+        None => Ok(Note::Stays),
+    }
+}
+
+/// What becomes of the changed tables behind a definition.
+fn note_of_definition(definition: &BoundDefinition) -> Result<Note, AllocError>
+    ensures { IfOk result (λ note. (names : List (List ℕ))
+        → noted note names ≡ renamed_names (replaced_in definition.now) names) }
+{
+    match definition {
+        BoundDefinition::ReplaceTable { old, new } => Ok(Note::Renames {
+            old: old.copy()?,
+            new: new.copy()?,
+        }),
+        _ => Ok(Note::Stays),
+    }
+}
+
+/// What becomes of the changed tables where the table of a name is changed.
+fn note_of_change(changed: &[Name], name: &Name) -> Result<Note, AllocError>
+    ensures { IfOk result (λ note. noted note changed.now ≡ with_changed changed.now
+        (Some name.now)) }
+{
+    if is_among(changed, name) {
+        return Ok(Note::Stays);
+    }
+    Ok(Note::Joins(name.copy()?))
 }
 
 fn is_among(names: &[Name], name: &Name) -> bool
@@ -236,12 +306,41 @@ fn is_among(names: &[Name], name: &Name) -> bool
     names.iter().any(|n| *n == *name)
 }
 
-/// Puts a name at the end, for which there is room.
-fn join(names: &mut Vec<Name>, name: Option<Name>)
-    requires { vec_len names.old < vec_capacity names.old }
-    ensures { names.new.items ≡ with_name names.old.items name }
+/// Does with the changed tables what was noted, for which there is room.
+fn carry_out(names: &mut Vec<Name>, note: Note)
+    requires room { vec_len names.old < vec_capacity names.old }
+    requires apart { AreApart names.old.items }
+    ensures { names.new.items ≡ noted note names.old.items }
 {
-    if let Some(name) = name {
-        names.push_reserved(name);
+    match note {
+        Note::Stays => {}
+        Note::Joins(name) => names.push_reserved(name),
+        Note::Renames { old, new } => {
+            rename(names, old, &new);
+            drop(new);
+        }
     }
+}
+
+/// Behind REPLACE BY the old table isn't among the names, and the new one has its name.
+fn rename(names: &mut Vec<Name>, old: Name, new: &Name)
+    requires { AreApart names.old.items }
+    ensures { names.new.items ≡ renamed_names (Some (old, new.now)) names.old.items }
+{
+    leave_out(names, &old);
+    if let Some(place) = place_among(names, new) {
+        names[place] = old;
+    }
+}
+
+fn leave_out(names: &mut Vec<Name>, name: &Name)
+    ensures { names.new.items ≡ filter (λ n. not (bytes_eq n name.now)) names.old.items }
+{
+    names.retain(|n| *n != *name);
+}
+
+fn place_among(names: &[Name], name: &Name) -> Option<usize>
+    ensures { result ≡ position (λ n. bytes_eq n name.now) names.now }
+{
+    names.iter().position(|n| *n == *name)
 }

@@ -9,7 +9,7 @@ use crate::counts::Counted;
 use ae_base::lists::Duplicate;
 use ae_base::names::Name;
 use ae_base::sameness::Same;
-use sql_tree::bound::{BoundJoin, BoundStatement};
+use sql_tree::bound::{BoundDefinition, BoundJoin, BoundStatement};
 use std::alloc::AllocError;
 
 /// A table that a transaction has used, and its change count then.
@@ -19,7 +19,7 @@ pub struct Used {
     pub seen: u64,
 }
 
-fn is_used(used: &[Used], name: &Name) -> bool
+pub(crate) fn is_used(used: &[Used], name: &Name) -> bool
     ensures { result ≡ is_used used.now name.now }
 {
     used.iter().any(|u| u.table == *name)
@@ -57,8 +57,8 @@ fn note_joins<K: Same>(
     Ok(())
 }
 
-/// Notes the tables that a statement reads or changes, in the order of its text, or without memory
-/// some of them.
+/// Notes the tables that a statement reads or changes, or that REPLACE BY names, in the order of its
+/// text, or without memory some of them.
 fn note_some<K: Same>(
     used: &mut Vec<Used>,
     own: &Counted<K>,
@@ -70,6 +70,10 @@ fn note_some<K: Same>(
     ensures front { take (length used.old.items) used.new.items ≡ used.old.items }
 {
     match statement {
+        BoundStatement::Definition(BoundDefinition::ReplaceTable { old, new }) => {
+            note(used, own, old)?;
+            note(used, own, new)
+        }
         BoundStatement::Definition(_) | BoundStatement::Control(_) => Ok(()),
         BoundStatement::Insert(insert) => note(used, own, &insert.table),
         BoundStatement::Update(update) => note(used, own, &update.table),
@@ -81,8 +85,8 @@ fn note_some<K: Same>(
     }
 }
 
-/// Notes the tables that a statement reads or changes, in the order of its text. Without memory
-/// nothing changes.
+/// Notes the tables that a statement reads or changes, or that REPLACE BY names, in the order of its
+/// text. Without memory nothing changes.
 pub(crate) fn note_tables<K: Same>(
     used: &mut Vec<Used>,
     own: &Counted<K>,

@@ -2,4 +2,4 @@ use Rattle.recording.proofs.Replays.{replayed}
 use Rattle.recording.proofs.laws.replay_law.Goals as goal
 
 pub returns : goal.returns
-returns c = replayed
+returns c = replayed c.requests_may_be_asked.ensures

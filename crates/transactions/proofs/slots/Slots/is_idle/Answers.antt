@@ -2,7 +2,7 @@
 use Rattle.std.proofs.Common.{◌≡◌, ◌<◌, ◌≤◌, ℕ, List, length, get_or, take, replicate, refl, ap, sym, subst, ◌∙◌, arith, Option, Some, None, false, true}
 use Rattle.std.specs.Prelude.{is_some}
 use Rattle.std.proofs.lemmas.List.{take_all}
-use Rattle.transactions.specs.Slots.{Slots, slots_of}
+use Rattle.transactions.specs.Slots.{Slots}
 use Rattle.transactions.proofs.Padding.{all_empty, one_empty}
 use Rattle.transactions.proofs.slots.Slots.is_idle.Goals as goal
 

@@ -16,6 +16,9 @@ commit-requires-clause-noted g c =
     let old : Store = store_of c.self.inside.shared c.self.inside.slots.transactions in
     subst (IsNotedIn old.shared) (sym c.take.ensures.value ∙ c.in-Some.is) (noted_at old c.args.session c.self.invariant)
 
+pub commit-requires-clause-shape : goal.commit-requires-clause-shape
+commit-requires-clause-shape g c = c.self.invariant.shape
+
 pub invariant_of-self-in-Ok-None : goal.invariant_of-self-in-Ok-None
 invariant_of-self-in-Ok-None g c =
     let old : Store = store_of c.self.inside.shared c.self.inside.slots.transactions in

@@ -1,0 +1,4 @@
+-- What crates above may cite of the proofs of this one. The rest is free to change.
+
+-- Bytes are the frames of one list of requests at most; and of records that are served again none is refused.
+pub use Rattle.journal_command.proofs.Servable.{refused_not, same_requests}
