@@ -1,6 +1,6 @@
 -- A batch is explained exactly where its result is a clash, and a refusal leaves the state.
-use Rattle.std.proofs.Common.{◌≡◌, inl, inr, ℕ, zero, suc, ◌-◌, List, [], map, replicate, Option, Some, None, Result, Ok, Err, Bool, true, false, cond, refl, sym, ap, ◌∙◌, subst}
-use Rattle.std.specs.Prelude.{◌==◌, IfOk, slice_index_or}
+use Rattle.std.proofs.Common.{◌≡◌, inl, inr, ℕ, List, [], map, Option, Some, None, Result, Ok, Err, Bool, true, false, cond, refl, sym, ap, ◌∙◌, subst}
+use Rattle.std.specs.Prelude.{◌==◌, IfOk}
 use Rattle.std.specs.declared.alloc.AllocError.{AllocError}
 use Rattle.ae_base.specs.Results.{◌>>=◌}
 use Rattle.ae_base.specs.declared.batches.Batch.{Batch}
@@ -24,7 +24,7 @@ use Rattle.plain_meaning.specs.Reference.{Came, came, declarations_of, pending}
 use Rattle.plain_meaning.specs.Reference as plain
 use Rattle.check_command.specs.Asked.{is_clash}
 use Rattle.check_command.specs.Check.{HasNoTransaction, checked, described_only, defines, Chains}
-use Rattle.check_command.proofs.Unused.{IsDone, definition_done}
+use Rattle.check_command.proofs.Unused.{IsDone, alone_at, definition_done}
 
 -- a refusal of the server leaves the state
 abbrev Stays : State → Came → Type 0
@@ -36,12 +36,12 @@ done_stays state catalog t d f e = elim d.done [
   | inr h ↦ h.2
 ]
 
-module _ (state : State) (number : ℕ) where
+module _ (state : State) (number : ℕ) (alone : HasNoTransaction state) where
   abbrev here : Catalog
   here = catalog_of state number
 
   stepped_stays : (batch : Batch) → defines batch.text ≡ true → (r : Result Meant SqlFault) → understood here batch.text (declarations_of batch) ≡ r → Stays state (plain.stepped [] [] state number batch r)
-  stepped_stays batch d (Ok meant) u = λ f e. done_stays state here _ (definition_done state number batch meant d u) f e
+  stepped_stays batch d (Ok meant) u = λ f e. done_stays state here _ (definition_done state number batch meant alone d u) f e
   stepped_stays batch d (Err g) u = λ f e. refl
 
   version_stays : (p : Pending) → defines p.batch.text ≡ true → (b : Bool)
@@ -75,6 +75,7 @@ refused_by (outcome.Refused f) e = (f, refl)
 refused_by (outcome.Rows listing) e = absurd cc
 refused_by (outcome.Broken listing why) e = absurd cc
 refused_by (outcome.Changed count) e = absurd cc
+refused_by (outcome.Rotated count) e = absurd cc
 refused_by outcome.Defined e = absurd cc
 refused_by (outcome.Described params) e = absurd cc
 refused_by (outcome.Failed f) e = absurd cc
@@ -88,8 +89,8 @@ pub clash_fits : (state : State) (number : ℕ) (batch : Batch) (comes : Outcome
 clash_fits state number batch comes e c = let r = refused_by comes c in begun_fits state number batch (why_unfit batch) r.0 (e ∙ r.1)
 
 -- and leaves the state
-pub clash_stays : (state : State) (number : ℕ) (batch : Batch) (comes : Outcome) → (checked state number batch).comes ≡ comes → is_clash comes ≡ true → (checked state number batch).state ≡ state
-clash_stays state number batch comes e c = let r = refused_by comes c in checked_stays state number batch r.0 (e ∙ r.1)
+pub clash_stays : (state : State) (number : ℕ) (batch : Batch) (comes : Outcome) → HasNoTransaction state → (checked state number batch).comes ≡ comes → is_clash comes ≡ true → (checked state number batch).state ≡ state
+clash_stays state number batch comes alone e c = let r = refused_by comes c in checked_stays state number alone batch r.0 (e ∙ r.1)
 
 -- ---- without a clash there is nothing to explain
 
@@ -121,25 +122,17 @@ no_chain state number batch comes e other = at (why_unfit batch) refl
     at (Some f) i = refl
     at None i = explains_nothing state number batch (ap is_clash e ∙ other) i (binding_of (catalog_of state number) batch.text (declarations_of batch)) refl
 
-abbrev no_transaction : Option Transaction
-no_transaction = None
-
 -- where no session has a transaction, each sees the shared world
-none_there : (n k : ℕ) → slice_index_or (replicate n no_transaction) k no_transaction ≡ no_transaction
-none_there zero k = refl
-none_there (suc n) zero = refl
-none_there (suc n) (suc k) = none_there n k
-
 shared_seen : (state : State) (number : ℕ) → HasNoTransaction state → catalog_of state number ≡ state.shared.world.catalog
 shared_seen state number h =
-    ap (λ (o : Option Transaction). (seen_by state.shared o).world.catalog) (ap (λ (slots : List (Option Transaction)). slice_index_or slots (number - 1) no_transaction) h ∙ none_there 64 (number - 1))
+    ap (λ (o : Option Transaction). (seen_by state.shared o).world.catalog) (alone_at state number h)
 
 -- with a clash there is a chain
-pub chains_so : (state now : State) (number : ℕ) (batch : Batch) (comes : Outcome) (r : Result (List ℕ) AllocError) → HasNoTransaction now → (checked state number batch).comes ≡ comes → (checked state number batch).state ≡ now
+pub chains_so : (state now : State) (number : ℕ) (batch : Batch) (comes : Outcome) (r : Result (List ℕ) AllocError) → HasNoTransaction state → (checked state number batch).comes ≡ comes → (checked state number batch).state ≡ now
     → is_clash comes ≡ true → IfOk r (Explains (binding_of now.shared.world.catalog batch.text (declarations_of batch))) → IfOk r (Chains (why_unfit batch) (binding_of (catalog_of state number) batch.text (declarations_of batch)))
 chains_so state now number batch comes (Ok chain) alone e v c h =
     let fit = clash_fits state number batch comes e c in
-    let same : state ≡ now = sym (clash_stays state number batch comes e c) ∙ v in
-    let seen : catalog_of state number ≡ now.shared.world.catalog = ap (λ (x : State). catalog_of x number) same ∙ shared_seen now number alone in
+    let same : state ≡ now = sym (clash_stays state number batch comes alone e c) ∙ v in
+    let seen : catalog_of state number ≡ now.shared.world.catalog = shared_seen state number alone ∙ ap (λ (x : State). x.shared.world.catalog) same in
     rw fit (subst (λ (x : Catalog). Explains (binding_of x batch.text (declarations_of batch)) chain) (sym seen) h)
 chains_so state now number batch comes (Err e) alone f v c h = tt

@@ -1,20 +1,18 @@
 -- A definition uses no parameter: its result where it is executed without any is its meaning.
-use Rattle.std.proofs.Common.{◌≡◌, ◌⊎◌, inl, inr, ℕ, suc, ◌+◌, List, [], ◌∷◌, map, Option, Some, None, Result, Ok, Err, true, false, refl, sym, ap, ◌∙◌, subst, eq-eqb}
-use Rattle.std.specs.Prelude.{unwrap_or, IfOk}
+use Rattle.std.proofs.Common.{◌≡◌, ◌⊎◌, inl, inr, ℕ, zero, suc, ◌+◌, ◌-◌, List, [], ◌∷◌, map, Option, Some, None, Result, Ok, Err, true, false, refl, sym, ap, ◌∙◌, subst, eq-eqb}
+use Rattle.std.specs.Prelude.{replicate, slice_index_or, unwrap_or, IfOk}
 use Rattle.ae_base.specs.Atoms.{Atom, plain_atom}
 use Rattle.ae_base.specs.Results.{◌>>=◌}
 use Rattle.ae_base.specs.declared.batches.Batch.{Batch}
 use Rattle.ae_base.specs.declared.batches.Param.{Param}
 use Rattle.ae_base.specs.declared.batches.ParamDecl.{ParamDecl}
 use Rattle.ae_base.specs.declared.faults.SqlFault.{SqlFault}
-use Rattle.ae_base.specs.declared.faults.SqlFault.TheVariants as fault
 use Rattle.ae_base.specs.declared.types.Enc.{Enc}
 use Rattle.sql_tree.specs.Bound.{BoundStatement, Bound}
 use Rattle.sql_tree.specs.Bound as bound
 use Rattle.sql_tree.specs.Statements.{Statement}
 use Rattle.sql_tree.specs.Statements as tree
-use Rattle.sql_tree.specs.Sorts as sorts
-use Rattle.sql_tree.specs.Sorts.{is_definition, sort_written, target}
+use Rattle.sql_tree.specs.Sorts.{is_written_defining, target}
 use Rattle.sql_tree.specs.Uses.{uses}
 use Rattle.semantic_checks.specs.Checks.{check_of}
 use Rattle.catalog.specs.Catalogs.{Catalog}
@@ -46,7 +44,7 @@ use Rattle.plain_meaning.specs.Reference as plain
 use Rattle.plain_meaning.proofs.Interface.{parts_of, understood_alone, transact_alone}
 use Rattle.check_command.proofs.Following.{bind_ok}
 use Rattle.check_command.specs.Asked.{AnswersAs, ComesTo, IsDefinition}
-use Rattle.check_command.specs.Check.{defines, reads_definition}
+use Rattle.check_command.specs.Check.{HasNoTransaction, defines, reads_definition}
 
 -- ---- the bound statement
 
@@ -61,7 +59,7 @@ IsDefining (bound.Control control) = ⊥
 bound_so : (b c : Bound) → (let r : Result Bound SqlFault = Ok b in r ≡ Ok c) → IsDefining b.statement → IsDefining c.statement
 bound_so b c e h = let i : b ≡ c = cc in subst (λ (x : Bound). IsDefining x.statement) i h
 
-named_defines : (catalog : Catalog) (s : Statement) (declarations : List ParamDecl) (b : Bound) → sorts.defines (sort_written s) ≡ true → binding.resolution catalog s declarations ≡ Ok b → IsDefining b.statement
+named_defines : (catalog : Catalog) (s : Statement) (declarations : List ParamDecl) (b : Bound) → is_written_defining s ≡ true → binding.resolution catalog s declarations ≡ Ok b → IsDefining b.statement
 named_defines catalog (tree.Definition definition) declarations b d e =
     let p = bind_ok (bind_definition catalog definition) (λ made. Ok (bound_over declarations (new_sites made) (bound.Definition made))) b e in
     bound_so _ b p.2 tt
@@ -71,7 +69,7 @@ named_defines catalog (tree.Delete table filter) declarations b d e = absurd cc
 named_defines catalog (tree.Select query) declarations b d e = absurd cc
 named_defines catalog (tree.Control control) declarations b d e = absurd cc
 
-bind_defines : (catalog : Catalog) (s : Statement) (declarations : List ParamDecl) (b : Bound) → sorts.defines (sort_written s) ≡ true → bind catalog s declarations ≡ Ok b → IsDefining b.statement
+bind_defines : (catalog : Catalog) (s : Statement) (declarations : List ParamDecl) (b : Bound) → is_written_defining s ≡ true → bind catalog s declarations ≡ Ok b → IsDefining b.statement
 unfolding bind
 bind_defines catalog s declarations b d e =
     let p = bind_ok (binding.resolution catalog s declarations) (λ bound. check_of bound >>= λ fine. Ok bound) b e in
@@ -105,7 +103,7 @@ no_encs (p ∷ ps) = let h = no_encs ps in (None ∷ h.0, ap (with_enc None) h.1
 no_uses : (ps : List Param) (used : List UsedParam) → used ≡ [] → uses_in ps (unwrap_or (encs_of ps used) []) ≡ []
 no_uses ps used e = let h = no_encs ps in let i = h.1 in rw e (rw i (h.2))
 
--- ---- it is executed as a statement outside transactions, or refused in one
+-- ---- it is executed as a statement outside transactions
 
 asks_so : (s : BoundStatement) (e : Execution) → IsDefining s → ask_by s e ≡ Executes e
 asks_so (bound.Definition d) e h = refl
@@ -116,8 +114,8 @@ asks_so (bound.Select query) e h = absurd h
 asks_so (bound.Control control) e h = absurd h
 
 -- it changes no rows
-no_rows : (s : BoundStatement) → IsDefining s → (target s ≡ None) × (is_definition s ≡ true)
-no_rows (bound.Definition d) h = (refl, refl)
+no_rows : (s : BoundStatement) → IsDefining s → target s ≡ None
+no_rows (bound.Definition d) h = refl
 no_rows (bound.Insert insert) h = absurd h
 no_rows (bound.Update update) h = absurd h
 no_rows (bound.Delete delete) h = absurd h
@@ -153,19 +151,31 @@ outside_so : (c : Counted) (s : BoundStatement) (a : Result Answer SqlFault) (w 
 outside_so c s a w t (inl e) = rw (e, t) (inl refl)
 outside_so c s a w t (inr h) = let e = h.1 in rw e (inr (h.0, refl, refl))
 
-transacts_so : (state : State) (number : ℕ) (e : Execution) → IsDefining e.bound.statement → IsDone state (transact state number (ask_of e))
-transacts_so state number e h =
-    subst (λ (ask : Ask). IsDone state (transact state number ask)) (sym (asks_so e.bound.statement e h)) (by (transaction_at state number))
+abbrev no_transaction : Option Transaction
+no_transaction = None
+
+none_there : (n k : ℕ) → slice_index_or (replicate n no_transaction) k no_transaction ≡ no_transaction
+none_there zero k = refl
+none_there (suc n) zero = refl
+none_there (suc n) (suc k) = none_there n k
+
+-- no session has a transaction, nor has this one
+pub alone_at : (state : State) (number : ℕ) → HasNoTransaction state → transaction_at state number ≡ None
+alone_at state number h = ap (λ (slots : List (Option Transaction)). slice_index_or slots (number - 1) no_transaction) h ∙ none_there 64 (number - 1)
+
+transacts_so : (state : State) (number : ℕ) (e : Execution) → HasNoTransaction state → IsDefining e.bound.statement → IsDone state (transact state number (ask_of e))
+transacts_so state number e idle h =
+    subst (λ (ask : Ask). IsDone state (transact state number ask)) (sym (asks_so e.bound.statement e h))
+    (subst (λ (o : Option Transaction). IsDone state (transacted state number o (Executes e))) (sym (alone_at state number idle)) outside_done)
   where
-    by : (o : Option Transaction) → IsDone state (transacted state number o (Executes e))
-    by None =
+    outside_done : IsDone state (transacted state number None (Executes e))
+    outside_done =
         let c = state.shared in
         let w = c.world in
         let s = e.bound.statement in
         let o = step w e.bound e.encs e.params in
-        let d = outside_so c s o.answer o.world (no_rows s h).0 (done_so w e.bound e.encs e.params s h) in
+        let d = outside_so c s o.answer o.world (no_rows s h) (done_so w e.bound e.encs e.params s h) in
         record { done = elim d [ inl x ↦ inl x | inr x ↦ inr (x.0, x.1, ap (λ (after : Counted). let v : State = record state { shared = after } in v) x.2) ]; sessions = refl }
-    by (Some t) = let d = (no_rows e.bound.statement h).1 in rw d (record { done = inr (fault.InTransaction, refl, refl); sessions = refl })
 
 -- ---- its result
 
@@ -178,9 +188,9 @@ defining_of catalog batch meant defining e =
 abbrev pub atoms_of : Batch → List Atom
 atoms_of batch = map (λ (q : Param). plain_atom q.value) batch.params
 
-pub definition_done : (state : State) (number : ℕ) (batch : Batch) (meant : Meant) → defines batch.text ≡ true → understood (catalog_of state number) batch.text (declarations_of batch) ≡ Ok meant
+pub definition_done : (state : State) (number : ℕ) (batch : Batch) (meant : Meant) → HasNoTransaction state → defines batch.text ≡ true → understood (catalog_of state number) batch.text (declarations_of batch) ≡ Ok meant
     → IsDone state (transact state number (ask_of (execution meant.bound meant.encs (atoms_of batch))))
-definition_done state number batch meant defining e = transacts_so state number (execution meant.bound meant.encs (atoms_of batch)) (defining_of (catalog_of state number) batch meant defining e)
+definition_done state number batch meant idle defining e = transacts_so state number (execution meant.bound meant.encs (atoms_of batch)) idle (defining_of (catalog_of state number) batch meant defining e)
 
 -- the reply says what it means, and the state after it is that
 pub record ExecutesAs (state : State) (number : ℕ) (p : Pending) (c : Came) : Type 0 where
@@ -195,7 +205,7 @@ answers_so catalog state t d = elim d.done [
   | inr h ↦ let e = h.1 in rw e (refl, refl)
 ]
 
-module _ (law : PreparedAlone) (state : State) (number : ℕ) (batch : Batch) (meant : Meant) (defining : defines batch.text ≡ true)
+module _ (law : PreparedAlone) (state : State) (number : ℕ) (batch : Batch) (meant : Meant) (idle : HasNoTransaction state) (defining : defines batch.text ≡ true)
     (e : understood (catalog_of state number) batch.text (declarations_of batch) ≡ Ok meant) where
   abbrev here : Catalog
   here = catalog_of state number
@@ -244,7 +254,7 @@ module _ (law : PreparedAlone) (state : State) (number : ℕ) (batch : Batch) (m
 
   runs_so : ExecutesAs state number p (plain.execution_of [] [] state number p)
   runs_so =
-      let done = definition_done state number batch meant defining e in
+      let done = definition_done state number batch meant idle defining e in
       let a = answers_so here state did done in
       let s = serves_so in
       let m = means_so in
@@ -259,7 +269,7 @@ runs_definition law state number p h =
     let here = catalog_of state number in
     let q = bind_ok (understood here h.batch.text (declarations_of h.batch)) (λ meant. Ok (description here (declarations_of h.batch) meant)) h.description h.described in
     let is : description here (declarations_of h.batch) q.0 ≡ h.description = cc in
-    subst (λ (x : Pending). ExecutesAs state number x (plain.execution_of [] [] state number x)) (ap (pending h.batch) is ∙ sym h.is) (runs_so law state number h.batch q.0 h.defines q.1)
+    subst (λ (x : Pending). ExecutesAs state number x (plain.execution_of [] [] state number x)) (ap (pending h.batch) is ∙ sym h.is) (runs_so law state number h.batch q.0 h.alone h.defines q.1)
 
 -- ---- its one reply
 
@@ -286,6 +296,7 @@ one_outcome replies outcome_of.Defined (outcome_of.Refused f) h g = let i = sym 
 one_outcome replies outcome_of.Defined (outcome_of.Rows listing) h g = absurd g
 one_outcome replies outcome_of.Defined (outcome_of.Broken listing why) h g = absurd g
 one_outcome replies outcome_of.Defined (outcome_of.Changed count) h g = absurd g
+one_outcome replies outcome_of.Defined (outcome_of.Rotated count) h g = absurd g
 one_outcome replies outcome_of.Defined (outcome_of.Described params) h g = absurd g
 one_outcome replies outcome_of.Defined (outcome_of.Failed f) h g = absurd g
 one_outcome replies (outcome_of.Refused e) outcome_of.Defined h g = let i = sym h ∙ g in absurd cc
@@ -293,11 +304,13 @@ one_outcome replies (outcome_of.Refused e) (outcome_of.Refused f) h g = let i = 
 one_outcome replies (outcome_of.Refused e) (outcome_of.Rows listing) h g = absurd g
 one_outcome replies (outcome_of.Refused e) (outcome_of.Broken listing why) h g = absurd g
 one_outcome replies (outcome_of.Refused e) (outcome_of.Changed count) h g = absurd g
+one_outcome replies (outcome_of.Refused e) (outcome_of.Rotated count) h g = absurd g
 one_outcome replies (outcome_of.Refused e) (outcome_of.Described params) h g = absurd g
 one_outcome replies (outcome_of.Refused e) (outcome_of.Failed f) h g = absurd g
 one_outcome replies (outcome_of.Rows listing) b h g = absurd h
 one_outcome replies (outcome_of.Broken listing why) b h g = absurd h
 one_outcome replies (outcome_of.Changed count) b h g = absurd h
+one_outcome replies (outcome_of.Rotated count) b h g = absurd h
 one_outcome replies (outcome_of.Described params) b h g = absurd h
 one_outcome replies (outcome_of.Failed f) b h g = absurd h
 

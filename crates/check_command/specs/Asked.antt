@@ -25,7 +25,7 @@ use Rattle.conversation.specs.declared.sessions.Session.{Session}
 use Rattle.conversation.specs.declared.sessions.Session.TheVariants as session
 use Rattle.script_lang.specs.Limits.{HasParams}
 use Rattle.plain_meaning.specs.Reference.{Came, declarations_of, pending}
-use Rattle.check_command.specs.Check.{defines}
+use Rattle.check_command.specs.Check.{HasNoTransaction, defines}
 use Rattle.check_command.specs.declared.describing.Asked.{Asked}
 use Rattle.check_command.specs.declared.describing.Asked.TheVariants as asked
 
@@ -87,8 +87,9 @@ AnswersOf state number batch (Err halt.BadReply) after = ⊥
 AnswersOf state number batch (Err halt.EntropyFault) after = ⊥
 AnswersOf state number batch (Err halt.VaultFault) after = ⊥
 
--- a definition was described in this state, to this session
+-- a definition was described in this state, in which no session has a transaction, to this session
 pub record IsDefinition (state : State) (number : ℕ) (p : Pending) : Type 0 where
+  pub alone : HasNoTransaction state
   pub batch : Batch
   pub description : Description
   pub described : describe (catalog_of state number) batch.text (declarations_of batch) ≡ Ok description

@@ -6,8 +6,7 @@ use Rattle.ae_base.specs.declared.faults.SqlFault.{SqlFault}
 use Rattle.ae_edge.specs.Devices.{IsFront}
 use Rattle.sql_tree.specs.Bound.{Bound}
 use Rattle.sql_tree.specs.Statements.{Statement}
-use Rattle.sql_tree.specs.Sorts as sorts
-use Rattle.sql_tree.specs.Sorts.{sort_written}
+use Rattle.sql_tree.specs.Sorts.{is_written_defining}
 use Rattle.sql_grammar.specs.Texts.{statement_in}
 use Rattle.statement_analysis.specs.Describing.{binding_of}
 use Rattle.statement_analysis.specs.Explaining.{Explains}
@@ -25,7 +24,7 @@ use Rattle.outcome_text.specs.Printing.{line, printed_outcome}
 -- ---- which batches are executed
 
 abbrev pub reads_definition : Result Statement SqlFault → Bool
-reads_definition (Ok statement) = sorts.defines (sort_written statement)
+reads_definition (Ok statement) = is_written_defining statement
 reads_definition (Err f) = false
 
 -- the text of a batch is that of a definition

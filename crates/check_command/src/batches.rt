@@ -21,7 +21,8 @@ pub fn outcome_of(
     number: SessionId,
     batch: &Batch,
 ) -> Result<Outcome, AllocError>
-    requires { HasParams batch.now }
+    requires params { HasParams batch.now }
+    requires alone { check.HasNoTransaction server.old }
     ensures comes { IfOk result (ComesTo (check.checked server.old number batch.now) server.new) }
     ensures sessions { server.new.sessions ≡ server.old.sessions }
 {

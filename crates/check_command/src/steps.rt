@@ -66,10 +66,9 @@ fn chain_behind(
     batch: &Batch,
     outcome: &Outcome,
 ) -> Result<Seq<u32>, AllocError>
-    requires comes { (state : State) × (number : ℕ)
+    requires { (state : State) × (number : ℕ)
         × ComesTo (check.checked state number batch.now) server.now outcome.now }
-    requires alone { HasNoTransaction server.now }
-    ensures { (state : State) (number : ℕ)
+    ensures { (state : State) (number : ℕ) → HasNoTransaction state
         → ComesTo (check.checked state number batch.now) server.now outcome.now
         → IfOk result
         (Chains (why_unfit batch.now)
@@ -87,10 +86,9 @@ fn lines_for(
     batch: &Batch,
     outcome: &Outcome,
 ) -> Result<Lines, AllocError>
-    requires comes { (state : State) × (number : ℕ)
+    requires { (state : State) × (number : ℕ)
         × ComesTo (check.checked state number batch.now) server.now outcome.now }
-    requires alone { HasNoTransaction server.now }
-    ensures { (state : State) (number : ℕ)
+    ensures { (state : State) (number : ℕ) → HasNoTransaction state
         → ComesTo (check.checked state number batch.now) server.now outcome.now
         → IfOk result (AreLines state server.now number batch.now) }
 {

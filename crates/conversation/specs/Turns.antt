@@ -1,5 +1,5 @@
 -- The turns of a session: a whole batch, half a batch, and the execution of what is pending.
-use Rattle.std.specs.Prelude.{ℕ, List, [], ◌∷◌, Option, Some, None, Result, Ok, Err}
+use Rattle.std.specs.Prelude.{ℕ, List, [], ◌∷◌, Option, Some, None, Result, Ok, Err, Bool, true, false}
 use Rattle.ae_base.specs.Atoms.{plain_atom}
 use Rattle.ae_base.specs.declared.atoms.AtomOf.{AtomOf}
 use Rattle.ae_base.specs.declared.atoms.AtomOf.TheVariants as atom
@@ -17,7 +17,10 @@ use Rattle.wire_messages.specs.declared.requests.Request.{Request}
 use Rattle.wire_messages.specs.declared.requests.Request.TheVariants.{Execute}
 use Rattle.conversation.specs.declared.faults.DriverFault.{DriverFault}
 use Rattle.conversation.specs.declared.faults.DriverFault.TheVariants.{NothingPending}
-use Rattle.conversation.specs.declared.outcomes.Outcome.TheVariants.{Failed, Described}
+use Rattle.conversation.specs.declared.outcomes.Outcome.{Outcome}
+use Rattle.conversation.specs.declared.outcomes.Outcome.TheVariants.{Failed, Described, Defined}
+use Rattle.conversation.specs.declared.outcomes.Listing.{Listing}
+use Rattle.wire_messages.specs.declared.columns.SentColumn.{SentColumn}
 use Rattle.conversation.specs.declared.sessions.ColumnType.{ColumnType}
 use Rattle.conversation.specs.declared.sessions.Session.{Session}
 use Rattle.conversation.specs.declared.sessions.Session.TheVariants as session
@@ -25,7 +28,7 @@ use Rattle.conversation.specs.Cells.{det_atom, rnd_atom}
 use Rattle.conversation.specs.Keys.{meta_of, trusted_meta}
 use Rattle.conversation.specs.Pending.{Pending, Use, uses_of}
 use Rattle.conversation.specs.Sessions.{begin, described_params, titles_of, types_of}
-use Rattle.conversation.specs.Talk.{Talk, Asks, Hears, Draws, Opens, Prints, Heard, Said, Shown, printing, nothing_shown}
+use Rattle.conversation.specs.Talk.{Talk, Asks, Hears, Notes, Draws, Opens, Prints, Heard, Said, Shown, printing, nothing_shown}
 
 -- it goes on with a value, or with a fault
 abbrev pub on_result : {A E : Type 0} → (A → Talk) → (E → Talk) → Result A E → Talk
@@ -87,10 +90,32 @@ execute trusted number (session.Skipping columns count) k = k (Err NothingPendin
 
 -- ---- one request and its replies
 
--- the request is asked, or the fault is printed
-abbrev pub asked : (Session → Talk) → (Session → Talk) → Result Request DriverFault → Session → Talk
-asked onward k (Ok request) after = Asks request (onward after)
-asked onward k (Err f) after = Prints (Failed f) (k after)
+-- the columns that a session accepted, where there were any
+abbrev pub Accepted : Type 0
+Accepted = Option (List SentColumn)
+
+-- what comes after a batch, by its outcome, the columns that were accepted, and the session
+abbrev pub Onward : Type 0
+Onward = Outcome → Accepted → Session → Talk
+
+-- A batch is run aloud, where its outcome is printed, or quietly, where its outcome is only told to what comes after.
+abbrev pub hearing : Bool → Session → Listing → (Heard → Talk) → Talk
+hearing true session shown f = Hears session shown f
+hearing false session shown f = Notes session shown f
+
+abbrev pub saying : Bool → Option Outcome → Talk → Talk
+saying true comes t = printing comes t
+saying false comes t = t
+
+-- what was heard is an outcome; where none is, one was told before
+abbrev pub outcome_or : Option Outcome → Outcome
+outcome_or (Some comes) = comes
+outcome_or None = Defined
+
+-- the request is asked, or the fault is the outcome
+abbrev pub asked : Bool → (Session → Talk) → Onward → Result Request DriverFault → Session → Talk
+asked aloud onward k (Ok request) after = Asks request (onward after)
+asked aloud onward k (Err f) after = saying aloud (Some (Failed f)) (k (Failed f) None after)
 
 abbrev pub pending_on : (Pending → Talk) → (Session → Talk) → Session → Talk
 pending_on ready k (session.Pending p) = ready p
@@ -100,56 +125,64 @@ pending_on ready k session.Sent = k session.Sent
 pending_on ready k (session.Reading columns keys count) = k (session.Reading columns keys count)
 pending_on ready k (session.Skipping columns count) = k (session.Skipping columns count)
 
-abbrev pub described_on : (Pending → Talk) → (Session → Talk) → Heard → Talk
-described_on ready k (Said comes after) = printing comes (pending_on ready k after)
-described_on ready k (Shown header) = k session.Idle
+abbrev pub described_on : Bool → (Pending → Talk) → Onward → Heard → Talk
+described_on aloud ready k (Said comes after) = saying aloud comes (pending_on ready (k (outcome_or comes) None) after)
+described_on aloud ready k (Shown header) = k Defined None session.Idle
 
 -- a batch is begun, and its description is heard
-abbrev pub describing : ℕ → Batch → Session → (Pending → Talk) → (Session → Talk) → Talk
-describing number batch before ready k =
+abbrev pub describing : Bool → ℕ → Batch → Session → (Pending → Talk) → Onward → Talk
+describing aloud number batch before ready k =
     let turn = begin before number batch in
-    asked (λ after. Hears after nothing_shown (described_on ready k)) k turn.answer turn.after
+    asked aloud (λ after. hearing aloud after nothing_shown (described_on aloud ready k)) k turn.answer turn.after
 
 -- what is left of an answer that is no longer read is heard to its end
-abbrev pub over_on : (Session → Talk) → Heard → Talk
-over_on k (Said comes after) = printing comes (k after)
-over_on k (Shown header) = k session.Idle
+abbrev pub over_on : Bool → (Session → Talk) → Heard → Talk
+over_on aloud k (Said comes after) = saying aloud comes (k after)
+over_on aloud k (Shown header) = k session.Idle
 
-abbrev pub rested : (Session → Talk) → Session → Talk
-rested k (session.Skipping columns count) = Hears (session.Skipping columns count) nothing_shown (over_on k)
-rested k session.Idle = k session.Idle
-rested k (session.Begun batch) = k (session.Begun batch)
-rested k (session.Pending p) = k (session.Pending p)
-rested k session.Sent = k session.Sent
-rested k (session.Reading columns keys count) = k (session.Reading columns keys count)
+abbrev pub rested : Bool → (Session → Talk) → Session → Talk
+rested aloud k (session.Skipping columns count) = hearing aloud (session.Skipping columns count) nothing_shown (over_on aloud k)
+rested aloud k session.Idle = k session.Idle
+rested aloud k (session.Begun batch) = k (session.Begun batch)
+rested aloud k (session.Pending p) = k (session.Pending p)
+rested aloud k session.Sent = k session.Sent
+rested aloud k (session.Reading columns keys count) = k (session.Reading columns keys count)
 
 -- after the columns
-abbrev pub rows_on : (Session → Talk) → Heard → Talk
-rows_on k (Said comes after) = printing comes (rested k after)
-rows_on k (Shown header) = k session.Idle
+abbrev pub rows_on : Bool → (Outcome → Session → Talk) → Heard → Talk
+rows_on aloud k (Said comes after) = saying aloud comes (rested aloud (k (outcome_or comes)) after)
+rows_on aloud k (Shown header) = k Defined session.Idle
 
--- the keys of the columns are opened, and the rows read; or the fault is printed, and the rows are skipped
-abbrev pub reading : List (List ℕ) → Header → (Session → Talk) → Talk
-reading trusted header k =
+-- the keys of the columns are opened, and the rows read; or the fault is the outcome, and the rows are skipped
+abbrev pub reading : Bool → List (List ℕ) → Header → Onward → Talk
+reading aloud trusted header k =
     opening trusted header.keys (types_of header)
-    (λ keys. Hears (session.Reading (types_of header) keys 0) (record { titles = titles_of header; rows = [] }) (rows_on k))
-    (λ f. Prints (Failed f) (rested k (session.Skipping (types_of header) 0)))
+    (λ keys. hearing aloud (session.Reading (types_of header) keys 0) (record { titles = titles_of header; rows = [] }) (rows_on aloud (λ comes. k comes (Some header.columns))))
+    (λ f. saying aloud (Some (Failed f)) (rested aloud (k (Failed f) (Some header.columns)) (session.Skipping (types_of header) 0)))
 
-abbrev pub answered_on : List (List ℕ) → (Session → Talk) → Heard → Talk
-answered_on trusted k (Said comes after) = printing comes (k after)
-answered_on trusted k (Shown header) = reading trusted header k
+abbrev pub answered_on : Bool → List (List ℕ) → Onward → Heard → Talk
+answered_on aloud trusted k (Said comes after) = saying aloud comes (k (outcome_or comes) None after)
+answered_on aloud trusted k (Shown header) = reading aloud trusted header k
 
 -- what is pending is executed, and its answer is heard
-abbrev pub executing : List (List ℕ) → ℕ → Session → (Session → Talk) → Talk
-executing trusted number before k = execute trusted number before (asked (λ after. Hears after nothing_shown (answered_on trusted k)) k)
-
--- ---- the steps of a script
+abbrev pub executing : Bool → List (List ℕ) → ℕ → Session → Onward → Talk
+executing aloud trusted number before k =
+    execute trusted number before (asked aloud (λ after. hearing aloud after nothing_shown (answered_on aloud trusted k)) k)
 
 -- a batch is described and executed
+abbrev pub running : Bool → List (List ℕ) → ℕ → Batch → Session → Onward → Talk
+running aloud trusted number batch before k = describing aloud number batch before (λ p. executing aloud trusted number (session.Pending p) k) k
+
+-- ---- the steps of a script, each aloud
+
+-- whatever its outcome was, the session goes on
+abbrev pub after_all : (Session → Talk) → Onward
+after_all k = λ comes columns after. k after
+
 abbrev pub whole : List (List ℕ) → ℕ → Batch → Session → (Session → Talk) → Talk
-whole trusted number batch before k = describing number batch before (λ p. executing trusted number (session.Pending p) k) k
+whole trusted number batch before k = running true trusted number batch before (after_all k)
 
 -- half a batch is described
 abbrev pub half : ℕ → Batch → Session → (Session → Talk) → Talk
 half number batch before k =
-    describing number batch before (λ p. Prints (Described (described_params p.keys (uses_of p))) (k (session.Pending p))) k
+    describing true number batch before (λ p. Prints (Described (described_params p.keys (uses_of p))) (k (session.Pending p))) (after_all k)

@@ -1,6 +1,6 @@
 //! The driver: its sessions, each by its number.
 
-ghost use Rattle.std.specs.Prelude.{◌≡◌, ◌++◌, ◌∷◌, [], IfOk, OnOk, OnErr, Option, false};
+ghost use Rattle.std.specs.Prelude.{◌≡◌, ◌++◌, ◌∷◌, [], IfOk, OnOk, OnErr, MatchOption, Option, Some, None, false};
 ghost use Rattle.conversation.specs.declared.sessions.Session.{Session};
 ghost use Rattle.ae_edge.specs.Vaults.{KeyMap};
 ghost use Rattle.key_store.specs.Stores.{IsOf};
@@ -8,8 +8,11 @@ ghost use Rattle.conversation.specs.Devices.{Devices, devices, with_vault};
 ghost use Rattle.conversation.specs.Sessions as held;
 ghost use Rattle.conversation.specs.Sessions.{nobody};
 ghost use Rattle.driver.specs.Calls.{Comes, Describes, Executes, IsSent, Replies, IsOnlyAt, is_pending, opens_keys};
-ghost use Rattle.driver.specs.Clients.{session_of};
+ghost use Rattle.driver.specs.Accepted.{accepted_begun, accepted_replied, IsAcceptedOnlyAt};
+ghost use Rattle.driver.specs.Accepted as accepted;
+ghost use Rattle.driver.specs.Clients.{session_of, columns_of};
 
+use crate::accepting::{Columns, forget_if_begun, none_accepted};
 use crate::executing::execute;
 use crate::replies::replied;
 use crate::starting::{begin, described};
@@ -32,6 +35,7 @@ use wire_messages::requests::Request;
 /// The client's end of 64 sessions, used with one vault.
 pub struct Driver {
     sessions: Vec<Session>,
+    accepted: Vec<Option<Columns>>,
     trusted: Seq<KeyPath>,
     store: KeyStore,
 }
@@ -40,6 +44,7 @@ impl Drop for Driver {
     fn drop(self) {
         let Driver {
             sessions: _,
+            accepted: _,
             trusted: _,
             store: _,
         } = self;
@@ -54,22 +59,25 @@ impl Model for Driver {
 
     ghost view = { λ d. record {
       sessions = d.sessions.items;
+      columns = d.accepted.items;
       trusted = d.trusted;
       kept = d.store;
     } };
 
-    ghost invariant = { λ d. length d.sessions.items ≡ 64 };
+    ghost invariant = { λ d. (length d.sessions.items ≡ 64) × (length d.accepted.items ≡ 64) };
 }
 
 impl Driver {
     /// A driver whose 64 sessions hold nothing, and which keeps no key.
     pub fn new(alloc: Global) -> Result<Driver, AllocError>
         ensures idle { IfOk result (λ driver. driver.sessions ≡ nobody) }
+        ensures columns { IfOk result (λ driver. driver.columns ≡ accepted.none_accepted) }
         ensures trusted { IfOk result (λ driver. driver.trusted ≡ []) }
         ensures of_vault { IfOk result (λ driver. (keys : Option KeyMap) → IsOf keys driver.kept) }
     {
         Ok(Driver {
             sessions: idle_sessions(alloc)?,
+            accepted: none_accepted(alloc)?,
             trusted: Seq::new(alloc),
             store: KeyStore::new(alloc)?,
         })
@@ -80,6 +88,7 @@ impl Driver {
         ensures ok { OnOk result (self.new.trusted ≡ self.old.trusted ++ path ∷ []) }
         ensures err { OnErr result (self.new.trusted ≡ self.old.trusted) }
         ensures sessions { self.new.sessions ≡ self.old.sessions }
+        ensures columns { self.new.columns ≡ self.old.columns }
         ensures kept { self.new.kept ≡ self.old.kept }
     {
         self.trusted.push(path)
@@ -90,6 +99,18 @@ impl Driver {
         ensures { result.now ≡ session_of self.now number }
     {
         &self.sessions[number.number() as usize - 1]
+    }
+
+    /// The columns that a session accepted since its last batch was begun, where there were any,
+    /// also once that answer has ended.
+    pub fn columns_of(&self, number: SessionId) -> Option<&Columns>
+        ensures { MatchOption result (columns_of self.now number ≡ None)
+            (λ columns. columns_of self.now number ≡ Some columns.now) }
+    {
+        match &self.accepted[number.number() as usize - 1] {
+            Some(columns) => Some(columns),
+            None => None,
+        }
     }
 
     /// Begins a batch in a session: the request to describe it. Refused where the session has a
@@ -105,12 +126,17 @@ impl Driver {
         ensures begun { Comes result (held.begin (session_of self.old number) number batch)
             (session_of self.old number) (session_of self.new number) }
         ensures others { IsOnlyAt number self.old.sessions self.new.sessions }
+        ensures columns { columns_of self.new number
+            ≡ accepted_begun result (columns_of self.old number) }
+        ensures other_columns { IsAcceptedOnlyAt number self.old.columns self.new.columns }
         ensures trusted { self.new.trusted ≡ self.old.trusted }
         ensures kept { self.new.kept ≡ self.old.kept }
     {
-        let slot = &mut self.sessions[number.number() as usize - 1];
+        let place = number.number() as usize - 1;
+        let slot = &mut self.sessions[place];
         let turn = begin(alloc, mem::replace(slot, Session::Idle), number, batch);
         put(slot, turn.after);
+        forget_if_begun(&mut self.accepted[place], &turn.answer);
         turn.answer
     }
 
@@ -125,6 +151,7 @@ impl Driver {
         ensures described { Describes result (held.described (session_of self.old number) reply.now)
             (session_of self.old number) (session_of self.new number) }
         ensures others { IsOnlyAt number self.old.sessions self.new.sessions }
+        ensures columns { self.new.columns ≡ self.old.columns }
         ensures trusted { self.new.trusted ≡ self.old.trusted }
         ensures kept { self.new.kept ≡ self.old.kept }
     {
@@ -155,6 +182,7 @@ impl Driver {
             (V.keys vault.new) (V.faults vault.new) (V.names vault.new)) }
         ensures sent { IsSent result (session_of self.new number) }
         ensures others { IsOnlyAt number self.old.sessions self.new.sessions }
+        ensures columns { self.new.columns ≡ self.old.columns }
         ensures trusted { self.new.trusted ≡ self.old.trusted }
         ensures kept { is_pending (session_of self.old number) ≡ false
             → self.new.kept ≡ self.old.kept }
@@ -192,18 +220,24 @@ impl Driver {
             (with_vault beside (V.keys vault.old) (V.faults vault.old) (V.names vault.old))
             (with_vault beside (V.keys vault.new) (V.faults vault.new) (V.names vault.new)) }
         ensures others { IsOnlyAt number self.old.sessions self.new.sessions }
+        ensures columns { columns_of self.new number
+            ≡ accepted_replied result (held.replied (session_of self.old number) reply.now)
+            (columns_of self.old number) }
+        ensures other_columns { IsAcceptedOnlyAt number self.old.columns self.new.columns }
         ensures trusted { self.new.trusted ≡ self.old.trusted }
         ensures kept { opens_keys (session_of self.old number) reply.now ≡ false
             → self.new.kept ≡ self.old.kept }
         ensures of_vault { IsOf (V.keys vault.new) self.new.kept }
     {
-        let slot = &mut self.sessions[number.number() as usize - 1];
+        let place = number.number() as usize - 1;
+        let slot = &mut self.sessions[place];
         let session = mem::replace(slot, Session::Idle);
         let turn = replied(
             alloc,
             &mut self.store,
             vault,
             self.trusted.as_slice(),
+            &mut self.accepted[place],
             session,
             reply,
         );

@@ -5,10 +5,12 @@ ghost use Rattle.key_store.specs.Stores.{IsOf};
 ghost use Rattle.conversation.specs.Devices.{Devices, with_vault};
 ghost use Rattle.conversation.specs.Sessions as held;
 ghost use Rattle.conversation.specs.declared.sessions.Session.{Session};
+ghost use Rattle.driver.specs.Accepted.{accepted_replied};
 ghost use Rattle.driver.specs.Calls.{Replies, ShowsTurn, TellsAs, is_end, opens_keys};
 ghost use Rattle.driver.specs.Listed.{AreListed};
 ghost use Rattle.wire_messages.specs.declared.replies.Reply.TheVariants as reply;
 
+use crate::accepting::{Columns, accept, accepted_columns};
 use crate::describing::own_keys;
 use crate::opening::open_columns;
 use crate::reading::{RowRead, is_row_of, next_row};
@@ -322,6 +324,7 @@ fn shown<V: Vault>(
     store: &mut KeyStore,
     vault: &mut V,
     trusted: &[KeyPath],
+    accepted: &mut Option<Columns>,
     header: &Header<'_>,
 ) -> Turn<Result<ReplyAnswer, Halt>>
     requires { IsOf (V.keys vault.old) store.old }
@@ -331,12 +334,21 @@ fn shown<V: Vault>(
         result.after (with_vault beside (V.keys vault.old) (V.faults vault.old) (V.names vault.old))
         (with_vault beside (V.keys vault.new) (V.faults vault.new) (V.names vault.new)) }
     ensures of_vault { IsOf (V.keys vault.new) store.new }
+    ensures accepted { accepted.new ≡ accepted_replied result.answer
+        (held.replied Session.Sent (reply.Columns header.now)) accepted.old }
 {
+    let columns = match accepted_columns(alloc, header.columns()) {
+        Ok(columns) => columns,
+        Err(_) => return halted(Halt::OutOfMemory, Session::Sent),
+    };
     match show(alloc, store, vault, trusted, header) {
-        Ok(turn) => Turn {
-            answer: Ok(turn.answer),
-            after: turn.after,
-        },
+        Ok(turn) => {
+            accept(accepted, columns);
+            Turn {
+                answer: Ok(turn.answer),
+                after: turn.after,
+            }
+        }
         Err(halt) => halted(halt, Session::Sent),
     }
 }
@@ -346,6 +358,7 @@ fn sent_replied<V: Vault>(
     store: &mut KeyStore,
     vault: &mut V,
     trusted: &[KeyPath],
+    accepted: &mut Option<Columns>,
     reply: &Reply<'_>,
 ) -> Turn<Result<ReplyAnswer, Halt>>
     requires { IsOf (V.keys vault.old) store.old }
@@ -355,10 +368,12 @@ fn sent_replied<V: Vault>(
         (with_vault beside (V.keys vault.old) (V.faults vault.old) (V.names vault.old))
         (with_vault beside (V.keys vault.new) (V.faults vault.new) (V.names vault.new)) }
     ensures of_vault { IsOf (V.keys vault.new) store.new }
+    ensures accepted { accepted.new ≡ accepted_replied result.answer
+        (held.replied Session.Sent reply.now) accepted.old }
     ensures kept { opens_keys Session.Sent reply.now ≡ false → store.new ≡ store.old }
 {
     match reply {
-        Reply::Columns(header) => shown(alloc, store, vault, trusted, header),
+        Reply::Columns(header) => shown(alloc, store, vault, trusted, accepted, header),
         Reply::Ended(done) => sent_ended(*done),
         Reply::Refused(fault) => sent_refused(fault),
         Reply::Row(_) => halted(Halt::BadReply, Session::Sent),
@@ -373,6 +388,7 @@ pub fn replied<V: Vault>(
     store: &mut KeyStore,
     vault: &mut V,
     trusted: &[KeyPath],
+    accepted: &mut Option<Columns>,
     session: Session,
     reply: &Reply<'_>,
 ) -> Turn<Result<ReplyAnswer, Halt>>
@@ -382,10 +398,12 @@ pub fn replied<V: Vault>(
         (with_vault beside (V.keys vault.old) (V.faults vault.old) (V.names vault.old))
         (with_vault beside (V.keys vault.new) (V.faults vault.new) (V.names vault.new)) }
     ensures of_vault { IsOf (V.keys vault.new) store.new }
+    ensures accepted { accepted.new ≡ accepted_replied result.answer
+        (held.replied session reply.now) accepted.old }
     ensures kept { opens_keys session reply.now ≡ false → store.new ≡ store.old }
 {
     match session {
-        Session::Sent => sent_replied(alloc, store, vault, trusted, reply),
+        Session::Sent => sent_replied(alloc, store, vault, trusted, accepted, reply),
         Session::Reading {
             columns,
             keys,

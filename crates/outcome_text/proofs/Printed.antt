@@ -124,9 +124,9 @@ line-some print [] x i old start text new some is e end f g = absurd (omega arit
 line-some print (y ∷ ys) x i old start text new some is e end f g =
     line-cons print y ys old text new (f ∙ rw (all-left y ys i end) (ap (λ start. start ++ flat_map (λ y. 9 ∷ print y) ys) (e ∙ ap (λ x. old ++ print x) is))) g
 
--- ---- a number of changed rows
+-- ---- a number of rows, between two words
 
-pub line-changed : {Z E : Type 0} (text : Result (String Z) E) (count : ℕ) → IfOk text (λ text. string_bytes text ≡ codes "(" ++ (decimal count ++ (codes " affected)" ++ 10 ∷ [])))
-    → IfOk text (λ text. string_bytes text ≡ line (codes "(" ++ decimal count ++ codes " affected)"))
-line-changed (Ok text) count e = e ∙ simp append_assoc
-line-changed (Err fault) count e = tt
+pub line-counted : {Z E : Type 0} (before after : List ℕ) (text : Result (String Z) E) (count : ℕ) → IfOk text (λ text. string_bytes text ≡ before ++ (decimal count ++ (after ++ 10 ∷ [])))
+    → IfOk text (λ text. string_bytes text ≡ line (before ++ decimal count ++ after))
+line-counted before after (Ok text) count e = e ∙ simp append_assoc
+line-counted before after (Err fault) count e = tt

@@ -16,6 +16,7 @@ rows_of (outcome.Rows l) = length l.rows
 rows_of (outcome.Broken l why) = length l.rows
 rows_of (outcome.Changed count) = 0
 rows_of outcome.Defined = 0
+rows_of (outcome.Rotated count) = 0
 rows_of (outcome.Described params) = 0
 rows_of (outcome.Refused f) = 0
 rows_of (outcome.Failed f) = 0

@@ -65,6 +65,7 @@ printed_outcome (outcome.Rows l) = printed_listing l ++ line (codes "(" ++ decim
 printed_outcome (outcome.Broken l why) = printed_listing l ++ printed_why why
 printed_outcome (outcome.Changed count) = line (codes "(" ++ decimal count ++ codes " affected)")
 printed_outcome outcome.Defined = line (codes "ok")
+printed_outcome (outcome.Rotated count) = line (codes "rotated " ++ decimal count ++ codes " rows")
 printed_outcome (outcome.Described params) = line (codes "described") ++ flat_map printed_param params
 printed_outcome (outcome.Refused f) = line (fault_line f)
 printed_outcome (outcome.Failed f) = line (printed_fault f)

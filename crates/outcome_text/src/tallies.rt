@@ -52,6 +52,7 @@ fn rows_of(outcome: &Outcome) -> u64
         Outcome::Rows(listing) | Outcome::Broken(listing, _) => listing.rows.len() as u64,
         Outcome::Changed(_)
         | Outcome::Defined
+        | Outcome::Rotated(_)
         | Outcome::Described(_)
         | Outcome::Refused(_)
         | Outcome::Failed(_) => 0,

@@ -18,7 +18,11 @@ pub fn is_refusal(outcome: &Outcome) -> bool
     ensures { result ≡ printing.is_refusal outcome.now }
 {
     match outcome {
-        Outcome::Rows(_) | Outcome::Changed(_) | Outcome::Defined | Outcome::Described(_) => false,
+        Outcome::Rows(_)
+        | Outcome::Changed(_)
+        | Outcome::Defined
+        | Outcome::Rotated(_)
+        | Outcome::Described(_) => false,
         Outcome::Broken(_, why) => why.is_some(),
         Outcome::Refused(_) | Outcome::Failed(_) => true,
     }
@@ -35,6 +39,7 @@ pub fn text_of(alloc: Global, outcome: &Outcome) -> Result<String, AllocError>
         Outcome::Broken(listing, why) => broken_text(alloc, listing, why),
         Outcome::Changed(count) => format!(in alloc; "({count} affected)\n"),
         Outcome::Defined => format!(in alloc; "ok\n"),
+        Outcome::Rotated(count) => format!(in alloc; "rotated {count} rows\n"),
         Outcome::Described(params) => described_text(alloc, params.as_slice()),
         Outcome::Refused(fault) => format!(in alloc; "{fault}\n"),
         Outcome::Failed(fault) => format!(in alloc; "{fault}\n"),

@@ -27,7 +27,7 @@ use Rattle.catalog.specs.Laws.{DefinitionsKeepCatalogs}
 use Rattle.transactions.specs.Counted.{Execution, nothing_counted, execution}
 use Rattle.transactions.specs.Stores.{ask_of, transaction_at, world_of, transact}
 use Rattle.transactions.specs.WellKept.{IsOpen}
-use Rattle.transactions.proofs.Interface.{asks_alike, may_ask}
+use Rattle.transactions.proofs.Interface.{asks_alike, may_ask, store_begun}
 use Rattle.server_core.proofs.Interface.{no_sessions, parts_of, own_cell, own_cells, own_is_one_to_one, own_is_within}
 use Rattle.engine.specs.Step.{Answer, Rows, Changed, Defined}
 use Rattle.engine.specs.Typed.{param_classes}
@@ -40,17 +40,19 @@ use Rattle.wire_messages.specs.declared.replies.Reply.TheVariants.{Row, Ended}
 use Rattle.statement_analysis.specs.Describing.{Meant, understood, description}
 use Rattle.statement_analysis.specs.Params.{declaration_of, suited}
 use Rattle.server_core.specs.Serve.{State, empty_state, catalog_of, serve, header, described, answered, executed}
+use Rattle.server_core.specs.States.{any_cell}
 use Rattle.conversation.specs.Batches.{why_unfit, unless}
 use Rattle.conversation.specs.Cells.{read_atoms}
 use Rattle.conversation.specs.Drive.{over}
 use Rattle.conversation.specs.Pending.{Pending, uses_of}
 use Rattle.conversation.specs.Keys.{open_key, trusted_meta}
 use Rattle.ae_base.specs.declared.types.Enc.{Enc}
-use Rattle.wire_messages.specs.Messages.{Description}
+use Rattle.wire_messages.specs.Messages.{Description, Header}
 use Rattle.conversation.specs.Sessions as conversation
 use Rattle.conversation.specs.Sessions.{nobody, begun, first_open, described_params, row_read, titles_of, with_session}
 use Rattle.conversation.specs.Talk.{Talk, Draws, Hears, Opens, Prints, Heard, Said, described_outcome, heard_answer, nothing_shown, with_row}
-use Rattle.conversation.specs.Turns.{on_result, opening_by, asked, described_on, describing, executing, answered_on, rows_on, reading, over_on}
+use Rattle.conversation.specs.Turns as turns
+use Rattle.conversation.specs.Turns.{Accepted, after_all, on_result, opening_by, asked, described_on, describing, executing, answered_on, rows_on, reading, over_on}
 use Rattle.conversation.specs.declared.faults.DriverFault.{DriverFault}
 use Rattle.conversation.specs.declared.faults.DriverFault.TheVariants.{StillPending, NothingPending, NotEncrypted}
 use Rattle.conversation.specs.declared.outcomes.Listing.{Listing}
@@ -73,7 +75,7 @@ use Rattle.plain_meaning.specs.Reference.{declarations_of, nothing_held, held_at
 use Rattle.plain_meaning.proofs.Agreement.{whole_count}
 use Rattle.plain_meaning.proofs.Between.{Always, HoldsBatch, HoldsIn, AllHold, Goes, stays_so, goes_by, all_go, all_held, hold_place, resting, all_resting, at_resting, set_resting}
 use Rattle.plain_meaning.proofs.Causes.{understood_plain, transact_plain}
-use Rattle.plain_meaning.proofs.ItsOwn.{any_cell, are_own, IsOwnState}
+use Rattle.plain_meaning.proofs.ItsOwn.{are_own, IsOwnState}
 use Rattle.plain_meaning.proofs.Saying.{Says, awaits_all, says_all}
 use Rattle.plain_meaning.proofs.Sending.{told_among}
 use Rattle.plain_meaning.proofs.Suiting.{encs_alone, suits, is_held}
@@ -106,9 +108,9 @@ module _ (columns : List ResultColumn) (total : ℕ) where
       rw x (skipped P rows (All-tail (AllZip (IsAt any_cell) columns) row rows t) c.1 shown (count + 1) s h)
 
   module _ (IsAnswer : KeyMeta → Result Keys DriverFault → Type 0) (Fine : outcomes.Outcome → Type 0) (fine : (comes : outcomes.Outcome) → IsPlainRefusal comes → Fine comes)
-      (now : State) (k : Session → Talk) (go : Says IsAnswer Fine (k session.Idle) now []) (os : List (Option Keys)) where
+      (now : State) (k : turns.Onward) (go : (comes : outcomes.Outcome) (accepted : Accepted) → Says IsAnswer Fine (k comes accepted session.Idle) now []) (shows : Header) (os : List (Option Keys)) where
     abbrev P : Heard → List Reply → Type 0
-    P heard left = Says IsAnswer Fine (rows_on k heard) now left
+    P heard left = Says IsAnswer Fine (rows_on true (λ comes. k comes (Some shows.columns)) heard) now left
 
     on_read : (rest : List Reply) (shown : Listing) (n : ℕ) (r : Result (List Value) DriverFault) → ((values : List Value) → IsHeard P rest (session.Reading (types_shown columns) os n) (with_row shown values))
         → ((f : DriverFault) → P (Said (Some (outcome.Broken shown (Some f))) (session.Skipping (types_shown columns) n)) rest)
@@ -121,14 +123,18 @@ module _ (columns : List ResultColumn) (total : ℕ) where
     read [] t c shown count e =
         let same : total ≡ count = omega (arith, e) in
         let s = eq-eqb total count same in
-        rw s (fine (outcome.Rows shown) tt, go)
+        rw s (fine (outcome.Rows shown) tt, go (outcome.Rows shown) (Some shows.columns))
     read (row ∷ rows) t c shown count e =
         let x = row_awaited any_cell (Related own_cell) own_cells columns row row (All-head (AllZip (IsAt any_cell) columns) row rows t) c.0 in
         let s : total ≡ (count + 1) + length rows = e ∙ sym (count_rows count row rows) in
         let more = All-tail (AllZip (IsAt any_cell) columns) row rows t in
         rw x (on_read (queue_of rows) shown (count + 1) (read_atoms (count + 1) 1 (types_shown columns) os row)
         (λ values. read rows more c.1 (with_row shown values) (count + 1) s)
-        (λ f. (fine (outcome.Broken shown (Some f)) tt, skipped (λ heard left. Says IsAnswer Fine (over_on k heard) now left) rows more c.1 nothing_shown (count + 1) s go)))
+        (λ f. (
+          fine (outcome.Broken shown (Some f)) tt,
+          skipped (λ heard left. Says IsAnswer Fine (over_on true (k (outcome.Broken shown (Some f)) (Some shows.columns)) heard) now left) rows more c.1 nothing_shown (count + 1) s
+              (go (outcome.Broken shown (Some f)) (Some shows.columns)),
+        )))
 
 -- where the scripts are proper the keys are a vault's, and no refusal is of a parameter as it is sent
 module _ (laws : LawsBelow) (keys : KeyMap) (Proper : Type 0) where
@@ -157,41 +163,45 @@ module _ (laws : LawsBelow) (keys : KeyMap) (Proper : Type 0) where
     draws f g h = λ iv n b. h iv iv (n, b) (n, b)
 
   -- whatever the result of a turn, the conversation goes on so
-  abbrev Onward : State → ℕ → (Session → Talk) → Type 0
-  Onward state n k = (after : Option Pending) (now : State) → IsOwnState now → Goes Proper state n now after → Goes_on (k (resting after)) now []
+  abbrev Onward : State → ℕ → turns.Onward → Type 0
+  Onward state n k = (comes : outcomes.Outcome) (accepted : Accepted) (after : Option Pending) (now : State) → IsOwnState now → Goes Proper state n now after → Goes_on (k comes accepted (resting after)) now []
 
-  module _ (trusted : List (List ℕ)) (state : State) (n : ℕ) (own : IsOwnState state) (k : Session → Talk) (go : Onward state n k) where
+  module _ (trusted : List (List ℕ)) (state : State) (n : ℕ) (own : IsOwnState state) (k : turns.Onward) (go : Onward state n k) where
     abbrev here : Catalog
     here = catalog_of state n
 
     -- nothing is asked of the server
-    prints : (comes : outcomes.Outcome) → IsPlainRefusal comes → (after : Option Pending) → HoldsIn Proper state.shared (transaction_at state n) after → Goes_on (Prints comes (k (resting after))) state []
-    prints comes p after h = (λ is. p, go after state own (stays_so Proper state n after h))
+    prints : (comes : outcomes.Outcome) → IsPlainRefusal comes → (after : Option Pending) → HoldsIn Proper state.shared (transaction_at state n) after → Goes_on (Prints comes (k comes None (resting after))) state []
+    prints comes p after h = (λ is. p, go comes None after state own (stays_so Proper state n after h))
 
     -- ---- an answer
 
-    module _ (now : State) (onward : Goes_on (k session.Idle) now []) where
+    module _ (now : State) (onward : (comes : outcomes.Outcome) (accepted : Accepted) → Goes_on (k comes accepted session.Idle) now []) where
       rows_await : (columns : List ResultColumn) (rows : List (List Atom)) → AreResults any_cell columns rows → AllZip (RowsCorrespond (Related own_cell) (map class_of_result columns)) rows rows
-          → Goes_on (reading trusted (header here columns) k) now (map Row rows ++ Ended (Answered (length rows)) ∷ [])
+          → Goes_on (reading true trusted (header here columns) k) now (map Row rows ++ Ended (Answered (length rows)) ∷ [])
       rows_await columns rows t c =
           let queue : List Reply = map Row rows ++ Ended (Answered (length rows)) ∷ [] in
-          reading_goes trusted (IsTrustedAnswer trusted) (λ t u. Goes_on t now queue) (opens now queue trusted) here columns k k
-          (λ os none opened. read columns (length rows) IsAnswer Fine (λ comes p is. p) now k onward os rows t c (record { titles = titles_of (header here columns); rows = [] }) 0 (whole_count rows))
-          (λ f some. (λ is. tt, skipped columns (length rows) (λ heard left. Goes_on (over_on k heard) now left) rows t c nothing_shown 0 (whole_count rows) onward))
+          reading_goes trusted (IsTrustedAnswer trusted) (λ t u. Goes_on t now queue) (opens now queue trusted) true here columns k k
+          (λ os none opened. read columns (length rows) IsAnswer Fine (λ comes p is. p) now k onward (header here columns) os rows t c (record { titles = titles_of (header here columns); rows = [] }) 0 (whole_count rows))
+          (λ f some. (
+            λ is. tt,
+            skipped columns (length rows) (λ heard left. Goes_on (over_on true (k (outcome.Failed f) (Some (header here columns).columns)) heard) now left) rows t c nothing_shown 0 (whole_count rows)
+                (onward (outcome.Failed f) (Some (header here columns).columns)),
+          ))
 
       answer_awaits : (x : Result Answer SqlFault) → IfErr x IsPlainFault → IsAnswerOf any_cell x → BothAnswer (AnswersCorrespond (Related own_cell)) x x
-          → let s = answered here x now in Goes_on (Hears session.Sent nothing_shown (answered_on trusted k)) s.after s.replies
+          → let s = answered here x now in Goes_on (Hears session.Sent nothing_shown (answered_on true trusted k)) s.after s.replies
       answer_awaits (Ok (Rows columns rows)) b t c = rows_await columns rows t c.1
-      answer_awaits (Ok (Changed count)) b t c = (λ is. tt, onward)
-      answer_awaits (Ok Defined) b t c = (λ is. tt, onward)
-      answer_awaits (Err f) b t c = (λ is. b, onward)
+      answer_awaits (Ok (Changed count)) b t c = (λ is. tt, onward (outcome.Changed count) None)
+      answer_awaits (Ok Defined) b t c = (λ is. tt, onward outcome.Defined None)
+      answer_awaits (Err f) b t c = (λ is. b, onward (outcome.Refused f) None)
 
     -- ---- what is pending is executed, whatever values are sent
 
     step_awaits : (text : List ℕ) (sent : List SentParam) (meant : Meant) (atoms : List Atom) → understood here text (map declaration_of sent) ≡ Ok meant → suited meant.encs sent ≡ Ok atoms
         → let done = transact state n (ask_of (execution meant.bound meant.encs atoms)) in
         let s = answered here done.answer done.after in
-        Goes_on (Hears session.Sent nothing_shown (answered_on trusted k)) s.after s.replies
+        Goes_on (Hears session.Sent nothing_shown (answered_on true trusted k)) s.after s.replies
     step_awaits text sent meant atoms u s =
         let b = meant.bound in
         let declarations = map declaration_of sent in
@@ -217,7 +227,7 @@ module _ (laws : LawsBelow) (keys : KeyMap) (Proper : Type 0) where
         let kept = laws.keeps_stores any_cell state n (ask_of e) own.typed may in
         let sim = laws.simulates any_cell own_cell state state n (ask_of e) (ask_of e) own_is_one_to_one own_is_within own.typed own.paired alike_asked may in
         let done = transact state n (ask_of e) in
-        answer_awaits done.after (go None done.after (record { typed = kept.0; paired = sim.stores }) (goes_by Proper state n e)) done.answer (transact_plain state n (ask_of e)) kept.1 sim.answers
+        answer_awaits done.after (λ comes accepted. go comes accepted None done.after (record { typed = kept.0; paired = sim.stores }) (goes_by Proper state n e (store_begun any_cell state own.typed))) done.answer (transact_plain state n (ask_of e)) kept.1 sim.answers
 
     -- what is sent suits what it means
     record IsSuited (text : List ℕ) (sent : List SentParam) : Type 0 where
@@ -227,9 +237,9 @@ module _ (laws : LawsBelow) (keys : KeyMap) (Proper : Type 0) where
       suits : suited meant.encs sent ≡ Ok atoms
 
     suits_await : (text : List ℕ) (sent : List SentParam) (meant : Meant) → (Proper → IsSuited text sent) → understood here text (map declaration_of sent) ≡ Ok meant → (r : Result (List Atom) SqlFault) → suited meant.encs sent ≡ r
-        → let s = executed state n (r >>= λ atoms. Ok (meant, atoms)) in Goes_on (Hears session.Sent nothing_shown (answered_on trusted k)) s.after s.replies
+        → let s = executed state n (r >>= λ atoms. Ok (meant, atoms)) in Goes_on (Hears session.Sent nothing_shown (answered_on true trusted k)) s.after s.replies
     suits_await text sent meant f u (Ok atoms) s = step_awaits text sent meant atoms u s
-    suits_await text sent meant f u (Err e) s = (λ is. never (f is), go None state own (stays_so Proper state n None tt))
+    suits_await text sent meant f u (Err e) s = (λ is. never (f is), go (outcome.Refused e) None None state own (stays_so Proper state n None tt))
       where
         never : IsSuited text sent → IsPlainFault e
         never x =
@@ -239,14 +249,14 @@ module _ (laws : LawsBelow) (keys : KeyMap) (Proper : Type 0) where
             absurd cc
 
     means_await : (text : List ℕ) (sent : List SentParam) → (Proper → IsSuited text sent) → (r : Result Meant SqlFault) → IfErr r IsPlainFault → understood here text (map declaration_of sent) ≡ r
-        → let s = executed state n (r >>= λ meant. suited meant.encs sent >>= λ atoms. Ok (meant, atoms)) in Goes_on (Hears session.Sent nothing_shown (answered_on trusted k)) s.after s.replies
+        → let s = executed state n (r >>= λ meant. suited meant.encs sent >>= λ atoms. Ok (meant, atoms)) in Goes_on (Hears session.Sent nothing_shown (answered_on true trusted k)) s.after s.replies
     means_await text sent f (Ok meant) b u = suits_await text sent meant f u (suited meant.encs sent) refl
     means_await text sent f (Err e) b u = prints (outcome.Refused e) b None tt
 
     asked_awaits : (p : Pending) → HoldsBatch Proper here p → (sent : List SentParam) → (Proper → AreSealed keys trusted p.keys (uses_of p) sent) → (t : Bool) → (p.version == here.version) ≡ t
         → let moved : SqlFault = Moved (record { seen = p.version; now = here.version }) in
         let s = executed state n (cond t (understood here p.batch.text (map declaration_of sent)) (Err moved) >>= λ meant. suited meant.encs sent >>= λ atoms. Ok (meant, atoms)) in
-        Goes_on (Hears session.Sent nothing_shown (answered_on trusted k)) s.after s.replies
+        Goes_on (Hears session.Sent nothing_shown (answered_on true trusted k)) s.after s.replies
     asked_awaits p h sent sealed true e =
         means_await p.batch.text sent
         (λ is.
@@ -256,16 +266,16 @@ module _ (laws : LawsBelow) (keys : KeyMap) (Proper : Type 0) where
         (understood here p.batch.text (map declaration_of sent)) (understood_plain here p.batch.text (map declaration_of sent)) refl
     asked_awaits p h sent sealed false e = prints (outcome.Refused (Moved (record { seen = p.version; now = here.version }))) tt None tt
 
-    pending_awaits : (p : Pending) → HoldsBatch Proper here p → Goes_on (executing trusted n (session.Pending p) k) state []
+    pending_awaits : (p : Pending) → HoldsBatch Proper here p → Goes_on (executing true trusted n (session.Pending p) k) state []
     pending_awaits p h =
-        let onward : Session → Talk = λ after. Hears after nothing_shown (answered_on trusted k) in
-        let sends : List SentParam → Talk = λ params. asked onward k (Ok (request.Execute n p.version p.batch.text params)) session.Sent in
-        let fails : DriverFault → Talk = λ f. asked onward k (Err f) session.Idle in
+        let onward : Session → Talk = λ after. Hears after nothing_shown (answered_on true trusted k) in
+        let sends : List SentParam → Talk = λ params. asked true onward k (Ok (request.Execute n p.version p.batch.text params)) session.Sent in
+        let fails : DriverFault → Talk = λ f. asked true onward k (Err f) session.Idle in
         sealing_goes trusted (IsTrustedAnswer trusted) (λ t u. Goes_on t state []) (opens state [] trusted) p.keys (draws state []) (uses_of p) (uses_of p) (same_uses (uses_of p)) sends sends fails fails
         (λ sent other none s z. asked_awaits p h sent (λ is. sealed_as (IsTrustedAnswer trusted) (AnswersOf keys trusted) (λ m r a. a is) p.keys (uses_of p) sent s) (p.version == here.version) refl)
         (λ f some. prints (outcome.Failed f) tt None tt)
 
-    executing_awaits : (before : Option Pending) → HoldsIn Proper state.shared (transaction_at state n) before → Goes_on (executing trusted n (resting before) k) state []
+    executing_awaits : (before : Option Pending) → HoldsIn Proper state.shared (transaction_at state n) before → Goes_on (executing true trusted n (resting before) k) state []
     executing_awaits (Some p) h = pending_awaits p h
     executing_awaits None h = prints (outcome.Failed NothingPending) tt None tt
 
@@ -274,13 +284,13 @@ module _ (laws : LawsBelow) (keys : KeyMap) (Proper : Type 0) where
     module _ (batch : Batch) (params : HasParams batch) (proper : Proper → HasProperParams batch) (ready : Pending → Talk) (ready_awaits : (p : Pending) → HoldsBatch Proper here p → Goes_on (ready p) state []) where
       readied_awaits : (d : Description) (encs : List (Option Enc)) → HoldsBatch Proper here (record { batch = batch; version = d.version; keys = d.keys; encs = encs }) → (o : Option (List ℕ))
           → let t = conversation.readied batch d encs o in
-          Goes_on (described_on ready k (Said (described_outcome t.answer) t.after)) state []
+          Goes_on (described_on true ready k (Said (described_outcome t.answer) t.after)) state []
       readied_awaits d encs h None = ready_awaits (record { batch = batch; version = d.version; keys = d.keys; encs = encs }) h
       readied_awaits d encs h (Some name) = prints (outcome.Failed (NotEncrypted name)) tt None tt
 
       described_awaits : why_unfit batch ≡ None → (r : Result Meant SqlFault) → IfErr r IsPlainFault → understood here batch.text (declarations_of batch) ≡ r
           → let s = described state (r >>= λ meant. Ok (description here (declarations_of batch) meant)) in
-          Goes_on (Hears (session.Begun batch) nothing_shown (described_on ready k)) s.after s.replies
+          Goes_on (Hears (session.Begun batch) nothing_shown (described_on true ready k)) s.after s.replies
       described_awaits fit (Ok meant) b e =
           let h = is_held laws Proper here batch params proper fit meant e in
           let found = h.0 in
@@ -289,24 +299,24 @@ module _ (laws : LawsBelow) (keys : KeyMap) (Proper : Type 0) where
       described_awaits fit (Err f) b e = prints (outcome.Refused f) b None tt
 
       begun_awaits : (o : Option DriverFault) → why_unfit batch ≡ o
-          → let t = begun n (unless o batch) in Goes_on (asked (λ after. Hears after nothing_shown (described_on ready k)) k t.answer t.after) state []
+          → let t = begun n (unless o batch) in Goes_on (asked true (λ after. Hears after nothing_shown (described_on true ready k)) k t.answer t.after) state []
       begun_awaits (Some f) e = prints (outcome.Failed f) tt None tt
       begun_awaits None e = described_awaits e (understood here batch.text (declarations_of batch)) (understood_plain here batch.text (declarations_of batch)) refl
 
-      describing_awaits : (before : Option Pending) → HoldsIn Proper state.shared (transaction_at state n) before → Goes_on (describing n batch (resting before) ready k) state []
+      describing_awaits : (before : Option Pending) → HoldsIn Proper state.shared (transaction_at state n) before → Goes_on (describing true n batch (resting before) ready k) state []
       describing_awaits None h = begun_awaits (why_unfit batch) refl
       describing_awaits (Some p) h = prints (outcome.Failed StillPending) tt (Some p) h
 
   -- ---- a turn
 
-  turn_awaits : (trusted : List (List ℕ)) (number : ℕ) (act : Act) (state : State) → IsOwnState state → (k : Session → Talk) → Onward state number k → OfBatch HasParams act → (Proper → OfBatch HasProperParams act)
+  turn_awaits : (trusted : List (List ℕ)) (number : ℕ) (act : Act) (state : State) → IsOwnState state → (k : Session → Talk) → Onward state number (after_all k) → OfBatch HasParams act → (Proper → OfBatch HasProperParams act)
       → (before : Option Pending) → HoldsIn Proper state.shared (transaction_at state number) before → Goes_on (turn trusted number act (resting before) k) state []
   turn_awaits trusted number (acts.Whole batch) state own k go within proper before h =
-      describing_awaits trusted state number own k go batch within proper (λ p. executing trusted number (session.Pending p) k) (pending_awaits trusted state number own k go) before h
+      describing_awaits trusted state number own (after_all k) go batch within proper (λ p. executing true trusted number (session.Pending p) (after_all k)) (pending_awaits trusted state number own (after_all k) go) before h
   turn_awaits trusted number (acts.Half batch) state own k go within proper before h =
-      describing_awaits trusted state number own k go batch within proper (λ p. Prints (outcome.Described (described_params p.keys (uses_of p))) (k (session.Pending p)))
-      (λ p held. prints trusted state number own k go (outcome.Described (described_params p.keys (uses_of p))) tt (Some p) held) before h
-  turn_awaits trusted number acts.Execute state own k go within proper before h = executing_awaits trusted state number own k go before h
+      describing_awaits trusted state number own (after_all k) go batch within proper (λ p. Prints (outcome.Described (described_params p.keys (uses_of p))) (k (session.Pending p)))
+      (λ p held. prints trusted state number own (after_all k) go (outcome.Described (described_params p.keys (uses_of p))) tt (Some p) held) before h
+  turn_awaits trusted number acts.Execute state own k go within proper before h = executing_awaits trusted state number own (after_all k) go before h
 
   talk_awaits : (steps : List Step) → All IsWithinLimits steps → (Proper → All IsProperStep steps) → (trusted : List (List ℕ)) (holds : List (Option Pending)) (state : State) → IsOwnState state → AllHold Proper state holds
       → Goes_on (talk steps trusted (all_resting holds)) state []
@@ -318,7 +328,7 @@ module _ (laws : LawsBelow) (keys : KeyMap) (Proper : Type 0) where
       let onward : Session → Talk = λ after. talk steps trusted (with_session (all_resting holds) number after) in
       subst (λ before. Goes_on (turn trusted number act before onward) state []) (sym (at_resting holds (number - 1)))
       (turn_awaits trusted number act state own onward
-      (λ after now o goes. subst (λ sessions. Goes_on (talk steps trusted sessions) now []) (sym (set_resting holds (number - 1) after))
+      (λ comes accepted after now o goes. subst (λ sessions. Goes_on (talk steps trusted sessions) now []) (sym (set_resting holds (number - 1) after))
       (talk_awaits steps (All-tail IsWithinLimits step steps within) (λ is. All-tail IsProperStep step steps (proper is)) trusted (with_held holds number after) now o (all_go Proper state now number holds after goes h)))
       (All-head IsWithinLimits step steps within).1 (λ is. All-head IsProperStep step steps (proper is)) (held_at holds number) (hold_place Proper state number holds h))
 

@@ -19,7 +19,8 @@ use Rattle.transactions.specs.Counted.{execution}
 use Rattle.transactions.specs.Stores.{Transacted, ask_of, transact}
 use Rattle.wire_messages.specs.Messages.{Description}
 use Rattle.statement_analysis.specs.Describing.{Meant, understood, describe, keys_of}
-use Rattle.server_core.specs.Serve.{State, catalog_of}
+use Rattle.server_core.specs.Serve.{State, catalog_of, sent_column}
+use Rattle.conversation.specs.Turns.{Accepted}
 use Rattle.conversation.specs.Batches.{why_unfit}
 use Rattle.conversation.specs.Keys.{open_trusted, meta_of}
 use Rattle.conversation.specs.Pending.{Pending, uses_of}
@@ -34,16 +35,17 @@ use Rattle.script_lang.specs.declared.steps.Act.TheVariants.{Whole, Half, Execut
 use Rattle.script_lang.specs.declared.steps.Step.{Step}
 use Rattle.script_lang.specs.declared.steps.Step.TheVariants.{Turn, Trust}
 
--- the result of a turn, the columns of its answer's rows, what its session holds after it, nothing or a described batch, and the plain state
+-- the result of a turn, the columns of its answer's rows, those that its session accepted, what its session holds after it, nothing or a described batch, and the plain state
 pub record Came : Type 0 where
   pub comes : Outcome
   pub columns : List ResultColumn
+  pub accepted : Accepted
   pub held : Option Pending
   pub state : State
 
 -- without rows
 abbrev pub came : Outcome → Option Pending → State → Came
-came comes held state = record { comes = comes; columns = []; held = held; state = state }
+came comes held state = record { comes = comes; columns = []; accepted = None; held = held; state = state }
 
 -- what each session of a client holds between steps, by its number from 1 to 64
 abbrev pub nothing_held : List (Option Pending)
@@ -99,8 +101,16 @@ columns_of (Ok (engine.Changed count)) = []
 columns_of (Ok engine.Defined) = []
 columns_of (Err f) = []
 
+-- the columns that a client accepts
+abbrev pub accepted_of : Result Answer SqlFault → Accepted
+accepted_of (Ok (engine.Rows columns rows)) = Some (map sent_column columns)
+accepted_of (Ok (engine.Changed count)) = None
+accepted_of (Ok engine.Defined) = None
+accepted_of (Err f) = None
+
 abbrev pub came_by : KeyMap → List (List ℕ) → Catalog → Transacted → Came
-came_by keys trusted catalog done = record { comes = answered keys trusted catalog done.answer; columns = columns_of done.answer; held = None; state = done.after }
+came_by keys trusted catalog done =
+    record { comes = answered keys trusted catalog done.answer; columns = columns_of done.answer; accepted = accepted_of done.answer; held = None; state = done.after }
 
 -- ---- a described batch is executed
 

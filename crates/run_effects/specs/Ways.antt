@@ -8,7 +8,7 @@ use Rattle.wire_frames.specs.Frames.{Placed, IsNotYet, is_reply_head}
 use Rattle.conversation.specs.Devices.{IsAtDraw, IsAtKey}
 use Rattle.conversation.specs.Drive.{outcomes_in}
 use Rattle.conversation.specs.Paths.{Event, Asked, Took, Printed, Follows, next_of, replies_to}
-use Rattle.conversation.specs.Talk.{Talk, Ends, Stops, Asks, Hears, Draws, Opens, Prints, broken}
+use Rattle.conversation.specs.Talk.{Talk, Ends, Stops, Asks, Hears, Notes, Draws, Opens, Prints, broken}
 use Rattle.conversation.specs.declared.outcomes.Outcome.{Outcome}
 use Rattle.run_effects.specs.Shares.{Outside, Stream, Wire, HasPut, HasRead, WirePut, WireRead, Begins, IsNext, coming, messages_of, place_of}
 use Rattle.run_effects.specs.declared.stops.Stop.{Stop}
@@ -40,7 +40,7 @@ pub record HaltsAt (P : Talk → Outside → Type 0) (t : Talk) (old new : Outsi
 
 -- ---- where replies that come as bytes can't be read further
 
--- the part of an answer before it broke off
+-- the part of an answer before it broke off, where it is heard aloud
 abbrev pub off : Talk → Option Outcome
 off (Hears session shown f) = broken session shown
 off other = None
@@ -48,6 +48,7 @@ off other = None
 -- a reply is awaited, or that none is left
 abbrev pub IsAtReply : Talk → Type 0
 IsAtReply (Hears session shown f) = Unit {0}
+IsAtReply (Notes session shown f) = Unit {0}
 IsAtReply (Ends sessions) = Unit {0}
 IsAtReply other = ⊥
 
@@ -107,6 +108,7 @@ IsStuck (Ends sessions) [] = ⊥
 IsStuck (Ends sessions) (x ∷ waiting) = Unit {0}
 IsStuck (Asks request t) waiting = ⊥
 IsStuck (Hears session shown f) waiting = ⊥
+IsStuck (Notes session shown f) waiting = ⊥
 IsStuck (Draws f) waiting = ⊥
 IsStuck (Opens meta f) waiting = ⊥
 IsStuck (Prints comes t) waiting = ⊥
@@ -131,6 +133,7 @@ HoldsNothing skipped held = (skipped ≡ 0) × (held ≡ [])
 -- where a reply is awaited, less than a frame is held; after the last step, nothing
 abbrev pub LacksAt : FrameVersion → Talk → Lacking
 LacksAt version (Hears session shown f) skipped held = LacksReply version skipped held
+LacksAt version (Notes session shown f) skipped held = LacksReply version skipped held
 LacksAt version (Ends sessions) skipped held = HoldsNothing skipped held
 LacksAt version other skipped held = ⊥
 

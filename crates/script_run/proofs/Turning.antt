@@ -16,7 +16,7 @@ use Rattle.conversation.specs.Pending as told
 use Rattle.conversation.specs.Pending.{uses_of}
 use Rattle.conversation.specs.Sessions.{begin, begun, described_params}
 use Rattle.conversation.specs.Talk.{Talk, Hears, Prints, Heard, Said, printing, nothing_shown}
-use Rattle.conversation.specs.Turns.{rested, over_on, pending_on, executing}
+use Rattle.conversation.specs.Turns.{after_all, rested, over_on, pending_on, executing}
 use Rattle.run_effects.specs.Shares.{Outside}
 use Rattle.run_effects.specs.Ways.{Proceeds, Advances}
 use Rattle.run_effects.specs.declared.stops.Stop.{Stop}
@@ -36,7 +36,7 @@ module _ (session after : Session) (shown : Listing) (comes : Option Outcome) (f
   heard_out result z said = leads_then result _ _ (λ o. k after) _ _ _ heard_so (said (k after))
 
 -- over rows that are skipped
-pub skips : (session : Session) (k : Session → Talk) → is_skipping session ≡ true → rested k session ≡ Hears session nothing_shown (over_on k)
+pub skips : (session : Session) (k : Session → Talk) → is_skipping session ≡ true → rested true k session ≡ Hears session nothing_shown (over_on true k)
 skips (Skipping columns count) k e = refl
 skips Idle k e = cc
 skips (Begun batch) k e = cc
@@ -52,7 +52,7 @@ skips_rows (Pending pending) e = cc
 skips_rows Sent e = cc
 skips_rows (Reading columns keys count) e = cc
 
-pub skips_none : (session : Session) (k : Session → Talk) → is_skipping session ≡ false → rested k session ≡ k session
+pub skips_none : (session : Session) (k : Session → Talk) → is_skipping session ≡ false → rested true k session ≡ k session
 skips_none (Skipping columns count) k e = cc
 skips_none Idle k e = refl
 skips_none (Begun batch) k e = refl
@@ -92,10 +92,10 @@ module _ (k : Session → Talk) (after : Session) (params : List DescribedParam)
   pending_ready : (ready : told.Pending → Talk) → pending_on ready k after ≡ ready r.0
   pending_ready ready = let e = r.1 in rw e refl
 
-  pub then_executed : (trusted : List (List ℕ)) (number : ℕ) → Proceeds t (pending_on (λ p. executing trusted number (Pending p) k) k after) x y → Advances result (executing trusted number after k) (λ o. on) y z → Advances result t (λ o. on) x z
+  pub then_executed : (trusted : List (List ℕ)) (number : ℕ) → Proceeds t (pending_on (λ p. executing true trusted number (Pending p) (after_all k)) k after) x y → Advances result (executing true trusted number after (after_all k)) (λ o. on) y z → Advances result t (λ o. on) x z
   then_executed trusted number g h =
-      leads_then result t (executing trusted number after k) (λ o. on) x y z
-      (subst (λ w. Proceeds t w x y) (pending_ready (λ p. executing trusted number (Pending p) k) ∙ ap (λ w. executing trusted number w k) (sym r.1)) g) h
+      leads_then result t (executing true trusted number after (after_all k)) (λ o. on) x y z
+      (subst (λ w. Proceeds t w x y) (pending_ready (λ p. executing true trusted number (Pending p) (after_all k)) ∙ ap (λ w. executing true trusted number w (after_all k)) (sym r.1)) g) h
 
   pub then_told : Proceeds t (pending_on (λ p. Prints (outcome.Described (described_params p.keys (uses_of p))) (k (Pending p))) k after) x y
       → Advances result (Prints (outcome.Described params) (k after)) (λ o. on) y z → Advances result t (λ o. on) x z

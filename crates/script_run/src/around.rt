@@ -1,6 +1,6 @@
 //! All that a turn touches, in one trait.
 
-ghost use Rattle.std.specs.Prelude.{◌≡◌, ◌<◌, ◌^◌, List, Result, IfOk};
+ghost use Rattle.std.specs.Prelude.{◌≡◌, ◌<◌, ◌^◌, List, Result, IfOk, true};
 ghost use Rattle.wire_messages.specs.declared.requests.Request.{Request};
 ghost use Rattle.conversation.specs.declared.faults.DriverFault.{DriverFault};
 ghost use Rattle.conversation.specs.declared.sessions.Session.{Session};
@@ -117,7 +117,7 @@ pub trait Around {
         requires of_vault { IsOfVault (outside self.old).client.keys driver.old }
         ensures leads { (k : Session → Talk) → Advances result
             (Hears (session_of driver.old number) nothing_shown
-            (turns.answered_on driver.old.trusted k))
+            (turns.answered_on true driver.old.trusted (turns.after_all k)))
             (first_on k (session_of driver.new number)) (outside self.old) (outside self.new) }
         ensures rows { IfOk result (shown_first (session_of driver.new number)) }
         ensures leaves { IfOk result

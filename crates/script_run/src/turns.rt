@@ -1,6 +1,6 @@
 //! The turns of a session: a whole batch, half a batch, and the execution of what is pending.
 
-ghost use Rattle.std.specs.Prelude.{◌≡◌, ◌≤◌, List, Option, [], IfOk, length};
+ghost use Rattle.std.specs.Prelude.{◌≡◌, ◌≤◌, List, Option, [], IfOk, length, true};
 ghost use Rattle.ae_base.specs.declared.faults.SqlFault.{SqlFault};
 ghost use Rattle.conversation.specs.Pending as told;
 ghost use Rattle.conversation.specs.Talk.{Talk, Asks, Hears, Prints, Heard, Said, printing, nothing_shown};
@@ -134,7 +134,7 @@ fn rest<A: Around>(
 ) -> Result<(), Stop>
     requires { IsOfVault (A.outside env.old).client.keys driver.old }
     ensures leads { (k : Session → Talk) → Advances result
-        (turns.rested k (session_of driver.old number)) (λ _. k (session_of driver.new number))
+        (turns.rested true k (session_of driver.old number)) (λ _. k (session_of driver.new number))
         (A.outside env.old) (A.outside env.new) }
     ensures leaves { IfOk result
         (λ _. Leaves number driver.old driver.new (A.outside env.new).client.keys) }
@@ -156,7 +156,7 @@ fn read<A: Around>(
     requires rows { IsRows (session_of driver.old number) }
     requires of_vault { IsOfVault (A.outside env.old).client.keys driver.old }
     ensures leads { (k : Session → Talk) → Advances result
-        (Hears (session_of driver.old number) shown (turns.rows_on k))
+        (Hears (session_of driver.old number) shown (turns.rows_on true (λ _. k)))
         (λ _. k (session_of driver.new number)) (A.outside env.old) (A.outside env.new) }
     ensures leaves { IfOk result
         (λ _. Leaves number driver.old driver.new (A.outside env.new).client.keys) }
@@ -177,7 +177,7 @@ fn print_and_rest<A: Around>(
 ) -> Result<(), Stop>
     requires { IsOfVault (A.outside env.old).client.keys driver.old }
     ensures leads { (k : Session → Talk) → Advances result
-        (Prints (outcome_of.Failed fault) (turns.rested k (session_of driver.old number)))
+        (Prints (outcome_of.Failed fault) (turns.rested true k (session_of driver.old number)))
         (λ _. k (session_of driver.new number)) (A.outside env.old) (A.outside env.new) }
     ensures leaves { IfOk result
         (λ _. Leaves number driver.old driver.new (A.outside env.new).client.keys) }
@@ -199,7 +199,7 @@ fn hear_answer<A: Around>(
     requires of_vault { IsOfVault (A.outside env.old).client.keys driver.old }
     ensures leads { (k : Session → Talk) → Advances result
         (Hears (session_of driver.old number) nothing_shown
-        (turns.answered_on driver.old.trusted k))
+        (turns.answered_on true driver.old.trusted (turns.after_all k)))
         (λ _. k (session_of driver.new number)) (A.outside env.old) (A.outside env.new) }
     ensures leaves { IfOk result
         (λ _. Leaves number driver.old driver.new (A.outside env.new).client.keys) }
@@ -236,9 +236,9 @@ fn answered<A: Around>(
     requires sent { IfOk answer (λ request. session_of driver.old number ≡ Sent) }
     requires of_vault { IsOfVault (A.outside env.old).client.keys driver.old }
     ensures leads { (k : Session → Talk) → Advances result
-        (turns.asked (λ after. Hears after nothing_shown
-        (turns.answered_on driver.old.trusted k)) k answer.entry
-        (session_of driver.old number))
+        (turns.asked true (λ after. Hears after nothing_shown
+        (turns.answered_on true driver.old.trusted (turns.after_all k))) (turns.after_all k)
+        answer.entry (session_of driver.old number))
         (λ _. k (session_of driver.new number)) (A.outside env.old) (A.outside env.new) }
     ensures leaves { IfOk result
         (λ _. Leaves number driver.old driver.new (A.outside env.new).client.keys) }
@@ -261,7 +261,8 @@ pub fn execute<A: Around>(
 ) -> Result<(), Stop>
     requires { IsOfVault (A.outside env.old).client.keys driver.old }
     ensures leads { (k : Session → Talk) → Advances result
-        (turns.executing driver.old.trusted number (session_of driver.old number) k)
+        (turns.executing true driver.old.trusted number (session_of driver.old number)
+        (turns.after_all k))
         (λ _. k (session_of driver.new number)) (A.outside env.old) (A.outside env.new) }
     ensures leaves { IfOk result
         (λ _. Leaves number driver.old driver.new (A.outside env.new).client.keys) }
@@ -312,7 +313,8 @@ fn hear_description<A: Around>(
     requires begun { IsBegun (session_of driver.old number) }
     requires of_vault { IsOfVault (A.outside env.old).client.keys driver.old }
     ensures leads { (ready : told.Pending → Talk) (k : Session → Talk) → Advances result
-        (Hears (session_of driver.old number) nothing_shown (turns.described_on ready k))
+        (Hears (session_of driver.old number) nothing_shown
+        (turns.described_on true ready (turns.after_all k)))
         (ready_on ready k (session_of driver.new number)) (A.outside env.old) (A.outside env.new) }
     ensures ready { IfOk result (IsReady (session_of driver.new number)) }
     ensures leaves { IfOk result
@@ -337,7 +339,8 @@ fn ask_description<A: Around>(
     requires begun { IfOk answer (λ request. IsBegun (session_of driver.old number)) }
     requires of_vault { IsOfVault (A.outside env.old).client.keys driver.old }
     ensures leads { (ready : told.Pending → Talk) (k : Session → Talk) → Advances result
-        (turns.asked (λ after. Hears after nothing_shown (turns.described_on ready k)) k
+        (turns.asked true (λ after. Hears after nothing_shown
+        (turns.described_on true ready (turns.after_all k))) (turns.after_all k)
         answer.entry (session_of driver.old number))
         (ready_on ready k (session_of driver.new number)) (A.outside env.old) (A.outside env.new) }
     ensures ready { IfOk result (IsReady (session_of driver.new number)) }
@@ -363,7 +366,8 @@ fn describe<A: Around>(
 ) -> Result<Described, Stop>
     requires { IsOfVault (A.outside env.old).client.keys driver.old }
     ensures leads { (ready : told.Pending → Talk) (k : Session → Talk) → Advances result
-        (turns.describing number batch (session_of driver.old number) ready k)
+        (turns.describing true number batch (session_of driver.old number) ready
+        (turns.after_all k))
         (ready_on ready k (session_of driver.new number)) (A.outside env.old) (A.outside env.new) }
     ensures ready { IfOk result (IsReady (session_of driver.new number)) }
     ensures leaves { IfOk result

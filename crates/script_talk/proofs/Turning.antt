@@ -1,5 +1,5 @@
 -- A turn of two sessions that hold batches which differ in forced values alone.
-use Rattle.std.proofs.Common.{◌≡◌, ◌⊎◌, inl, inr, ℕ, suc, List, [], ◌∷◌, ◌++◌, map, Option, Some, None, Result, Ok, Err, refl, sym, ap, ◌∙◌, subst, arith}
+use Rattle.std.proofs.Common.{◌≡◌, ◌⊎◌, inl, inr, ℕ, suc, List, [], ◌∷◌, ◌++◌, map, Option, Some, None, Result, Ok, Err, true, refl, sym, ap, ◌∙◌, subst, arith}
 use Rattle.std.specs.Prelude.{Contains}
 use Rattle.std.proofs.lemmas.List.Elements.{Contains-append_left, Contains-append_right}
 use Rattle.ae_base.specs.declared.batches.Batch.{Batch}
@@ -18,8 +18,8 @@ use Rattle.conversation.specs.Batches.{why_unfit, unless}
 use Rattle.conversation.specs.Drive.{Listened, heard_one, listen, driven_on, drive}
 use Rattle.conversation.specs.Pending.{Pending, uses_of, uses_in}
 use Rattle.conversation.specs.Sessions.{begun, encs_of, first_open, described, described_as, readied, described_params}
-use Rattle.conversation.specs.Talk.{Talk, Hears, Prints, Heard, Said, Hearing, Got, Missed, heard_description, described_outcome, nothing_shown}
-use Rattle.conversation.specs.Turns.{answered_on, asked, pending_on, described_on, describing, executing, whole, half}
+use Rattle.conversation.specs.Talk.{Talk, Hears, Prints, Heard, Said, Hearing, Got, Missed, heard_description, described_outcome, broken, nothing_shown}
+use Rattle.conversation.specs.Turns.{Accepted, Onward, after_all, answered_on, asked, pending_on, described_on, describing, executing, whole, half}
 use Rattle.conversation.specs.declared.answers.DescribeAnswer.{DescribeAnswer}
 use Rattle.conversation.specs.declared.faults.DriverFault.{DriverFault}
 use Rattle.conversation.specs.declared.faults.DriverFault.TheVariants as fault
@@ -76,42 +76,42 @@ held_more pairs more number s t (inr (p, q, e, d, h)) = inr (
 
 module _ (below : CellLaws) (keys : KeyMap) (Pairs : Request → Request → Type 0) (paths : List (List ℕ)) (pairs : List Pair) (number : ℕ)
     (asked_so : (r s : Request) → IsAskedAlike keys paths pairs number r s → Pairs r s)
-    (k j : Session → Talk) (go : (s t : Session) → Held pairs number s t → Good keys Pairs (k s) (j t)) where
+    (k j : Onward) (go : (comes : outcomes.Outcome) (accepted : Accepted) (s t : Session) → Held pairs number s t → Good keys Pairs (k comes accepted s) (j comes accepted t)) where
   abbrev Follow : Talk → Talk → Type 0
   Follow t u = Good keys Pairs t u
 
-  go_free : (s : Session) → IsFree s → Follow (k s) (j s)
-  go_free s i = go s s (inl (refl, i))
+  go_free : (comes : outcomes.Outcome) (accepted : Accepted) (s : Session) → IsFree s → Follow (k comes accepted s) (j comes accepted s)
+  go_free comes accepted s i = go comes accepted s s (inl (refl, i))
 
-  fails : (f : DriverFault) (s t : Session) → Held pairs number s t → Follow (Prints (outcome.Failed f) (k s)) (Prints (outcome.Failed f) (j t))
-  fails f s t h = says keys Pairs (outcome.Failed f) (k s) (j t) (go s t h)
+  fails : (f : DriverFault) (s t : Session) → Held pairs number s t → Follow (Prints (outcome.Failed f) (k (outcome.Failed f) None s)) (Prints (outcome.Failed f) (j (outcome.Failed f) None t))
+  fails f s t h = says keys Pairs (outcome.Failed f) (k (outcome.Failed f) None s) (j (outcome.Failed f) None t) (go (outcome.Failed f) None s t h)
 
   -- ---- what is pending is executed
 
-  abbrev sends : ℕ → List ℕ → (Session → Talk) → List SentParam → Talk
-  sends version text k sent = asked (λ after. Hears after nothing_shown (answered_on paths k)) k (Ok (request.Execute number version text sent)) session.Sent
+  abbrev sends : ℕ → List ℕ → Onward → List SentParam → Talk
+  sends version text k sent = asked true (λ after. Hears after nothing_shown (answered_on true paths k)) k (Ok (request.Execute number version text sent)) session.Sent
 
-  abbrev refuses : (Session → Talk) → DriverFault → Talk
-  refuses k f = asked (λ after. Hears after nothing_shown (answered_on paths k)) k (Err f) session.Idle
+  abbrev refuses : Onward → DriverFault → Talk
+  refuses k f = asked true (λ after. Hears after nothing_shown (answered_on true paths k)) k (Err f) session.Idle
 
-  pair_executes : (p q : Pending) → ArePending pairs number p q → Follow (executing paths number (session.Pending p) k) (executing paths number (session.Pending q) j)
+  pair_executes : (p q : Pending) → ArePending pairs number p q → Follow (executing true paths number (session.Pending p) k) (executing true paths number (session.Pending q) j)
   pair_executes p q h =
       let batch = h.pair.batch in
       let other = h.pair.other in
-      let executes : (x y : Pending) → Type 0 = λ x y. Follow (executing paths number (session.Pending x) k) (executing paths number (session.Pending y) j) in
+      let executes : (x y : Pending) → Type 0 = λ x y. Follow (executing true paths number (session.Pending x) k) (executing true paths number (session.Pending y) j) in
       let first : Pending = record { batch = batch; version = p.version; keys = p.keys; encs = p.encs } in
       let second : Pending = record { batch = other; version = p.version; keys = p.keys; encs = p.encs } in
       let same : p ≡ first = ap (λ (b : Batch). let x : Pending = record { batch = b; version = p.version; keys = p.keys; encs = p.encs } in x) h.batch in
       subst (λ x. executes x q) (sym same) (subst (λ y. executes first y) (sym h.is)
       (sealing_goes below keys Pairs paths p.keys batch.forced batch.params other.params p.encs h.differ.params h.closed (sends p.version batch.text k) (sends p.version other.text j) (refuses k) (refuses j)
       (λ sent others s.
-      asks keys Pairs (request.Execute number p.version batch.text sent) (request.Execute number p.version other.text others) (Hears session.Sent nothing_shown (answered_on paths k)) (Hears session.Sent nothing_shown (answered_on paths j))
+      asks keys Pairs (request.Execute number p.version batch.text sent) (request.Execute number p.version other.text others) (Hears session.Sent nothing_shown (answered_on true paths k)) (Hears session.Sent nothing_shown (answered_on true paths j))
       (asked_so (request.Execute number p.version batch.text sent) (request.Execute number p.version other.text others)
       (inr (h.pair, h.there, h.session, (sym h.session, sym h.session, refl, h.differ.text, refl, s))))
       (sent_goes keys Pairs k j go_free paths))
       (λ f. fails f session.Idle session.Idle (idle_held pairs number))))
 
-  free_executes : (s : Session) → IsFree s → Follow (executing paths number s k) (executing paths number s j)
+  free_executes : (s : Session) → IsFree s → Follow (executing true paths number s k) (executing true paths number s j)
   free_executes session.Idle i = fails fault.NothingPending session.Idle session.Idle (inl (refl, i))
   free_executes session.Sent i = fails fault.NothingPending session.Sent session.Sent (inl (refl, i))
   free_executes (session.Reading columns found count) i = fails fault.NothingPending (session.Reading columns found count) (session.Reading columns found count) (inl (refl, i))
@@ -119,10 +119,10 @@ module _ (below : CellLaws) (keys : KeyMap) (Pairs : Request → Request → Typ
   free_executes (session.Begun batch) i = absurd i
   free_executes (session.Pending p) i = absurd i
 
-  executes : (s t : Session) → Held pairs number s t → Follow (executing paths number s k) (executing paths number t j)
-  executes s t (inl (e, i)) = subst (λ x. Follow (executing paths number s k) (executing paths number x j)) (sym e) (free_executes s i)
+  executes : (s t : Session) → Held pairs number s t → Follow (executing true paths number s k) (executing true paths number t j)
+  executes s t (inl (e, i)) = subst (λ x. Follow (executing true paths number s k) (executing true paths number x j)) (sym e) (free_executes s i)
   executes s t (inr (p, q, e, d, h)) =
-      subst (λ x. Follow (executing paths number x k) (executing paths number t j)) (sym e) (subst (λ x. Follow (executing paths number (session.Pending p) k) (executing paths number x j)) (sym d) (pair_executes p q h))
+      subst (λ x. Follow (executing true paths number x k) (executing true paths number t j)) (sym e) (subst (λ x. Follow (executing true paths number (session.Pending p) k) (executing true paths number x j)) (sym d) (pair_executes p q h))
 
   -- ---- a batch is described
 
@@ -140,15 +140,15 @@ module _ (below : CellLaws) (keys : KeyMap) (Pairs : Request → Request → Typ
     readied_goes : (d : Description) (encs : List (Option Enc)) (o : Option (List ℕ)) → first_open batch.forced batch.params encs ≡ o
         → let x = readied batch d encs o in
         let y = readied other d encs o in
-        Follow (described_on ready k (Said (described_outcome x.answer) x.after)) (described_on again j (Said (described_outcome y.answer) y.after))
+        Follow (described_on true ready k (Said (described_outcome x.answer) x.after)) (described_on true again j (Said (described_outcome y.answer) y.after))
     readied_goes d encs (Some name) e = fails (fault.NotEncrypted name) session.Idle session.Idle (idle_held pairs number)
     readied_goes d encs None e = ready_goes (pending batch d encs) (pending other d encs) (record { pair = pair; there = there; session = own; batch = refl; is = refl; differ = differ; closed = e })
 
     abbrev HeardAlike : (taken : ℕ) (entropy : List ℕ) → Listened → Listened → Type 0
-    HeardAlike taken entropy x y = AreDrivenAlike Pairs (driven_on (λ heard n left. drive keys (described_on ready k heard) n entropy left) entropy x) (driven_on (λ heard n left. drive keys (described_on again j heard) n entropy left) entropy y)
+    HeardAlike taken entropy x y = AreDrivenAlike Pairs (driven_on (λ heard n left. drive keys (described_on true ready k heard) n entropy left) entropy x) (driven_on (λ heard n left. drive keys (described_on true again j heard) n entropy left) entropy y)
 
     abbrev heard_at : Batch → ℕ → List Reply → Option (Turn DescribeAnswer) → Listened
-    heard_at b taken replies o = heard_one (λ after more. listen replies after more (suc taken)) None taken replies (heard_description o)
+    heard_at b taken replies o = heard_one (λ after more. listen broken replies after more (suc taken)) None taken replies (heard_description o)
 
     described_goes : (taken : ℕ) (entropy : List ℕ) → AreBytes entropy → (replies : List Reply) (d : Description) (o : Option (List (Option Enc))) → encs_of batch.params d.params ≡ o
         → HeardAlike taken entropy (heard_at batch taken replies (described_as batch d o)) (heard_at other taken replies (described_as other d o))
@@ -159,18 +159,18 @@ module _ (below : CellLaws) (keys : KeyMap) (Pairs : Request → Request → Typ
         subst (λ o. HeardAlike taken entropy (heard_at batch taken replies (described_as batch d (Some encs))) (heard_at other taken replies (Some (readied other d encs o)))) (sym same)
         (readied_goes d encs (first_open batch.forced batch.params encs) refl (suc taken) entropy replies b)
 
-    description_goes : Follow (Hears (session.Begun batch) nothing_shown (described_on ready k)) (Hears (session.Begun other) nothing_shown (described_on again j))
+    description_goes : Follow (Hears (session.Begun batch) nothing_shown (described_on true ready k)) (Hears (session.Begun other) nothing_shown (described_on true again j))
     description_goes taken entropy [] b = missed_goes keys Pairs None entropy taken
     description_goes taken entropy (reply.Described d ∷ replies) b =
         subst (λ o. HeardAlike taken entropy (heard_at batch taken replies (described_as batch d (encs_of batch.params d.params))) (heard_at other taken replies (described_as other d o)))
         (sym (encs_same batch.forced batch.params other.params differ.params d.params)) (described_goes taken entropy b replies d (encs_of batch.params d.params) refl)
-    description_goes taken entropy (reply.Refused f ∷ replies) b = says keys Pairs (outcome.Refused f) (k session.Idle) (j session.Idle) (go_free session.Idle tt) (suc taken) entropy replies b
+    description_goes taken entropy (reply.Refused f ∷ replies) b = says keys Pairs (outcome.Refused f) (k (outcome.Refused f) None session.Idle) (j (outcome.Refused f) None session.Idle) (go_free (outcome.Refused f) None session.Idle tt) (suc taken) entropy replies b
     description_goes taken entropy (reply.Columns header ∷ replies) b = missed_goes keys Pairs None entropy taken
     description_goes taken entropy (reply.Row atoms ∷ replies) b = missed_goes keys Pairs None entropy taken
     description_goes taken entropy (reply.Ended done ∷ replies) b = missed_goes keys Pairs None entropy taken
 
-    abbrev begins_so : Batch → (Pending → Talk) → (Session → Talk) → Option DriverFault → Talk
-    begins_so batch ready k o = let t = begun number (unless o batch) in asked (λ after. Hears after nothing_shown (described_on ready k)) k t.answer t.after
+    abbrev begins_so : Batch → (Pending → Talk) → Onward → Option DriverFault → Talk
+    begins_so batch ready k o = let t = begun number (unless o batch) in asked true (λ after. Hears after nothing_shown (described_on true ready k)) k t.answer t.after
 
     begun_goes : (o : Option DriverFault) → Follow (begins_so batch ready k o) (begins_so other again j o)
     begun_goes (Some f) = fails f session.Idle session.Idle (idle_held pairs number)
@@ -178,10 +178,10 @@ module _ (below : CellLaws) (keys : KeyMap) (Pairs : Request → Request → Typ
         let declares : List Param → Request = λ ps. request.Describe number batch.text (map (λ (p : Param). p.declaration) ps) in
         let same : request.Describe number other.text (map (λ (p : Param). p.declaration) other.params) ≡ declares batch.params =
         ap (λ text. request.Describe number text (map (λ (p : Param). p.declaration) other.params)) differ.text ∙ ap (λ ds. request.Describe number batch.text ds) (declarations_same batch other differ) in
-        asks keys Pairs (declares batch.params) (request.Describe number other.text (map (λ (p : Param). p.declaration) other.params)) (Hears (session.Begun batch) nothing_shown (described_on ready k)) (Hears (session.Begun other) nothing_shown (described_on again j))
+        asks keys Pairs (declares batch.params) (request.Describe number other.text (map (λ (p : Param). p.declaration) other.params)) (Hears (session.Begun batch) nothing_shown (described_on true ready k)) (Hears (session.Begun other) nothing_shown (described_on true again j))
         (asked_so (declares batch.params) (request.Describe number other.text (map (λ (p : Param). p.declaration) other.params)) (inl (tt, same))) description_goes
 
-    free_begins : (s : Session) → IsFree s → Follow (describing number batch s ready k) (describing number other s again j)
+    free_begins : (s : Session) → IsFree s → Follow (describing true number batch s ready k) (describing true number other s again j)
     free_begins session.Idle i =
         subst (λ o. Follow (begins_so batch ready k (why_unfit batch)) (begins_so other again j o)) (sym (unfit_same batch other differ)) (begun_goes (why_unfit batch))
     free_begins session.Sent i = fails fault.StillPending session.Sent session.Sent (inl (refl, i))
@@ -190,15 +190,17 @@ module _ (below : CellLaws) (keys : KeyMap) (Pairs : Request → Request → Typ
     free_begins (session.Begun batch) i = absurd i
     free_begins (session.Pending p) i = absurd i
 
-    begins : (s t : Session) → Held pairs number s t → Follow (describing number batch s ready k) (describing number other t again j)
-    begins s t (inl (e, i)) = subst (λ x. Follow (describing number batch s ready k) (describing number other x again j)) (sym e) (free_begins s i)
+    begins : (s t : Session) → Held pairs number s t → Follow (describing true number batch s ready k) (describing true number other t again j)
+    begins s t (inl (e, i)) = subst (λ x. Follow (describing true number batch s ready k) (describing true number other x again j)) (sym e) (free_begins s i)
     begins s t (inr (p, q, e, d, h)) =
-        subst (λ x. Follow (describing number batch x ready k) (describing number other t again j)) (sym e)
-        (subst (λ x. Follow (describing number batch (session.Pending p) ready k) (describing number other x again j)) (sym d)
+        subst (λ x. Follow (describing true number batch x ready k) (describing true number other t again j)) (sym e)
+        (subst (λ x. Follow (describing true number batch (session.Pending p) ready k) (describing true number other x again j)) (sym d)
         (fails fault.StillPending (session.Pending p) (session.Pending q) (inr (p, q, refl, refl, h))))
 
+-- half a batch is described to both
+module _ (keys : KeyMap) (Pairs : Request → Request → Type 0) (pairs : List Pair) (number : ℕ) (k j : Session → Talk) (go : (s t : Session) → Held pairs number s t → Good keys Pairs (k s) (j t)) where
   waits : (p q : Pending) → ArePending pairs number p q
-      → Follow (Prints (outcome.Described (described_params p.keys (uses_of p))) (k (session.Pending p))) (Prints (outcome.Described (described_params q.keys (uses_of q))) (j (session.Pending q)))
+      → Good keys Pairs (Prints (outcome.Described (described_params p.keys (uses_of p))) (k (session.Pending p))) (Prints (outcome.Described (described_params q.keys (uses_of q))) (j (session.Pending q)))
   waits p q h =
       let batch = h.pair.batch in
       let told : List (Option Enc) → List Param → outcomes.Outcome = λ encs ps. outcome.Described (described_params p.keys (uses_in ps encs)) in
@@ -206,7 +208,7 @@ module _ (below : CellLaws) (keys : KeyMap) (Pairs : Request → Request → Typ
       ap (λ (x : Pending). outcome.Described (described_params x.keys (uses_of x))) h.is
       ∙ ap (λ x. outcome.Described x) (told_same batch.forced p.keys batch.params h.pair.other.params h.differ.params p.encs)
       ∙ ap (λ (b : Batch). told p.encs b.params) (sym h.batch) in
-      subst (λ o. Follow (Prints (outcome.Described (described_params p.keys (uses_of p))) (k (session.Pending p))) (Prints o (j (session.Pending q)))) (sym is)
+      subst (λ o. Good keys Pairs (Prints (outcome.Described (described_params p.keys (uses_of p))) (k (session.Pending p))) (Prints o (j (session.Pending q)))) (sym is)
       (says keys Pairs (outcome.Described (described_params p.keys (uses_of p))) (k (session.Pending p)) (j (session.Pending q)) (go (session.Pending p) (session.Pending q) (inr (p, q, refl, refl, h))))
 
 -- a turn, after which its own batches are among the pairs
@@ -219,15 +221,15 @@ module _ (below : CellLaws) (keys : KeyMap) (Pairs : Request → Request → Typ
   turn_goes (act.Whole batch) (act.Whole other) d s t h asked_so go =
       let pair : Pair = record { session = number; batch = batch; other = other } in
       let pairs = before ++ pair ∷ [] in
-      begins below keys Pairs paths pairs number asked_so k j go pair (Contains-append_right before (pair ∷ []) pair (0, omega arith, refl)) refl d
-      (λ p. executing paths number (session.Pending p) k) (λ p. executing paths number (session.Pending p) j)
-      (pair_executes below keys Pairs paths pairs number asked_so k j go) s t (held_more before (pair ∷ []) number s t h)
+      begins below keys Pairs paths pairs number asked_so (after_all k) (after_all j) (λ comes accepted. go) pair (Contains-append_right before (pair ∷ []) pair (0, omega arith, refl)) refl d
+      (λ p. executing true paths number (session.Pending p) (after_all k)) (λ p. executing true paths number (session.Pending p) (after_all j))
+      (pair_executes below keys Pairs paths pairs number asked_so (after_all k) (after_all j) (λ comes accepted. go)) s t (held_more before (pair ∷ []) number s t h)
   turn_goes (act.Half batch) (act.Half other) d s t h asked_so go =
       let pair : Pair = record { session = number; batch = batch; other = other } in
       let pairs = before ++ pair ∷ [] in
-      begins below keys Pairs paths pairs number asked_so k j go pair (Contains-append_right before (pair ∷ []) pair (0, omega arith, refl)) refl d
+      begins below keys Pairs paths pairs number asked_so (after_all k) (after_all j) (λ comes accepted. go) pair (Contains-append_right before (pair ∷ []) pair (0, omega arith, refl)) refl d
       (λ p. Prints (outcome.Described (described_params p.keys (uses_of p))) (k (session.Pending p))) (λ p. Prints (outcome.Described (described_params p.keys (uses_of p))) (j (session.Pending p)))
-      (waits below keys Pairs paths pairs number asked_so k j go) s t (held_more before (pair ∷ []) number s t h)
+      (waits keys Pairs pairs number k j go) s t (held_more before (pair ∷ []) number s t h)
   turn_goes act.Execute act.Execute d s t h asked_so go =
-      executes below keys Pairs paths (before ++ []) number asked_so k j go s t (held_more before [] number s t h)
+      executes below keys Pairs paths (before ++ []) number asked_so (after_all k) (after_all j) (λ comes accepted. go) s t (held_more before [] number s t h)
   turn_goes a b d s t h asked_so go = absurd d

@@ -21,7 +21,7 @@ use Rattle.catalog.specs.declared.keys.ColumnKey.{ColumnKey}
 use Rattle.resolve.specs.Laws.{BoundStatementsAre}
 use Rattle.transactions.specs.Counted.{Execution, execution, step_of}
 use Rattle.transactions.specs.Stores.{ask_of, seen_by, transact}
-use Rattle.transactions.proofs.Interface.{all_at, all_set, same_execution, shared_by}
+use Rattle.transactions.proofs.Interface.{all_at, all_set, none_begun, same_execution, shared_by, transact_begun, AreBegun}
 use Rattle.statement_analysis.specs.Describing.{Meant, understood, describe}
 use Rattle.server_core.specs.Serve.{State, catalog_of, empty_state}
 use Rattle.server_core.proofs.Interface.{parts_of}
@@ -39,7 +39,7 @@ use Rattle.plain_meaning.specs.Alike.{Fits, FitThroughout, GivesOnly, Throughout
 use Rattle.plain_meaning.specs.Reference.{Came, nothing_held, held_at, with_held, why_unopened, declarations_of, stepped, executed_with, execution_of, pending, unless_open, readied, described, begun, begins, executes, waits, means}
 use Rattle.single_values.specs.Single.{TextIsOfSingle, BatchIsOfSingle, IsSingleStep}
 use Rattle.single_values.specs.Laws.{SingleValuesAreAlike}
-use Rattle.single_values.proofs.Fixed.{AreAs, Goes, IsAs, found_all, stays}
+use Rattle.single_values.proofs.Fixed.{AreAs, Goes, IsAs, found_all, same_keys, stays}
 use Rattle.single_values.proofs.Steps.{binds_one, step_leads}
 
 abbrev shared_of : State → Catalog
@@ -52,9 +52,10 @@ HoldsSingle (Some p) = TextIsOfSingle p.batch.text
 
 record Comes (state : State) (told : ℕ → KeyValue) (c : Came) : Type 0 where
   goes : Goes (shared_of state) told (shared_of c.state)
+  since : AreBegun c.state
   held : HoldsSingle c.held
 
-module _ (bound : BoundStatementsAre) (keys : KeyMap) (trusted : List (List ℕ)) (state : State) (number : ℕ) (told : ℕ → KeyValue) (k : AreAs (shared_of state) told) where
+module _ (bound : BoundStatementsAre) (keys : KeyMap) (trusted : List (List ℕ)) (state : State) (number : ℕ) (told : ℕ → KeyValue) (k : AreAs (shared_of state) told) (since : AreBegun state) where
   here : Goes (shared_of state) told (shared_of state)
   here = stays (shared_of state) told k
 
@@ -71,32 +72,39 @@ module _ (bound : BoundStatementsAre) (keys : KeyMap) (trusted : List (List ℕ)
       let may : MayDefine seen b.statement = (bound seen parts.statement declarations b parts.binds).definable in
       let gives = binds_one seen parts.statement declarations b (one parts.statement parts.reads) parts.binds in
       let e : Execution = execution b meant.encs atoms in
-      shared_by (Goes (shared_of state) told) state number (ask_of e) here
+      shared_by (Goes (shared_of state) told) state number (ask_of e) since here
       (λ x is none.
       let same : e ≡ x = same_execution b.statement e x is in
       let in_shared = subst (λ c. MayDefine c b.statement) (ap (λ o. (seen_by state.shared o).world.catalog) none) may in
       subst (λ (x : Execution). Goes (shared_of state) told (step_of state.shared x).world.catalog) same (step_leads state.shared.world told k b meant.encs atoms in_shared gives))
+      (λ own next. same_keys (shared_of state) told k own next.masters next.keys next.next_id)
 
   -- ---- a batch
 
   module _ (p : Pending) (one : TextIsOfSingle p.batch.text) where
     stepped_comes : (r : Result Meant SqlFault) → understood seen p.batch.text (declarations_of p.batch) ≡ r → Comes state told (stepped keys trusted state number p.batch r)
-    stepped_comes (Ok meant) u = record { goes = understood_goes p.batch.text (declarations_of p.batch) meant (map (λ p. plain_atom p.value) p.batch.params) one u; held = tt }
-    stepped_comes (Err f) u = record { goes = here; held = tt }
+    stepped_comes (Ok meant) u =
+        let atoms = map (λ p. plain_atom p.value) p.batch.params in
+        record {
+          goes = understood_goes p.batch.text (declarations_of p.batch) meant atoms one u;
+          since = transact_begun state number (ask_of (execution meant.bound meant.encs atoms)) since;
+          held = tt;
+        }
+    stepped_comes (Err f) u = record { goes = here; since = since; held = tt }
 
     version_comes : (t : Bool) (moved : Came) → Comes state told moved → Comes state told (cond t (stepped keys trusted state number p.batch (understood seen p.batch.text (declarations_of p.batch))) moved)
     version_comes true moved h = stepped_comes (understood seen p.batch.text (declarations_of p.batch)) refl
     version_comes false moved h = h
 
     executed_comes : (o : Option DriverFault) → Comes state told (executed_with keys trusted state number p o)
-    executed_comes None = version_comes (p.version == seen.version) _ (record { goes = here; held = tt })
-    executed_comes (Some f) = record { goes = here; held = tt }
+    executed_comes None = version_comes (p.version == seen.version) _ (record { goes = here; since = since; held = tt })
+    executed_comes (Some f) = record { goes = here; since = since; held = tt }
 
     execution_comes : Comes state told (execution_of keys trusted state number p)
     execution_comes = executed_comes (why_unopened keys trusted p.keys (map (λ u. u.enc) (uses_of p)))
 
   unless_comes : (o : Option (List ℕ)) (c : Came) → Comes state told c → Comes state told (unless_open state o c)
-  unless_comes (Some name) c h = record { goes = here; held = tt }
+  unless_comes (Some name) c h = record { goes = here; since = since; held = tt }
   unless_comes None c h = h
 
   readied_comes : (ready : Pending → Came) (p : Pending) → Comes state told (ready p) → Comes state told (readied state ready p)
@@ -105,30 +113,30 @@ module _ (bound : BoundStatementsAre) (keys : KeyMap) (trusted : List (List ℕ)
   module _ (batch : Batch) (one : TextIsOfSingle batch.text) (ready : Pending → Came) (go : (d : Description) → Comes state told (ready (pending batch d))) where
     described_comes : (r : Result Description SqlFault) → Comes state told (described state batch ready r)
     described_comes (Ok d) = go d
-    described_comes (Err f) = record { goes = here; held = tt }
+    described_comes (Err f) = record { goes = here; since = since; held = tt }
 
     begun_comes : (o : Option DriverFault) → Comes state told (begun state number batch ready o)
     begun_comes None = described_comes (describe seen batch.text (declarations_of batch))
-    begun_comes (Some f) = record { goes = here; held = tt }
+    begun_comes (Some f) = record { goes = here; since = since; held = tt }
 
     begins_comes : (before : Option Pending) → HoldsSingle before → Comes state told (begins state number batch ready before)
     begins_comes None h = begun_comes (why_unfit batch)
-    begins_comes (Some p) h = record { goes = here; held = h }
+    begins_comes (Some p) h = record { goes = here; since = since; held = h }
 
   executes_comes : (before : Option Pending) → HoldsSingle before → Comes state told (executes keys trusted state number before)
   executes_comes (Some p) h = execution_comes p h
-  executes_comes None h = record { goes = here; held = tt }
+  executes_comes None h = record { goes = here; since = since; held = tt }
 
 -- ---- a turn
 
-means_comes : BoundStatementsAre → (keys : KeyMap) (trusted : List (List ℕ)) (number : ℕ) (act : Act) → OfBatch BatchIsOfSingle act → (before : Option Pending) → HoldsSingle before → (state : State) (told : ℕ → KeyValue) → AreAs (shared_of state) told
+means_comes : BoundStatementsAre → (keys : KeyMap) (trusted : List (List ℕ)) (number : ℕ) (act : Act) → OfBatch BatchIsOfSingle act → (before : Option Pending) → HoldsSingle before → (state : State) (told : ℕ → KeyValue) → AreAs (shared_of state) told → AreBegun state
     → Comes state told (means keys trusted number act before state)
-means_comes bound keys trusted number (Whole batch) one before h state told k =
-    begins_comes bound keys trusted state number told k batch one (readied state (execution_of keys trusted state number))
-    (λ d. readied_comes bound keys trusted state number told k (execution_of keys trusted state number) (pending batch d) (execution_comes bound keys trusted state number told k (pending batch d) one)) before h
-means_comes bound keys trusted number (Half batch) one before h state told k =
-    begins_comes bound keys trusted state number told k batch one (readied state (waits state)) (λ d. readied_comes bound keys trusted state number told k (waits state) (pending batch d) (record { goes = here bound keys trusted state number told k; held = one })) before h
-means_comes bound keys trusted number Execute one before h state told k = executes_comes bound keys trusted state number told k before h
+means_comes bound keys trusted number (Whole batch) one before h state told k since =
+    begins_comes bound keys trusted state number told k since batch one (readied state (execution_of keys trusted state number))
+    (λ d. readied_comes bound keys trusted state number told k since (execution_of keys trusted state number) (pending batch d) (execution_comes bound keys trusted state number told k since (pending batch d) one)) before h
+means_comes bound keys trusted number (Half batch) one before h state told k since =
+    begins_comes bound keys trusted state number told k since batch one (readied state (waits state)) (λ d. readied_comes bound keys trusted state number told k since (waits state) (pending batch d) (record { goes = here bound keys trusted state number told k since; since = since; held = one })) before h
+means_comes bound keys trusted number Execute one before h state told k since = executes_comes bound keys trusted state number told k since before h
 
 -- ---- all steps
 
@@ -143,18 +151,18 @@ settled c told final same k i d lt =
     let key = k i d lt in
     (key.0, key.1 ∙ ap Some (sym (same (get_or c.keys i d).id key.0)), key.2)
 
-settles : BoundStatementsAre → (keys : KeyMap) (steps : List Step) → All IsSingleStep steps → (trusted : List (List ℕ)) (holds : List (Option Pending)) → All HoldsSingle holds → (state : State) (told : ℕ → KeyValue) → AreAs (shared_of state) told
+settles : BoundStatementsAre → (keys : KeyMap) (steps : List Step) → All IsSingleStep steps → (trusted : List (List ℕ)) (holds : List (Option Pending)) → All HoldsSingle holds → (state : State) (told : ℕ → KeyValue) → AreAs (shared_of state) told → AreBegun state
     → Settles keys steps trusted holds state told
-settles bound keys [] one trusted holds h state told k = record { final = told; same = λ id lt. refl; throughout = k }
-settles bound keys (Trust path ∷ steps) one trusted holds h state told k =
-    let rest = settles bound keys steps (All-tail IsSingleStep (Trust path) steps one) (trusted ++ path ∷ []) holds h state told k in
+settles bound keys [] one trusted holds h state told k since = record { final = told; same = λ id lt. refl; throughout = k }
+settles bound keys (Trust path ∷ steps) one trusted holds h state told k since =
+    let rest = settles bound keys steps (All-tail IsSingleStep (Trust path) steps one) (trusted ++ path ∷ []) holds h state told k since in
     record { final = rest.final; same = rest.same; throughout = rest.throughout }
-settles bound keys (Turn number act ∷ steps) one trusted holds h state told k =
+settles bound keys (Turn number act ∷ steps) one trusted holds h state told k since =
     let step = Turn number act in
-    let c = means_comes bound keys trusted number act (All-head IsSingleStep step steps one) (held_at holds number) (all_at HoldsSingle holds (number - 1) None h tt) state told k in
+    let c = means_comes bound keys trusted number act (All-head IsSingleStep step steps one) (held_at holds number) (all_at HoldsSingle holds (number - 1) None h tt) state told k since in
     let now = means keys trusted number act (held_at holds number) state in
     let g = c.goes in
-    let rest = settles bound keys steps (All-tail IsSingleStep step steps one) trusted (with_held holds number now.held) (all_set HoldsSingle holds (number - 1) now.held h c.held) now.state g.later g.are in
+    let rest = settles bound keys steps (All-tail IsSingleStep step steps one) trusted (with_held holds number now.held) (all_set HoldsSingle holds (number - 1) now.held h c.held) now.state g.later g.are c.since in
     let same : (id : ℕ) → id < (shared_of state).next_id → rest.final id ≡ told id = λ id lt. let le = g.next in rest.same id (omega (arith, lt, le)) ∙ g.same id lt in
     record { final = rest.final; same = same; throughout = (settled (shared_of state) told rest.final same k, rest.throughout) }
 
@@ -215,5 +223,5 @@ untold id = record { path = []; wrapped = [] }
 
 pub single_values_are_alike : BoundStatementsAre → SingleValuesAreAlike
 single_values_are_alike bound keys steps one =
-    let s = settles bound keys steps one [] nothing_held (none_held 64) empty_state untold (All-nil (IsAs (shared_of empty_state) untold)) in
+    let s = settles bound keys steps one [] nothing_held (none_held 64) empty_state untold (All-nil (IsAs (shared_of empty_state) untold)) (none_begun empty_state.shared) in
     (key_of_number keys s.final, fit_throughout keys s.final steps [] nothing_held empty_state s.throughout)

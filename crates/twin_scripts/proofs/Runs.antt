@@ -22,7 +22,7 @@ use Rattle.wire_messages.specs.Messages.{Description}
 use Rattle.conversation.specs.Sessions as conversation
 use Rattle.conversation.specs.Sessions.{encs_of, first_open, session_at, with_session, begun, named_enc, described_params}
 use Rattle.conversation.specs.Talk.{Talk, Hears, Prints, Said, described_outcome, nothing_shown}
-use Rattle.conversation.specs.Turns.{asked, answered_on, described_on, describing, executing}
+use Rattle.conversation.specs.Turns.{after_all, asked, answered_on, described_on, describing, executing}
 use Rattle.conversation.specs.declared.faults.DriverFault.{DriverFault}
 use Rattle.conversation.specs.declared.faults.DriverFault.TheVariants.{StillPending, NothingPending, NotEncrypted}
 use Rattle.conversation.specs.declared.outcomes.Outcome as outcomes
@@ -141,7 +141,7 @@ module _ (laws : LawsBelow) (keys : KeyMap) (key_for : ℕ → List ℕ) (litera
         says laws keys key_for literals twins more w v [] [] own comes second (k (resting after)) (j (resting later)) o (go after later w v walk st (stays_so Always w number after held) same rest.1)
 
     abbrev awaiting : (Session → Talk) → Talk
-    awaiting k = Hears session.Sent nothing_shown (answered_on trusted k)
+    awaiting k = Hears session.Sent nothing_shown (answered_on true trusted (after_all k))
 
     -- ---- what is pending is executed
 
@@ -226,12 +226,12 @@ module _ (laws : LawsBelow) (keys : KeyMap) (key_for : ℕ → List ℕ) (litera
       asked_goes false e rest c = moved_goes rest ((refl, refl, refl, c), (refl, tt))
 
     executing_goes : (p : Pending) → HoldsBatch Always here p → OpenAs keys key_for p.keys → (qs : List Param) → AllTwinParams (Listing literals) p.encs p.batch.params qs → Each IsSendableParam qs
-        → RestOf (plain.execution_of keys trusted walk number p) → Follow (executing trusted number (session.Pending p) k) (executing trusted number (session.Pending (twin_of p qs)) j)
+        → RestOf (plain.execution_of keys trusted walk number p) → Follow (executing true trusted number (session.Pending p) (after_all k)) (executing true trusted number (session.Pending (twin_of p qs)) (after_all j))
     executing_goes p held told qs params sendable rest =
         let q = twin_of p qs in
-        let onward : (Session → Talk) → Session → Talk = λ k after. Hears after nothing_shown (answered_on trusted k) in
-        let sends : (Session → Talk) → List SentParam → Talk = λ k params. asked (onward k) k (Ok (request.Execute number p.version p.batch.text params)) session.Sent in
-        let fails : (Session → Talk) → DriverFault → Talk = λ k f. asked (onward k) k (Err f) session.Idle in
+        let onward : (Session → Talk) → Session → Talk = λ k after. Hears after nothing_shown (answered_on true trusted (after_all k)) in
+        let sends : (Session → Talk) → List SentParam → Talk = λ k params. asked true (onward k) (after_all k) (Ok (request.Execute number p.version p.batch.text params)) session.Sent in
+        let fails : (Session → Talk) → DriverFault → Talk = λ k f. asked true (onward k) (after_all k) (Err f) session.Idle in
         let uses = uses_twins (Listing literals) p.encs p.batch.params qs params in
         sealing_goes trusted (AnswersOf keys trusted) Follow (opens laws keys key_for literals twins (own ∷ more) w v [] [] trusted) p.keys (draws laws keys key_for literals twins (own ∷ more) w v [] []) (uses_of p) (uses_in qs p.encs) (uses_alike literals twins (uses_of p) (uses_in qs p.encs) uses)
         (sends k) (sends j) (fails k) (fails j)
@@ -265,7 +265,7 @@ module _ (laws : LawsBelow) (keys : KeyMap) (key_for : ℕ → List ℕ) (litera
       two_batch = record { text = text; params = qs; forced = forced }
 
       abbrev described_talk : Batch → (Pending → Talk) → (Session → Talk) → Talk
-      described_talk one_batch ready k = Hears (session.Begun one_batch) nothing_shown (described_on ready k)
+      described_talk one_batch ready k = Hears (session.Begun one_batch) nothing_shown (described_on true ready (after_all k))
 
       -- the two_batch asks for the same description
       abbrev DescribesBy : Catalog → List ParamDecl → Type 0
@@ -287,7 +287,7 @@ module _ (laws : LawsBelow) (keys : KeyMap) (key_for : ℕ → List ℕ) (litera
           let s = conversation.readied one_batch d encs o in
           let t = conversation.readied two_batch d encs o in
           (RestOf (readied p) → Follow (ready p) (again (twin_of p qs))) → RestOf (plain.readied walk readied p)
-          → Follow (described_on ready k (Said (described_outcome s.answer) s.after)) (described_on again j (Said (described_outcome t.answer) t.after))
+          → Follow (described_on true ready (after_all k) (Said (described_outcome s.answer) s.after)) (described_on true again (after_all j) (Said (described_outcome t.answer) t.after))
       readied_goes d encs None e h rest = h (rw e at rest)
       readied_goes d encs (Some name) e h rest = prints (outcome.Failed (NotEncrypted name)) (outcome.Failed (NotEncrypted name)) refl None None nothing tt (rw e at rest)
 
@@ -316,7 +316,7 @@ module _ (laws : LawsBelow) (keys : KeyMap) (key_for : ℕ → List ℕ) (litera
       begun_goes : (o : Option DriverFault) → why_unfit one_batch ≡ o → AllTwinParams (Listing literals) (encs_where_fit o (encs_of_description one_batch (describe here text (declarations_of one_batch)))) ps qs → RestOf (plain.begun walk number one_batch (plain.readied walk readied) o)
           → let t = begun number (unless o one_batch) in
           let u = begun number (unless (why_unfit two_batch) two_batch) in
-          Follow (asked (λ after. Hears after nothing_shown (described_on ready k)) k t.answer t.after) (asked (λ after. Hears after nothing_shown (described_on again j)) j u.answer u.after)
+          Follow (asked true (λ after. Hears after nothing_shown (described_on true ready (after_all k))) (after_all k) t.answer t.after) (asked true (λ after. Hears after nothing_shown (described_on true again (after_all j))) (after_all j) u.answer u.after)
       begun_goes (Some f) e params rest =
           let same : qs ≡ ps = untold_same (Listing literals) ps qs params in
           let unfit : why_unfit two_batch ≡ Some f = ap (λ qs. why_unfit (record { text = text; params = qs; forced = forced })) same ∙ e in
@@ -328,7 +328,7 @@ module _ (laws : LawsBelow) (keys : KeyMap) (key_for : ℕ → List ℕ) (litera
           λ n m left right a b. rw fit (subst Describes (sym same) (there_too (described_goes e fit (understood here text (declarations_of one_batch)) refl same params (subst (λ (c : Catalog). RestOf (plain.described walk one_batch (plain.readied walk readied) (describe c text (declarations_of one_batch)))) walk_is rest))) n m left right a b)
 
       begins_goes : (before other : Option Pending) → Held before → AreTwinHeld keys key_for literals before other → AllTwinParams (Listing literals) (encs_described (catalog_of walk number) one_batch before) ps qs → RestOf (plain.begins walk number one_batch (plain.readied walk readied) before)
-          → Follow (describing number one_batch (resting before) ready k) (describing number two_batch (resting other) again j)
+          → Follow (describing true number one_batch (resting before) ready (after_all k)) (describing true number two_batch (resting other) again (after_all j))
       begins_goes None None h z params rest = begun_goes (why_unfit one_batch) refl (subst (λ (c : Catalog). AllTwinParams (Listing literals) (encs_where_fit (why_unfit one_batch) (encs_of_description one_batch (describe c text (declarations_of one_batch)))) ps qs) walk_is params) rest
       begins_goes (Some p) (Some q) h z params rest = prints (outcome.Failed StillPending) (outcome.Failed StillPending) refl (Some p) (Some q) h z rest
       begins_goes before other h z params rest = absurd z
@@ -339,10 +339,10 @@ module _ (laws : LawsBelow) (keys : KeyMap) (key_for : ℕ → List ℕ) (litera
     pending_same p q z = ap (λ x. session.Pending x) z.is
 
     executes_goes : (before other : Option Pending) → Held before → AreTwinHeld keys key_for literals before other
-        → RestOf (plain.executes keys trusted walk number before) → Follow (executing trusted number (resting before) k) (executing trusted number (resting other) j)
+        → RestOf (plain.executes keys trusted walk number before) → Follow (executing true trusted number (resting before) (after_all k)) (executing true trusted number (resting other) (after_all j))
     executes_goes None None h z rest = prints (outcome.Failed NothingPending) (outcome.Failed NothingPending) refl None None nothing tt rest
     executes_goes (Some p) (Some q) h z rest =
-        subst (λ x. Follow (executing trusted number (session.Pending p) k) (executing trusted number x j)) (sym (pending_same p q z)) (executing_goes p h z.told q.batch.params z.params z.sendable rest)
+        subst (λ x. Follow (executing true trusted number (session.Pending p) (after_all k)) (executing true trusted number x (after_all j))) (sym (pending_same p q z)) (executing_goes p h z.told q.batch.params z.params z.sendable rest)
     executes_goes before other h z rest = absurd z
 
   same_batch : (batch other : Batch) → other.text ≡ batch.text → other.forced ≡ batch.forced → record { text = batch.text; params = other.params; forced = batch.forced } ≡ other
@@ -361,7 +361,7 @@ module _ (laws : LawsBelow) (keys : KeyMap) (key_for : ℕ → List ℕ) (litera
       let at : Batch → Type 0 = λ c. AreFollowed laws keys key_for literals twins (own ∷ more) w v [] [] (turn trusted number (acts.Whole batch) (resting before) k) (turn trusted number (acts.Whole c) (resting later) j) in
       subst at (same_batch batch other t.0 t.1)
       (begins_goes trusted w v walk number fits st k j own more Rest go batch.text batch.forced batch.params other.params within (twin_few (Listing literals) encs batch.text batch.forced batch.params other.params t.2 within) proper
-      (twins_proper literals twins encs batch.params other.params proper t.2) (λ p. executing trusted number (session.Pending p) k) (λ p. executing trusted number (session.Pending p) j) (plain.execution_of keys trusted walk number)
+      (twins_proper literals twins encs batch.params other.params proper t.2) (λ p. executing true trusted number (session.Pending p) (after_all k)) (λ p. executing true trusted number (session.Pending p) (after_all j)) (plain.execution_of keys trusted walk number)
       (λ p qs held same told params sendable rest. executing_goes trusted w v walk number fits st k j own more Rest go p held told qs params sendable rest) before later h z t.2 rest)
   turn_goes trusted number (acts.Half batch) (acts.Half other) w v walk fits st k j own more Rest go within proper before later h z t rest =
       let encs = encs_described (catalog_of walk number) batch before in

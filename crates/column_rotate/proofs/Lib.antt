@@ -1,0 +1,4 @@
+mod Named
+mod Rotated
+mod Rows
+mod Spelled

@@ -1,0 +1,10 @@
+mod Asked
+mod Binding
+mod Columns
+mod InsertBinding
+mod Inserting
+mod Lexing
+mod Meaning
+mod Parsing
+mod Spelling
+mod Putting

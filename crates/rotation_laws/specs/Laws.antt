@@ -1,0 +1,125 @@
+-- What the texts of a rotation mean to a server.
+use Rattle.std.specs.Prelude.{◌≡◌, ◌≢◌, ◌≤◌, ℕ, ◌+◌, List, [], ◌∷◌, length, map, true, Some, None, Ok, Result, IsSome, encode_utf8_all}
+use Rattle.std.specs.Str.{all_scalars}
+use Rattle.ae_base.specs.Names.{IsName, all_differ}
+use Rattle.ae_base.specs.declared.batches.Batch.{Batch}
+use Rattle.ae_base.specs.declared.batches.ParamDecl.{ParamDecl}
+use Rattle.ae_base.specs.declared.values.Value.{Value}
+use Rattle.wire_messages.specs.declared.columns.SentColumn.{SentColumn}
+use Rattle.ae_base.specs.declared.tables.TableDef.{TableDef}
+use Rattle.ae_base.specs.declared.faults.SqlFault.{SqlFault}
+use Rattle.sql_tree.specs.declared.bound.BoundDefinition.TheVariants as made
+use Rattle.sql_tree.specs.declared.statements.Definition.TheVariants as definition
+use Rattle.sql_tree.specs.declared.statements.TransactionControl.TheVariants as transaction
+use Rattle.sql_tree.specs.Bound.{BoundInsert, BoundQuery}
+use Rattle.sql_tree.specs.Bound as bound
+use Rattle.sql_tree.specs.Statements.{Operand, Query, Statement}
+use Rattle.sql_tree.specs.Operands as operands
+use Rattle.sql_tree.specs.Statements as tree
+use Rattle.sql_grammar.specs.Texts.{statement_in}
+use Rattle.catalog.specs.Catalogs.{Catalog, table_named}
+use Rattle.statement_analysis.specs.Describing.{Meant, understood}
+use Rattle.transactions.specs.Rotating.{IsWholeQuery, IsRowInsert}
+use Rattle.column_rotate.specs.Texts.{begins, commits, rolls_back, param_name, puts, reads_all, replaces}
+
+-- what the text of a batch parses to
+abbrev pub parsed : Batch → Result Statement SqlFault
+parsed batch = statement_in (encode_utf8_all batch.text)
+
+-- ---- control
+
+pub record BeginsCommitsAndRollsBack : Type 0 where
+  pub begun : parsed begins ≡ Ok (tree.Control transaction.Begin)
+  pub committed : parsed commits ≡ Ok (tree.Control transaction.Commit)
+  pub rolled_back : parsed rolls_back ≡ Ok (tree.Control transaction.Rollback)
+
+-- ---- names
+
+-- a name has 1 to 128 characters, whatever they are
+pub record IsIdentifier (name : List ℕ) : Type 0 where
+  pub named : IsName name
+  pub scalars : all_scalars name ≡ true
+
+-- ---- SELECT * FROM
+
+abbrev pub star_query : ℕ → List ℕ → Query
+star_query at name = record {
+  distinct = None;
+  top = None;
+  items = tree.Star at;
+  from = record { table = name; alias = None };
+  joins = [];
+  filter = None;
+  group_by = [];
+  order_by = [];
+}
+
+-- over a catalog that has the table, it reads the table whole
+pub record IsReadWhole (catalog : Catalog) (name : List ℕ) (width : ℕ) : Type 0 where
+  pub at : ℕ
+  pub parses : parsed (reads_all name) ≡ Ok (tree.Select (star_query at name))
+  pub meant : Meant
+  pub means : understood catalog (reads_all name).text [] ≡ Ok meant
+  pub query : BoundQuery
+  pub is : meant.bound.statement ≡ bound.Select query
+  pub whole : IsWholeQuery name width query
+
+abbrev pub ReadingIsWhole : Type 0
+ReadingIsWhole = (catalog : Catalog) (name : List ℕ) (def : TableDef) → IsIdentifier name → table_named catalog name ≡ Some def → 1 ≤ length def.columns → length def.columns ≤ 64
+    → IsReadWhole catalog name (length def.columns)
+
+-- ---- ALTER TABLE .. REPLACE BY
+
+-- over a catalog that has both tables, it replaces one by the other
+pub record IsReplaced (catalog : Catalog) (old new : List ℕ) : Type 0 where
+  pub parses : parsed (replaces old new) ≡ Ok (tree.Definition (definition.ReplaceTable old new))
+  pub meant : Meant
+  pub means : understood catalog (replaces old new).text [] ≡ Ok meant
+  pub is : meant.bound.statement ≡ bound.Definition (made.ReplaceTable old new)
+
+abbrev pub ReplacingIsReplacement : Type 0
+ReplacingIsReplacement = (catalog : Catalog) (old new : List ℕ) → IsIdentifier old → IsIdentifier new → IsSome (table_named catalog old) → IsSome (table_named catalog new) → old ≢ new
+    → IsReplaced catalog old new
+
+-- ---- INSERT INTO
+
+abbrev pub AreIdentifiers : List SentColumn → Type 0
+AreIdentifiers [] = Unit {0}
+AreIdentifiers (c ∷ cs) = IsIdentifier c.title × AreIdentifiers cs
+
+-- the columns of a table, as a client is told them
+pub record AreColumnsOf (columns : List SentColumn) (def : TableDef) : Type 0 where
+  pub titles : map (λ c. c.title) columns ≡ map (λ column. column.name) def.columns
+  pub types : map (λ c. c.ty) columns ≡ map (λ column. column.ty) def.columns
+
+-- the parameters of the columns, counted from a number
+abbrev pub AreNamed : ℕ → List SentColumn → List Operand → Type 0
+AreNamed n [] [] = Unit {0}
+AreNamed n [] (v ∷ values) = ⊥
+AreNamed n (c ∷ cs) [] = ⊥
+AreNamed n (c ∷ cs) (v ∷ values) = ((at : ℕ) × (v ≡ operands.Param at (param_name n))) × AreNamed (n + 1) cs values
+
+abbrev pub insert_tree : List ℕ → List SentColumn → ℕ → List Operand → Statement
+insert_tree table columns at values = tree.Insert table (Some (map (λ c. c.title) columns)) (record { at = at; values = values } ∷ [])
+
+abbrev pub declared : Batch → List ParamDecl
+declared batch = map (λ p. p.declaration) batch.params
+
+-- over a catalog that has the table, it inserts one row: each parameter into the column of its place
+pub record IsPut (catalog : Catalog) (table : List ℕ) (columns : List SentColumn) (row : List Value) : Type 0 where
+  pub at : ℕ
+  pub values : List Operand
+  pub named : AreNamed 1 columns values
+  pub parses : parsed (puts table columns row) ≡ Ok (insert_tree table columns at values)
+  pub meant : Meant
+  pub means : understood catalog (puts table columns row).text (declared (puts table columns row)) ≡ Ok meant
+  pub typed : length meant.encs ≡ length columns
+  pub insert : BoundInsert
+  pub is : meant.bound.statement ≡ bound.Insert insert
+  pub put : IsRowInsert table (length columns) insert
+
+-- the columns are the table's in order, with names that differ
+abbrev pub PuttingIsAnInsert : Type 0
+PuttingIsAnInsert = (catalog : Catalog) (table : List ℕ) (def : TableDef) (columns : List SentColumn) (row : List Value) → IsIdentifier table → AreIdentifiers columns → table_named catalog table ≡ Some def
+    → AreColumnsOf columns def → all_differ (map (λ column. column.name) def.columns) ≡ true → 1 ≤ length columns → length columns ≤ 64 → length row ≡ length columns
+    → IsPut catalog table columns row
