@@ -1,9 +1,9 @@
--- Rows that are lent, as they stand, as they will stand, and those that stay.
-use Rattle.std.proofs.Common.{◌≡◌, ℕ, zero, suc, ◌+◌, ◌<◌, ◌≤◌, List, [], ◌∷◌, ◌++◌, length, get_or, drop, map, slice_set, append_assoc, refl, ap, sym, ◌∙◌, arith, Bool, true, false}
+-- Rows that are lent, as they stand and as they will stand.
+use Rattle.std.proofs.Common.{◌≡◌, ℕ, zero, suc, ◌+◌, ◌<◌, List, [], ◌∷◌, length, get_or, drop, map, slice_set, refl, ap, sym, ◌∙◌, arith, Bool, true, false}
 use Rattle.std.specs.Prelude.{◌==◌}
 use Rattle.std.specs.List.{list_any}
 use Rattle.std.proofs.lemmas.Bool.{eqb-true}
-use Rattle.std.proofs.lemmas.List.{append-nil, drop_more, drop_all}
+use Rattle.std.proofs.lemmas.List.{drop_more}
 use mathlib.Core.Bool.{beq}
 use Rattle.row_store.specs.declared.changes.Change.{Change}
 use Rattle.row_store.specs.Changes.{written, unhit}
@@ -19,32 +19,6 @@ module _ {A T : Type 0} (now : A → T) (whole : List T) (rows : List A) (change
   lent_more item e w =
       w ∙ ap (written (map now rows)) (drop_more changes i change lt ∙ ap (λ c. c ∷ drop (i + 1) changes) (sym is))
       ∙ ap (λ rs. written rs (drop (i + 1) changes)) (sym (map_set now rows change.place item ∙ ap (slice_set (map now rows) change.place) e))
-
--- ---- those that stay
-
-module _ {A T : Type 0} (now : A → T) (whole : List T) (rows kept : List A) (hits : List Bool) (i : ℕ) (item : A) (lt : i < length rows) (lh : i < length hits) (is : item ≡ get_or rows i item) where
-  rows_next : drop i (map now rows) ≡ now item ∷ drop (i + 1) (map now rows)
-  rows_next = next rows i lt is
-    where
-      next : (xs : List A) (i : ℕ) → i < length xs → item ≡ get_or xs i item → drop i (map now xs) ≡ now item ∷ drop (i + 1) (map now xs)
-      next [] i lt e = absurd (omega arith)
-      next (x ∷ xs) zero lt e = ap (λ y. now y ∷ map now xs) (sym e)
-      next (x ∷ xs) (suc i) lt e = let one : suc i + 1 ≡ suc (i + 1) = omega arith in next xs i (omega (arith, lt)) e ∙ ap (λ n. now item ∷ drop n (map now (x ∷ xs))) (sym one)
-
-  pub kept_more : (more : List A) → map now more ≡ map now kept ++ unhit (now item ∷ []) (get_or hits i false ∷ []) → whole ≡ map now kept ++ unhit (drop i (map now rows)) (drop i hits) → whole ≡ map now more ++ unhit (drop (i + 1) (map now rows)) (drop (i + 1) hits)
-  kept_more more m w =
-      w ∙ ap (λ rs. map now kept ++ unhit rs (drop i hits)) rows_next
-      ∙ ap (λ hs. map now kept ++ unhit (now item ∷ drop (i + 1) (map now rows)) hs) (drop_more hits i false lh)
-      ∙ ap (λ l. map now kept ++ l) (one_by_one (get_or hits i false) (now item) (drop (i + 1) (map now rows)) (drop (i + 1) hits))
-      ∙ sym (append_assoc (map now kept) (unhit (now item ∷ []) (get_or hits i false ∷ [])) (unhit (drop (i + 1) (map now rows)) (drop (i + 1) hits)))
-      ∙ ap (λ l. l ++ unhit (drop (i + 1) (map now rows)) (drop (i + 1) hits)) (sym m)
-    where
-      one_by_one : (h : Bool) (row : T) (rows : List T) (hits : List Bool) → unhit (row ∷ rows) (h ∷ hits) ≡ unhit (row ∷ []) (h ∷ []) ++ unhit rows hits
-      one_by_one true row rows hits = refl
-      one_by_one false row rows hits = refl
-
-pub kept_all : {A T : Type 0} (now : A → T) (whole rows : List T) (kept : List A) (hits : List Bool) (i : ℕ) → length rows ≤ i → whole ≡ map now kept ++ unhit (drop i rows) (drop i hits) → map now kept ≡ whole
-kept_all now whole rows kept hits i le w = sym (w ∙ ap (λ rs. map now kept ++ unhit rs (drop i hits)) (drop_all i rows le) ∙ append-nil (map now kept))
 
 -- where no row is hit, all stay
 pub none_hit : {T : Type 0} (rows : List T) (hits : List Bool) → list_any (λ hit. beq hit true) hits ≡ false → unhit rows hits ≡ rows

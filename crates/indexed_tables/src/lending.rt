@@ -1,8 +1,8 @@
 //! The rows of a table as they will be, lent.
 
-ghost use Rattle.std.specs.Prelude.{◌≡◌, ◌<◌, ◌++◌, ◌∷◌, [], length, map, OnOk, IfOk};
+ghost use Rattle.std.specs.Prelude.{◌≡◌, ◌<◌, ◌++◌, length, map, OnOk, IfOk};
 ghost use Rattle.std.specs.List.{All};
-ghost use Rattle.row_store.specs.Changes.{written, unhit};
+ghost use Rattle.row_store.specs.Changes.{written};
 ghost use Rattle.row_store.specs.Paged.{flat};
 
 use ae_base::atoms::Row;
@@ -64,40 +64,4 @@ fn lend_changes<'a, K: Same>(rows: &mut Vec<&'a Row<K>>, changes: &'a [Change<Ro
     for change in changes {
         rows[change.place] = &change.row;
     }
-}
-
-/// The rows of some pages that stay when the others are dropped, lent.
-pub(crate) fn lent_unhit<'a, K: Same>(
-    alloc: Global,
-    pages: &'a [Page<Row<K>>],
-    hits: &[bool],
-) -> Result<Seq<&'a Row<K>>, AllocError>
-    requires { length hits.now ≡ length (flat pages.now) }
-    ensures { IfOk result (λ rows. map (λ row. row.now) rows ≡ unhit (flat pages.now) hits.now) }
-{
-    let rows = lent(alloc, pages)?.into_vec();
-    let mut kept = Seq::new(alloc);
-    for (place, hit) in hits.iter().enumerate() {
-        match keep(&mut kept, rows[place], *hit) {
-            Ok(()) => {}
-            Err(error) => return Err(error),
-        }
-    }
-    Ok(kept)
-}
-
-/// Puts a row at the end, unless it is hit.
-fn keep<'a, K: Same>(
-    kept: &mut Seq<&'a Row<K>>,
-    row: &'a Row<K>,
-    hit: bool,
-) -> Result<(), AllocError>
-    ensures { OnOk result (map (λ row. row.now) kept.new
-        ≡ map (λ row. row.now) kept.old ++ unhit (row.now ∷ []) (hit ∷ [])) }
-{
-    if hit {
-        return Ok(());
-    }
-    kept.push(row)?;
-    Ok(())
 }

@@ -12,7 +12,7 @@ ghost use Rattle.unique_keys.specs.Indexes.{AreAdmitted, AreDistinct, IndexesRow
 ghost use Rattle.unique_keys.specs.Keys.{first_twins, unless_twins};
 
 use crate::keys_set::sets_a_key;
-use crate::lending::{lend_each, lent, lent_changed, lent_unhit};
+use crate::lending::{lend_each, lent, lent_changed};
 use ae_base::atoms::{Row, Rows};
 use ae_base::lists::{Duplicate, Seq};
 use ae_base::refusals::Refusal;
@@ -25,7 +25,7 @@ use sql_tree::bound::BoundAssignment;
 use std::alloc::{AllocError, Global};
 use std::marker::Model;
 use unique_keys::index::UniqueIndex;
-use unique_keys::keys::{admit, fresh};
+use unique_keys::keys::{admit, drop_hit, fresh};
 
 /// Copies of some values, in their order.
 pub fn copies<T: Duplicate>(alloc: Global, values: &[T]) -> Result<Vec<T>, AllocError>
@@ -172,7 +172,7 @@ impl<K: Same> Table<K> {
         if !hits.contains(&true) {
             return Ok(());
         }
-        self.indexes = thinned(alloc, &self.indexes, self.rows.rows(), hits)?;
+        drop_hit(alloc, &mut self.indexes, hits)?;
         self.rows.drop_hit(hits);
         Ok(())
     }
@@ -302,25 +302,6 @@ fn renewed<K: Same>(
         Ok(()) => Ok(new),
         Err(refusal) => Err(refusal),
     }
-}
-
-/// Indexes for the same keys of the rows that stay when the others are dropped.
-fn thinned<K: Same>(
-    alloc: Global,
-    indexes: &[UniqueIndex<K>],
-    pages: &[Page<Row<K>>],
-    hits: &[bool],
-) -> Result<Vec<UniqueIndex<K>>, AllocError>
-    requires { length hits.now ≡ length (flat pages.now) }
-    ensures keys { IfOk result (λ new. keys_of new.items ≡ keys_of indexes.now) }
-    ensures indexed { IfOk result
-        (λ new. All (IndexesRows (unhit (flat pages.now) hits.now)) new.items) }
-{
-    if indexes.is_empty() {
-        return Ok(Vec::new(alloc));
-    }
-    let rows = lent_unhit(alloc, pages, hits)?;
-    fresh(alloc, indexes, rows.as_slice())
 }
 
 /// Indexes for the same keys of these rows.

@@ -1,4 +1,5 @@
 mod Counting
 mod Cutting
+mod Dropping
 pub mod Interface
 mod Looking

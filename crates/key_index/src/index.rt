@@ -1,11 +1,13 @@
 //! An index: the places of the rows with a key, in order.
 
-ghost use Rattle.std.specs.Prelude.{◌≡◌, ◌++◌, ◌∷◌, [], List, length, map, drop, not, filter, ◌==◌, nat_lt, OnOk, OnErr};
+ghost use Rattle.std.specs.Prelude.{◌≡◌, ◌<◌, ◌≤◌, ◌++◌, ◌∷◌, [], List, length, map, drop, not, filter, ◌==◌, nat_lt, OnOk, OnErr};
 ghost use Rattle.std.specs.List.{All};
 ghost use Rattle.ae_base.specs.Atoms.{Atom};
+ghost use Rattle.key_index.specs.Moves.{moved};
 ghost use Rattle.key_index.specs.Places.{nothing, places_at, HasPlaces, HasMore, IndexesKeys, IndexesFront};
 
 use crate::keys::{Kept, Key};
+use crate::moving::move_places;
 use ae_base::lists::Seq;
 use ae_base::sameness::Same;
 use indexmap::IndexSet;
@@ -82,6 +84,47 @@ impl<K: Same> KeyIndex<K> {
         self.keys.truncate(used);
     }
 
+    /// Puts where rows stand after moves in the place of where they stood, and takes out the keys of
+    /// which no row stays. It takes no memory.
+    pub fn follow(&mut self, moves: &[Option<usize>])
+        ensures { (key : List Atom)
+            → places_at self.new key ≡ moved moves.now (places_at self.old key) }
+    {
+        self.move_lists(moves);
+        self.drop_unused();
+    }
+
+    /// Puts where rows stand after moves in the place of where they stood.
+    fn move_lists(&mut self, moves: &[Option<usize>])
+        ensures { (key : List Atom)
+            → places_at self.new key ≡ moved moves.now (places_at self.old key) }
+    {
+        move_all(&mut self.lists, moves);
+    }
+
+    /// Takes out the keys that have no places.
+    fn drop_unused(&mut self)
+        ensures { (key : List Atom) → places_at self.new key ≡ places_at self.old key }
+    {
+        for at in (0..self.lists.len()).rev() {
+            self.drop_if_unused(at);
+        }
+    }
+
+    /// Takes out one of the keys, if it has no places; the last one takes its place.
+    fn drop_if_unused(&mut self, at: usize)
+        requires { at < length self.old.lists }
+        ensures same { (key : List Atom) → places_at self.new key ≡ places_at self.old key }
+        ensures len { at ≤ length self.new.lists }
+    {
+        // A proof learns from this call that no key comes twice.
+        let _ = self.keys.len();
+        if self.lists[at].is_empty() {
+            let _ = self.lists.swap_remove(at);
+            drop(self.keys.swap_remove_index(at));
+        }
+    }
+
     /// Puts in a place behind the others of a key. Without memory all keys have the places that
     /// they had.
     pub fn insert(&mut self, alloc: Global, key: Key<K>, place: usize) -> Result<(), AllocError>
@@ -126,6 +169,24 @@ impl<K: Same> KeyIndex<K> {
             place += 1;
         }
         Ok(())
+    }
+}
+
+/// Puts where rows stand after moves in the place of where they stood, in each list.
+fn move_all(lists: &mut Vec<Vec<usize>>, moves: &[Option<usize>])
+    ensures lists { map (λ list. list.items) lists.new.items
+        ≡ map (moved moves.now) (map (λ list. list.items) lists.old.items) }
+    ensures len { length lists.new.items ≡ length lists.old.items }
+{
+    move_each(lists, moves);
+}
+
+fn move_each(lists: &mut [Vec<usize>], moves: &[Option<usize>])
+    ensures { map (λ list. list.items) lists.new
+        ≡ map (moved moves.now) (map (λ list. list.items) lists.old) }
+{
+    for list in lists.iter_mut() {
+        move_places(list, moves);
     }
 }
 

@@ -4,3 +4,4 @@
 pub mod index;
 pub mod keys;
 pub mod lookups;
+pub mod moving;

@@ -26,7 +26,7 @@ all_set P [] i x h p = h
 all_set P (y ∷ xs) zero x h p = All-cons P x xs p (All-tail P y xs h)
 all_set P (y ∷ xs) (suc i) x h p = All-cons P y (slice_set xs i x) (All-head P y xs h) (all_set P xs i x (All-tail P y xs h) p)
 
-all_taken : {A : Type 0} (P : A → Type 0) (xs : List A) (i : ℕ) (x : A) → i < length xs → All P (take i xs) → P x → All P (take (i + 1) (slice_set xs i x))
+pub all_taken : {A : Type 0} (P : A → Type 0) (xs : List A) (i : ℕ) (x : A) → i < length xs → All P (take i xs) → P x → All P (take (i + 1) (slice_set xs i x))
 all_taken P [] i x lt h p = absurd (omega arith)
 all_taken P (y ∷ xs) zero x lt h p = All-cons P x [] p (All-nil P)
 all_taken P (y ∷ xs) (suc i) x lt h p =

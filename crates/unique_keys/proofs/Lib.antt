@@ -1,4 +1,5 @@
 mod Admission
+mod Following
 pub mod Interface
 mod Twins
 mod TwinsAlike

@@ -1,9 +1,11 @@
 //! The index of one unique key.
 
-ghost use Rattle.std.specs.Prelude.{◌≡◌, ◌++◌, List, length, map, not, false, is_some, IfSome, IfOk, OnOk};
+ghost use Rattle.std.specs.Prelude.{◌≡◌, ◌++◌, Bool, List, length, map, not, false, is_some, IfSome, IfOk, OnOk};
 ghost use Rattle.ae_base.specs.Atoms.{Atom};
 ghost use Rattle.operators.specs.Alike.{key_of};
+ghost use Rattle.key_index.specs.Moves.{moves_from};
 ghost use Rattle.key_index.specs.Places.{nothing, places_at};
+ghost use Rattle.row_store.specs.Changes.{unhit};
 ghost use Rattle.unique_keys.specs.Indexes.{IndexesRows, IndexesFirst};
 ghost use Rattle.unique_keys.specs.Keys.{has_twins};
 
@@ -80,6 +82,16 @@ impl<K: Same> UniqueIndex<K> {
             → IndexesRows rows self.new }
     {
         self.index.forget_from(place);
+    }
+
+    /// Follows the rows to where they stand once those that are hit are dropped. It takes no memory.
+    pub(crate) fn follow(&mut self, moves: &[Option<usize>])
+        ensures places { self.new.places ≡ self.old.places }
+        ensures rows { (rows : List (List Atom)) (hits : List Bool) → IndexesRows rows self.old
+            → length hits ≡ length rows → moves.now ≡ moves_from 0 hits
+            → IndexesRows (unhit rows hits) self.new }
+    {
+        self.index.follow(moves);
     }
 
     /// Puts in rows at one place after another from this one on. Without memory some of them may be

@@ -1,9 +1,11 @@
 //! New rows beside the unique keys of a table.
 
-ghost use Rattle.std.specs.Prelude.{◌≡◌, ◌<◌, ◌≤◌, ◌+◌, ◌++◌, List, length, map, suc, IfOk, OnOk};
+ghost use Rattle.std.specs.Prelude.{◌≡◌, ◌<◌, ◌≤◌, ◌+◌, ◌++◌, Bool, List, length, map, suc, IfOk, OnOk, OnErr};
 ghost use Rattle.std.specs.List.{All};
 ghost use Rattle.ae_base.specs.Atoms.{Atom};
 ghost use Rattle.ae_base.specs.Results.{Answers};
+ghost use Rattle.key_index.specs.Moves.{moves_from};
+ghost use Rattle.row_store.specs.Changes.{unhit};
 ghost use Rattle.unique_keys.specs.Indexes.{AreAdmitted, AreDistinct, IndexesRows, IndexesFirst, keys_of};
 ghost use Rattle.unique_keys.specs.Keys.{first_twins, unless_twins};
 ghost use Rattle.unique_keys.specs.Admitting.{keys_for};
@@ -16,6 +18,7 @@ use ae_base::refusals::Refusal;
 use ae_base::sameness::Same;
 use ae_base::uniques::UniqueNumber;
 use key_index::keys::Key;
+use key_index::moving::moves;
 use std::alloc::{AllocError, Global};
 
 /// The number of the unique key of a place, from 0.
@@ -111,6 +114,40 @@ fn forget_each<K: Same>(indexes: &mut Vec<UniqueIndex<K>>, from: usize)
 {
     for i in 0..indexes.len() {
         indexes[i].forget_from(from);
+    }
+}
+
+/// Has each index follow the rows that stay when those that are hit are dropped, or without memory
+/// none. Cells aren't hashed again.
+pub fn drop_hit<K: Same>(
+    alloc: Global,
+    indexes: &mut Vec<UniqueIndex<K>>,
+    hits: &[bool],
+) -> Result<(), AllocError>
+    ensures keys { keys_of indexes.new.items ≡ keys_of indexes.old.items }
+    ensures ok { (rows : List (List Atom)) → All (IndexesRows rows) indexes.old.items
+        → length hits.now ≡ length rows
+        → OnOk result (All (IndexesRows (unhit rows hits.now)) indexes.new.items) }
+    ensures err { OnErr result (indexes.new.items ≡ indexes.old.items) }
+{
+    if indexes.is_empty() {
+        return Ok(());
+    }
+    let moves = moves(alloc, hits)?;
+    follow_each(indexes, moves.as_slice());
+    Ok(())
+}
+
+/// Has each index follow the rows to where they stand once those that are hit are dropped.
+fn follow_each<K: Same>(indexes: &mut Vec<UniqueIndex<K>>, moves: &[Option<usize>])
+    ensures keys { keys_of indexes.new.items ≡ keys_of indexes.old.items }
+    ensures rows { (rows : List (List Atom)) (hits : List Bool)
+        → All (IndexesRows rows) indexes.old.items
+        → length hits ≡ length rows → moves.now ≡ moves_from 0 hits
+        → All (IndexesRows (unhit rows hits)) indexes.new.items }
+{
+    for i in 0..indexes.len() {
+        indexes[i].follow(moves);
     }
 }
 
