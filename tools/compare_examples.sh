@@ -1,7 +1,8 @@
 #!/bin/sh
 # Runs each example with the program, in a copy of its folder, and compares what it prints with the stored text. An example with a
-# file replies.bin is driven over it, and the days of two_machines are run over one journal. Also compares each script that is run
-# with its copy among the scripts of the gate. Prints a line for each example; ends with status 1 if one differs.
+# file replies.bin is driven over it; of one with a file listing the recording is listed, too. The days of two_machines are run over
+# one journal. Also compares each script that is run with its copy among the scripts of the gate. Prints a line for each example;
+# ends with status 1 if one differs.
 # Usage: tools/compare_examples.sh [PROGRAM], which is ./ae if it is left out; with - for PROGRAM nothing is run.
 set -u
 top=$(CDPATH="" cd -- "$(dirname -- "$0")/.." && pwd) || exit 1
@@ -32,6 +33,9 @@ for script in "$top"/examples/*/script.sql "$top"/examples/*/*/script.sql; do
         (cd "$folder/at" && "$program" "$command" <script.sql >said) || status=$?
         [ "$status" -le 1 ] || says "status $status"
         diff "$example/text" "$folder/at/said" || says "the text differs"
+        if [ -f "$example/listing" ]; then
+            "$top/ae" view <"$folder/at/tap.bin" | diff "$example/listing" - || says "the listing differs"
+        fi
     fi
     [ -z "$alike" ] || echo "$name: alike"
 done

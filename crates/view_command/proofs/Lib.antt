@@ -1,5 +1,7 @@
-mod Going
+mod OneTable
 mod Paged
 mod Sizes
+mod Standing
+mod Taking
 mod Texts
 mod Told

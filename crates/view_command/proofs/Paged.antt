@@ -1,14 +1,17 @@
 -- Frames between what stands before and behind them.
-use Rattle.std.proofs.Common.{◌≡◌, ℕ, List, [], ◌++◌, Option, Bool, true, false, refl, subst, sym, append-nil, inl, inr}
-use Rattle.ae_edge.specs.Devices.{Adds, AddsFront, Rose}
-use Rattle.ae_edge.proofs.Interface.{adds_none, adds_then, adds_then_front}
+use Rattle.std.proofs.Common.{◌≡◌, ◌≤◌, ◌∙◌, ℕ, List, [], ◌++◌, length, take, Option, Bool, true, false, refl, ap, subst, sym, append-nil, arith, inl, inr}
+use Rattle.ae_base.specs.Limits.{most_stream_bytes}
+use Rattle.ae_edge.specs.Devices.{Adds, AddsFront}
+use Rattle.ae_edge.proofs.Interface.{adds_none, adds_then, adds_then_front, removes_none}
 use Rattle.tap_page.specs.Page.{page_head}
 use Rattle.tap_text.specs.Text.{mark}
 use Rattle.wire_frames.specs.Frames.{End, Whole, Refused, Rest}
 use Rattle.view_command.specs.declared.commands.Viewed.{Viewed}
 use Rattle.view_command.specs.declared.commands.Viewed.TheVariants as ended
 use Rattle.tap_counts.specs.Counting.{Tallied}
-use Rattle.view_command.specs.Viewing.{CountsViewed, Lists, ListsAll, ShowsAll, ShowsFrames, ShowsFront, Views, end_text, ended_text, foot_text, frames_text, is_listed, tally_of}
+use Rattle.view_command.specs.Streaming.{Lists, ListsAll, ListsInput}
+use Rattle.view_command.specs.Viewing.{HasTaken, ShowsAll, ShowsFrames, ShowsFront, ShowsOpen, Views, ViewsInput, end_text, ended_text, foot_text, frames_text, is_listed, tally_of}
+use Rattle.view_command.proofs.Taking.{rest_of, told_rest}
 
 -- a part that only a page has
 pub no_mark : (page : Bool) (html : List ℕ) (out : Option (List ℕ)) → page ≡ false → Adds (mark page html) out out
@@ -19,19 +22,50 @@ pub mark_of_page : (page : Bool) (html : List ℕ) → page ≡ true → html �
 mark_of_page true html e = refl
 mark_of_page false html e = absurd cc
 
--- the head was put in part
-pub head_front : (page : Bool) (bytes : List ℕ) (first mid : Option (List ℕ)) → AddsFront (mark page page_head) first mid → ShowsFront page bytes first mid
-head_front page bytes first mid put = inl ([], 0, bytes, (refl, refl), subst (λ (l : List ℕ). AddsFront l first mid) (sym (append-nil (mark page page_head))) put)
+-- the output failed, or memory ran out
+abbrev pub StopsFront : Viewed → Type 0
+StopsFront ended.WriteFault = Unit {0}
+StopsFront ended.OutOfMemory = Unit {0}
+StopsFront other = ⊥
 
-module _ (page : Bool) (bytes : List ℕ) (first mid now : Option (List ℕ)) (head : Adds (mark page page_head) first mid) where
+front_views : (page : Bool) (viewed : Viewed) → StopsFront viewed → (taken rest : List ℕ) (old new : Option (List ℕ)) → ShowsFront page (taken ++ rest) old new → Views page viewed taken rest old new
+front_views page ended.WriteFault stops taken rest old new h = h
+front_views page ended.OutOfMemory stops taken rest old new h = h
+front_views page ended.Done stops taken rest old new h = absurd stops
+front_views page ended.ReadFault stops taken rest old new h = absurd stops
+front_views page ended.TooLong stops taken rest old new h = absurd stops
+front_views page (ended.BadFrame place) stops taken rest old new h = absurd stops
+front_views page (ended.CutOff place) stops taken rest old new h = absurd stops
+
+few_front : (viewed : Viewed) (count : ℕ) → StopsFront viewed → count ≤ most_stream_bytes → HasTaken viewed count
+few_front ended.WriteFault count stops h = h
+few_front ended.OutOfMemory count stops h = h
+few_front ended.Done count stops h = absurd stops
+few_front ended.ReadFault count stops h = absurd stops
+few_front ended.TooLong count stops h = absurd stops
+few_front (ended.BadFrame place) count stops h = absurd stops
+few_front (ended.CutOff place) count stops h = absurd stops
+
+-- the head was put in part, and nothing was taken
+pub head_front : (page : Bool) (left first mid : Option (List ℕ)) → AddsFront (mark page page_head) first mid → (viewed : Viewed) → StopsFront viewed → ViewsInput page viewed left left first mid
+head_front page left first mid put viewed stops =
+    let rest = rest_of left in
+    let front : ShowsFront page rest first mid = inl ([], 0, rest, (refl, refl), subst (λ (l : List ℕ). AddsFront l first mid) (sym (append-nil (mark page page_head))) put) in
+    record { taken = []; rest = rest; lost = removes_none left; told = told_rest left; few = few_front viewed 0 stops (omega arith); views = front_views page viewed stops [] rest first mid front }
+
+module _ (page : Bool) (first mid now : Option (List ℕ)) (head : Adds (mark page page_head) first mid) where
   -- the head, and the frames in part
-  frames_front : ShowsFrames page [] bytes mid now → ShowsFront page bytes first now
-  frames_front (frames, to, rest, reads, put) = inl (frames, to, rest, reads, adds_then_front (mark page page_head) (frames_text page frames) first mid now head put)
+  frames_front : (bytes : List ℕ) → ShowsFrames page [] bytes mid now → ShowsFront page bytes first now
+  frames_front bytes (frames, to, rest, reads, put) = inl (frames, to, rest, reads, adds_then_front (mark page page_head) (frames_text page frames) first mid now head put)
+
+  -- the head, and all whole frames
+  frames_open : (bytes : List ℕ) → ShowsOpen page [] bytes mid now → ShowsOpen page (mark page page_head) bytes first now
+  frames_open bytes (frames, to, rest, reads, waits, put) = (frames, to, rest, reads, waits, adds_then (mark page page_head) (frames_text page frames) first mid now head put)
 
   module _ (tally : Tallied) where
     -- the head and the frames, and the foot in part or whole
-    foot_front : (last : Option (List ℕ)) (end : End) → ListsAll page end bytes tally mid now → AddsFront (foot_text page tally (end_text end)) now last → ShowsFront page bytes first last
-    foot_front last end (frames, reads, is, put) foot =
+    foot_front : (bytes : List ℕ) (last : Option (List ℕ)) (end : End) → ListsAll page end bytes tally mid now → AddsFront (foot_text page tally (end_text end)) now last → ShowsFront page bytes first last
+    foot_front bytes last end (frames, reads, is, put) foot =
         inr (
           frames,
           end,
@@ -41,8 +75,13 @@ module _ (page : Bool) (bytes : List ℕ) (first mid now : Option (List ℕ)) (h
               (subst (λ t. AddsFront (foot_text page t (end_text end)) now last) is foot),
         )
 
-    foot_whole : (last : Option (List ℕ)) (end : End) → ListsAll page end bytes tally mid now → Adds (foot_text page tally (end_text end)) now last → ShowsAll page end bytes first last
-    foot_whole last end (frames, reads, is, put) foot = (
+    -- at the end of the input
+    foot_front_end : (bytes rest : List ℕ) (last : Option (List ℕ)) (end : End) → rest ≡ [] → ListsAll page end bytes tally mid now → AddsFront (foot_text page tally (end_text end)) now last → ShowsFront page (bytes ++ rest) first last
+    foot_front_end bytes rest last end none h foot =
+        subst (λ (l : List ℕ). ShowsFront page l first last) (sym (ap (λ (l : List ℕ). bytes ++ l) none ∙ append-nil bytes)) (foot_front bytes last end h foot)
+
+    foot_whole : (bytes : List ℕ) (last : Option (List ℕ)) (end : End) → ListsAll page end bytes tally mid now → Adds (foot_text page tally (end_text end)) now last → ShowsAll page end bytes first last
+    foot_whole bytes last end (frames, reads, is, put) foot = (
       frames,
       reads,
       adds_then (mark page page_head ++ frames_text page frames) (foot_text page (tally_of frames) (end_text end)) first now last
@@ -51,49 +90,55 @@ module _ (page : Bool) (bytes : List ℕ) (first mid now : Option (List ℕ)) (h
     )
 
     -- by how the frames ended
-    pub unlisted : (v : Viewed) → is_listed v ≡ false → Lists page v bytes tally mid now → Views page v bytes first now
-    unlisted ended.Done e h = absurd cc
-    unlisted ended.ReadFault e h = absurd h
-    unlisted ended.WriteFault e h = frames_front h
-    unlisted ended.OutOfMemory e h = frames_front h
-    unlisted ended.TooLong e h = absurd h
-    unlisted (ended.BadFrame place) e h = absurd cc
-    unlisted (ended.CutOff place) e h = absurd cc
+    unlisted_views : (v : Viewed) (taken rest : List ℕ) → is_listed v ≡ false → Lists page v taken rest tally mid now → Views page v taken rest first now
+    unlisted_views ended.Done taken rest e h = absurd cc
+    unlisted_views ended.ReadFault taken rest e h = frames_open taken h
+    unlisted_views ended.WriteFault taken rest e h = frames_front (taken ++ rest) h
+    unlisted_views ended.OutOfMemory taken rest e h = frames_front (taken ++ rest) h
+    unlisted_views ended.TooLong taken rest e h = frames_open (take most_stream_bytes taken) h
+    unlisted_views (ended.BadFrame place) taken rest e h = absurd cc
+    unlisted_views (ended.CutOff place) taken rest e h = absurd cc
 
-    pub listed : (v : Viewed) (last : Option (List ℕ)) → is_listed v ≡ true → Lists page v bytes tally mid now → Adds (foot_text page tally (ended_text v)) now last → Views page v bytes first last
-    listed ended.Done last e h foot = foot_whole last Whole h foot
-    listed ended.ReadFault last e h foot = absurd cc
-    listed ended.WriteFault last e h foot = absurd cc
-    listed ended.OutOfMemory last e h foot = absurd cc
-    listed ended.TooLong last e h foot = absurd cc
-    listed (ended.BadFrame place) last e h foot = foot_whole last (Refused place) h foot
-    listed (ended.CutOff place) last e h foot = foot_whole last (Rest place) h foot
+    listed_views : (v : Viewed) (taken rest : List ℕ) (last : Option (List ℕ)) → is_listed v ≡ true → Lists page v taken rest tally mid now → Adds (foot_text page tally (ended_text v)) now last → Views page v taken rest first last
+    listed_views ended.Done taken rest last e h foot = (h.0, foot_whole taken last Whole h.1 foot)
+    listed_views ended.ReadFault taken rest last e h foot = absurd cc
+    listed_views ended.WriteFault taken rest last e h foot = absurd cc
+    listed_views ended.OutOfMemory taken rest last e h foot = absurd cc
+    listed_views ended.TooLong taken rest last e h foot = absurd cc
+    listed_views (ended.BadFrame place) taken rest last e h foot = foot_whole (taken ++ rest) last (Refused place) h foot
+    listed_views (ended.CutOff place) taken rest last e h foot = (h.0, foot_whole taken last (Rest place) h.1 foot)
 
-    pub listed_in_part : (v : Viewed) (last : Option (List ℕ)) → is_listed v ≡ true → Lists page v bytes tally mid now → AddsFront (foot_text page tally (ended_text v)) now last → ShowsFront page bytes first last
-    listed_in_part ended.Done last e h foot = foot_front last Whole h foot
-    listed_in_part ended.ReadFault last e h foot = absurd cc
-    listed_in_part ended.WriteFault last e h foot = absurd cc
-    listed_in_part ended.OutOfMemory last e h foot = absurd cc
-    listed_in_part ended.TooLong last e h foot = absurd cc
-    listed_in_part (ended.BadFrame place) last e h foot = foot_front last (Refused place) h foot
-    listed_in_part (ended.CutOff place) last e h foot = foot_front last (Rest place) h foot
+    part_views : (v : Viewed) (taken rest : List ℕ) (last : Option (List ℕ)) → is_listed v ≡ true → Lists page v taken rest tally mid now → AddsFront (foot_text page tally (ended_text v)) now last → ShowsFront page (taken ++ rest) first last
+    part_views ended.Done taken rest last e h foot = foot_front_end taken rest last Whole h.0 h.1 foot
+    part_views ended.ReadFault taken rest last e h foot = absurd cc
+    part_views ended.WriteFault taken rest last e h foot = absurd cc
+    part_views ended.OutOfMemory taken rest last e h foot = absurd cc
+    part_views ended.TooLong taken rest last e h foot = absurd cc
+    part_views (ended.BadFrame place) taken rest last e h foot = foot_front (taken ++ rest) last (Refused place) h foot
+    part_views (ended.CutOff place) taken rest last e h foot = foot_front_end taken rest last (Rest place) h.0 h.1 foot
 
--- no call of the output failed where all frames were put
-pub listed_counts : (v : Viewed) (old new : ℕ) → is_listed v ≡ true → CountsViewed v old new → new ≡ old
-listed_counts ended.Done old new e h = h
-listed_counts ended.ReadFault old new e h = absurd cc
-listed_counts ended.WriteFault old new e h = absurd cc
-listed_counts ended.OutOfMemory old new e h = absurd cc
-listed_counts ended.TooLong old new e h = absurd cc
-listed_counts (ended.BadFrame place) old new e h = h
-listed_counts (ended.CutOff place) old new e h = h
+    within_listed : (v : Viewed) (count : ℕ) → is_listed v ≡ true → HasTaken v count → count ≤ most_stream_bytes
+    within_listed ended.Done count e h = h
+    within_listed ended.ReadFault count e h = h
+    within_listed ended.WriteFault count e h = h
+    within_listed ended.OutOfMemory count e h = h
+    within_listed ended.TooLong count e h = absurd cc
+    within_listed (ended.BadFrame place) count e h = h
+    within_listed (ended.CutOff place) count e h = h
 
--- where they were not all put, a call of the output failed only if its count rose
-pub failed_counts : (v : Viewed) (first old new : ℕ) → old ≡ first → CountsViewed v old new → v ≡ ended.WriteFault → Rose first new
-failed_counts v first old new e h is = subst (λ n. Rose n new) e (subst (λ w. CountsViewed w old new) is h)
+    module _ (v : Viewed) (left after : Option (List ℕ)) (h : ListsInput page v tally left after mid now) where
+      pub unlisted : is_listed v ≡ false → ViewsInput page v left after first now
+      unlisted e = record { taken = h.taken; rest = h.rest; lost = h.lost; told = h.told; few = h.few; views = unlisted_views v h.taken h.rest e h.lists }
 
-listed_is_no_fault_at : is_listed ended.WriteFault ≡ true → ⊥
-listed_is_no_fault_at h = absurd cc
+      pub listed : (last : Option (List ℕ)) → is_listed v ≡ true → Adds (foot_text page tally (ended_text v)) now last → ViewsInput page v left after first last
+      listed last e foot = record { taken = h.taken; rest = h.rest; lost = h.lost; told = h.told; few = h.few; views = listed_views v h.taken h.rest last e h.lists foot }
 
-pub listed_is_no_fault : (v : Viewed) → is_listed v ≡ true → v ≡ ended.WriteFault → ⊥
-listed_is_no_fault v e is = listed_is_no_fault_at (subst (λ w. is_listed w ≡ true) is e)
+      pub listed_in_part : (last : Option (List ℕ)) → is_listed v ≡ true → AddsFront (foot_text page tally (ended_text v)) now last → (viewed : Viewed) → StopsFront viewed → ViewsInput page viewed left after first last
+      listed_in_part last e foot viewed stops = record {
+        taken = h.taken;
+        rest = h.rest;
+        lost = h.lost;
+        told = h.told;
+        few = few_front viewed (length h.taken) stops (within_listed v (length h.taken) e h.few);
+        views = front_views page viewed stops h.taken h.rest first last (part_views v h.taken h.rest last e h.lists foot);
+      }

@@ -38,7 +38,7 @@ joined a b c d e f = ap (λ l. l ++ b) e ∙ ap (λ l. c ++ l) f
 abbrev Cells : Type 0
 Cells = List (Spot Class)
 
-past_append : (seen ss ts : Cells) → seen_past classing seen (ss ++ ts) ≡ seen_past classing (seen_past classing seen ss) ts
+pub past_append : (seen ss ts : Cells) → seen_past classing seen (ss ++ ts) ≡ seen_past classing (seen_past classing seen ss) ts
 past_append seen [] ts = refl
 past_append seen (s ∷ ss) ts = past_append (seen_with classing seen s) ss ts
 

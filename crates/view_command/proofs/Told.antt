@@ -1,6 +1,6 @@
 -- The text of a recording is told by its entries: each frame's by its entry, and its place by the entries before it.
-use Rattle.std.proofs.Common.{◌≡◌, ℕ, ◌+◌, List, [], ◌∷◌, ◌++◌, length, map, Bool, refl, sym, ap, subst, ◌∙◌, get_or, drop}
-use Rattle.first_seen.specs.Parts.{Listed, Spot, labels, entry_of, listing_from, seen_past}
+use Rattle.std.proofs.Common.{◌≡◌, ℕ, ◌+◌, List, [], ◌∷◌, ◌++◌, length, Bool, refl, sym, ap, subst, ◌∙◌, get_or, drop}
+use Rattle.first_seen.specs.Parts.{Listed, Spot, entry_of, listing_from, seen_past}
 use Rattle.scalar.specs.Classes.{Class}
 use Rattle.tap_listing.specs.Classes.{classing}
 use Rattle.tap_listing.specs.Frames.{blank_frame, classes_after, classes_behind, blank_payload, entries_of, frame_spots, part_of, parts_of}
@@ -17,7 +17,7 @@ use Rattle.view_command.specs.Laws.{messages_of}
 use Rattle.tap_counts.specs.Counting.{Tallied, frame_places, no_tally, tallied_from}
 use Rattle.tap_counts.proofs.Interface.{frame_counted_alike}
 use Rattle.view_command.specs.Viewing.{end_text, foot_text, frames_behind, frames_text, listing_text, tallied_behind, tally_of}
-use Rattle.view_command.proofs.Sizes.{frame_size_told, size_of, size_of_frame, frame_bytes}
+use Rattle.view_command.proofs.Sizes.{frame_size_told, size_of, size_of_frame}
 use Rattle.view_command.proofs.Texts.{frame_alike}
 
 -- ---- the classes told are told without the cells

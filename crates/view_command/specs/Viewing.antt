@@ -1,18 +1,18 @@
 -- The command `view`: what is put of a recording, and how that ends.
-use Rattle.std.specs.Prelude.{◌≡◌, ◌<◌, ◌+◌, ◌⊎◌, ℕ, List, [], ◌∷◌, ◌++◌, length, codes, decimal, Option, Bool, true, false}
+use Rattle.std.specs.Prelude.{◌≡◌, ◌≤◌, ◌+◌, ◌⊎◌, ℕ, List, [], ◌∷◌, ◌++◌, length, take, codes, decimal, Option, IfSome, Bool, true, false}
 use Rattle.ae_base.specs.Limits.{most_stream_bytes}
-use Rattle.ae_edge.specs.Devices.{Adds, AddsFront, Rose}
+use Rattle.ae_edge.specs.Devices.{Adds, AddsFront, Removes}
 use Rattle.first_seen.specs.Parts.{Spot, seen_past}
 use Rattle.scalar.specs.Classes.{Class}
 use Rattle.tap_listing.specs.Classes.{classing}
 use Rattle.tap_listing.specs.Frames.{classes_after, frame_spots}
 use Rattle.tap_listing.specs.declared.frames.Frame.{Frame}
-use Rattle.tap_reading.specs.Reading.{SpellsFrame, TapFrames}
+use Rattle.tap_reading.specs.Reading.{SpellsFrame, TapFrames, is_tap_head}
 use Rattle.tap_page.specs.Page.{page_foot, page_head}
 use Rattle.tap_counts.specs.Counting.{Tallied, frame_places, no_tally, tallied_from}
 use Rattle.tap_counts.specs.Lines.{tally_text}
 use Rattle.tap_text.specs.Text.{frame_text, line, mark}
-use Rattle.wire_frames.specs.Frames.{Placed, End, Whole, Refused, Rest}
+use Rattle.wire_frames.specs.Frames.{Placed, End, Whole, Refused, Rest, IsNotYet}
 use Rattle.view_command.specs.declared.commands.Viewed.{Viewed}
 use Rattle.view_command.specs.declared.commands.Viewed.TheVariants as ended
 
@@ -55,40 +55,20 @@ ReadsTo at bytes [] to rest = (to ≡ at) × (rest ≡ bytes)
 ReadsTo at bytes (m ∷ ms) to rest =
     (frame more : List ℕ) × (bytes ≡ frame ++ more) × (m.at ≡ at) × SpellsFrame m.message frame × ReadsTo (at + length frame) more ms to rest
 
--- ---- what was put of the frames of a recording, and counted in them
-
--- the bytes are frames that end so, and all of them were put
-abbrev pub ListsAll : Bool → End → List ℕ → Tallied → Option (List ℕ) → Option (List ℕ) → Type 0
-ListsAll page end bytes tally old new = (frames : List (Placed Frame)) × TapFrames bytes frames end × (tally ≡ tally_of frames) × Adds (frames_text page frames) old new
-
--- the bytes begin with frames, of whose text behind another a front was put
-abbrev pub ShowsFrames : Bool → List ℕ → List ℕ → Option (List ℕ) → Option (List ℕ) → Type 0
-ShowsFrames page head bytes old new = (frames : List (Placed Frame)) × (to : ℕ) × (rest : List ℕ) × ReadsTo 0 bytes frames to rest × AddsFront (head ++ frames_text page frames) old new
-
--- by how it ended
-abbrev pub Lists : Bool → Viewed → List ℕ → Tallied → Option (List ℕ) → Option (List ℕ) → Type 0
-Lists page ended.Done bytes tally old new = ListsAll page Whole bytes tally old new
-Lists page ended.ReadFault bytes tally old new = ⊥
-Lists page ended.WriteFault bytes tally old new = ShowsFrames page [] bytes old new
-Lists page ended.OutOfMemory bytes tally old new = ShowsFrames page [] bytes old new
-Lists page ended.TooLong bytes tally old new = ⊥
-Lists page (ended.BadFrame place) bytes tally old new = ListsAll page (Refused place) bytes tally old new
-Lists page (ended.CutOff place) bytes tally old new = ListsAll page (Rest place) bytes tally old new
-
-abbrev pub ended_text : Viewed → List ℕ
-ended_text ended.Done = end_text Whole
-ended_text ended.ReadFault = []
-ended_text ended.WriteFault = []
-ended_text ended.OutOfMemory = []
-ended_text ended.TooLong = []
-ended_text (ended.BadFrame place) = end_text (Refused place)
-ended_text (ended.CutOff place) = end_text (Rest place)
-
 -- ---- what was put of a recording
 
 -- the bytes are frames that end so, and their listing was put
 abbrev pub ShowsAll : Bool → End → List ℕ → Option (List ℕ) → Option (List ℕ) → Type 0
 ShowsAll page end bytes old new = (frames : List (Placed Frame)) × TapFrames bytes frames end × Adds (listing_text page frames end) old new
+
+-- all whole frames of the bytes were put, behind a text, and less than a frame follows them
+abbrev pub ShowsOpen : Bool → List ℕ → List ℕ → Option (List ℕ) → Option (List ℕ) → Type 0
+ShowsOpen page head bytes old new =
+    (frames : List (Placed Frame)) × (to : ℕ) × (rest : List ℕ) × ReadsTo 0 bytes frames to rest × IsNotYet is_tap_head rest × Adds (head ++ frames_text page frames) old new
+
+-- the bytes begin with frames, of whose text behind another a front was put
+abbrev pub ShowsFrames : Bool → List ℕ → List ℕ → Option (List ℕ) → Option (List ℕ) → Type 0
+ShowsFrames page head bytes old new = (frames : List (Placed Frame)) × (to : ℕ) × (rest : List ℕ) × ReadsTo 0 bytes frames to rest × AddsFront (head ++ frames_text page frames) old new
 
 -- the bytes are frames that end somehow, and a front of their listing was put
 abbrev pub ShowsInPart : Bool → List ℕ → Option (List ℕ) → Option (List ℕ) → Type 0
@@ -98,17 +78,31 @@ ShowsInPart page bytes old new = (frames : List (Placed Frame)) × (end : End) �
 abbrev pub ShowsFront : Bool → List ℕ → Option (List ℕ) → Option (List ℕ) → Type 0
 ShowsFront page bytes old new = ShowsFrames page (mark page page_head) bytes old new ⊎ ShowsInPart page bytes old new
 
--- by how it ended
-abbrev pub Views : Bool → Viewed → List ℕ → Option (List ℕ) → Option (List ℕ) → Type 0
-Views page ended.Done bytes old new = ShowsAll page Whole bytes old new
-Views page ended.ReadFault bytes old new = new ≡ old
-Views page ended.WriteFault bytes old new = ShowsFront page bytes old new
-Views page ended.OutOfMemory bytes old new = ShowsFront page bytes old new
-Views page ended.TooLong bytes old new = (most_stream_bytes < length bytes) × (new ≡ old)
-Views page (ended.BadFrame place) bytes old new = ShowsAll page (Refused place) bytes old new
-Views page (ended.CutOff place) bytes old new = ShowsAll page (Rest place) bytes old new
+-- by how it ended, of bytes that were taken and those that follow them
+abbrev pub Views : Bool → Viewed → List ℕ → List ℕ → Option (List ℕ) → Option (List ℕ) → Type 0
+Views page ended.Done taken rest old new = (rest ≡ []) × ShowsAll page Whole taken old new
+Views page ended.ReadFault taken rest old new = ShowsOpen page (mark page page_head) taken old new
+Views page ended.WriteFault taken rest old new = ShowsFront page (taken ++ rest) old new
+Views page ended.OutOfMemory taken rest old new = ShowsFront page (taken ++ rest) old new
+Views page ended.TooLong taken rest old new = ShowsOpen page (mark page page_head) (take most_stream_bytes taken) old new
+Views page (ended.BadFrame place) taken rest old new = ShowsAll page (Refused place) (taken ++ rest) old new
+Views page (ended.CutOff place) taken rest old new = (rest ≡ []) × ShowsAll page (Rest place) taken old new
 
--- all frames were put
+-- so many bytes were taken: within the limit, or one past it
+abbrev pub HasTaken : Viewed → ℕ → Type 0
+HasTaken ended.TooLong count = count ≡ most_stream_bytes + 1
+HasTaken other count = count ≤ most_stream_bytes
+
+-- so much was taken of the input, so much of it is left, where that is told, and this was put of it
+pub record ViewsInput (page : Bool) (viewed : Viewed) (left left_after out out_after : Option (List ℕ)) : Type 0 where
+  pub taken : List ℕ
+  pub rest : List ℕ
+  pub lost : Removes taken left left_after
+  pub told : IfSome left_after (λ bytes. rest ≡ bytes)
+  pub few : HasTaken viewed (length taken)
+  pub views : Views page viewed taken rest out out_after
+
+-- the end of the recording, or what is no frame, was met
 abbrev pub is_listed : Viewed → Bool
 is_listed ended.Done = true
 is_listed ended.ReadFault = false
@@ -118,13 +112,11 @@ is_listed ended.TooLong = false
 is_listed (ended.BadFrame place) = true
 is_listed (ended.CutOff place) = true
 
--- a call of the output failed only where its count rose
-abbrev pub CountsViewed : Viewed → ℕ → ℕ → Type 0
-CountsViewed ended.WriteFault old new = Rose old new
-CountsViewed other old new = new ≡ old
-
--- the input was read to its end
-abbrev pub IsRead : Viewed → Type 0
-IsRead ended.ReadFault = ⊥
-IsRead ended.TooLong = ⊥
-IsRead other = Unit {0}
+abbrev pub ended_text : Viewed → List ℕ
+ended_text ended.Done = end_text Whole
+ended_text ended.ReadFault = []
+ended_text ended.WriteFault = []
+ended_text ended.OutOfMemory = []
+ended_text ended.TooLong = []
+ended_text (ended.BadFrame place) = end_text (Refused place)
+ended_text (ended.CutOff place) = end_text (Rest place)

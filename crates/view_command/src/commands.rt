@@ -1,15 +1,16 @@
 //! The command `view`.
 
-ghost use Rattle.std.specs.Prelude.{◌≡◌, List, ℕ, IfSome};
+ghost use Rattle.std.specs.Prelude.{◌≡◌};
 ghost use Rattle.ae_edge.specs.Devices.{Rose};
 ghost use Rattle.view_command.specs.Endings.{number_of};
-ghost use Rattle.view_command.specs.Viewing.{Views, is_listed};
+ghost use Rattle.view_command.specs.Viewing.{ViewsInput, is_listed};
 
-use crate::pages::view_bytes;
-use ae_base::limits::MOST_STREAM_BYTES;
+use crate::frames::Seen;
+use crate::pages::{put_foot, put_mark};
+use crate::pieces::put_pieces;
 use ae_edge::sinks::Sink;
 use ae_edge::sources::Source;
-use ae_edge::streams::{ReadAll, read_all};
+use ae_edge::streams::PutAll;
 use std::alloc::Global;
 use std::fmt;
 
@@ -18,12 +19,12 @@ use std::fmt;
 pub enum Viewed {
     /// The recording is frames to its end, and all of them were put.
     Done,
-    /// A call of the input failed.
+    /// A call of the input failed. All whole frames before it were put.
     ReadFault,
     /// A call of the output failed.
     WriteFault,
     OutOfMemory,
-    /// The input is past its limit.
+    /// The input is past its limit. All whole frames within it were put.
     TooLong,
     /// What begins at this byte, from 0, is no frame. All before it were put.
     BadFrame(u64),
@@ -32,7 +33,7 @@ pub enum Viewed {
 }
 
 impl Viewed {
-    /// Whether all frames before the end were put.
+    /// Whether the recording's end, or what is no frame, was met.
     pub(crate) fn is_listed(&self) -> bool
         ensures { result ≡ is_listed self.now }
     {
@@ -76,22 +77,32 @@ impl fmt::Display for Viewed {
     }
 }
 
-/// Reads a recording of frames, and puts them to the output, as lines of text or as a page, frame by
-/// frame, up to the first place that is no frame; behind them how many NULLs, plain values and cells
-/// there were of each class, with the commonest cells, and how the recording ended. The input is read
-/// to its end before anything is put.
+/// Reads a recording of frames, and puts it to the output, as lines of text or as a page: each frame
+/// as it comes, up to the first place that is no frame; behind the last how many NULLs, plain values
+/// and cells there were of each class, with the commonest cells, and how the recording ended. Of the
+/// input at most a frame and a piece are held, with the different cells that were seen. Up to the
+/// limit all whole frames are put, before a byte past it is asked for.
 pub fn view<S: Source, W: Sink>(alloc: Global, page: bool, input: &mut S, out: &mut W) -> Viewed
-    // There are bytes, the input's where it tells them, of which this is put.
-    ensures content { (bytes : List ℕ) × IfSome (S.left input.old) (λ left. bytes ≡ left)
-        × Views page result bytes (W.held out.old) (W.held out.new) }
+    // What was taken of the input, and what was put for it, by how it ended.
+    ensures content { ViewsInput page result (S.left input.old) (S.left input.new) (W.held out.old)
+        (W.held out.new) }
     // The faults of the outside come only where a count rose.
     ensures read { result ≡ Viewed.ReadFault → Rose (S.faults input.old) (S.faults input.new) }
     ensures write { result ≡ Viewed.WriteFault → Rose (W.faults out.old) (W.faults out.new) }
 {
-    match read_all(input, alloc, MOST_STREAM_BYTES) {
-        ReadAll::Whole(bytes) => view_bytes(alloc, page, bytes.as_slice(), out),
-        ReadAll::TooLong => Viewed::TooLong,
-        ReadAll::ReadFault => Viewed::ReadFault,
-        ReadAll::OutOfMemory => Viewed::OutOfMemory,
+    match put_mark(page, tap_page::head(), out) {
+        PutAll::Whole => {}
+        PutAll::WriteFault => return Viewed::WriteFault,
+        PutAll::OutOfMemory => return Viewed::OutOfMemory,
+    }
+    let mut seen = Seen::new(alloc);
+    let viewed = put_pieces(alloc, page, input, &mut seen, out);
+    if !viewed.is_listed() {
+        return viewed;
+    }
+    match put_foot(alloc, page, &seen.tally, viewed, out) {
+        PutAll::Whole => viewed,
+        PutAll::WriteFault => Viewed::WriteFault,
+        PutAll::OutOfMemory => Viewed::OutOfMemory,
     }
 }

@@ -3,6 +3,8 @@
 
 pub mod commands;
 mod frames;
+mod held;
 pub mod laws;
 mod pages;
+mod pieces;
 pub mod words;

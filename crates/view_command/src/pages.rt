@@ -1,14 +1,12 @@
-//! A recording as lines of text, or as a page.
+//! What stands before and behind the frames of a recording.
 
 ghost use Rattle.std.specs.Prelude.{◌≡◌, ◌++◌, IfOk, OnOk, string_bytes};
-ghost use Rattle.ae_edge.specs.Devices.{Rose};
 ghost use Rattle.ae_edge.specs.Streams.{CountsPutAll, PutsAll};
 ghost use Rattle.tap_page.specs.Page.{page_foot};
 ghost use Rattle.tap_text.specs.Text.{mark};
-ghost use Rattle.view_command.specs.Viewing.{IsRead, Views, ended_text, foot_text};
+ghost use Rattle.view_command.specs.Viewing.{ended_text, foot_text};
 
 use crate::commands::Viewed;
-use crate::frames::{Seen, view_frames};
 use ae_edge::sinks::Sink;
 use ae_edge::streams::{PutAll, put_all};
 use std::alloc::{AllocError, Global};
@@ -16,7 +14,7 @@ use std::fmt::Write;
 use tap_counts::{Tally, push_tally};
 
 /// Puts a part that only a page has.
-fn put_mark<W: Sink>(page: bool, html: &str, out: &mut W) -> PutAll
+pub(crate) fn put_mark<W: Sink>(page: bool, html: &str, out: &mut W) -> PutAll
     ensures content { PutsAll (mark page html.now) result (W.held out.old) (W.held out.new) }
     ensures counts { CountsPutAll result (W.faults out.old) (W.faults out.new) }
 {
@@ -63,7 +61,7 @@ fn foot_of(alloc: Global, page: bool, tally: &Tally, viewed: Viewed) -> Result<S
 }
 
 /// Puts what stands behind the frames.
-fn put_foot<W: Sink>(
+pub(crate) fn put_foot<W: Sink>(
     alloc: Global,
     page: bool,
     tally: &Tally,
@@ -77,28 +75,5 @@ fn put_foot<W: Sink>(
     match foot_of(alloc, page, tally, viewed) {
         Ok(text) => put_all(out, text.as_bytes()),
         Err(_) => PutAll::OutOfMemory,
-    }
-}
-
-/// Puts a recording, up to the first place that is no frame.
-pub(crate) fn view_bytes<W: Sink>(alloc: Global, page: bool, bytes: &[u8], out: &mut W) -> Viewed
-    ensures content { Views page result bytes.now (W.held out.old) (W.held out.new) }
-    ensures read { IsRead result }
-    ensures write { result ≡ Viewed.WriteFault → Rose (W.faults out.old) (W.faults out.new) }
-{
-    match put_mark(page, tap_page::head(), out) {
-        PutAll::Whole => {}
-        PutAll::WriteFault => return Viewed::WriteFault,
-        PutAll::OutOfMemory => return Viewed::OutOfMemory,
-    }
-    let mut seen = Seen::new(alloc);
-    let viewed = view_frames(alloc, page, bytes, &mut seen, out);
-    if !viewed.is_listed() {
-        return viewed;
-    }
-    match put_foot(alloc, page, &seen.tally, viewed, out) {
-        PutAll::Whole => viewed,
-        PutAll::WriteFault => Viewed::WriteFault,
-        PutAll::OutOfMemory => Viewed::OutOfMemory,
     }
 }

@@ -1,16 +1,54 @@
--- What is put where the input wasn't read whole.
-use Rattle.std.proofs.Common.{inl, refl}
-use Rattle.ae_edge.proofs.Interface.{some_bytes, too_many_bytes}
-use Rattle.tap_page.specs.Page.{page_head}
+-- The head, the frames and the foot, one after another.
+use Rattle.std.proofs.Common.{List, ℕ, ◌∙◌, subst, sym}
+use Rattle.ae_edge.specs.Devices.{Adds, AddsFront}
 use Rattle.tap_text.specs.Text.{mark}
-use Rattle.view_command.proofs.Going.{shows_nothing}
+use Rattle.view_command.specs.declared.commands.Viewed.TheVariants as ended
+use Rattle.view_command.proofs.Paged.{head_front, listed, listed_in_part, unlisted}
 use Rattle.view_command.proofs.commands.view.Goals as goal
 
-pub returns-in-TooLong-clause-content : goal.returns-in-TooLong-clause-content
-returns-in-TooLong-clause-content g c = let t = too_many_bytes _ _ _ c.in-TooLong.ensures.content in (t.0, t.1, (t.2, refl))
-
-pub returns-in-ReadFault-clause-content : goal.returns-in-ReadFault-clause-content
-returns-in-ReadFault-clause-content g c = let t = some_bytes _ in (t.0, t.1, refl)
+pub returns-in-WriteFault-clause-content : goal.returns-in-WriteFault-clause-content
+returns-in-WriteFault-clause-content g c =
+    let first = g.W.Sink.held c.args.out.now in
+    let mid = g.W.Sink.held c.put_mark.new.out in
+    head_front c.args.page (g.S.Source.left c.args.input.now) first mid (subst (λ (l : List ℕ). AddsFront (mark c.args.page l) first mid) c.head.ensures c.in-WriteFault.ensures.content) ended.WriteFault tt
 
 pub returns-in-OutOfMemory-clause-content : goal.returns-in-OutOfMemory-clause-content
-returns-in-OutOfMemory-clause-content g c = let t = some_bytes _ in (t.0, t.1, inl (shows_nothing c.args.page (mark c.args.page page_head) t.0 _))
+returns-in-OutOfMemory-clause-content g c =
+    let first = g.W.Sink.held c.args.out.now in
+    let mid = g.W.Sink.held c.put_mark.new.out in
+    head_front c.args.page (g.S.Source.left c.args.input.now) first mid (subst (λ (l : List ℕ). AddsFront (mark c.args.page l) first mid) c.head.ensures c.in-OutOfMemory.ensures.content) ended.OutOfMemory tt
+
+pub returns-then-not-is_listed-clause-content : goal.returns-then-not-is_listed-clause-content
+returns-then-not-is_listed-clause-content g c =
+    let first = g.W.Sink.held c.args.out.now in
+    let mid = g.W.Sink.held c.put_mark.new.out in
+    let now = g.W.Sink.held c.put_pieces-viewed.new.out in
+    let head = subst (λ (l : List ℕ). Adds (mark c.args.page l) first mid) c.head.ensures c.in-Whole.ensures.content in
+    unlisted c.args.page first mid now head c.put_pieces-viewed.new.seen.tally c.put_pieces-viewed.result _ _ c.put_pieces-viewed.ensures.content (sym c.is_listed.ensures ∙ c.if-not-is_listed.true)
+
+pub returns-in-WriteFault-put_foot-clause-content : goal.returns-in-WriteFault-put_foot-clause-content
+returns-in-WriteFault-put_foot-clause-content g c =
+    let first = g.W.Sink.held c.args.out.now in
+    let mid = g.W.Sink.held c.put_mark.new.out in
+    let now = g.W.Sink.held c.put_pieces-viewed.new.out in
+    let last = g.W.Sink.held c.put_foot.new.out in
+    let head = subst (λ (l : List ℕ). Adds (mark c.args.page l) first mid) c.head.ensures c.in-Whole.ensures.content in
+    listed_in_part c.args.page first mid now head c.put_pieces-viewed.new.seen.tally c.put_pieces-viewed.result _ _ c.put_pieces-viewed.ensures.content last (sym c.is_listed.ensures ∙ c.if-not-is_listed.false) c.in-WriteFault-put_foot.ensures.content ended.WriteFault tt
+
+pub returns-clause-content : goal.returns-clause-content
+returns-clause-content g c =
+    let first = g.W.Sink.held c.args.out.now in
+    let mid = g.W.Sink.held c.put_mark.new.out in
+    let now = g.W.Sink.held c.put_pieces-viewed.new.out in
+    let last = g.W.Sink.held c.put_foot.new.out in
+    let head = subst (λ (l : List ℕ). Adds (mark c.args.page l) first mid) c.head.ensures c.in-Whole.ensures.content in
+    listed_in_part c.args.page first mid now head c.put_pieces-viewed.new.seen.tally c.put_pieces-viewed.result _ _ c.put_pieces-viewed.ensures.content last (sym c.is_listed.ensures ∙ c.if-not-is_listed.false) c.in-OutOfMemory-put_foot.ensures.content ended.OutOfMemory tt
+
+pub returns-in-Whole-put_foot-clause-content : goal.returns-in-Whole-put_foot-clause-content
+returns-in-Whole-put_foot-clause-content g c =
+    let first = g.W.Sink.held c.args.out.now in
+    let mid = g.W.Sink.held c.put_mark.new.out in
+    let now = g.W.Sink.held c.put_pieces-viewed.new.out in
+    let last = g.W.Sink.held c.put_foot.new.out in
+    let head = subst (λ (l : List ℕ). Adds (mark c.args.page l) first mid) c.head.ensures c.in-Whole.ensures.content in
+    listed c.args.page first mid now head c.put_pieces-viewed.new.seen.tally c.put_pieces-viewed.result _ _ c.put_pieces-viewed.ensures.content last (sym c.is_listed.ensures ∙ c.if-not-is_listed.false) c.in-Whole-put_foot.ensures.content

@@ -1,4 +1,4 @@
--- The text of the frame was put, its cells are seen, and it is counted.
+-- The text of the frame was put, and it is seen.
 use Rattle.std.proofs.Common.{List, ℕ, ◌∙◌, subst}
 use Rattle.ae_edge.specs.Streams.{PutsAll}
 use Rattle.view_command.proofs.frames.put_frame.Goals as goal
@@ -6,6 +6,3 @@ use Rattle.view_command.proofs.frames.put_frame.Goals as goal
 pub returns-in-Ok-clause-content : goal.returns-in-Ok-clause-content
 returns-in-Ok-clause-content g c = λ past tells.
     subst (λ (l : List ℕ). PutsAll l c.put_all.result (g.W.Sink.held c.args.out.now) (g.W.Sink.held c.put_all.new.sink)) (c.as_bytes.ensures.value ∙ c.in-Ok.ensures.text past tells) c.put_all.ensures.content
-
-pub returns-in-Ok-clause-seen : goal.returns-in-Ok-clause-seen
-returns-in-Ok-clause-seen g c = λ e past tells. c.in-Ok.ensures.seen past tells

@@ -1,5 +1,22 @@
--- The cells of the frame are seen.
+-- The cells of the frame are seen, and it is counted over the same table.
+use Rattle.std.proofs.Common.{rules, List, subst}
+use Rattle.first_seen.specs.Parts.{seen_past}
+use Rattle.scalar.specs.Classes.{Class}
+use Rattle.tap_counts.specs.Counting.{Counts, frame_places}
+use Rattle.tap_listing.specs.Classes.{classing}
+use Rattle.tap_listing.specs.Frames.{frame_spots}
+use Rattle.tap_listing.specs.Tables.{Tells}
+use Rattle.view_command.proofs.OneTable.{counted_again}
 use Rattle.view_command.proofs.frames.text_of.Goals as goal
 
-pub returns-clause-seen : goal.returns-clause-seen
-returns-clause-seen c = λ past tells. (c.in_ok-push_frame.ensures past tells).1
+pub returns-clause-passes : goal.returns-clause-passes
+returns-clause-passes c = λ past tells.
+    let frame = c.args.frame.now in
+    let mid = c.push_frame.new.numbers in
+    let new = c.count_frame.new.numbers in
+    let before = c.args.seen.now.tally in
+    let after = c.count_frame.new.tally in
+    let told = subst (λ (cs : List Class). Tells mid (seen_past classing past (frame_spots cs frame))) c.as_slice.ensures.value (c.in_ok-push_frame.ensures past tells).1 in
+    let counts = subst (λ (cs : List Class). Counts (frame_places cs frame) mid new before after) c.as_slice-2.ensures.value c.in_ok-count_frame.ensures in
+    let counted = counted_again c.args.seen.now.classes.items frame mid new before after past told counts in
+    (search rules, counted.0, counted.1)

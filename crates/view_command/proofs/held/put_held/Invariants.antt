@@ -1,0 +1,15 @@
+-- The frames so far were put.
+use Rattle.std.proofs.Common.{◌≡◌, ◌+◌, ◌<◌, ◌^◌, ℕ, List, length}
+use Rattle.std.specs.Prelude.{Option}
+use Rattle.view_command.specs.Streaming.{Stands}
+use Rattle.view_command.proofs.held.put_held.Given as goal
+
+abbrev pub invariant-frames : goal.invariant-frames
+invariant-frames g l = record {
+  stands : (taken : List ℕ) (first : Option (List ℕ)) → Stands l.page taken l.fn.held l.fn.seen first (g.W.Sink.held l.fn.out) → Stands l.page taken l.held l.seen first (g.W.Sink.held l.out);
+  room : l.held.at + length l.held.bytes.items < 2 ^ 64;
+  count : g.W.Sink.faults l.out ≡ g.W.Sink.faults l.fn.out;
+}
+
+abbrev pub decreases-frames : goal.decreases-frames
+decreases-frames g l = length l.held.bytes.items

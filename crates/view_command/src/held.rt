@@ -1,0 +1,126 @@
+//! The frames of a recording, from bytes that come in pieces.
+
+ghost use Rattle.std.specs.Prelude.{◌≡◌, ◌+◌, ◌++◌, ◌<◌, ◌^◌, List, ℕ, Option, [], OnOk, length};
+ghost use Rattle.view_command.specs.Streaming.{Comes, CountsCame, CountsTurn, Stands, Turns};
+
+use crate::frames::{Seen, put_frame};
+use ae_base::blobs::Blob;
+use ae_edge::sinks::Sink;
+use ae_edge::streams::PutAll;
+use bytes::BytesMut;
+use std::alloc::{AllocError, Global};
+use tap_reading::decode;
+use wire_frames::Decoded;
+
+/// The bytes of a recording that are held, and the place of the first.
+#[derive(Drop)]
+pub(crate) struct Held {
+    pub(crate) at: u64,
+    pub(crate) bytes: BytesMut,
+}
+
+impl Held {
+    /// None. It takes no memory.
+    pub(crate) fn new(alloc: Global) -> Held
+        ensures at { result.at ≡ 0 }
+        ensures bytes { result.bytes.items ≡ [] }
+    {
+        Held {
+            at: 0,
+            bytes: BytesMut::new(alloc),
+        }
+    }
+}
+
+/// What came of what stands next.
+#[derive(Clone, Copy)]
+enum Turn {
+    /// A frame was put, of so many bytes.
+    Put(usize),
+    /// Less than a frame stands there.
+    Waits,
+    /// What stands there is no frame.
+    Bad,
+    /// The text of a frame couldn't be put.
+    WriteFault,
+    OutOfMemory,
+}
+
+/// Puts the frame that stands next. It stays held.
+fn put_next<W: Sink>(alloc: Global, page: bool, held: &Held, seen: &mut Seen, out: &mut W) -> Turn
+    ensures turns { Turns page result held.now seen.old seen.new (W.held out.old)
+        (W.held out.new) }
+    ensures counts { CountsTurn result (W.faults out.old) (W.faults out.new) }
+{
+    match decode(alloc, held.bytes.as_slice()) {
+        Decoded::One(frame, used) => match put_frame(alloc, page, held.at, seen, &frame, out) {
+            PutAll::Whole => Turn::Put(used),
+            PutAll::WriteFault => Turn::WriteFault,
+            PutAll::OutOfMemory => Turn::OutOfMemory,
+        },
+        Decoded::NotYet => Turn::Waits,
+        Decoded::Bad => Turn::Bad,
+        Decoded::OutOfMemory => Turn::OutOfMemory,
+    }
+}
+
+/// What came of all that is held.
+#[derive(Clone, Copy)]
+pub(crate) enum Came {
+    /// Each frame was put, and less than a frame is left.
+    Waits,
+    /// Each frame was put up to this place, where none is.
+    Bad(u64),
+    /// The text of a frame couldn't be put.
+    WriteFault,
+    OutOfMemory,
+}
+
+/// Puts the frames that are held, one after another; the bytes of each are let go.
+fn put_held<W: Sink>(
+    alloc: Global,
+    page: bool,
+    held: &mut Held,
+    seen: &mut Seen,
+    out: &mut W,
+) -> Came
+    requires { held.old.at + length held.old.bytes.items < 2 ^ 64 }
+    ensures comes { (taken : List ℕ) (first : Option (List ℕ))
+        → Stands page taken held.old seen.old first (W.held out.old)
+        → Comes page result taken held.new seen.new first (W.held out.new) }
+    ensures counts { CountsCame result (W.faults out.old) (W.faults out.new) }
+{
+    'frames: loop {
+        match put_next(alloc, page, held, seen, out) {
+            Turn::Put(used) => {
+                held.bytes.advance(used);
+                held.at += used as u64;
+            }
+            Turn::Waits => return Came::Waits,
+            Turn::Bad => return Came::Bad(held.at),
+            Turn::WriteFault => return Came::WriteFault,
+            Turn::OutOfMemory => return Came::OutOfMemory,
+        }
+    }
+}
+
+/// Takes a piece behind what is held, and puts the frames that are whole.
+pub(crate) fn put_piece<W: Sink>(
+    alloc: Global,
+    page: bool,
+    piece: &Blob,
+    held: &mut Held,
+    seen: &mut Seen,
+    out: &mut W,
+) -> Came
+    requires { held.old.at + length (held.old.bytes.items ++ piece.now) < 2 ^ 64 }
+    ensures comes { (taken : List ℕ) (first : Option (List ℕ))
+        → Stands page taken held.old seen.old first (W.held out.old)
+        → Comes page result (taken ++ piece.now) held.new seen.new first (W.held out.new) }
+    ensures counts { CountsCame result (W.faults out.old) (W.faults out.new) }
+{
+    match held.bytes.extend_from_slice(piece.as_slice()) {
+        Ok(()) => put_held(alloc, page, held, seen, out),
+        Err(_) => Came::OutOfMemory,
+    }
+}

@@ -1,0 +1,69 @@
+//! The pieces of a recording, from a source.
+
+ghost use Rattle.std.specs.Prelude.{◌≡◌, []};
+ghost use Rattle.ae_edge.specs.Devices.{Rose};
+ghost use Rattle.tap_counts.specs.Counting.{no_tally};
+ghost use Rattle.tap_listing.specs.Tables.{no_tables};
+ghost use Rattle.view_command.specs.Streaming.{CountsViewed, EndsAt, ListsInput};
+
+use crate::commands::Viewed;
+use crate::frames::Seen;
+use crate::held::{Came, Held, put_piece};
+use ae_base::limits::MOST_STREAM_BYTES;
+use ae_edge::sinks::Sink;
+use ae_edge::sources::{Source, Taken};
+use std::alloc::Global;
+
+/// The most bytes that one call asks the input for.
+const MOST_PIECE_BYTES: usize = 65_536;
+
+/// What the end of the input means for what is held.
+fn at_end(held: &Held) -> Viewed
+    ensures { EndsAt result held.now }
+{
+    if held.bytes.is_empty() {
+        Viewed::Done
+    } else {
+        Viewed::CutOff(held.at)
+    }
+}
+
+/// Puts the frames of the input, piece by piece, and counts what is in them. At the limit one byte
+/// more is asked for.
+pub(crate) fn put_pieces<S: Source, W: Sink>(
+    alloc: Global,
+    page: bool,
+    input: &mut S,
+    seen: &mut Seen,
+    out: &mut W,
+) -> Viewed
+    requires classes { seen.old.classes.items ≡ [] }
+    requires cells { seen.old.cells ≡ no_tables }
+    requires tally { seen.old.tally ≡ no_tally }
+    ensures content { ListsInput page result seen.new.tally (S.left input.old) (S.left input.new)
+        (W.held out.old) (W.held out.new) }
+    ensures read { result ≡ Viewed.ReadFault → Rose (S.faults input.old) (S.faults input.new) }
+    ensures counts { CountsViewed result (W.faults out.old) (W.faults out.new) }
+{
+    let mut held = Held::new(alloc);
+    let mut left = MOST_STREAM_BYTES;
+    'pieces: loop {
+        match input.take(alloc, left.min(MOST_PIECE_BYTES).max(1)) {
+            Taken::Bytes(piece) => {
+                if left == 0 {
+                    return Viewed::TooLong;
+                }
+                left -= piece.len();
+                match put_piece(alloc, page, &piece, &mut held, seen, out) {
+                    Came::Waits => {}
+                    Came::Bad(place) => return Viewed::BadFrame(place),
+                    Came::WriteFault => return Viewed::WriteFault,
+                    Came::OutOfMemory => return Viewed::OutOfMemory,
+                }
+            }
+            Taken::End => return at_end(&held),
+            Taken::Failed => return Viewed::ReadFault,
+            Taken::OutOfMemory => return Viewed::OutOfMemory,
+        }
+    }
+}
