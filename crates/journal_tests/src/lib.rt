@@ -1,7 +1,10 @@
 //! Disks and journals: what no clause says of them, each of their public calls once with ample
-//! memory, and a journal that is stopped at each call of its disk.
+//! memory, and a journal that is stopped at each call of its disk, also while it
+//! is written anew.
 #![tactic(auto)]
 
+#[cfg(test)]
+mod compactions;
 #[cfg(test)]
 mod disks;
 #[cfg(test)]

@@ -49,12 +49,17 @@ fn push(frames: &mut Vec<u8>, head: [u8; 2], before: &[u8], text: &str) -> Resul
     Ok(())
 }
 
-fn push_execute(frames: &mut Vec<u8>, head: u8, version: u8, text: &str) -> Result<(), AllocError> {
+pub(crate) fn push_execute(
+    frames: &mut Vec<u8>,
+    head: u8,
+    version: u8,
+    text: &str,
+) -> Result<(), AllocError> {
     push(frames, [head, 2], &[0, 0, 0, 0, 0, 0, 0, version], text)
 }
 
 // What is put for an input, and how it ends.
-fn served(alloc: Global, disk: &mut MemDisk, input: Vec<u8>) -> (Ended, MemSink) {
+pub(crate) fn served(alloc: Global, disk: &mut MemDisk, input: Vec<u8>) -> (Ended, MemSink) {
     let mut input = MemSource::new(input, 7, Vec::new(alloc));
     let mut out = MemSink::new(alloc, Vec::new(alloc));
     let ended = serve_journal(alloc, &mut input, &mut out, disk);
@@ -89,7 +94,7 @@ fn are_found(alloc: Global, file: &[u8], rows: &[Option<u8>]) -> Result<bool, Al
 }
 
 // The frames of the statements.
-fn statements(alloc: Global) -> Result<Vec<u8>, AllocError> {
+pub(crate) fn statements(alloc: Global) -> Result<Vec<u8>, AllocError> {
     let mut frames = Vec::new(alloc);
     for (version, text) in &STATEMENTS {
         push_execute(&mut frames, 1, *version, text)?;

@@ -1,0 +1,6 @@
+mod Compacting
+mod Equalities
+mod Leading
+mod Mounting
+mod Putting
+mod Same

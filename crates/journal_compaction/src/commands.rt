@@ -1,0 +1,147 @@
+//! The command `compact`.
+
+ghost use Rattle.std.specs.Prelude.{◌≡◌, ◌<◌, ◌^◌, IfOk, IsTrue};
+ghost use Rattle.std.specs.List.{All};
+ghost use Rattle.ae_edge.specs.Devices.{WhereTold};
+ghost use Rattle.disk.specs.Moments.{Leaves};
+ghost use Rattle.journal_core.specs.Journals.{place_behind};
+ghost use Rattle.journal_core.specs.Mounts.{IsSomeImage};
+ghost use Rattle.journal_core.specs.Records.{IsRecord};
+ghost use Rattle.journal_compaction.specs.Checking.{LeadsTo};
+ghost use Rattle.journal_compaction.specs.Compacting.{Compacts, CountsCompacted, CountsNew, Writes};
+ghost use Rattle.journal_compaction.specs.Endings.{number_of};
+
+use crate::checking::{are_records, lead_to};
+use crate::finding::{Found, find};
+use crate::records::{Stop, compacted};
+use crate::writing::{last_gate, write_journal};
+use ae_base::blobs::Blob;
+use ae_base::lists::Seq;
+use disk::disks::{Disk, Stored};
+use server_core::server::Server;
+use std::alloc::{AllocError, Global};
+use std::fmt;
+
+/// How the command ended.
+#[derive(Clone, Copy, PartialEq, Eq, Debug)]
+pub enum Compacted {
+    /// The new file is on the disk.
+    Done,
+    /// Behind the gate at this byte of the old file, from 0, stands no record that is served again.
+    Damaged(u64),
+    /// A call of the old file's disk failed.
+    DiskFault,
+    /// A call of the new file's disk failed.
+    NewDiskFault,
+    /// The new file has no room for the records.
+    JournalFull,
+    /// The records that were made don't lead to the same tables. Nothing is written.
+    Refused,
+    OutOfMemory,
+}
+
+impl Compacted {
+    /// The number with which the program ends.
+    pub fn number(&self) -> u8
+        ensures { result ≡ number_of self.now }
+    {
+        match self {
+            Compacted::Done => 0,
+            Compacted::OutOfMemory => 5,
+            Compacted::Damaged(_) => 13,
+            Compacted::DiskFault | Compacted::NewDiskFault => 14,
+            Compacted::JournalFull => 15,
+            Compacted::Refused => 16,
+        }
+    }
+}
+
+impl fmt::Display for Compacted {
+    ghost use Rattle.std.specs.Prelude.{Some};
+    ghost use Rattle.journal_compaction.specs.Endings.{said_of};
+
+    ghost output = { λ c. Some (said_of c) };
+
+    fn fmt<W: fmt::Write>(&self, f: &mut fmt::Formatter<W>) -> fmt::Result {
+        match self {
+            Compacted::Done => Ok(()),
+            Compacted::OutOfMemory => writeln!(f, "ae_compact: out of memory"),
+            Compacted::Damaged(place) => writeln!(f, "ae_compact: bad journal at {place}"),
+            Compacted::DiskFault => writeln!(f, "ae_compact: disk fault"),
+            Compacted::NewDiskFault => writeln!(f, "ae_compact: disk fault in the new file"),
+            Compacted::JournalFull => writeln!(f, "ae_compact: journal full"),
+            Compacted::Refused => writeln!(f, "ae_compact: refused"),
+        }
+    }
+}
+
+/// Whether records may be those of a journal, and lead to the world of a server.
+fn hold(alloc: Global, records: &[Blob], server: &Server) -> Result<bool, AllocError>
+    requires { place_behind records.now < 2 ^ 64 }
+    ensures { IfOk result (λ hold. IsTrue hold
+        → All IsRecord records.now × LeadsTo records.now server.now) }
+{
+    Ok(are_records(alloc, records)? && lead_to(alloc, records, server)?)
+}
+
+/// Makes the file of a disk the journal of records that lead to the world of a server.
+fn write_tested<E: Disk>(alloc: Global, records: &[Blob], server: &Server, new: &mut E) -> Compacted
+    ensures writes { Writes result server.now (E.told new.old) (E.told new.new) }
+    ensures same { E.names new.new ≡ E.names new.old }
+    ensures counts { CountsNew result (E.faults new.old) (E.faults new.new) }
+{
+    let Some(gate) = last_gate(records) else {
+        return Compacted::JournalFull;
+    };
+    match hold(alloc, records, server) {
+        Ok(true) => match write_journal(alloc, new, records, gate) {
+            Stored::Done => Compacted::Done,
+            Stored::Failed => Compacted::NewDiskFault,
+            Stored::OutOfMemory => Compacted::OutOfMemory,
+        },
+        Ok(false) => Compacted::Refused,
+        Err(_) => Compacted::OutOfMemory,
+    }
+}
+
+/// Makes the file of a disk a journal that leads to the world of a server, whose records are these.
+fn replace<E: Disk>(alloc: Global, entries: Seq<Blob>, server: Server, new: &mut E) -> Compacted
+    ensures writes { Writes result server (E.told new.old) (E.told new.new) }
+    ensures same { E.names new.new ≡ E.names new.old }
+    ensures counts { CountsNew result (E.faults new.old) (E.faults new.new) }
+{
+    match compacted(alloc, entries.as_slice(), &server) {
+        Ok(records) => {
+            drop(entries);
+            write_tested(alloc, records.as_slice(), &server, new)
+        }
+        Err(Stop::Refused) => Compacted::Refused,
+        Err(Stop::OutOfMemory) => Compacted::OutOfMemory,
+    }
+}
+
+/// Reads the journal on a disk as a server does at its start, and makes the file of another disk a
+/// journal that leads to the same tables: its definitions, and INSERTs of the rows.
+pub fn compact<D: Disk, E: Disk>(alloc: Global, disk: &mut D, new: &mut E) -> Compacted
+    // Served again as a start serves them, the records of the new file lead to the world to which
+    // those of the old one lead: its catalog, with its version and the numbers of its keys, and the
+    // same rows of each table in the same order. Or why there are none.
+    ensures content { Compacts result (D.told disk.old) (D.told disk.new)
+        (E.told new.old) (E.told new.new) }
+    // However it ends, and at each moment, a crash leaves the records of an image of the old file
+    // that the disk had at the start.
+    ensures untouched { WhereTold (λ old new. Leaves (IsSomeImage old.now) old new)
+        (D.told disk.old) (D.told disk.new) }
+    // The faults of the disks come only where a count rose.
+    ensures same { D.names disk.new ≡ D.names disk.old }
+    ensures same_new { E.names new.new ≡ E.names new.old }
+    ensures counts { CountsCompacted result (D.faults disk.old) (D.faults disk.new)
+        (E.faults new.old) (E.faults new.new) }
+{
+    match find(alloc, disk) {
+        Found::Served(entries, server) => replace(alloc, entries, server, new),
+        Found::Damaged(place) => Compacted::Damaged(place),
+        Found::DiskFault => Compacted::DiskFault,
+        Found::OutOfMemory => Compacted::OutOfMemory,
+    }
+}

@@ -1,0 +1,48 @@
+//! The records of which a journal is made anew.
+
+use crate::definitions::push_definitions;
+use crate::inserts::push_inserts;
+use ae_base::blobs::Blob;
+use ae_base::cells::Cell;
+use ae_base::lists::Seq;
+use engine::worlds::World;
+use indexed_tables::lending::lent;
+use server_core::server::Server;
+use std::alloc::{AllocError, Global};
+
+/// Why no records were made.
+#[derive(Clone, Copy, PartialEq, Eq, Debug)]
+pub(crate) enum Stop {
+    /// A record can't be read, or a row not sent.
+    Refused,
+    OutOfMemory,
+}
+
+impl From<AllocError> for Stop {
+    fn from(_: AllocError) -> Stop {
+        Stop::OutOfMemory
+    }
+}
+
+/// Puts INSERTs of the rows of all tables at the end, in the order of the catalog.
+fn push_rows(alloc: Global, world: &World<Cell>, records: &mut Seq<Blob>) -> Result<(), Stop> {
+    let catalog = world.catalog();
+    for (def, table) in catalog.tables().iter().zip(world.contents()) {
+        let rows = lent(alloc, table.rows())?;
+        push_inserts(alloc, catalog.version(), def, rows.as_slice(), records)?;
+    }
+    Ok(())
+}
+
+/// The definitions of some records, and INSERTs of the rows to which they lead. That these lead
+/// there too is left to be tested.
+pub(crate) fn compacted(
+    alloc: Global,
+    entries: &[Blob],
+    server: &Server,
+) -> Result<Seq<Blob>, Stop> {
+    let mut records = Seq::new(alloc);
+    push_definitions(alloc, entries, &mut records)?;
+    push_rows(alloc, server.shared_world(), &mut records)?;
+    Ok(records)
+}

@@ -1,0 +1,152 @@
+//! A journal is written into a file of its own.
+
+ghost use Rattle.std.specs.Prelude.{◌≡◌, ◌<◌, ◌≤◌, ◌+◌, ◌^◌, ◌++◌, ◌∷◌, [], IfOk, IfSome, MatchOption, length};
+ghost use Rattle.std.specs.List.{All};
+ghost use Rattle.ae_edge.specs.Devices.{WhereTold};
+ghost use Rattle.disk.specs.Calls.{CountsStored};
+ghost use Rattle.journal_core.specs.Appends.{most_bytes};
+ghost use Rattle.journal_core.specs.Journals.{framed, place_behind};
+ghost use Rattle.journal_core.specs.Records.{IsRecord};
+ghost use Rattle.journal_compaction.specs.Writing.{HasAt, PutsBehind, WritesJournal, opened};
+
+use ae_base::blobs::Blob;
+use disk::disks::{Disk, Stored};
+use journal_core::laws::journals_are_read_back;
+use std::alloc::{AllocError, Global};
+
+// The most bytes that the file of a journal has.
+const MOST_BYTES: u64 = 1_099_511_627_776;
+
+/// The place of the last gate of a journal of some records, where its file isn't too long.
+pub(crate) fn last_gate(records: &[Blob]) -> Option<u64>
+    ensures { MatchOption result (most_bytes < place_behind records.now + 1)
+        (λ gate. (gate ≡ place_behind records.now) × (gate + 1 ≤ most_bytes)) }
+{
+    let mut gate = 0u64;
+    'records: for entry in records {
+        let len = entry.len() as u64;
+        if gate > MOST_BYTES {
+            return None;
+        }
+        if len > MOST_BYTES {
+            return None;
+        }
+        gate += 9 + len;
+    }
+    if gate < MOST_BYTES { Some(gate) } else { None }
+}
+
+/// The bytes of a record in the file, behind an open gate.
+fn opened_record(alloc: Global, entry: &[u8]) -> Result<Vec<u8>, AllocError>
+    ensures { IfOk result (λ bytes. bytes.items ≡ 1 ∷ framed entry.now) }
+{
+    let mut bytes = Vec::new(alloc);
+    bytes.push(1)?;
+    bytes.extend_from_slice(&(entry.len() as u64).to_be_bytes())?;
+    bytes.extend_from_slice(entry)?;
+    Ok(bytes)
+}
+
+/// Puts bytes at the end of the file.
+fn put_behind<E: Disk>(disk: &mut E, at: u64, bytes: &[u8]) -> Stored
+    requires end { IfSome (E.told disk.old) (HasAt at) }
+    requires room { at + length bytes.now < 2 ^ 64 }
+    ensures content { WhereTold (PutsBehind result bytes.now) (E.told disk.old) (E.told disk.new) }
+    ensures same { E.names disk.new ≡ E.names disk.old }
+    ensures counts { CountsStored result (E.faults disk.old) (E.faults disk.new) }
+{
+    disk.write(at, bytes)
+}
+
+/// Puts a record behind an open gate at the end of the file.
+fn put_record<E: Disk>(alloc: Global, disk: &mut E, at: u64, entry: &[u8]) -> Stored
+    requires end { IfSome (E.told disk.old) (HasAt at) }
+    requires room { at + 10 + length entry.now < 2 ^ 64 }
+    ensures content { WhereTold (PutsBehind result (1 ∷ framed entry.now))
+        (E.told disk.old) (E.told disk.new) }
+    ensures same { E.names disk.new ≡ E.names disk.old }
+    ensures counts { CountsStored result (E.faults disk.old) (E.faults disk.new) }
+{
+    match opened_record(alloc, entry) {
+        Ok(bytes) => put_behind(disk, at, bytes.as_slice()),
+        Err(_) => Stored::OutOfMemory,
+    }
+}
+
+/// Puts records at the end of an empty file, each behind an open gate.
+fn put_records<E: Disk>(alloc: Global, disk: &mut E, records: &[Blob]) -> Stored
+    requires empty { IfSome (E.told disk.old) (HasAt 0) }
+    requires room { place_behind records.now + 1 ≤ most_bytes }
+    ensures content { WhereTold (PutsBehind result (opened records.now))
+        (E.told disk.old) (E.told disk.new) }
+    ensures same { E.names disk.new ≡ E.names disk.old }
+    ensures counts { CountsStored result (E.faults disk.old) (E.faults disk.new) }
+{
+    let mut at = 0u64;
+    'records: for entry in records {
+        match put_record(alloc, disk, at, entry.as_slice()) {
+            Stored::Done => at += 9 + entry.len() as u64,
+            Stored::Failed => return Stored::Failed,
+            Stored::OutOfMemory => return Stored::OutOfMemory,
+        }
+    }
+    Stored::Done
+}
+
+/// Puts records and a closed gate behind them at the end of an empty file.
+fn put_journal<E: Disk>(alloc: Global, disk: &mut E, records: &[Blob], gate: u64) -> Stored
+    requires empty { IfSome (E.told disk.old) (HasAt 0) }
+    requires gate { gate ≡ place_behind records.now }
+    requires room { gate + 1 ≤ most_bytes }
+    ensures content { WhereTold (PutsBehind result (opened records.now ++ 0 ∷ []))
+        (E.told disk.old) (E.told disk.new) }
+    ensures same { E.names disk.new ≡ E.names disk.old }
+    ensures counts { CountsStored result (E.faults disk.old) (E.faults disk.new) }
+{
+    match put_records(alloc, disk, records) {
+        Stored::Done => put_behind(disk, gate, &[0]),
+        Stored::Failed => Stored::Failed,
+        Stored::OutOfMemory => Stored::OutOfMemory,
+    }
+}
+
+/// Makes an empty file the journal of some records, and syncs it.
+fn write_empty<E: Disk>(alloc: Global, disk: &mut E, records: &[Blob], gate: u64) -> Stored
+    requires records { All IsRecord records.now }
+    requires empty { IfSome (E.told disk.old) (HasAt 0) }
+    requires gate { gate ≡ place_behind records.now }
+    requires room { gate + 1 ≤ most_bytes }
+    ensures content { WhereTold (WritesJournal result records.now)
+        (E.told disk.old) (E.told disk.new) }
+    ensures same { E.names disk.new ≡ E.names disk.old }
+    ensures counts { CountsStored result (E.faults disk.old) (E.faults disk.new) }
+{
+    journals_are_read_back();
+    match put_journal(alloc, disk, records, gate) {
+        Stored::Done => disk.sync(),
+        Stored::Failed => Stored::Failed,
+        Stored::OutOfMemory => Stored::OutOfMemory,
+    }
+}
+
+/// Makes a file the journal of some records, and syncs it. What it was before is lost.
+pub(crate) fn write_journal<E: Disk>(
+    alloc: Global,
+    disk: &mut E,
+    records: &[Blob],
+    gate: u64,
+) -> Stored
+    requires records { All IsRecord records.now }
+    requires gate { gate ≡ place_behind records.now }
+    requires room { gate + 1 ≤ most_bytes }
+    ensures content { WhereTold (WritesJournal result records.now)
+        (E.told disk.old) (E.told disk.new) }
+    ensures same { E.names disk.new ≡ E.names disk.old }
+    ensures counts { CountsStored result (E.faults disk.old) (E.faults disk.new) }
+{
+    match disk.cut(0) {
+        Stored::Done => write_empty(alloc, disk, records, gate),
+        Stored::Failed => Stored::Failed,
+        Stored::OutOfMemory => Stored::OutOfMemory,
+    }
+}
