@@ -1,3 +1,4 @@
 pub mod Does
 pub mod Endings
+pub mod Headline
 pub mod Seen

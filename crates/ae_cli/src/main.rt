@@ -3,6 +3,7 @@
 
 mod commands;
 mod endings;
+mod laws;
 #[cfg(test)]
 mod tests;
 

@@ -1,0 +1,180 @@
+-- The headline follows from what the words `ae run` do.
+use Rattle.std.proofs.Common.{◌≡◌, ◌⊎◌, ◌↔◌, ℕ, List, [], ◌∷◌, ◌++◌, Option, Some, None, Bool, true, false, refl, sym, ap, subst, inl, inr, if◌then◌else◌}
+use Rattle.std.proofs.lemmas.Bool.{eqb-true}
+use Rattle.std.specs.Prelude.{map, IfSome, IsTrue, ◌==◌}
+use Rattle.std.specs.List.{AllZip}
+use Rattle.ae_base.specs.declared.batches.Batch.{Batch}
+use Rattle.ae_base.specs.declared.faults.SqlFault.TheVariants.{EncryptionClash}
+use Rattle.ae_base.specs.declared.frames.FrameVersion.{FrameVersion}
+use Rattle.ae_edge.specs.Devices.{AddsFront}
+use Rattle.ae_edge.specs.Vaults.{KeyMap}
+use Rattle.ae_edge.proofs.Interface.{adds_front_none, removes_none}
+use Rattle.command_words.specs.Words.{command_in}
+use Rattle.command_words.specs.declared.commands.Command.{Command}
+use Rattle.command_words.specs.declared.commands.Command.TheVariants as command
+use Rattle.server_core.specs.Serve.{State, catalog_of, empty_state}
+use Rattle.conversation.specs.Batches.{why_unfit}
+use Rattle.conversation.specs.Pending.{Pending, uses_of}
+use Rattle.conversation.specs.declared.faults.DriverFault.{DriverFault}
+use Rattle.conversation.specs.declared.outcomes.Outcome.{Outcome}
+use Rattle.conversation.specs.declared.outcomes.Outcome.TheVariants as outcome
+use Rattle.outcome_text.specs.Printing.{print}
+use Rattle.script_lang.specs.declared.steps.Act.{Act}
+use Rattle.script_lang.specs.declared.steps.Act.TheVariants.{Whole, Half, Execute}
+use Rattle.script_lang.specs.declared.steps.Step.{Step}
+use Rattle.script_lang.specs.declared.steps.Step.TheVariants.{Turn, Trust}
+use Rattle.script_source.specs.Scripts.{IsScript}
+use Rattle.script_source.specs.declared.Unread.TheVariants as unread
+use Rattle.script_run.specs.Draws.{Drew}
+use Rattle.script_run.specs.declared.runs.Ran.{Ran}
+use Rattle.script_run.specs.declared.runs.Ran.TheVariants as ran
+use Rattle.script_run.specs.declared.status.Status.{Status}
+use Rattle.script_run.specs.declared.status.Status.TheVariants as status
+use Rattle.run_effects.specs.declared.stops.Stop.TheVariants as stop
+use Rattle.plain_meaning.specs.Alike.{Alike}
+use Rattle.plain_meaning.specs.Clashes.{IsClash, IsReached}
+use Rattle.plain_meaning.specs.Laws.{ClashesExactly}
+use Rattle.plain_meaning.specs.Reference.{Came, begun, executed_with, execution_of, held_at, means, nothing_held, readied, reference, waits, why_unopened, with_held}
+use Rattle.run_command.specs.Ends.{RunDevices, RunsScript}
+use Rattle.run_command.specs.declared.runs.Count.{Count}
+use Rattle.run_command.specs.Plain.{IsDoneOrFault, PrintsPlain, meaning}
+use Rattle.run_command.specs.RunOf.{IsRunOf}
+use Rattle.run_command.specs.Transcript.{TapsTranscript, transcript}
+use Rattle.ae_cli.specs.Does.{DidAsked, Does, IsCaused, uses}
+use Rattle.ae_cli.specs.Endings.{status_of}
+use Rattle.ae_cli.specs.Headline.{CameToItsEnd, Headline, IsStop, IsUntyped, TurnAt, WasStopped, turns_from}
+use Rattle.ae_cli.specs.Seen.{Seen, run_devices}
+
+-- ---- a clash comes of nothing before typing
+
+unfit_is_none : (state : State) (number : ℕ) (batch : Batch) (ready : Pending → Came) (why : Option DriverFault) → IsClash (begun state number batch ready why).comes → why ≡ None
+unfit_is_none state number batch ready None is = refl
+unfit_is_none state number batch ready (Some f) is = absurd is
+
+chosen : (test : Bool) (x y : Came) → IsClash (if test then x else y).comes → ¬ (IsClash y.comes) → test ≡ true
+chosen true x y is never = refl
+chosen false x y is never = absurd (never is)
+
+opened_is_none : (keys : KeyMap) (trusted : List (List ℕ)) (state : State) (number : ℕ) (p : Pending) (why : Option DriverFault) → IsClash (executed_with keys trusted state number p why).comes
+    → (why ≡ None) × (p.version ≡ (catalog_of state number).version)
+opened_is_none keys trusted state number p (Some f) is = absurd is
+opened_is_none keys trusted state number p None is = (refl, eqb-true p.version (catalog_of state number).version (chosen (p.version == (catalog_of state number).version) _ _ is (λ clash. clash)))
+
+reached : (keys : KeyMap) (trusted : List (List ℕ)) (number : ℕ) (act : Act) (held : Option Pending) (state : State) → IsClash (means keys trusted number act held state).comes
+    → IsReached keys trusted state number act held
+reached keys trusted number (Whole batch) None state is = unfit_is_none state number batch (readied state (execution_of keys trusted state number)) (why_unfit batch) is
+reached keys trusted number (Whole batch) (Some p) state is = absurd is
+reached keys trusted number (Half batch) None state is = unfit_is_none state number batch (readied state (waits state)) (why_unfit batch) is
+reached keys trusted number (Half batch) (Some p) state is = absurd is
+reached keys trusted number Execute (Some p) state is = opened_is_none keys trusted state number p (why_unopened keys trusted p.keys (map (λ u. u.enc) (uses_of p))) is
+reached keys trusted number Execute None state is = absurd is
+
+clash_place : (comes : Outcome) → IsClash comes → (at : ℕ) × (comes ≡ outcome.Refused (EncryptionClash at))
+clash_place (outcome.Refused (EncryptionClash at)) is = (at, refl)
+clash_place other is = absurd is
+
+module _ (law : ClashesExactly) (keys : KeyMap) where
+  clash_exactly : (t : TurnAt) → IsClash (means keys t.trusted t.session t.act t.held t.state).comes ↔ IsUntyped keys t
+  clash_exactly t = (
+    λ is.
+        let place = clash_place (means keys t.trusted t.session t.act t.held t.state).comes is in
+        let there = law.only keys t.trusted t.session t.act t.held t.state place.0 place.1 in
+        record {
+          reached = reached keys t.trusted t.session t.act t.held t.state is;
+          batch = there.0;
+          of_turn = there.1;
+          bound = there.2.bound;
+          is_bound = there.2.is_bound;
+          untyped = there.2.untyped;
+        },
+    λ u. (law.exactly keys t.trusted t.session t.act t.held t.state u.batch u.bound u.reached u.of_turn u.is_bound).1 u.untyped,
+  )
+
+  clashes_from : (steps : List Step) (trusted : List (List ℕ)) (holds : List (Option Pending)) (state : State)
+      → AllZip (λ turn comes. IsClash comes ↔ IsUntyped keys turn) (turns_from keys steps trusted holds state) (reference keys steps trusted holds state)
+  clashes_from [] trusted holds state = tt
+  clashes_from (Turn session act ∷ steps) trusted holds state =
+      let held = held_at holds session in
+      let c = means keys trusted session act held state in (
+        clash_exactly (record { trusted = trusted; session = session; act = act; held = held; state = state }),
+        clashes_from steps trusted (with_held holds session c.held) c.state,
+      )
+  clashes_from (Trust path ∷ steps) trusted holds state = clashes_from steps (trusted ++ path ∷ []) holds state
+
+-- ---- how a run ended
+
+-- one of two devices that are used; the first, where the second isn't
+of_two : {X Y : Type 0} → (IsTrue true × X) ⊎ (IsTrue true × Y) → X ⊎ Y
+of_two (inl x) = inl x.1
+of_two (inr y) = inr y.1
+
+of_first : {X Y : Type 0} → (IsTrue true × X) ⊎ (IsTrue false × Y) → X
+of_first (inl x) = x.1
+of_first (inr y) = let e : false ≡ true = y.0 in absurd cc
+
+module _ (version : FrameVersion) (keys : KeyMap) (steps : List Step) (old new : Seen) where
+  abbrev Ends : Status → Type 0
+  Ends end = CameToItsEnd version keys steps end old new ⊎ WasStopped version keys steps end old new
+
+  -- its output and its tap are as they were, and no byte was drawn
+  untouched : (end : Status) → IsStop end old new → run_devices version new ≡ run_devices version old → Ends end
+  untouched end cause e =
+      let out : new.out.content ≡ old.out.content = ap (λ (x : RunDevices). x.out) e in
+      let entropy : new.entropy.content ≡ old.entropy.content = ap (λ (x : RunDevices). x.entropy) e in
+      let tap : new.tap.content ≡ old.tap.content = ap (λ (x : RunDevices). x.tap) e in
+      inr (record {
+        cause = cause;
+        text = subst (λ x. AddsFront (print (meaning keys steps)) old.out.content x) (sym out) (adds_front_none (print (meaning keys steps)) old.out.content);
+        frames = record {
+          drawn = [];
+          share = subst (λ x. Drew [] old.entropy.content x) (sym entropy) (removes_none old.entropy.content);
+          tap = λ more. subst (λ x. AddsFront (transcript version keys steps more) old.tap.content x) (sym tap) (adds_front_none (transcript version keys steps more) old.tap.content);
+        };
+      })
+
+  abbrev Tapped : Ran → Type 0
+  Tapped r = TapsTranscript version r keys steps old.entropy.content new.entropy.content old.tap.content new.tap.content
+
+  abbrev Printed : Ran → Type 0
+  Printed r = PrintsPlain r keys steps old.out.content new.out.content
+
+  abbrev Caused : Ran → Type 0
+  Caused r = IsCaused (uses (Some (command.Run false version))) (status_of r) old new
+
+  ends_so : (r : Ran) (count : Count) (bytes : List ℕ) → RunsScript r count bytes (run_devices version old) (run_devices version new) → IsDoneOrFault r → Printed r → Tapped r → Caused r → Ends (status_of r)
+  ends_so ran.Done count bytes c d p t w = inl (record { ends = rw p.1 refl; text = p.0; frames = t })
+  ends_so ran.Refusals count bytes c d p t w = inl (record { ends = rw p.1 refl; text = p.0; frames = t })
+  ends_so (ran.Stopped (stop.BadReply place)) count bytes c d p t w = absurd d
+  ends_so (ran.Stopped stop.ReadFault) count bytes c d p t w = absurd d
+  ends_so (ran.Stopped stop.TooLong) count bytes c d p t w = absurd d
+  ends_so (ran.Stopped stop.EntropyFault) count bytes c d p t w = inr (record { cause = w.1; text = p; frames = t })
+  ends_so (ran.Stopped stop.VaultFault) count bytes c d p t w = inr (record { cause = w.1; text = p; frames = t })
+  ends_so (ran.Stopped stop.WriteFault) count bytes c d p t w = inr (record { cause = of_two w; text = p; frames = t })
+  ends_so (ran.Stopped stop.OutOfMemory) count bytes c d p t w = inr (record { cause = tt; text = p; frames = t })
+  ends_so (ran.Unread unread.ReadFault) count bytes c d p t w = untouched status.ReadFault (of_first w) c.1
+  ends_so (ran.Unread unread.TooLong) count bytes c d p t w = absurd d
+  ends_so (ran.Unread (unread.BadLine line)) count bytes c d p t w = absurd d
+  ends_so (ran.Unread unread.OutOfMemory) count bytes c d p t w = untouched status.OutOfMemory tt c.1
+
+  asked_so : (words : List (List ℕ)) (end : Status) → DidAsked (Some (command.Run false version)) words end old new → old.peer.state ≡ Some empty_state
+      → (bytes : List ℕ) → old.script.content ≡ Some bytes → IsScript bytes steps → old.vault.content ≡ Some keys → Alike keys steps → Ends end
+  asked_so words end did state bytes told script keys_told alike =
+      let d = did.0.run in
+      let is : d.bytes ≡ bytes = subst (λ o. IfSome o (λ left. d.bytes ≡ left)) told d.told in
+      let s : IsScript d.bytes steps = subst (λ bs. IsScript bs steps) (sym is) script in
+      let r : IsRunOf d.how d.bytes (run_devices version old) (run_devices version new) = d.did in
+      subst Ends (sym d.ends)
+      (ends_so d.how r.count d.bytes r.content (r.complete state steps s) (r.plain state steps s keys keys_told alike) (r.transcript state steps s keys keys_told)
+      (subst (λ x. IsCaused (uses (Some (command.Run false version))) x old new) d.ends did.1))
+
+  does_so : (words : List (List ℕ)) → command_in words ≡ Some (command.Run false version) → (end : Status) → Does words end old new → old.peer.state ≡ Some empty_state
+      → (bytes : List ℕ) → old.script.content ≡ Some bytes → IsScript bytes steps → old.vault.content ≡ Some keys → Alike keys steps → Ends end
+  unfolding Does
+  does_so words is end (inl did) state bytes told script keys_told alike = asked_so words end (subst (λ (x : Option Command). DidAsked x words end old new) is did) state bytes told script keys_told alike
+  does_so words is end (inr none) state bytes told script keys_told alike = subst Ends (sym none.0) (untouched status.OutOfMemory tt (ap (run_devices version) none.1))
+
+pub headline : ClashesExactly → Headline
+headline law words version is end old new does state bytes told steps script keys keys_told alike = (
+  clashes_from law keys steps [] nothing_held empty_state,
+  does_so version keys steps old new words is end does state bytes told script keys_told alike,
+)
