@@ -3,14 +3,22 @@
 The client is `PROGRAM drive --frames 2`, in a private folder whose files tap.bin and replies.bin are named pipes. The relay is
 trusted with bytes alone: it knows the lengths and kinds of frames, no key and no cell, and the client checks every reply.
 """
+import ctypes
 import os
 import select
 import shutil
+import signal
 import subprocess
 import tempfile
 
 DESCRIBE, EXECUTE, DONE, REFUSED, ROWS = 0x01, 0x02, 0x84, 0x85, 0x86
 MOST_BODY = 16777216  # bytes; of a longer frame the header alone is handed on, where the client refuses it
+LIBC, PR_SET_PDEATHSIG = ctypes.CDLL(None), 1
+
+
+def end_with_relay():
+    """Has the system end this process when the relay has ended, however it ended."""
+    LIBC.prctl(PR_SET_PDEATHSIG, signal.SIGTERM)
 
 
 def put(pipe, data):
@@ -89,7 +97,8 @@ class Client:
         os.symlink(os.path.abspath("keys"), os.path.join(self.room, "keys"))
         self.requests = Frames(os.open(os.path.join(self.room, "tap.bin"), os.O_RDONLY | os.O_NONBLOCK))
         self.gone, held = os.pipe()  # `held` is closed by the client's end
-        self.run = subprocess.Popen([program, "drive", "--frames", "2"], cwd=self.room, pass_fds=[held], **streams)
+        words = [program, "drive", "--frames", "2"]
+        self.run = subprocess.Popen(words, cwd=self.room, pass_fds=[held], preexec_fn=end_with_relay, **streams)
         os.close(held)
 
     def is_reading(self):

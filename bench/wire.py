@@ -8,6 +8,12 @@ def execute(text, version, session=1):
     return b"\1\2" + len(body).to_bytes(4, "big") + body
 
 
+def record(*frames):
+    """A record of a journal behind its open gate, as docs/formats.md spells it; a closed gate ends the file."""
+    held = b"".join(frames)
+    return b"\1" + len(held).to_bytes(8, "big") + held
+
+
 def frames_in(data):
     """The whole frames at the front of some bytes."""
     frames, at = [], 0

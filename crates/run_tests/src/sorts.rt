@@ -9,13 +9,14 @@ use wire_frames::{Decoded, decode_request};
 use wire_parts::parts::TxtPart;
 use wire_parts::texts::StatementPart;
 
-const SORTS: [(&str, Sort); 11] = [
+const SORTS: [(&str, Sort); 12] = [
     ("SELECT a FROM t", Sort::Reads),
     ("INSERT INTO t (a) VALUES (1)", Sort::Changes),
     ("UPDATE t SET a = 1", Sort::Changes),
     ("DELETE FROM t", Sort::Changes),
     ("CREATE TABLE t (a INT)", Sort::Defines),
     ("DROP TABLE t", Sort::Defines),
+    ("ALTER TABLE t REPLACE BY u", Sort::Changes),
     ("BEGIN TRANSACTION", Sort::Begins),
     ("COMMIT", Sort::Commits),
     ("ROLLBACK", Sort::RollsBack),

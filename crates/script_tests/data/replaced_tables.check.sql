@@ -1,0 +1,15 @@
+-- A table is replaced, as it makes other definitions.
+CREATE TABLE t (a INT)
+GO
+CREATE TABLE u (b INT)
+GO
+BEGIN TRANSACTION
+GO
+ALTER TABLE t REPLACE BY u
+GO
+SELECT b FROM t
+GO
+SELECT b FROM u
+GO
+ALTER TABLE t REPLACE BY t
+GO

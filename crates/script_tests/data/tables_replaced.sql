@@ -1,0 +1,82 @@
+CREATE TABLE t (a INT)
+GO
+CREATE TABLE u (a INT, b INT)
+GO
+INSERT INTO t (a) VALUES (1), (2)
+GO
+INSERT INTO u (a, b) VALUES (3, 4)
+GO
+-- The columns needn't be alike.
+ALTER TABLE t REPLACE BY u
+GO
+SELECT * FROM t
+GO
+SELECT * FROM u
+GO
+-- Both tables must be there, and be two.
+ALTER TABLE v REPLACE BY w
+GO
+ALTER TABLE t REPLACE BY w
+GO
+ALTER TABLE t REPLACE BY t
+GO
+-- A transaction may do it. ROLLBACK undoes it.
+CREATE TABLE u (a INT)
+GO
+BEGIN TRANSACTION
+GO
+INSERT INTO u (a) VALUES (5)
+GO
+ALTER TABLE t REPLACE BY u
+GO
+SELECT * FROM t
+GO
+:session 2
+SELECT * FROM t
+GO
+:session 1
+ROLLBACK
+GO
+SELECT * FROM t
+GO
+-- COMMIT keeps the rows that the table got under both names.
+BEGIN TRANSACTION
+GO
+INSERT INTO u (a) VALUES (6)
+GO
+ALTER TABLE t REPLACE BY u
+GO
+INSERT INTO t (a) VALUES (7)
+GO
+COMMIT
+GO
+SELECT * FROM t
+GO
+-- It uses both tables.
+CREATE TABLE u (a INT)
+GO
+BEGIN TRANSACTION
+GO
+ALTER TABLE t REPLACE BY u
+GO
+:session 2
+INSERT INTO u (a) VALUES (8)
+GO
+:session 1
+COMMIT
+GO
+SELECT * FROM t
+GO
+-- It moves the transactions of others.
+BEGIN TRANSACTION
+GO
+SELECT a FROM t
+GO
+:session 2
+ALTER TABLE t REPLACE BY u
+GO
+:session 1
+COMMIT
+GO
+SELECT * FROM t
+GO
