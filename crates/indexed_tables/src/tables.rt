@@ -1,12 +1,15 @@
 //! Tables: rows in pages, with an index for each unique key.
 
-ghost use Rattle.std.specs.Prelude.{◌≡◌, ◌<◌, ◌≤◌, ◌++◌, [], List, length, map, slice_index_or, OnOk, OnErr, IfOk};
+ghost use Rattle.std.specs.Prelude.{◌≡◌, ◌<◌, ◌≤◌, ◌++◌, [], ℕ, List, length, map, slice_index_or, OnOk, OnErr, IfOk};
 ghost use Rattle.std.specs.List.{All, Contains};
 ghost use Rattle.ae_base.specs.Atoms.{Atom};
 ghost use Rattle.ae_base.specs.Results.{Answers, AnswersAs};
 ghost use Rattle.sql_tree.specs.Bound.{assignment_of};
 ghost use Rattle.indexed_tables.specs.Updates.{AreKept, changed_rows, nothing_more};
 ghost use Rattle.row_store.specs.Changes.{written, unhit};
+ghost use Rattle.row_store.specs.Numbers.{counted};
+ghost use Rattle.key_index.specs.Places.{places_from};
+ghost use Rattle.operators.specs.Alike.{key_of};
 ghost use Rattle.row_store.specs.Paged.{flat};
 ghost use Rattle.unique_keys.specs.Indexes.{AreAdmitted, AreDistinct, IndexesRows, keys_of, standing_rows};
 ghost use Rattle.unique_keys.specs.Keys.{first_twins, unless_twins};
@@ -18,14 +21,15 @@ use ae_base::lists::{Duplicate, Seq};
 use ae_base::refusals::Refusal;
 use ae_base::sameness::Same;
 use ae_base::tables::UniqueKey;
+use key_index::keys::Key;
 use row_store::changes::Change;
+use row_store::numbered::Numbered;
 use row_store::pages::Page;
-use row_store::tables::Paged;
 use sql_tree::bound::BoundAssignment;
 use std::alloc::{AllocError, Global};
 use std::marker::Model;
 use unique_keys::index::UniqueIndex;
-use unique_keys::keys::{admit, drop_hit, fresh};
+use unique_keys::keys::{admit, fresh, take_out};
 
 /// Copies of some values, in their order.
 pub fn copies<T: Duplicate>(alloc: Global, values: &[T]) -> Result<Vec<T>, AllocError>
@@ -41,7 +45,7 @@ pub fn copies<T: Duplicate>(alloc: Global, values: &[T]) -> Result<Vec<T>, Alloc
 /// The rows of one table, in the order in which they came, and for each of its unique keys an index
 /// of them all.
 pub struct Table<K: Same> {
-    rows: Paged<Row<K>>,
+    rows: Numbered<Row<K>>,
     indexes: Vec<UniqueIndex<K>>,
 }
 
@@ -63,7 +67,7 @@ impl<K: Same> Model for Table<K> {
 
     ghost view = { λ t. record { keys = keys_of t.indexes.items; rows = t.rows.rows } };
 
-    ghost invariant = { λ t. All (IndexesRows t.rows.rows) t.indexes.items };
+    ghost invariant = { λ t. All (IndexesRows t.rows.numbers t.rows.rows) t.indexes.items };
 }
 
 impl<K: Same> Table<K> {
@@ -72,7 +76,7 @@ impl<K: Same> Table<K> {
         ensures { IfOk result (λ table. table ≡ record { keys = keys.now; rows = [] }) }
     {
         Ok(Table {
-            rows: Paged::new(alloc),
+            rows: Numbered::new(alloc),
             indexes: indexes_on(alloc, keys)?,
         })
     }
@@ -100,13 +104,22 @@ impl<K: Same> Table<K> {
         self.rows.get(place)
     }
 
-    /// The index of a unique key.
-    pub fn index_on(&self, places: &[usize]) -> &UniqueIndex<K>
-        requires { Contains self.now.keys places.now }
-        ensures places { result.now.places ≡ places.now }
-        ensures rows { IndexesRows self.now.rows result.now }
+    /// Puts the places of the rows with a key at the end, in their order.
+    pub fn places_with(
+        &self,
+        columns: &[usize],
+        key: &Key<K>,
+        places: &mut Vec<usize>,
+    ) -> Result<(), AllocError>
+        requires { Contains self.now.keys columns.now }
+        ensures { OnOk result (places.new.items ≡ places.old.items
+            ++ places_from 0 key.now (map (key_of columns.now) self.now.rows)) }
     {
-        index_among(self.indexes.as_slice(), places)
+        let index = index_among(self.indexes.as_slice(), columns);
+        for number in index.numbers_of(key) {
+            places.push(self.rows.place_of(*number))?;
+        }
+        Ok(())
     }
 
     /// Puts rows at the end, all of them or, where two rows are alike on a unique key or there is
@@ -152,6 +165,7 @@ impl<K: Same> Table<K> {
             Ok(indexes) => {
                 self.indexes = indexes;
                 self.rows.replace_all(changes);
+                self.rows.renumber();
                 Ok(())
             }
             Err(refusal) => {
@@ -172,7 +186,7 @@ impl<K: Same> Table<K> {
         if !hits.contains(&true) {
             return Ok(());
         }
-        drop_hit(alloc, &mut self.indexes, hits)?;
+        take_out_hit(alloc, &mut self.indexes, &self.rows, hits)?;
         self.rows.drop_hit(hits);
         Ok(())
     }
@@ -180,9 +194,10 @@ impl<K: Same> Table<K> {
 
 impl<K: Same> Duplicate for Table<K> {
     fn copy(&self) -> Result<Table<K>, AllocError> {
+        let alloc = *self.indexes.allocator();
         Ok(Table {
-            indexes: of_rows(*self.indexes.allocator(), &self.indexes, self.rows.rows())?,
-            rows: self.rows.copy()?,
+            indexes: of_rows(alloc, &self.indexes, self.rows.rows())?,
+            rows: self.rows.copy(alloc)?,
         })
     }
 }
@@ -191,8 +206,8 @@ impl<K: Same> Duplicate for Table<K> {
 fn index_among<'i, K: Same>(indexes: &'i [UniqueIndex<K>], places: &[usize]) -> &'i UniqueIndex<K>
     requires { Contains (keys_of indexes.now) places.now }
     ensures places { result.now.places ≡ places.now }
-    ensures all { (rows : List (List Atom)) → All (IndexesRows rows) indexes.now
-        → IndexesRows rows result.now }
+    ensures all { (numbers : List ℕ) (rows : List (List Atom))
+        → All (IndexesRows numbers rows) indexes.now → IndexesRows numbers rows result.now }
 {
     for index in indexes {
         if index.places() == places {
@@ -202,10 +217,33 @@ fn index_among<'i, K: Same>(indexes: &'i [UniqueIndex<K>], places: &[usize]) -> 
     unreachable!()
 }
 
+/// Takes the rows that are hit out of indexes, or without memory out of none.
+fn take_out_hit<K: Same>(
+    alloc: Global,
+    indexes: &mut Vec<UniqueIndex<K>>,
+    stored: &Numbered<Row<K>>,
+    hits: &[bool],
+) -> Result<(), AllocError>
+    requires each { length hits.now ≡ length stored.now.rows }
+    requires indexed { All (IndexesRows stored.now.numbers stored.now.rows) indexes.old.items }
+    ensures keys { keys_of indexes.new.items ≡ keys_of indexes.old.items }
+    ensures ok { OnOk result
+        (All (IndexesRows (unhit stored.now.numbers hits.now) (unhit stored.now.rows hits.now))
+        indexes.new.items) }
+    ensures err { OnErr result (indexes.new.items ≡ indexes.old.items) }
+{
+    if indexes.is_empty() {
+        return Ok(());
+    }
+    let numbers = stored.hit_numbers(alloc, hits)?;
+    let rows = stored.hit_rows(alloc, hits)?;
+    take_out(alloc, indexes, numbers.as_slice(), rows.as_slice())
+}
+
 /// Indexes of no rows for these keys.
 fn indexes_on<K: Same>(alloc: Global, keys: &[UniqueKey]) -> Result<Vec<UniqueIndex<K>>, AllocError>
     ensures keys { IfOk result (λ indexes. keys_of indexes.items ≡ keys.now) }
-    ensures indexed { IfOk result (λ indexes. All (IndexesRows []) indexes.items) }
+    ensures indexed { IfOk result (λ indexes. All (IndexesRows [] []) indexes.items) }
 {
     let mut indexes = Vec::with_capacity(alloc, keys.len())?;
     for key in keys {
@@ -217,19 +255,18 @@ fn indexes_on<K: Same>(alloc: Global, keys: &[UniqueKey]) -> Result<Vec<UniqueIn
 /// Puts rows into a table's pages and indexes. All memory is taken before the pages have them.
 fn insert_into<K: Same>(
     alloc: Global,
-    stored: &mut Paged<Row<K>>,
+    stored: &mut Numbered<Row<K>>,
     indexes: &mut Vec<UniqueIndex<K>>,
     rows: Rows<K>,
 ) -> Result<(), Refusal>
     requires few { length indexes.old.items ≤ 8 }
     requires distinct { AreDistinct (keys_of indexes.old.items) stored.old.rows }
-    requires indexed { All (IndexesRows stored.old.rows) indexes.old.items }
+    requires indexed { All (IndexesRows stored.old.numbers stored.old.rows) indexes.old.items }
     ensures answer { Answers result
         (unless_twins (first_twins 1 (keys_of indexes.old.items) (stored.old.rows ++ rows)) tt) }
     ensures keys { keys_of indexes.new.items ≡ keys_of indexes.old.items }
     ensures rows { stored.new.rows ≡ standing_rows result stored.old.rows rows }
-    ensures indexed { All (IndexesRows (standing_rows result stored.old.rows rows))
-        indexes.new.items }
+    ensures indexed { All (IndexesRows stored.new.numbers stored.new.rows) indexes.new.items }
 {
     match stored.reserve(alloc, rows.len()) {
         Ok(()) => {}
@@ -238,7 +275,7 @@ fn insert_into<K: Same>(
             return Err(Refusal::OutOfMemory);
         }
     }
-    match admit_rows(alloc, indexes, stored.len(), rows.as_slice()) {
+    match admit_rows(alloc, indexes, stored.next(), rows.as_slice()) {
         Ok(()) => {
             append_each(stored, rows);
             Ok(())
@@ -258,9 +295,10 @@ fn admit_rows<K: Same>(
     rows: &[Row<K>],
 ) -> Result<(), Refusal>
     requires few { length indexes.old.items ≤ 8 }
-    ensures { (old : List (List Atom)) → All (IndexesRows old) indexes.old.items → length old ≡ from
+    ensures { (numbers : List ℕ) (old : List (List Atom)) → length numbers ≡ length old
+        → All (λ n. n < from) numbers → All (IndexesRows numbers old) indexes.old.items
         → AreDistinct (keys_of indexes.old.items) old
-        → AreAdmitted old rows.now result indexes.old.items indexes.new.items }
+        → AreAdmitted numbers old from rows.now result indexes.old.items indexes.new.items }
 {
     let mut lent = Seq::new(alloc);
     match lend_each(rows, &mut lent) {
@@ -270,9 +308,10 @@ fn admit_rows<K: Same>(
 }
 
 /// Puts rows at the end, for which there is room. It takes no memory.
-fn append_each<K: Same>(stored: &mut Paged<Row<K>>, rows: Rows<K>)
+fn append_each<K: Same>(stored: &mut Numbered<Row<K>>, rows: Rows<K>)
     requires { length rows ≤ stored.old.spare }
-    ensures { stored.new.rows ≡ stored.old.rows ++ rows }
+    ensures rows { stored.new.rows ≡ stored.old.rows ++ rows }
+    ensures numbers { stored.new.numbers ≡ stored.old.numbers ++ counted stored.old.next rows }
 {
     for row in rows.into_vec() {
         stored.append(row);
@@ -294,7 +333,8 @@ fn renewed<K: Same>(
         tt) }
     ensures keys { IfOk result (λ new. keys_of new.items ≡ keys_of indexes.now) }
     ensures indexed { IfOk result
-        (λ new. All (IndexesRows (written (flat pages.now) changes.now)) new.items) }
+        (λ new. All (IndexesRows (counted 0 (flat pages.now)) (written (flat pages.now) changes.now))
+        new.items) }
 {
     let rows = lent_changed(alloc, pages, changes)?;
     let mut new = fresh(alloc, indexes, &[])?;
@@ -311,7 +351,8 @@ fn of_rows<K: Same>(
     pages: &[Page<Row<K>>],
 ) -> Result<Vec<UniqueIndex<K>>, AllocError>
     ensures keys { IfOk result (λ new. keys_of new.items ≡ keys_of indexes.now) }
-    ensures indexed { IfOk result (λ new. All (IndexesRows (flat pages.now)) new.items) }
+    ensures indexed { IfOk result
+        (λ new. All (IndexesRows (counted 0 (flat pages.now)) (flat pages.now)) new.items) }
 {
     let rows = lent(alloc, pages)?;
     fresh(alloc, indexes, rows.as_slice())

@@ -25,7 +25,7 @@ from_append n key (x ∷ xs) ys =
     by_test true e = ap (λ l. n ∷ l) e
     by_test false e = e
 
-least_mono : (n m : ℕ) (ps : List ℕ) → n ≤ m → All (λ p. m ≤ p) ps → All (λ p. n ≤ p) ps
+pub least_mono : (n m : ℕ) (ps : List ℕ) → n ≤ m → All (λ p. m ≤ p) ps → All (λ p. n ≤ p) ps
 least_mono n m [] le h = All-nil (λ p. n ≤ p)
 least_mono n m (p ∷ ps) le h =
     let first : m ≤ p = All-head (λ p. m ≤ p) p ps h in

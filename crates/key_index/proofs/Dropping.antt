@@ -1,29 +1,12 @@
--- An index follows its rows, of which some are dropped.
-use Rattle.std.proofs.Common.{◌≡◌, ℕ, zero, suc, ◌+◌, ◌-◌, ◌<◌, ◌≤◌, List, [], ◌∷◌, ◌++◌, append_assoc, length, get_or, take, map, slice_set, refl, ap, sym, ◌∙◌, subst, arith, Bool, true, false, cond, Option, Some, None}
+-- A key without places is taken out of an index.
+use Rattle.std.proofs.Common.{◌≡◌, ℕ, zero, suc, ◌+◌, ◌-◌, ◌<◌, ◌≤◌, List, [], ◌∷◌, ◌++◌, length, get_or, take, map, slice_set, refl, ap, sym, ◌∙◌, subst, arith, Bool, true, false, cond, Option, Some}
 use Rattle.std.specs.Prelude.{◌||◌, nat_lt, slice_index_or, slice_get, IfSome}
 use Rattle.std.specs.List.{AllByRecursion, list_any, swap_remove, IsDistinct}
 use Rattle.std.proofs.lemmas.Bool.{or_parts, ltb-true, ltb-false}
-use Rattle.std.specs.Option.{option_to_list}
 use Rattle.std.proofs.lemmas.List.{length-map}
 use Rattle.ae_base.specs.Atoms.{Atom}
-use Rattle.row_store.specs.Changes.{unhit}
 use Rattle.operators.specs.Alike.{are_alike, looked}
 use Rattle.operators.proofs.Interface.{alike_back, alike_same, looked_none, looked_push, map-push, map-set, map-read}
-use Rattle.key_index.specs.Moves.{moves_from, moved_to, moved}
-use Rattle.key_index.specs.Places.{Keyed, places_at, places_from, IndexesKeys}
-
--- ---- the list at a key's place, of lists of which each was changed alike
-
-pub looked_mapped : {A B : Type 0} (f : List A → List B) (e : f [] ≡ []) (key : List Atom) (keys : List (List Atom)) (lists : List (List A)) → looked key keys (map f lists) ≡ f (looked key keys lists)
-looked_mapped f e key [] lists = sym e
-looked_mapped f e key (k ∷ keys) [] = sym e
-looked_mapped f e key (k ∷ keys) (list ∷ lists) = by_test (are_alike key k) (looked_mapped f e key keys lists)
-  where
-    by_test : (b : Bool) → looked key keys (map f lists) ≡ f (looked key keys lists) → cond b (f list) (looked key keys (map f lists)) ≡ f (cond b list (looked key keys lists))
-    by_test true e = refl
-    by_test false e = e
-
--- ---- the index of the rows that stay
 
 behind_front : {A : Type 0} (front : List A) (x d : A) (xs : List A) (n : ℕ) → n ≡ length front → get_or (front ++ x ∷ xs) n d ≡ x
 behind_front [] x d xs n e = ap (λ m. get_or (x ∷ xs) m d) e
@@ -32,40 +15,6 @@ behind_front (f ∷ front) x d xs n e = ap (λ m. get_or (f ∷ front ++ x ∷ x
 front_long : {A : Type 0} (front : List A) (x : A) → length (front ++ x ∷ []) ≡ suc (length front)
 front_long [] x = refl
 front_long (f ∷ front) x = ap suc (front_long front x)
-
-abbrev Follows : List (Option ℕ) → (n m : ℕ) → List Atom → List (List Atom) → List Bool → Type 0
-Follows moves n m key keys hits = moved moves (places_from n key keys) ≡ places_from m key (unhit keys hits)
-
-module _ (key : List Atom) where
-  unhit_behind : (front : List (Option ℕ)) (n m : ℕ) (keys : List (List Atom)) (hits : List Bool) → n ≡ length front → length hits ≡ length keys → Follows (front ++ moves_from m hits) n m key keys hits
-  unhit_behind front n m [] hits e long = refl
-  unhit_behind front n m (k ∷ keys) [] e long = absurd (omega (arith, long))
-  unhit_behind front n m (k ∷ keys) (true ∷ hits) e long =
-      let moves = front ++ None ∷ moves_from m hits in
-      let same : moves ≡ (front ++ None ∷ []) ++ moves_from m hits = sym (append_assoc front (None ∷ []) (moves_from m hits)) in
-      let rest : Follows moves (n + 1) m key keys hits =
-      subst (λ ms. Follows ms (n + 1) m key keys hits) (sym same) (unhit_behind (front ++ None ∷ []) (n + 1) m keys hits (omega (arith, e, front_long front (let o : Option ℕ = None in o))) (omega (arith, long))) in
-      by_test moves (are_alike key k) (behind_front front None None (moves_from m hits) n e) rest
-    where
-      by_test : (moves : List (Option ℕ)) (b : Bool) → moved_to moves n ≡ None → Follows moves (n + 1) m key keys hits
-          → moved moves (cond b (n ∷ places_from (n + 1) key keys) (places_from (n + 1) key keys)) ≡ places_from m key (unhit keys hits)
-      by_test moves true t rest = ap (λ o. option_to_list o ++ moved moves (places_from (n + 1) key keys)) t ∙ rest
-      by_test moves false t rest = rest
-  unhit_behind front n m (k ∷ keys) (false ∷ hits) e long =
-      let moves = front ++ Some m ∷ moves_from (m + 1) hits in
-      let same : moves ≡ (front ++ Some m ∷ []) ++ moves_from (m + 1) hits = sym (append_assoc front (Some m ∷ []) (moves_from (m + 1) hits)) in
-      let rest : Follows moves (n + 1) (m + 1) key keys hits =
-      subst (λ ms. Follows ms (n + 1) (m + 1) key keys hits) (sym same) (unhit_behind (front ++ Some m ∷ []) (n + 1) (m + 1) keys hits (omega (arith, e, front_long front (Some m))) (omega (arith, long))) in
-      by_test moves (are_alike key k) (behind_front front (Some m) None (moves_from (m + 1) hits) n e) rest
-    where
-      by_test : (moves : List (Option ℕ)) (b : Bool) → moved_to moves n ≡ Some m → Follows moves (n + 1) (m + 1) key keys hits
-          → moved moves (cond b (n ∷ places_from (n + 1) key keys) (places_from (n + 1) key keys)) ≡ cond b (m ∷ places_from (m + 1) key (unhit keys hits)) (places_from (m + 1) key (unhit keys hits))
-      by_test moves true t rest = ap (λ o. option_to_list o ++ moved moves (places_from (n + 1) key keys)) t ∙ ap (λ l. m ∷ l) rest
-      by_test moves false t rest = rest
-
-pub indexed_unhit : (keys : List (List Atom)) (hits : List Bool) (moves : List (Option ℕ)) (old new : Keyed) → length hits ≡ length keys → moves ≡ moves_from 0 hits → ((key : List Atom) → places_at new key ≡ moved moves (places_at old key))
-    → IndexesKeys keys old → IndexesKeys (unhit keys hits) new
-indexed_unhit keys hits moves old new long is f i = λ key. f key ∙ ap (moved moves) (i key) ∙ ap (λ ms. moved ms (places_from 0 key keys)) is ∙ unhit_behind key [] 0 0 keys hits refl long
 
 -- ---- a key without places is taken out, and the last one takes its place
 

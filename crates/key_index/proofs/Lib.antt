@@ -2,4 +2,5 @@ mod Counting
 mod Cutting
 mod Dropping
 pub mod Interface
+mod Leaving
 mod Looking

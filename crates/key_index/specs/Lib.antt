@@ -1,3 +1,3 @@
 pub mod Lookups
-pub mod Moves
+pub mod Numbers
 pub mod Places

@@ -3,11 +3,10 @@
 ghost use Rattle.std.specs.Prelude.{◌≡◌, ◌<◌, ◌≤◌, ◌++◌, ◌∷◌, [], List, length, map, drop, not, filter, ◌==◌, nat_lt, OnOk, OnErr};
 ghost use Rattle.std.specs.List.{All};
 ghost use Rattle.ae_base.specs.Atoms.{Atom};
-ghost use Rattle.key_index.specs.Moves.{moved};
+ghost use Rattle.key_index.specs.Numbers.{left_of};
 ghost use Rattle.key_index.specs.Places.{nothing, places_at, HasPlaces, HasMore, IndexesKeys, IndexesFront};
 
 use crate::keys::{Kept, Key};
-use crate::moving::move_places;
 use ae_base::lists::Seq;
 use ae_base::sameness::Same;
 use indexmap::IndexSet;
@@ -62,13 +61,25 @@ impl<K: Same> KeyIndex<K> {
         }
     }
 
-    /// Takes out a place of a key. It takes no memory.
+    /// Takes out a place of a key, and the key with its last place. It takes no memory.
     pub fn remove(&mut self, key: &Key<K>, place: usize)
         ensures { HasPlaces self.old self.new key.now
             (filter (λ p. not (p == place)) (places_at self.old key.now)) }
     {
         if let Some(at) = self.keys.get_index_of(&key.atoms) {
             take_out(&mut self.lists[at], place);
+            self.drop_if_unused(at);
+        }
+    }
+
+    /// Takes out some keys, each with one of its numbers. It takes no memory.
+    pub fn remove_all(&mut self, numbers: &[usize], keys: &[Key<K>])
+        requires { length numbers.now ≡ length keys.now }
+        ensures { (key : List Atom) → places_at self.new key
+            ≡ left_of key (places_at self.old key) numbers.now keys.now }
+    {
+        for i in 0..numbers.len() {
+            self.remove(&keys[i], numbers[i]);
         }
     }
 
@@ -82,33 +93,6 @@ impl<K: Same> KeyIndex<K> {
         let used = used_len(self.lists.as_slice());
         self.lists.truncate(used);
         self.keys.truncate(used);
-    }
-
-    /// Puts where rows stand after moves in the place of where they stood, and takes out the keys of
-    /// which no row stays. It takes no memory.
-    pub fn follow(&mut self, moves: &[Option<usize>])
-        ensures { (key : List Atom)
-            → places_at self.new key ≡ moved moves.now (places_at self.old key) }
-    {
-        self.move_lists(moves);
-        self.drop_unused();
-    }
-
-    /// Puts where rows stand after moves in the place of where they stood.
-    fn move_lists(&mut self, moves: &[Option<usize>])
-        ensures { (key : List Atom)
-            → places_at self.new key ≡ moved moves.now (places_at self.old key) }
-    {
-        move_all(&mut self.lists, moves);
-    }
-
-    /// Takes out the keys that have no places.
-    fn drop_unused(&mut self)
-        ensures { (key : List Atom) → places_at self.new key ≡ places_at self.old key }
-    {
-        for at in (0..self.lists.len()).rev() {
-            self.drop_if_unused(at);
-        }
     }
 
     /// Takes out one of the keys, if it has no places; the last one takes its place.
@@ -169,24 +153,6 @@ impl<K: Same> KeyIndex<K> {
             place += 1;
         }
         Ok(())
-    }
-}
-
-/// Puts where rows stand after moves in the place of where they stood, in each list.
-fn move_all(lists: &mut Vec<Vec<usize>>, moves: &[Option<usize>])
-    ensures lists { map (λ list. list.items) lists.new.items
-        ≡ map (moved moves.now) (map (λ list. list.items) lists.old.items) }
-    ensures len { length lists.new.items ≡ length lists.old.items }
-{
-    move_each(lists, moves);
-}
-
-fn move_each(lists: &mut [Vec<usize>], moves: &[Option<usize>])
-    ensures { map (λ list. list.items) lists.new
-        ≡ map (moved moves.now) (map (λ list. list.items) lists.old) }
-{
-    for list in lists.iter_mut() {
-        move_places(list, moves);
     }
 }
 

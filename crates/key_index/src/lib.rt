@@ -4,4 +4,3 @@
 pub mod index;
 pub mod keys;
 pub mod lookups;
-pub mod moving;

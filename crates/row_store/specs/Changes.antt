@@ -13,3 +13,10 @@ unhit [] hits = []
 unhit (row ∷ rows) [] = row ∷ rows
 unhit (row ∷ rows) (true ∷ hits) = unhit rows hits
 unhit (row ∷ rows) (false ∷ hits) = row ∷ unhit rows hits
+
+-- and those that are
+abbrev pub hit : {T : Type 0} → List T → List Bool → List T
+hit [] hits = []
+hit (row ∷ rows) [] = []
+hit (row ∷ rows) (true ∷ hits) = row ∷ hit rows hits
+hit (row ∷ rows) (false ∷ hits) = hit rows hits

@@ -1,8 +1,9 @@
 //! Pages of at most 256 rows.
 
-ghost use Rattle.std.specs.Prelude.{◌≡◌, ◌<◌, ◌≤◌, ◌+◌, ◌++◌, ◌∷◌, [], length, remove, slice_set, slice_index_or, IfOk};
+ghost use Rattle.std.specs.Prelude.{◌≡◌, ◌<◌, ◌≤◌, ◌+◌, ◌^◌, ◌++◌, ◌∷◌, [], length, remove, slice_set, slice_index_or, IfOk};
 ghost use Rattle.std.specs.Vec.{vec_capacity};
 ghost use Rattle.row_store.specs.Changes.{unhit};
+ghost use Rattle.row_store.specs.Numbers.{counted};
 
 use std::alloc::{AllocError, Global};
 use std::marker::Model;
@@ -101,6 +102,18 @@ impl<T: Drop> Page<T> {
     {
         let Page { mut rows } = other;
         let _ = self.rows.append(&mut rows);
+    }
+}
+
+impl Page<usize> {
+    /// Puts the numbers from one on in the places of those that are there. It takes no memory.
+    pub(crate) fn renumber(&mut self, from: usize)
+        requires { from + length self.old < 2 ^ 64 }
+        ensures { self.new ≡ counted from self.old }
+    {
+        for at in 0..self.rows.len() {
+            self.rows[at] = from + at;
+        }
     }
 }
 

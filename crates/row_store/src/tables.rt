@@ -3,6 +3,7 @@
 ghost use Rattle.std.specs.Prelude.{◌≡◌, ◌<◌, ◌≤◌, ◌+◌, ◌*◌, ◌/◌, ◌++◌, ◌∷◌, [], length, slice_index_or, slice_set, remove, count_by, not, IfOk, OnOk};
 ghost use Rattle.std.specs.List.{All};
 ghost use Rattle.row_store.specs.Changes.{written, unhit};
+ghost use Rattle.row_store.specs.Numbers.{counted};
 ghost use Rattle.std.specs.Vec.{vec_capacity};
 ghost use Rattle.row_store.specs.Paged.{IsPaged, IsKept, IsPlace, flat, lengths, last_room, compaction_at, compaction, merged_at, can_merge};
 
@@ -206,6 +207,30 @@ impl<T: Duplicate> Paged<T> {
             self.append(copy);
         }
         Ok(())
+    }
+}
+
+impl Paged<usize> {
+    /// Puts the numbers from 0 on in the places of those that are there. It takes no memory.
+    pub(crate) fn renumber(&mut self)
+        ensures numbers { self.new.rows ≡ counted 0 self.old.rows }
+        ensures spare { self.new.spare ≡ self.old.spare }
+    {
+        renumber(&mut self.pages);
+    }
+}
+
+/// Puts the numbers from 0 on in the places of those that are there.
+fn renumber(pages: &mut Vec<Page<usize>>)
+    ensures numbers { flat pages.new.items ≡ counted 0 (flat pages.old.items) }
+    ensures lengths { lengths pages.new.items ≡ lengths pages.old.items }
+    ensures capacity { vec_capacity pages.new ≡ vec_capacity pages.old }
+{
+    let mut next = 0;
+    for page in 0..pages.len() {
+        let count = pages[page].len();
+        pages[page].renumber(next);
+        next += count;
     }
 }
 

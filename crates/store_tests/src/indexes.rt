@@ -6,7 +6,6 @@ use ae_base::values::Datum;
 use key_index::index::KeyIndex;
 use key_index::keys::Key;
 use key_index::lookups::first_uncounted;
-use key_index::moving::moves;
 use std::alloc::{AllocError, Global};
 
 fn key(alloc: Global, n: Option<i64>) -> Result<Key<Cell>, AllocError> {
@@ -68,26 +67,6 @@ fn places_of_keys(rt: HostRuntime) -> Result<(), AllocError> {
     let kept = keeps_places(rt.alloc(), &mut index);
     drop(index);
     assert!(rt; kept? == [true; 5]);
-    Ok(())
-}
-
-fn follows_rows(alloc: Global, index: &mut KeyIndex<Cell>) -> Result<[bool; 3], AllocError> {
-    fill(alloc, index, &[Some(7), None, Some(7), Some(8)])?;
-    let moves = moves(alloc, &[false, true, true, false])?;
-    index.follow(moves.as_slice());
-    let first = has(alloc, index, Some(7), &[0])?;
-    let none = has(alloc, index, None, &[])?;
-    let last = has(alloc, index, Some(8), &[1])?;
-    Ok([first, none, last])
-}
-
-/// Where rows are dropped, the places of those behind them move down.
-#[test]
-fn places_that_move(rt: HostRuntime) -> Result<(), AllocError> {
-    let mut index = KeyIndex::new(rt.alloc());
-    let followed = follows_rows(rt.alloc(), &mut index);
-    drop(index);
-    assert!(rt; followed? == [true; 3]);
     Ok(())
 }
 

@@ -1,5 +1,4 @@
 mod Admission
-mod Following
 pub mod Interface
 mod Twins
 mod TwinsAlike

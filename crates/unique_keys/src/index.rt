@@ -1,11 +1,12 @@
 //! The index of one unique key.
 
-ghost use Rattle.std.specs.Prelude.{◌≡◌, ◌++◌, Bool, List, length, map, not, false, is_some, IfSome, IfOk, OnOk};
+ghost use Rattle.std.specs.Prelude.{◌≡◌, ◌<◌, ◌++◌, ℕ, Bool, List, length, map, not, false, is_some, IfSome, IfOk, OnOk};
 ghost use Rattle.ae_base.specs.Atoms.{Atom};
 ghost use Rattle.operators.specs.Alike.{key_of};
-ghost use Rattle.key_index.specs.Moves.{moves_from};
 ghost use Rattle.key_index.specs.Places.{nothing, places_at};
-ghost use Rattle.row_store.specs.Changes.{unhit};
+ghost use Rattle.row_store.specs.Changes.{hit, unhit};
+ghost use Rattle.row_store.specs.Numbers.{AreRising, counted};
+ghost use Rattle.std.specs.List.{All};
 ghost use Rattle.unique_keys.specs.Indexes.{IndexesRows, IndexesFirst};
 ghost use Rattle.unique_keys.specs.Keys.{has_twins};
 
@@ -19,7 +20,7 @@ use key_index::lookups::first_uncounted;
 use std::alloc::{AllocError, Global};
 use std::marker::Model;
 
-/// The index of a unique key: the places of rows, found by what they have in its columns.
+/// The index of a unique key: the numbers of rows, found by what they have in its columns.
 pub struct UniqueIndex<K: Same> {
     places: UniqueKey,
     index: KeyIndex<K>,
@@ -60,8 +61,8 @@ impl<K: Same> UniqueIndex<K> {
         self.places.as_slice()
     }
 
-    /// The places of the rows with a key, in order.
-    pub fn places_of(&self, key: &Key<K>) -> &[usize]
+    /// The numbers of the rows with a key, in order.
+    pub fn numbers_of(&self, key: &Key<K>) -> &[usize]
         ensures { result.now ≡ places_at self.now.keyed key.now }
     {
         self.index.places_of(key)
@@ -75,40 +76,45 @@ impl<K: Same> UniqueIndex<K> {
         Ok(UniqueIndex::new(alloc, self.places.copy()?))
     }
 
-    /// Forgets the rows from a place on. It takes no memory.
-    pub fn forget_from(&mut self, place: usize)
+    /// Forgets the rows from a number on. It takes no memory.
+    pub fn forget_from(&mut self, number: usize)
         ensures places { self.new.places ≡ self.old.places }
-        ensures front { (rows : List (List Atom)) → IndexesFirst rows self.old → length rows ≡ place
-            → IndexesRows rows self.new }
+        ensures front { (numbers : List ℕ) (rows : List (List Atom))
+            → IndexesFirst number numbers rows self.old → IndexesRows numbers rows self.new }
     {
-        self.index.forget_from(place);
+        self.index.forget_from(number);
     }
 
-    /// Follows the rows to where they stand once those that are hit are dropped. It takes no memory.
-    pub(crate) fn follow(&mut self, moves: &[Option<usize>])
+    /// Takes out rows, by their numbers and keys. It takes no memory.
+    pub(crate) fn take_out(&mut self, numbers: &[usize], keys: &[Key<K>])
+        requires { length numbers.now ≡ length keys.now }
         ensures places { self.new.places ≡ self.old.places }
-        ensures rows { (rows : List (List Atom)) (hits : List Bool) → IndexesRows rows self.old
-            → length hits ≡ length rows → moves.now ≡ moves_from 0 hits
-            → IndexesRows (unhit rows hits) self.new }
+        ensures rows { (to : ℕ) (all : List ℕ) (rows : List (List Atom)) (hits : List Bool)
+            → AreRising 0 to all → length all ≡ length rows → IndexesRows all rows self.old
+            → numbers.now ≡ hit all hits
+            → keys.now ≡ map (key_of self.old.places) (hit rows hits)
+            → IndexesRows (unhit all hits) (unhit rows hits) self.new }
     {
-        self.index.follow(moves);
+        self.index.remove_all(numbers, keys);
     }
 
-    /// Puts in rows at one place after another from this one on. Without memory some of them may be
-    /// there, behind those that were there.
+    /// Puts in rows with one number after another from this one on. Without memory some of them may
+    /// be there, behind those that were there.
     pub fn put(&mut self, alloc: Global, from: usize, rows: &[&Row<K>]) -> Result<(), AllocError>
         ensures places { self.new.places ≡ self.old.places }
-        ensures ok { (old : List (List Atom)) → IndexesRows old self.old → length old ≡ from
-            → OnOk result (IndexesRows (old ++ map (λ row. row.now) rows.now) self.new) }
-        ensures front { (old : List (List Atom)) → IndexesRows old self.old → length old ≡ from
-            → IndexesFirst old self.new }
+        ensures ok { (numbers : List ℕ) (old : List (List Atom)) → length numbers ≡ length old
+            → IndexesRows numbers old self.old
+            → OnOk result (IndexesRows (numbers ++ counted from rows.now)
+            (old ++ map (λ row. row.now) rows.now) self.new) }
+        ensures front { (numbers : List ℕ) (old : List (List Atom)) → All (λ n. n < from) numbers
+            → IndexesRows numbers old self.old → IndexesFirst from numbers old self.new }
     {
         let keys = keys_of(alloc, self.places.as_slice(), rows)?;
         self.put_keys(alloc, from, keys)
     }
 
-    /// Puts in the keys of rows at one place after another from this one on. Without memory some of
-    /// them may be there, behind those that were there.
+    /// Puts in the keys of rows with one number after another from this one on. Without memory some
+    /// of them may be there, behind those that were there.
     pub(crate) fn put_keys(
         &mut self,
         alloc: Global,
@@ -116,11 +122,12 @@ impl<K: Same> UniqueIndex<K> {
         keys: Seq<Key<K>>,
     ) -> Result<(), AllocError>
         ensures places { self.new.places ≡ self.old.places }
-        ensures ok { (old new : List (List Atom)) → IndexesRows old self.old → length old ≡ from
+        ensures ok { (numbers : List ℕ) (old new : List (List Atom))
+            → length numbers ≡ length old → IndexesRows numbers old self.old
             → keys ≡ map (key_of self.old.places) new
-            → OnOk result (IndexesRows (old ++ new) self.new) }
-        ensures front { (old : List (List Atom)) → IndexesRows old self.old → length old ≡ from
-            → IndexesFirst old self.new }
+            → OnOk result (IndexesRows (numbers ++ counted from new) (old ++ new) self.new) }
+        ensures front { (numbers : List ℕ) (old : List (List Atom)) → All (λ n. n < from) numbers
+            → IndexesRows numbers old self.old → IndexesFirst from numbers old self.new }
     {
         self.index.put_all(alloc, from, keys)
     }
@@ -133,8 +140,8 @@ impl<K: Same> UniqueIndex<K> {
     ) -> Result<Option<Seq<Key<K>>>, AllocError>
         ensures keys { IfOk result (λ found. IfSome found (λ keys.
             keys ≡ map (key_of self.now.places) (map (λ row. row.now) rows.now))) }
-        ensures new { (old : List (List Atom)) → IndexesRows old self.now
-            → has_twins self.now.places old ≡ false
+        ensures new { (numbers : List ℕ) (old : List (List Atom)) → length numbers ≡ length old
+            → IndexesRows numbers old self.now → has_twins self.now.places old ≡ false
             → IfOk result (λ found.
             has_twins self.now.places (old ++ map (λ row. row.now) rows.now)
             ≡ not (is_some found)) }
@@ -149,7 +156,7 @@ impl<K: Same> UniqueIndex<K> {
 }
 
 /// What rows have in the columns of these places.
-fn keys_of<K: Same>(
+pub(crate) fn keys_of<K: Same>(
     alloc: Global,
     places: &[usize],
     rows: &[&Row<K>],
