@@ -373,21 +373,6 @@ nothing_logged store none = record { counted = record { long = none.counts }; sl
     empty_slots zero = tt
     empty_slots (suc n) = (refl, empty_slots n)
 
--- what one that is committed has done since its BEGIN: no definition came, and its world is that of its deeds over the catalog of BEGIN
-pub record IsCommittable (shared : Counted) (t : Transaction) (log : List Deed) : Type 0 where
-  pub base : Counted
-  pub catalog : shared.world.catalog ≡ base.world.catalog
-  pub after : after_deeds base log ≡ t.own
-  pub work : AreWork log
-  pub answered : AreAnswered base log
-
-pub committable : (store : Store) (logs : List (List Deed)) (session : ℕ) (t : Transaction) → AreLogged store logs → transaction_at store session ≡ Some t → why_not store.shared t ≡ None → IsCommittable store.shared t (log_at logs session)
-committable store logs session t inv is e =
-    let log = log_at logs session in
-    let slot = subst (λ o. IsSlot store.shared o log) is (zip_at (IsSlot store.shared) store.sessions logs (session - 1) None [] inv.slots refl) in
-    let from = slot.from in
-    record { base = slot.base; catalog = (from.since.unmoved ((unmoved store.shared t e).0 ∙ from.version)).catalog; after = from.after; work = from.work; answered = from.answered }
-
 all_kept : (cell : List ℕ → Bool) (calls : List Call) (store : Store) (logs : List (List Deed)) → IsStore cell store → AreAllowed cell store calls → length store.sessions ≡ 64 → AreLogged store logs → IsKeptSo store.shared (all_after store calls).shared (journal store logs calls)
 all_kept cell [] store logs well allowed n inv = same_kept store.shared store.shared refl
 all_kept cell (call ∷ calls) store logs well allowed n inv =

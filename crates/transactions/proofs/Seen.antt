@@ -2,15 +2,12 @@
 use Rattle.std.proofs.Common.{◌≡◌, ◌<◌, ◌⊎◌, inl, inr, arith, ℕ, zero, suc, ◌-◌, List, [], ◌∷◌, refl, ap, sym, subst, ◌∙◌, Option, Some, None, Result, Ok, Err, Bool, true, false}
 use Rattle.std.specs.Prelude.{slice_set, slice_index_or, if◌then◌else◌}
 use Rattle.std.specs.List.{All}
-use Rattle.std.specs.Result.{result_unwrap_or}
 use Rattle.ae_base.specs.declared.faults.SqlFault.{SqlFault}
 use Rattle.ae_base.specs.declared.faults.SqlFault.TheVariants as fault
 use Rattle.sql_tree.specs.Bound.{BoundStatement}
-use Rattle.sql_tree.specs.Bound as bound
 use Rattle.catalog.specs.Catalogs.{Catalog}
-use Rattle.catalog.specs.Definitions.{defined_by}
 use Rattle.scalar.specs.Classes.{Pairing}
-use Rattle.engine.specs.Step.{Answer, Defined}
+use Rattle.engine.specs.Step.{Answer}
 use Rattle.engine.specs.Worlds.{World}
 use Rattle.sql_tree.specs.Sorts.{is_definition, is_defining, tables_of, target}
 use Rattle.transactions.specs.Counted.{Counted, CountedOutcome, Execution, counts_behind, is_at_last_count, counted, step_of, counted_step}
@@ -120,35 +117,6 @@ next_catalog c e d = by (step_cases c e d)
 
     by : (is_defining e.bound.statement ≡ false) ⊎ IsReplacing c e → IsNext c.world.catalog (counted_step c e).after.world.catalog
     by (inl w) = same_next c.world.catalog _ (work_catalog c e w)
-    by (inr r) = replaced r r.done
-
--- the catalog behind a statement that was answered so
-abbrev pub catalog_behind : Catalog → BoundStatement → Result Answer SqlFault → Catalog
-catalog_behind catalog (bound.Definition d) (Ok answer) = result_unwrap_or (defined_by catalog d) catalog
-catalog_behind catalog s answer = catalog
-
-pub step_catalog : (c : Counted) (e : Execution) → is_definition e.bound.statement ≡ false → (counted_step c e).after.world.catalog ≡ catalog_behind c.world.catalog e.bound.statement (counted_step c e).answer
-step_catalog c e d = by (step_cases c e d)
-  where
-    still : (s : BoundStatement) (a : Result Answer SqlFault) → is_defining s ≡ false → catalog_behind c.world.catalog s a ≡ c.world.catalog
-    still (bound.Definition x) a h = absurd cc
-    still other a h = refl
-
-    refused_still : (s : BoundStatement) (f : SqlFault) → catalog_behind c.world.catalog s (Err f) ≡ c.world.catalog
-    refused_still (bound.Definition x) f = refl
-    refused_still other f = refl
-
-    replaced : (r : IsReplacing c e) → (counted_step c e ≡ at_last c) ⊎ IsReplaced c e r.old r.new → (counted_step c e).after.world.catalog ≡ catalog_behind c.world.catalog e.bound.statement (counted_step c e).answer
-    replaced r (inl is) =
-        ap (λ (o : CountedOutcome). o.after.world.catalog) is ∙ sym (refused_still e.bound.statement fault.Full)
-        ∙ ap (λ (o : CountedOutcome). catalog_behind c.world.catalog e.bound.statement o.answer) (sym is)
-    replaced r (inr done) =
-        ap (λ (o : CountedOutcome). o.after.world.catalog) done.step ∙ ap (λ x. result_unwrap_or x c.world.catalog) (sym done.defined)
-        ∙ ap (λ s. catalog_behind c.world.catalog s (Ok Defined)) (sym r.is)
-        ∙ ap (λ (o : CountedOutcome). catalog_behind c.world.catalog e.bound.statement o.answer) (sym done.step)
-
-    by : (is_defining e.bound.statement ≡ false) ⊎ IsReplacing c e → (counted_step c e).after.world.catalog ≡ catalog_behind c.world.catalog e.bound.statement (counted_step c e).answer
-    by (inl w) = work_catalog c e w ∙ sym (still e.bound.statement (counted_step c e).answer w)
     by (inr r) = replaced r r.done
 
 pub slot_of : (store : Store) (session : ℕ) (ask : Ask) → IsSlotOf store session (transact store session ask).after
