@@ -14,11 +14,12 @@ use std::alloc::Global;
 use std::fs::{File, OpenFile, OpenOptions};
 use std::io;
 use std::io::{ErrorKind, Read, Seek, SeekFrom, Write};
+use std::os::unix::fs::MetadataExt;
 use std::path::Path;
 
 /// A file of std as a disk. It is opened at the first call, and made where it isn't there; a link to
 /// a file that isn't there is refused. From then on it is held, and a file that is held elsewhere
-/// isn't opened. It doesn't tell what it holds: that such a file is a disk is trusted.
+/// isn't opened, nor one whose name was given to another file meanwhile. It doesn't tell what it holds: that such a file is a disk is trusted.
 #[derive(Drop)]
 pub struct FileDisk<'a, R: LockedFiles> {
     files: R,
@@ -47,10 +48,22 @@ fn opened_or_made<R: LockedFiles>(files: &R, path: &str) -> io::Result<R::File> 
     }
 }
 
-/// Opens a file and holds it. Where it was made, its name is on the disk too.
+/// Whether a name is that of an open file still: who held the file before may have given its name
+/// to another.
+fn is_named<R: LockedFiles>(files: &R, path: &str, file: &R::File) -> io::Result<bool> {
+    let named = files.metadata(path)?;
+    let open = file.metadata()?;
+    Ok(named.dev() == open.dev() && named.ino() == open.ino())
+}
+
+/// Opens a file and holds it. Where it was made, its name is on the disk too. A file that has lost
+/// its name is refused.
 fn opened<R: LockedFiles>(files: &R, path: &str) -> io::Result<R::File> {
     let file = opened_or_made(files, path)?;
     files.hold(&file)?;
+    if !is_named(files, path, &file)? {
+        return Err(not_open());
+    }
     File::open(files, folder_of(path))?.sync_all()?;
     Ok(file)
 }
