@@ -1,0 +1,12 @@
+mod Binding
+mod BindingTables
+mod Evaluated
+mod KeptTables
+mod Serving
+mod Stepping
+mod Storing
+mod Texts
+mod TextsGrammar
+mod TextsLists
+mod TextsMean
+mod Tokens
