@@ -29,7 +29,8 @@ use Rattle.transactions.specs.Serial.{Deed}
 use Rattle.transactions.specs.Stores.{Executes, ask_by}
 use Rattle.server_core.specs.Serve.{ask_of}
 use Rattle.column_rotate.specs.Texts.{puts, reads_all, replaces}
-use Rattle.rotation_laws.specs.Laws.{AreColumnsOf, IsIdentifier, IsPut, IsReadWhole, IsReplaced, declared}
+use Rattle.proper_values.specs.Proper.{IsIdentifier}
+use Rattle.rotation_laws.specs.Laws.{AreColumnsOf, IsPut, IsReadWhole, IsReplaced, declared}
 use Rattle.rotation_laws.specs.Deeds.{AreControls, AreDeedsOf, AreRowsPut, HasBoth, IsDeedOf, IsRead, IsRowPut, IsSwap, RotationTextsMean, asked_by}
 use Rattle.rotation_laws.proofs.Columns.{are_declared, declared-length}
 use Rattle.rotation_laws.proofs.Meaning.{read_whole, replaced}
@@ -75,7 +76,7 @@ suited_length (e ∷ encs) (p ∷ sent) atoms wide h =
 columns_wide : (columns : List SentColumn) (def : TableDef) → AreColumnsOf columns def → length def.columns ≡ length columns
 columns_wide columns def of = sym (length-map def.columns (λ column. column.name)) ∙ ap length (sym of.titles) ∙ length-map columns (λ c. c.title)
 
-read_deed : (catalog : Catalog) (table : List ℕ) (def : TableDef) (width : ℕ) (rows : List (List Atom)) (d : Deed) (r : IsReadWhole catalog table (length def.columns)) → length def.columns ≡ width
+read_deed : (catalog : Catalog) (table : List ℕ) (def : TableDef) (width : ℕ) (rows : List (List Atom)) (d : Deed) (r : IsReadWhole catalog table def) → length def.columns ≡ width
     → IsRead catalog table rows d → HasRead table width rows d
 read_deed catalog table def width rows d r wide h =
     let e = executed catalog (reads_all table) d r.meant h.deed r.means (λ e. ap (λ s. ask_by s e) r.is) in
@@ -87,8 +88,8 @@ read_deed catalog table def width rows d r wide h =
       answer = h.answer;
     }
 
-put_deed : (catalog : Catalog) (table : List ℕ) (columns : List SentColumn) (row : List Value) (d : Deed) (p : IsPut catalog table columns row) → IsRowPut catalog table columns row d → HasPut table (length columns) d
-put_deed catalog table columns row d p h =
+put_deed : (catalog : Catalog) (table : List ℕ) (def : TableDef) (columns : List SentColumn) (row : List Value) (d : Deed) (p : IsPut catalog table def columns row) → IsRowPut catalog table columns row d → HasPut table (length columns) d
+put_deed catalog table def columns row d p h =
     let e = executed catalog (puts table columns row) d p.meant h.deed p.means (λ e. ap (λ s. ask_by s e) p.is) in
     let sent : length h.deed.sent ≡ length columns =
     sym (length-map h.deed.sent declaration_of) ∙ ap length (h.deed.declares ∙ are_declared 1 columns row h.wide) ∙ declared-length 1 columns in
@@ -120,7 +121,7 @@ module _ (grammar : TreeIsTheGrammars) (catalog : Catalog) (old new : List ℕ) 
   puts_deeds (row ∷ rows) [] h = absurd h
   puts_deeds (row ∷ rows) (d ∷ deeds) h =
       let p = put grammar catalog new b.into columns row b.new_named b.columns_named b.new_there b.new_columns names_apart b.some b.few h.0.wide in
-      All-cons (HasPut new (length columns)) d deeds (put_deed catalog new columns row d p h.0) (puts_deeds rows deeds h.1)
+      All-cons (HasPut new (length columns)) d deeds (put_deed catalog new b.into columns row d p h.0) (puts_deeds rows deeds h.1)
 
   reads : (table : List ℕ) (def : TableDef) (rows : List (List Atom)) (d : Deed) → table_named catalog table ≡ Some def → AreColumnsOf columns def → IsIdentifier table → IsRead catalog table rows d → HasRead table (length columns) rows d
   reads table def rows d there of named h =

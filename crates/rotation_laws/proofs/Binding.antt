@@ -1,5 +1,5 @@
 -- What the statements of a rotation are bound to.
-use Rattle.std.proofs.Common.{◌≡◌, ◌≢◌, ◌==◌, ℕ, ◌+◌, ◌≤◌, Bool, true, false, List, [], ◌∷◌, length, Some, Ok, refl, ◌∙◌, ap, arith, flat_map, suc}
+use Rattle.std.proofs.Common.{◌≡◌, ◌≢◌, ◌==◌, ℕ, ◌+◌, ◌≤◌, Bool, true, false, List, [], ◌∷◌, ◌++◌, length, map, Some, Ok, refl, sym, ◌∙◌, ap, arith, flat_map, suc, append_assoc, append-nil, length-append}
 use Rattle.std.specs.List.{list_any}
 use Rattle.std.specs.Str.{bytes_eq}
 use Rattle.std.proofs.lemmas.Bool.{le-ltb}
@@ -7,8 +7,12 @@ use Rattle.std.proofs.lemmas.List.{length-map}
 use Rattle.std.proofs.Math.Dec.{eqb-suc-zero}
 use Rattle.std.proofs.lemmas.Slice.Eq.{bytes_eq-Decides}
 use Rattle.ae_base.specs.declared.batches.ParamDecl.{ParamDecl}
+use Rattle.ae_base.specs.declared.tables.ColumnDef.{ColumnDef}
 use Rattle.ae_base.specs.declared.tables.TableDef.{TableDef}
 use Rattle.ae_base.specs.declared.types.Enc.{Enc}
+use Rattle.sql_tree.specs.Placed.{site_of}
+use Rattle.sql_tree.specs.declared.bound.ColumnSite.{ColumnSite}
+use Rattle.engine.specs.Columns.{result_column, site_at}
 use Rattle.sql_tree.specs.Statements.{Statement}
 use Rattle.sql_tree.specs.Statements as tree
 use Rattle.sql_tree.specs.Bound.{Bound, BoundItem, BoundQuery}
@@ -26,7 +30,7 @@ use Rattle.resolve.specs.Bind.{bind, bound_over, resolution}
 use Rattle.resolve.specs.Queries.{star_items}
 use Rattle.statement_analysis.specs.Describing.{understood, binding_of}
 use Rattle.transactions.specs.Rotating.{AreColumns, whole_query, IsWholeQuery}
-use Rattle.rotation_laws.specs.Laws.{star_query}
+use Rattle.rotation_laws.specs.Laws.{shown_column, star_query}
 
 -- ---- what passes the checks
 
@@ -69,6 +73,24 @@ star_length at i (c ∷ cs) = ap suc (star_length at (i + 1) cs)
 star_columns : (at i : ℕ) (cs : List ScopeColumn) → AreColumns i (star_items at i cs)
 star_columns at i [] = tt
 star_columns at i (c ∷ cs) = ((at, refl), star_columns at (i + 1) cs)
+
+site_there : (before : List ColumnSite) (x : ColumnSite) (after : List ColumnSite) → site_at (before ++ x ∷ after) (length before) ≡ x
+site_there [] x after = refl
+site_there (b ∷ before) x after = site_there before x after
+
+-- each column is shown as it is
+star_shown : (name : List ℕ) (at : ℕ) (before : List ColumnSite) (columns : List ColumnDef)
+    → map (result_column (before ++ map site_of columns) [] []) (star_items at (length before) (columns_under name columns)) ≡ map shown_column columns
+star_shown name at before [] = refl
+star_shown name at before (c ∷ columns) =
+    let first = site_there before (site_of c) (map site_of columns) in
+    let seam : before ++ site_of c ∷ map site_of columns ≡ (before ++ site_of c ∷ []) ++ map site_of columns = sym (append_assoc before (site_of c ∷ []) (map site_of columns)) in
+    let long : length (before ++ site_of c ∷ []) ≡ length before + 1 = length-append before (site_of c ∷ []) in
+    ap (λ (s : ColumnSite). record { title = c.name; ty = s.ty; enc = s.enc } ∷ map (result_column (before ++ site_of c ∷ map site_of columns) [] []) (star_items at (length before + 1) (columns_under name columns))) first
+    ∙ ap (λ rest. shown_column c ∷ rest)
+    (ap (λ sites. map (result_column sites [] []) (star_items at (length before + 1) (columns_under name columns))) seam
+    ∙ ap (λ n. map (result_column ((before ++ site_of c ∷ []) ++ map site_of columns) [] []) (star_items at n (columns_under name columns))) (sym long)
+    ∙ star_shown name at (before ++ site_of c ∷ []) columns)
 
 abbrev source_of : List ℕ → TableDef → Source
 source_of name def = record { table = name; visible = name; def = def }
@@ -117,6 +139,10 @@ select_whole name def at = record {
   wide = items_length name def at;
   of_table = refl;
 }
+
+pub select_shown : (name : List ℕ) (def : TableDef) (at : ℕ) → map (result_column (select_of at name def).columns [] []) (items_of at name def) ≡ map shown_column def.columns
+select_shown name def at =
+    ap (λ sites. map (result_column sites [] []) (items_of at name def)) (append-nil (map site_of def.columns)) ∙ star_shown name at [] def.columns
 
 -- ---- ALTER TABLE .. REPLACE BY
 

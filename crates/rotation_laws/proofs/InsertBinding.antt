@@ -1,5 +1,5 @@
 -- What INSERT INTO a table of listed columns is bound to.
-use Rattle.std.proofs.Common.{◌≡◌, ◌==◌, ℕ, suc, ◌+◌, ◌≤◌, nat_le, Bool, true, false, List, [], ◌∷◌, length, map, Option, Some, None, Ok, refl, sym, ◌∙◌, ap, arith, cond, eq-eqb}
+use Rattle.std.proofs.Common.{◌≡◌, ◌==◌, ℕ, suc, ◌+◌, ◌≤◌, nat_le, Bool, true, false, List, [], ◌∷◌, ◌++◌, length, map, Option, Some, None, Ok, refl, sym, subst, ◌∙◌, ap, arith, cond, eq-eqb, append_assoc, length-append}
 use Rattle.std.specs.List.{list_all, slice_get}
 use Rattle.std.specs.Option.{option_map}
 use Rattle.std.proofs.lemmas.Bool.{le-ltb, or_right, and_parts}
@@ -21,11 +21,11 @@ use Rattle.sql_tree.specs.Placed.{site_of}
 use Rattle.catalog.specs.Catalogs.{Catalog, table_named}
 use Rattle.enc_types.specs.Least.{inferred_encs, least, encs_from}
 use Rattle.enc_types.specs.Rules.{rules, value_rules, placed, in_order, at_of}
-use Rattle.enc_types.specs.Typing.{Typing, Agrees, HasTyping, holds, enc_at, are_alike, is_plain, ty_eq}
+use Rattle.enc_types.specs.Typing.{Typing, Agrees, HasTyping, holds, enc_at, enc_eq, are_alike, is_plain, ty_eq}
 use Rattle.enc_types.specs.declared.rules.Rule.{Rule}
 use Rattle.enc_types.specs.declared.rules.Rule.TheVariants.{Same}
 use Rattle.enc_types.specs.declared.sites.Site.TheVariants.{Column, Param, Null, Fixed}
-use Rattle.enc_types.proofs.Interface.{enc_eq-Decides, has_typing-Decides, no_clash}
+use Rattle.enc_types.proofs.Interface.{enc_eq-Decides, has_typing-Decides, no_clash, typed_as}
 use Rattle.semantic_checks.specs.Checks.{check_of}
 use Rattle.semantic_checks.specs.Clashes.{Types, clashes, paired_clashes, column_kind, differ, kind_of, site_kind}
 use Rattle.expression_binding.specs.Walks.{each_from}
@@ -210,26 +210,81 @@ encs_length : (typing : Typing) (place : ℕ) (tys : List Ty) → length (encs_f
 encs_length typing place [] = refl
 encs_length typing place (ty ∷ tys) = ap suc (encs_length typing (suc place) tys)
 
-pub record PutBound (catalog : Catalog) (table : List ℕ) (columns : List SentColumn) (at : ℕ) (values : List Operand) : Type 0 where
+-- all rules hold in any order
+placed_parts_by : (p : Rule → Bool) (r next : Rule) (rs : List Rule) (b : Bool) → (list_all p (placed r rs) ≡ true → (p r ≡ true) × (list_all p rs ≡ true)) → list_all p (cond b (r ∷ next ∷ rs) (next ∷ placed r rs)) ≡ true
+    → (p r ≡ true) × (list_all p (next ∷ rs) ≡ true)
+placed_parts_by p r next rs true h k = and_parts (p r) (list_all p (next ∷ rs)) k
+placed_parts_by p r next rs false h k =
+    let q = and_parts (p next) (list_all p (placed r rs)) k in
+    let m = h q.1 in
+    let one = q.0 in
+    (m.0, rw one m.1)
+
+placed_parts : (p : Rule → Bool) (r : Rule) (rs : List Rule) → list_all p (placed r rs) ≡ true → (p r ≡ true) × (list_all p rs ≡ true)
+placed_parts p r [] h = and_parts (p r) (list_all p []) h
+placed_parts p r (next ∷ rs) h = placed_parts_by p r next rs (nat_le (at_of r) (at_of next)) (placed_parts p r rs) h
+
+ordered_parts : (p : Rule → Bool) (rs : List Rule) → list_all p (in_order rs) ≡ true → list_all p rs ≡ true
+ordered_parts p [] h = refl
+ordered_parts p (r ∷ rs) h = let q = placed_parts p r (in_order rs) h in let one = q.0 in rw one (ordered_parts p rs q.1)
+
+-- the parameters are encrypted as the columns of their places
+enc_there : (before rest : List ColumnDef) (c : ColumnDef) → enc_at (map site_of (before ++ c ∷ rest)) (length before) ≡ c.enc
+enc_there [] rest c = refl
+enc_there (b ∷ before) rest c = enc_there before rest c
+
+encs_each : (defs : List ColumnDef) (tys : List Ty) (typing : Typing) → Agrees (map site_of defs) typing → (before rest : List ColumnDef) → defs ≡ before ++ rest → (places : List ℕ) (values : List BoundOperand) → ArePut (length before) places values
+    → length places ≡ length rest → (own : List Ty) → length own ≡ length rest → list_all (holds tys (map site_of defs) typing) (value_rules places values) ≡ true → encs_from typing (length before) own ≡ map (λ column. column.enc) rest
+encs_each defs tys typing agrees before [] e places values put wide [] long h = refl
+encs_each defs tys typing agrees before [] e places values put wide (t ∷ own) long h = absurd (omega arith)
+encs_each defs tys typing agrees before (c ∷ rest) e places values put wide [] long h = absurd (omega arith)
+encs_each defs tys typing agrees before (c ∷ rest) e [] values put wide (t ∷ own) long h = absurd (omega arith)
+encs_each defs tys typing agrees before (c ∷ rest) e (p ∷ places) [] put wide (t ∷ own) long h = absurd put
+encs_each defs tys typing agrees before (c ∷ rest) e (p ∷ places) (v ∷ values) put wide (t ∷ own) long h =
+    let i = length before in
+    let rule : Rule = Same (Column i) (Param i) put.1.0 in
+    let first : value_rules (p ∷ places) (v ∷ values) ≡ rule ∷ value_rules places values = rw (put.0, put.1.1) refl in
+    let q = and_parts (holds tys (map site_of defs) typing rule) (list_all (holds tys (map site_of defs) typing) (value_rules places values)) (ap (list_all (holds tys (map site_of defs) typing)) (sym first) ∙ h) in
+    let same = and_parts (enc_eq (typing (Column i)) (typing (Param i))) _ q.0 in
+    let column : typing (Column i) ≡ c.enc = agrees (Column i) (enc_at (map site_of defs) i) refl ∙ ap (λ ds. enc_at (map site_of ds) i) e ∙ enc_there before rest c in
+    let one : typing (Param i) ≡ c.enc = sym ((enc_eq-Decides (typing (Column i)) (typing (Param i))).0 same.0) ∙ column in
+    let far : length (before ++ c ∷ []) ≡ suc i = length-append before (c ∷ []) ∙ omega arith in
+    let far_too : length (before ++ c ∷ []) ≡ i + 1 = length-append before (c ∷ []) in
+    ap (λ e. e ∷ encs_from typing (suc i) own) one
+    ∙ ap (λ es. c.enc ∷ es)
+    (ap (λ n. encs_from typing n own) (sym far)
+    ∙ encs_each defs tys typing agrees (before ++ c ∷ []) rest (e ∙ sym (append_assoc before (c ∷ []) rest)) places values (subst (λ n. ArePut n places values) (sym far_too) put.2) (omega arith) own (omega arith) q.1)
+
+pub record PutBound (catalog : Catalog) (table : List ℕ) (def : TableDef) (columns : List SentColumn) (at : ℕ) (values : List Operand) : Type 0 where
   pub bound : Bound
   pub encs : List Enc
   pub binds : bind catalog (insert_tree table columns at values) (declared_from 1 columns) ≡ Ok bound
   pub infers : inferred_encs bound ≡ Ok encs
   pub typed : length encs ≡ length columns
+  pub encs_are : encs ≡ map (λ column. column.enc) def.columns
   pub insert : BoundInsert
   pub is : bound.statement ≡ statement.Insert insert
   pub put : IsRowInsert table (length columns) insert
 
 pub put_bound : (catalog : Catalog) (table : List ℕ) (def : TableDef) (columns : List SentColumn) (at : ℕ) (values : List Operand) → table_named catalog table ≡ Some def → AreColumnsOf columns def
-    → all_differ (map (λ column. column.name) def.columns) ≡ true → length columns ≤ 64 → AreNamed 1 columns values → PutBound catalog table columns at values
+    → all_differ (map (λ column. column.name) def.columns) ≡ true → length columns ≤ 64 → AreNamed 1 columns values → PutBound catalog table def columns at values
 put_bound catalog table def columns at values there of apart few named =
     let vb = values_bound columns [] columns values refl (omega arith) named in
     let b = put_of table def columns at vb.bound in
+    let inferring = inferred b (put_typed table def columns of at vb.bound vb.put) in
+    let typing = (typed_as b (encs_from (least b.columns (rules b)) 0 b.params) inferring).typing in
+    let types = put_types table def columns of at vb.bound vb.put in
+    let held = ordered_parts (holds b.params b.columns (least b.columns (rules b))) (value_rules (upto 0 columns) vb.bound)
+    (ap (list_all (holds b.params b.columns (least b.columns (rules b)))) (sym (put_rules table def columns at vb.bound)) ∙ typing.holding) in
+    let wide : length columns ≡ length def.columns = sym (length-map columns (λ c. c.ty)) ∙ ap length of.types ∙ length-map def.columns (λ column. column.ty) in
     record {
       bound = b;
       encs = encs_from (least b.columns (rules b)) 0 b.params;
       binds = bound_fine catalog _ (declared_from 1 columns) b (put_resolved catalog table def columns at values there of apart vb) (put_fine table def columns of at vb.bound vb.put vb.wide few);
-      infers = inferred b (put_typed table def columns of at vb.bound vb.put);
+      infers = inferring;
+      encs_are =
+          encs_each def.columns b.params (least b.columns (rules b)) typing.agrees [] def.columns refl (upto 0 columns) vb.bound vb.put (upto-length 0 columns ∙ wide) b.params
+          (ap length types ∙ length-map def.columns (λ column. column.ty)) held;
       typed = encs_length (least b.columns (rules b)) 0 b.params ∙ ap length (declared_types 1 columns) ∙ length-map columns (λ c. c.ty);
       insert = insert_of table (upto 0 columns) at vb.bound;
       is = refl;

@@ -9,9 +9,10 @@ use Rattle.catalog.specs.Catalogs.{Catalog, table_named}
 use Rattle.resolve.specs.Bind.{bind}
 use Rattle.statement_analysis.specs.Describing.{binding_of}
 use Rattle.column_rotate.specs.Texts.{reads_all, replaces}
-use Rattle.rotation_laws.specs.Laws.{IsIdentifier, IsReplaced, ReadingIsWhole, ReplacingIsReplacement}
+use Rattle.proper_values.specs.Proper.{IsIdentifier}
+use Rattle.rotation_laws.specs.Laws.{IsReplaced, ReadingIsWhole, ReplacingIsReplacement}
 use Rattle.rotation_laws.proofs.Parsing.{select_parsed, replace_parsed}
-use Rattle.rotation_laws.proofs.Binding.{meant, nothing_inferred, select_bound, select_rules, select_whole, select_of, query_of, replace_bound, replace_rules, replace_of}
+use Rattle.rotation_laws.proofs.Binding.{meant, nothing_inferred, select_bound, select_rules, select_whole, select_shown, select_of, query_of, replace_bound, replace_rules, replace_of}
 
 pub text_bound : (catalog : Catalog) (text : List ℕ) (declarations : List ParamDecl) (statement : Statement) (b : Bound) → statement_in (encode_utf8_all text) ≡ Ok statement → bind catalog statement declarations ≡ Ok b
     → binding_of catalog text declarations ≡ Ok b
@@ -28,6 +29,7 @@ read_whole catalog name def named there some few =
       query = query_of p.0 name def;
       is = refl;
       whole = select_whole name def p.0;
+      shows = select_shown name def p.0;
     }
 
 replaced_by : (catalog : Catalog) (old new : List ℕ) (found other : Option TableDef) → table_named catalog old ≡ found → table_named catalog new ≡ other → IsIdentifier old → IsIdentifier new → IsSome found → IsSome other → old ≢ new → IsReplaced catalog old new

@@ -1,11 +1,11 @@
 -- What the texts of a rotation mean to a server.
 use Rattle.std.specs.Prelude.{◌≡◌, ◌≢◌, ◌≤◌, ℕ, ◌+◌, List, [], ◌∷◌, length, map, true, Some, None, Ok, Result, IsSome, encode_utf8_all}
-use Rattle.std.specs.Str.{all_scalars}
-use Rattle.ae_base.specs.Names.{IsName, all_differ}
+use Rattle.ae_base.specs.Names.{all_differ}
 use Rattle.ae_base.specs.declared.batches.Batch.{Batch}
 use Rattle.ae_base.specs.declared.batches.ParamDecl.{ParamDecl}
 use Rattle.ae_base.specs.declared.values.Value.{Value}
 use Rattle.wire_messages.specs.declared.columns.SentColumn.{SentColumn}
+use Rattle.ae_base.specs.declared.tables.ColumnDef.{ColumnDef}
 use Rattle.ae_base.specs.declared.tables.TableDef.{TableDef}
 use Rattle.ae_base.specs.declared.faults.SqlFault.{SqlFault}
 use Rattle.sql_tree.specs.declared.bound.BoundDefinition.TheVariants as made
@@ -18,8 +18,11 @@ use Rattle.sql_tree.specs.Operands as operands
 use Rattle.sql_tree.specs.Statements as tree
 use Rattle.sql_grammar.specs.Texts.{statement_in}
 use Rattle.catalog.specs.Catalogs.{Catalog, table_named}
+use Rattle.engine.specs.Columns.{result_column}
+use Rattle.engine.specs.declared.answers.ResultColumn.{ResultColumn}
 use Rattle.statement_analysis.specs.Describing.{Meant, understood}
 use Rattle.transactions.specs.Rotating.{IsWholeQuery, IsRowInsert}
+use Rattle.proper_values.specs.Proper.{IsIdentifier}
 use Rattle.column_rotate.specs.Texts.{begins, commits, rolls_back, param_name, puts, reads_all, replaces}
 
 -- what the text of a batch parses to
@@ -32,13 +35,6 @@ pub record BeginsCommitsAndRollsBack : Type 0 where
   pub begun : parsed begins ≡ Ok (tree.Control transaction.Begin)
   pub committed : parsed commits ≡ Ok (tree.Control transaction.Commit)
   pub rolled_back : parsed rolls_back ≡ Ok (tree.Control transaction.Rollback)
-
--- ---- names
-
--- a name has 1 to 128 characters, whatever they are
-pub record IsIdentifier (name : List ℕ) : Type 0 where
-  pub named : IsName name
-  pub scalars : all_scalars name ≡ true
 
 -- ---- SELECT * FROM
 
@@ -54,19 +50,24 @@ star_query at name = record {
   order_by = [];
 }
 
--- over a catalog that has the table, it reads the table whole
-pub record IsReadWhole (catalog : Catalog) (name : List ℕ) (width : ℕ) : Type 0 where
+-- a table's column, as an answer shows it
+abbrev pub shown_column : ColumnDef → ResultColumn
+shown_column column = record { title = column.name; ty = column.ty; enc = column.enc }
+
+-- over a catalog that has the table, it reads the table whole, and shows its columns
+pub record IsReadWhole (catalog : Catalog) (name : List ℕ) (def : TableDef) : Type 0 where
   pub at : ℕ
   pub parses : parsed (reads_all name) ≡ Ok (tree.Select (star_query at name))
   pub meant : Meant
   pub means : understood catalog (reads_all name).text [] ≡ Ok meant
   pub query : BoundQuery
   pub is : meant.bound.statement ≡ bound.Select query
-  pub whole : IsWholeQuery name width query
+  pub whole : IsWholeQuery name (length def.columns) query
+  pub shows : map (result_column meant.bound.columns meant.bound.params meant.encs) query.items ≡ map shown_column def.columns
 
 abbrev pub ReadingIsWhole : Type 0
 ReadingIsWhole = (catalog : Catalog) (name : List ℕ) (def : TableDef) → IsIdentifier name → table_named catalog name ≡ Some def → 1 ≤ length def.columns → length def.columns ≤ 64
-    → IsReadWhole catalog name (length def.columns)
+    → IsReadWhole catalog name def
 
 -- ---- ALTER TABLE .. REPLACE BY
 
@@ -105,8 +106,8 @@ insert_tree table columns at values = tree.Insert table (Some (map (λ c. c.titl
 abbrev pub declared : Batch → List ParamDecl
 declared batch = map (λ p. p.declaration) batch.params
 
--- over a catalog that has the table, it inserts one row: each parameter into the column of its place
-pub record IsPut (catalog : Catalog) (table : List ℕ) (columns : List SentColumn) (row : List Value) : Type 0 where
+-- over a catalog that has the table, it inserts one row: each parameter into the column of its place, and encrypted as that is
+pub record IsPut (catalog : Catalog) (table : List ℕ) (def : TableDef) (columns : List SentColumn) (row : List Value) : Type 0 where
   pub at : ℕ
   pub values : List Operand
   pub named : AreNamed 1 columns values
@@ -114,6 +115,7 @@ pub record IsPut (catalog : Catalog) (table : List ℕ) (columns : List SentColu
   pub meant : Meant
   pub means : understood catalog (puts table columns row).text (declared (puts table columns row)) ≡ Ok meant
   pub typed : length meant.encs ≡ length columns
+  pub encs : meant.encs ≡ map (λ column. column.enc) def.columns
   pub insert : BoundInsert
   pub is : meant.bound.statement ≡ bound.Insert insert
   pub put : IsRowInsert table (length columns) insert
@@ -122,4 +124,13 @@ pub record IsPut (catalog : Catalog) (table : List ℕ) (columns : List SentColu
 abbrev pub PuttingIsAnInsert : Type 0
 PuttingIsAnInsert = (catalog : Catalog) (table : List ℕ) (def : TableDef) (columns : List SentColumn) (row : List Value) → IsIdentifier table → AreIdentifiers columns → table_named catalog table ≡ Some def
     → AreColumnsOf columns def → all_differ (map (λ column. column.name) def.columns) ≡ true → 1 ≤ length columns → length columns ≤ 64 → length row ≡ length columns
-    → IsPut catalog table columns row
+    → IsPut catalog table def columns row
+
+-- ---- whatever the catalog is
+
+-- the texts parse so
+pub record TextsParse : Type 0 where
+  pub reads : (name : List ℕ) → IsIdentifier name → (at : ℕ) × (parsed (reads_all name) ≡ Ok (tree.Select (star_query at name)))
+  pub replaced : (old new : List ℕ) → IsIdentifier old → IsIdentifier new → parsed (replaces old new) ≡ Ok (tree.Definition (definition.ReplaceTable old new))
+  pub put : (table : List ℕ) (columns : List SentColumn) (row : List Value) → IsIdentifier table → AreIdentifiers columns → 1 ≤ length columns → length columns ≤ 64
+      → (at : ℕ) × (values : List Operand) × (parsed (puts table columns row) ≡ Ok (insert_tree table columns at values))

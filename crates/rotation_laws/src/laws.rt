@@ -3,7 +3,7 @@
 ghost use Rattle.rotation_laws.specs.Deeds.{RotationTextsMean};
 ghost use Rattle.rotation_laws.specs.Laws.{BeginsCommitsAndRollsBack};
 ghost use Rattle.rotation_laws.specs.Laws.{PuttingIsAnInsert, ReadingIsWhole};
-ghost use Rattle.rotation_laws.specs.Laws.{ReplacingIsReplacement};
+ghost use Rattle.rotation_laws.specs.Laws.{ReplacingIsReplacement, TextsParse};
 
 use sql_grammar::laws::reads_the_grammar;
 
@@ -38,6 +38,14 @@ pub fn putting_is_an_insert()
 /// it is answered, is what a transaction has done that has rotated the tables.
 pub fn rotation_texts_mean()
     ensures { RotationTextsMean }
+{
+    reads_the_grammar();
+}
+
+/// Whatever the catalog is, the texts that read a table, put a row and replace a table parse to
+/// these statements.
+pub fn texts_parse()
+    ensures { TextsParse }
 {
     reads_the_grammar();
 }
