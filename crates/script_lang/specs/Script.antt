@@ -1,6 +1,6 @@
--- A script as steps: batches ended by GO or by the end of the script, half batches, and what executes them.
-use Rattle.std.specs.Prelude.{ℕ, ℤ, ◌+◌, ◌-◌, ◌*◌, pos, neg_ℤ, List, [], ◌∷◌, ◌++◌, length, map, reverse, take, drop, take_while, codes, Option, Some, None, unwrap_or, is_some, Result, Ok, Err, Bool, false, ◌&&◌, ◌||◌, not, nat_le, int_le, ◌==◌, if◌then◌else◌, slice_index}
-use Rattle.std.specs.List.{list_any}
+-- A script as steps: batches ended by GO or by the end of the script, half batches, what executes them, and rotations.
+use Rattle.std.specs.Prelude.{ℕ, ℤ, ◌+◌, ◌-◌, ◌*◌, pos, neg_ℤ, List, [], ◌∷◌, ◌++◌, length, map, reverse, take, drop, take_while, codes, Option, Some, None, unwrap_or, is_some, Result, Ok, Err, Bool, false, ◌&&◌, ◌||◌, not, nat_le, int_le, ◌==◌, if◌then◌else◌, slice_index, position}
+use Rattle.std.specs.List.{list_any, list_all}
 use Rattle.std.specs.Option.{option_map, option_and_then}
 use Rattle.std.specs.Str.{bytes_eq, chars, is_utf8}
 use Rattle.ae_base.specs.Names.{admits, is_param_char}
@@ -15,9 +15,9 @@ use Rattle.sql_tree.specs.declared.lexemes.Symbol.TheVariants as symbol
 use Rattle.sql_tree.specs.declared.lexemes.Lexeme.{Lexeme}
 use Rattle.sql_tree.specs.declared.lexemes.Lexeme.TheVariants as lexeme
 use Rattle.sql_tree.specs.declared.lexemes.Token.{Token}
-use Rattle.sql_tree.specs.Tokens.{tokens_of, first_wide, in_capitals, begins_word, is_word_byte, is_digit}
+use Rattle.sql_tree.specs.Tokens.{tokens_of, first_wide, in_capitals, begins_word, is_word_byte, is_digit, is_name, keywords, named_in}
 use Rattle.sql_grammar.specs.Making.{type_of}
-use Rattle.script_lang.specs.declared.steps.Act.TheVariants.{Whole, Half, Execute}
+use Rattle.script_lang.specs.declared.steps.Act.TheVariants.{Whole, Half, Execute, Rotate}
 use Rattle.script_lang.specs.declared.steps.Step.{Step}
 use Rattle.script_lang.specs.declared.steps.Step.TheVariants.{Turn, Trust}
 
@@ -187,16 +187,19 @@ after_describe begun =
     if is_between begun then None
     else Some (record { steps = Turn begun.session (Half (batch_of begun)) ∷ []; begun = nothing_begun begun.session })
 
--- :execute, :session N and :trust PATH stand between batches
+-- :execute, :session N, :trust PATH and :rotate OLD NEW stand between batches
 abbrev pub after_execute : Begun → Option After
 after_execute begun = if is_between begun then Some (record { steps = Turn begun.session Execute ∷ []; begun = begun }) else None
 
-abbrev pub in_session : Begun → Option ℕ → Option After
-in_session begun None = None
-in_session begun (Some session) = if is_between begun then goes_on (nothing_begun session) else None
+abbrev pub in_session : Begun → ℕ → Option After
+in_session begun session = if is_between begun then goes_on (nothing_begun session) else None
 
 abbrev pub with_trust : Begun → List ℕ → Option After
 with_trust begun path = if is_between begun then Some (record { steps = Trust path ∷ []; begun = begun }) else None
+
+abbrev pub with_rotation : Begun → List ℕ × List ℕ → Option After
+with_rotation begun tables =
+    if is_between begun then Some (record { steps = Turn begun.session (Rotate tables.0 tables.1) ∷ []; begun = begun }) else None
 
 -- :force @name stands in the head of a batch, behind the declaration of that name, once for each name
 abbrev pub with_forced : Begun → List ℕ → Option After
@@ -226,21 +229,52 @@ name_of bytes = let name = take_while is_param_char bytes in if is_blank_line (d
 abbrev pub named_param : List ℕ → Option (List ℕ)
 named_param rest = option_and_then name_of (behind (codes ":force @") rest)
 
+-- the tables that :rotate OLD NEW names: what stands before the first space, and what stands behind it without the blanks at the line's end
+abbrev pub two_words : List ℕ → Option (List ℕ × List ℕ)
+two_words bytes = option_map (λ i. (take i bytes, drop (i + 1) bytes)) (position (λ b. b == 32) bytes)
+
+abbrev pub rotated_words : List ℕ → Option (List ℕ × List ℕ)
+rotated_words rest = option_and_then (λ bytes. two_words (before_blanks bytes)) (behind (codes ":rotate ") rest)
+
+-- each is a word as SQL has them, with no brackets, and isn't reserved
+abbrev pub is_one_word : List ℕ → Bool
+is_one_word bytes = is_name bytes && begins_word (slice_index bytes 0) && list_all is_word_byte bytes
+
+abbrev pub is_reserved : List ℕ → Bool
+is_reserved word = is_some (named_in keywords (in_capitals word))
+
+abbrev pub table_of : List ℕ → Option (List ℕ)
+table_of bytes = if is_one_word bytes && not (is_reserved bytes) then Some bytes else None
+
+abbrev pub tables_of : List ℕ × List ℕ → Option (List ℕ × List ℕ)
+tables_of words = option_and_then (λ old. option_map (λ new. (old, new)) (table_of words.1)) (table_of words.0)
+
+abbrev pub named_tables : List ℕ → Option (List ℕ × List ℕ)
+named_tables rest = option_and_then tables_of (rotated_words rest)
+
 abbrev pub is_alone : Option (List ℕ) → Bool
 is_alone None = false
 is_alone (Some rest) = is_blank_line rest
 
--- a line names a path, or a parameter, or a session
-abbrev pub after_named : Begun → Option (List ℕ) → Option (List ℕ) → Option ℕ → Option After
-after_named begun (Some path) name session = with_trust begun path
-after_named begun None (Some name) session = with_forced begun name
-after_named begun None None session = in_session begun session
+-- what is made of the first that is named
+abbrev pub first_named : List (Option (Option After)) → Option After
+first_named [] = None
+first_named (Some after ∷ others) = after
+first_named (None ∷ others) = first_named others
+
+-- a line names a path, or a parameter, or two tables, or a session
+abbrev pub after_named : Begun → List ℕ → Option After
+after_named begun rest =
+    first_named (
+    option_map (with_trust begun) (named_path rest) ∷ option_map (with_forced begun) (named_param rest)
+    ∷ option_map (with_rotation begun) (named_tables rest) ∷ option_map (in_session begun) (named_session rest) ∷ []
+    )
 
 abbrev pub after_colon : Begun → List ℕ → Option After
 after_colon begun rest =
     if is_alone (behind (codes ":describe") rest) then after_describe begun else
     if is_alone (behind (codes ":execute") rest) then after_execute begun else
-    after_named begun (named_path rest) (named_param rest) (named_session rest)
+    after_named begun rest
 
 -- ---- lines of a batch
 

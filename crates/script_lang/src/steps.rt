@@ -2,6 +2,7 @@
 
 use ae_base::batches::Batch;
 use ae_base::keys::KeyPath;
+use ae_base::names::Name;
 use ae_base::sessions::SessionId;
 
 /// What a session does in a turn.
@@ -13,6 +14,8 @@ pub enum Act {
     Half(Batch),
     /// What is pending is executed.
     Execute,
+    /// A table's rows move to another one, which takes its place and its name.
+    Rotate { old: Name, new: Name },
 }
 
 /// A step of a script.

@@ -9,6 +9,7 @@ ghost use Rattle.script_lang.specs.Reading.{Takes, behind_line};
 
 use crate::declarations::declaration_of;
 use crate::steps::{Act, Step};
+use crate::tables::named_tables;
 use crate::words::{
     begins_with, begins_with_colon, behind_blanks, first_word, is_alone, is_blank_line,
     named_param, named_path, named_session,
@@ -16,7 +17,7 @@ use crate::words::{
 use ae_base::batches::{Batch, Param, Params};
 use ae_base::keys::KeyPath;
 use ae_base::lists::{Duplicate, Seq};
-use ae_base::names::ParamName;
+use ae_base::names::{Name, ParamName};
 use ae_base::params::ParamList;
 use ae_base::sessions::SessionId;
 use ae_base::texts::Txt;
@@ -164,6 +165,9 @@ impl Reader {
         if let Some(name) = named_param(line) {
             return self.force(name);
         }
+        if let Some((old, new)) = named_tables(alloc, line)? {
+            return self.rotate(old, new);
+        }
         match named_session(line) {
             Some(session) => Ok(self.enter(alloc, session)),
             None => Ok(false),
@@ -179,6 +183,24 @@ impl Reader {
             return Ok(false);
         }
         self.steps.push(Step::Trust(path))?;
+        Ok(true)
+    }
+
+    /// Rotates a table to another one, between batches.
+    fn rotate(&mut self, old: Name, new: Name) -> Result<bool, AllocError>
+        ensures { IfOk result
+            (λ good. Takes self.old (spec.with_rotation self.old.begun (old, new)) good self.new) }
+    {
+        if !self.is_between() {
+            return Ok(false);
+        }
+        // A proof learns from these calls that the characters are Unicode scalar values.
+        let _ = old.as_str();
+        let _ = new.as_str();
+        self.steps.push(Step::Turn {
+            session: self.session,
+            act: Act::Rotate { old, new },
+        })?;
         Ok(true)
     }
 
@@ -233,7 +255,7 @@ impl Reader {
 
     /// Goes on in a session, between batches.
     fn enter(&mut self, alloc: Global, session: SessionId) -> bool
-        ensures { Takes self.old (spec.in_session self.old.begun (Some session)) result self.new }
+        ensures { Takes self.old (spec.in_session self.old.begun session) result self.new }
     {
         if !self.is_between() {
             return false;
