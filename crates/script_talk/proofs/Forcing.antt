@@ -1,6 +1,6 @@
 -- Batches that differ in the values of forced parameters alone are begun and described alike.
-use Rattle.std.proofs.Common.{◌≡◌, ◌⊎◌, inl, inr, ℕ, List, [], ◌∷◌, map, length, Option, Some, None, Bool, true, false, cond, refl, sym, ap, ◌∙◌, subst}
-use Rattle.std.specs.Prelude.{◌&&◌, not, encode_utf8_all, nat_lt}
+use Rattle.std.proofs.Common.{◌≡◌, inl, inr, ℕ, List, [], ◌∷◌, map, length, Option, Some, None, refl, sym, ap, ◌∙◌}
+use Rattle.std.specs.Prelude.{encode_utf8_all, nat_lt}
 use Rattle.std.specs.List.{AllZip}
 use Rattle.ae_base.specs.Batches.{first_unfit}
 use Rattle.ae_base.specs.Values.{value_is_within}
@@ -14,8 +14,8 @@ use Rattle.ae_base.specs.declared.values.Value.{Value}
 use Rattle.ae_base.specs.declared.values.Value.TheVariants as value
 use Rattle.wire_messages.specs.declared.params.UsedParam.{UsedParam}
 use Rattle.conversation.specs.Batches.{why_unfit, unfit_by}
-use Rattle.conversation.specs.Pending.{Use, uses_in}
-use Rattle.conversation.specs.Sessions.{encs_of, first_open, is_forced, is_sealed, described_params}
+use Rattle.conversation.specs.Pending.{uses_in}
+use Rattle.conversation.specs.Sessions.{encs_of, first_open, described_params}
 use Rattle.script_talk.specs.Forced.{AreAsLong, DiffersWhereForced, BatchesDiffer}
 use Rattle.script_talk.proofs.Lengths.{within_so}
 

@@ -1,5 +1,5 @@
 -- Cells of values that are equally long are equally long.
-use Rattle.std.proofs.Common.{◌≡◌, ℕ, ℤ, ◌+◌, ◌*◌, ◌≤◌, List, length, true, refl, sym, ap, ◌∙◌, subst, arith}
+use Rattle.std.proofs.Common.{◌≡◌, ℕ, ℤ, ◌+◌, ◌*◌, List, length, true, sym, ap, ◌∙◌, subst, arith}
 use Rattle.std.specs.Prelude.{◌/◌, FitsSigned, pos, negsuc}
 use Rattle.std.specs.Int.{w32, w64}
 use Rattle.std.proofs.lemmas.Bool.Decides.{nat_tests}

@@ -1,7 +1,7 @@
 -- Parameters that are sealed: those that are forced are cells under keys of trusted values, and all others are equal.
-use Rattle.std.proofs.Common.{◌≡◌, ◌⊎◌, inl, inr, ℕ, List, [], ◌∷◌, length, Option, Some, None, Result, Ok, Err, Bool, true, false, cond, refl, sym, ap, ◌∙◌, subst}
-use Rattle.std.specs.Prelude.{◌&&◌, not, filter, Contains, IsTrue}
-use Rattle.std.specs.List.{All, AllZip}
+use Rattle.std.proofs.Common.{◌≡◌, ◌⊎◌, inl, inr, ℕ, List, [], ◌∷◌, length, Option, Some, None, Result, Ok, Err, Bool, true, false, cond, refl, sym, ap, subst}
+use Rattle.std.specs.Prelude.{◌&&◌, not, filter, IsTrue}
+use Rattle.std.specs.List.{All}
 use Rattle.std.proofs.lemmas.List.Elements.{All-nil, All-cons, All-head, All-tail, All-contains}
 use Rattle.ae_base.specs.Atoms.{Atom, plain_atom}
 use Rattle.ae_base.specs.OneOrTwo.{each_of}
@@ -30,11 +30,11 @@ use Rattle.conversation.specs.Cells.{is_encrypted, det_atom, rnd_atom}
 use Rattle.conversation.specs.Keys.{seen, open_key, meta_of, is_trusted, with_values, trusted_meta}
 use Rattle.conversation.specs.Pending.{Use, uses_in}
 use Rattle.conversation.specs.Sessions.{first_open, is_forced, is_sealed}
-use Rattle.conversation.specs.Talk.{Talk, Draws}
-use Rattle.conversation.specs.Turns.{drawing, sealing_value, sent_param, sealing_one, sealing}
+use Rattle.conversation.specs.Talk.{Talk}
+use Rattle.conversation.specs.Turns.{drawing, sealing_value, sent_param, sealing}
 use Rattle.conversation.specs.declared.faults.DriverFault.{DriverFault}
-use Rattle.script_talk.specs.Forced.{AreAsLong, DiffersWhereForced}
-use Rattle.script_talk.specs.Sent.{cell_bytes, AreTrusted, AreDrawn, AreCells, IsSentAlike, AreSentAlike, none_left, not_used, is_sent}
+use Rattle.script_talk.specs.Forced.{AreAsLong}
+use Rattle.script_talk.specs.Sent.{cell_bytes, AreTrusted, AreCells, AreSentAlike, none_left, not_used, is_sent}
 use Rattle.script_talk.proofs.Alike.{Good, draws, key_goes}
 use Rattle.script_talk.proofs.Forcing.{Differ}
 use Rattle.script_talk.proofs.Lengths.{CellLaws, as_long}

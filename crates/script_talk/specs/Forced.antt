@@ -10,7 +10,7 @@ use Rattle.ae_base.specs.declared.values.Value.TheVariants as value
 use Rattle.value_norm.specs.Norm.{norm}
 use Rattle.conversation.specs.Sessions.{is_forced}
 use Rattle.script_lang.specs.declared.steps.Act.{Act}
-use Rattle.script_lang.specs.declared.steps.Act.TheVariants.{Whole, Half, Execute}
+use Rattle.script_lang.specs.declared.steps.Act.TheVariants.{Whole, Half, Execute, Rotate}
 use Rattle.script_lang.specs.declared.steps.Step.{Step}
 use Rattle.script_lang.specs.declared.steps.Step.TheVariants.{Turn, Trust}
 
@@ -30,10 +30,12 @@ pub record BatchesDiffer (batch other : Batch) : Type 0 where
   pub forced : other.forced ≡ batch.forced
   pub params : AllZip (DiffersWhereForced batch.forced) batch.params other.params
 
+-- a rotation has no parameters, so it differs in nothing
 abbrev pub ActsDiffer : Act → Act → Type 0
 ActsDiffer (Whole batch) (Whole other) = BatchesDiffer batch other
 ActsDiffer (Half batch) (Half other) = BatchesDiffer batch other
 ActsDiffer Execute Execute = Unit {0}
+ActsDiffer (Rotate old new) (Rotate other by) = (other ≡ old) × (by ≡ new)
 ActsDiffer act other = ⊥
 
 abbrev pub StepDiffers : Step → Step → Type 0

@@ -14,12 +14,14 @@ use Rattle.aes_block.specs.Aes.{IsBlock}
 use Rattle.ae_edge.specs.Vaults.{KeyMap}
 use Rattle.hmac_kdf.specs.Keys.{Keys, keys_of}
 use Rattle.key_store.specs.Opening.{opened}
+use Rattle.wire_messages.specs.declared.columns.SentColumn.{SentColumn}
 use Rattle.wire_messages.specs.declared.params.SentParam.{SentParam}
 use Rattle.wire_messages.specs.declared.requests.Request.{Request}
 use Rattle.wire_messages.specs.declared.requests.Request.TheVariants.{Describe, Execute}
 use Rattle.conversation.specs.Cells.{det_atom, rnd_atom}
 use Rattle.conversation.specs.Keys.{is_trusted}
 use Rattle.conversation.specs.Sessions.{is_forced}
+use Rattle.column_rotate.specs.Texts.{begins, commits, puts, reads_all, replaces, rolls_back}
 use Rattle.script_lang.specs.declared.steps.Act.{Act}
 use Rattle.script_lang.specs.declared.steps.Act.TheVariants as act
 use Rattle.script_lang.specs.declared.steps.Step.{Step}
@@ -94,15 +96,29 @@ abbrev pub IsAskedAlike : KeyMap → List (List ℕ) → List Pair → ℕ → R
 IsAskedAlike keys paths pairs number request other =
     (IsDescription request × (other ≡ request)) ⊎ ((pair : Pair) × Contains pairs pair × (pair.session ≡ number) × ExecutesAlike keys paths pair request other)
 
+-- the batches of a turn, where it has its own
 abbrev pub pair_of : ℕ → Act → Act → List Pair
 pair_of number (act.Whole batch) (act.Whole other) = record { session = number; batch = batch; other = other } ∷ []
 pair_of number (act.Half batch) (act.Half other) = record { session = number; batch = batch; other = other } ∷ []
 pair_of number act other = []
 
--- one of the steps asks it, with the paths that are trusted there, of the batches of its session up to it
+-- the batches that a rotation runs; their values are those that it read
+abbrev pub IsOfRotation : (old new : List ℕ) → Batch → Type 0
+IsOfRotation old new batch =
+    Contains (begins ∷ reads_all new ∷ reads_all old ∷ replaces old new ∷ commits ∷ rolls_back ∷ []) batch
+    ⊎ ((columns : List SentColumn) × (row : List Value) × (batch ≡ puts new columns row))
+
+-- what a turn asks: of the batches of its session up to it; or, where it is a rotation, of one of its batches, for both the same
+abbrev pub IsAskedByTurn : KeyMap → List (List ℕ) → List Pair → ℕ → Act → Request → Request → Type 0
+IsAskedByTurn keys paths pairs number (act.Rotate old new) request other =
+    (batch : Batch) × IsOfRotation old new batch
+    × IsAskedAlike keys paths (record { session = number; batch = batch; other = batch } ∷ []) number request other × (other ≡ request)
+IsAskedByTurn keys paths pairs number act request other = IsAskedAlike keys paths pairs number request other
+
+-- one of the steps asks it, with the paths that are trusted there
 abbrev pub IsAskedByOne : KeyMap → List (List ℕ) → List Pair → List Step → List Step → Request → Request → Type 0
 IsAskedByOne keys paths pairs (Turn number act ∷ steps) (Turn n other ∷ others) r s =
     let now = pairs ++ pair_of number act other in
-    IsAskedAlike keys paths now number r s ⊎ IsAskedByOne keys paths now steps others r s
+    IsAskedByTurn keys paths now number act r s ⊎ IsAskedByOne keys paths now steps others r s
 IsAskedByOne keys paths pairs (Trust path ∷ steps) (Trust other ∷ others) r s = IsAskedByOne keys (paths ++ path ∷ []) pairs steps others r s
 IsAskedByOne keys paths pairs steps others r s = ⊥
