@@ -1,9 +1,8 @@
 -- Over the server the result of a script is its plaintext meaning, sealed values and all.
 use Rattle.std.proofs.Common.{◌≡◌, ℕ, suc, ◌+◌, ◌-◌, List, [], ◌∷◌, ◌++◌, map, length, Option, Some, None, Result, Ok, Err, Bool, true, false, cond, refl, sym, ap, ◌∙◌, subst, arith}
 use Rattle.std.specs.Prelude.{◌==◌, nat_lt, take, drop}
-use Rattle.std.specs.List.{All, AllZip}
+use Rattle.std.specs.List.{AllZip}
 use Rattle.std.proofs.lemmas.Bool.{eqb-true}
-use Rattle.std.proofs.lemmas.List.Elements.{All-head, All-tail}
 use Rattle.ae_base.specs.Atoms.{Atom}
 use Rattle.ae_base.specs.Results.{◌>>=◌}
 use Rattle.ae_base.specs.declared.batches.Batch.{Batch}
@@ -12,7 +11,7 @@ use Rattle.ae_base.specs.declared.faults.SqlFault.TheVariants.{Moved}
 use Rattle.ae_edge.specs.Vaults.{KeyMap}
 use Rattle.catalog.specs.Catalogs.{Catalog}
 use Rattle.enc_types.specs.UsedAlone.{used_among, is_used, alone}
-use Rattle.engine.specs.Step.{Answer, Rows, Changed, Defined, step}
+use Rattle.engine.specs.Step.{Answer, Rows, Changed, Defined}
 use Rattle.transactions.specs.Counted.{Execution, execution}
 use Rattle.transactions.specs.WellKept.{MayAsk}
 use Rattle.transactions.specs.Stores.{ask_of, Transacted, transaction_at, world_of, transact}
@@ -28,25 +27,22 @@ use Rattle.ae_base.specs.declared.types.Enc.{Enc}
 use Rattle.wire_messages.specs.Messages.{Description}
 use Rattle.statement_analysis.specs.Describing.{Meant, understood, describe, description, keys_of}
 use Rattle.statement_analysis.specs.Params.{declaration_of, suited}
-use Rattle.server_core.specs.Serve.{State, empty_state, catalog_of, described, answered, executed, sent_column, header, serve}
+use Rattle.server_core.specs.Serve.{State, catalog_of, described, answered, executed, sent_column, header, serve}
 use Rattle.server_core.specs.States.{is_short}
 use Rattle.conversation.specs.Batches.{why_unfit, unless}
 use Rattle.conversation.specs.Drive.{End, Done, Dry, BadReply, Listened, Caught, listen, passed_by, passed_on, over}
 use Rattle.conversation.specs.Keys.{open_key, trusted_meta}
 use Rattle.conversation.specs.Pending.{Pending, uses_of}
 use Rattle.conversation.specs.Sessions as conversation
-use Rattle.conversation.specs.Sessions.{with_session, begun, first_open, described_params, titles_of}
-use Rattle.conversation.specs.Talk.{Talk, Draws, Opens, Prints, Heard, Got, hear, broken, nothing_broken, nothing_shown, described_outcome, Said}
+use Rattle.conversation.specs.Sessions.{begun, first_open, titles_of}
+use Rattle.conversation.specs.Talk.{Talk, Draws, Opens, Heard, Got, hear, broken, nothing_broken, nothing_shown, described_outcome, Said}
 use Rattle.conversation.specs.Turns as turns
-use Rattle.conversation.specs.Turns.{Accepted, after_all, hearing, saying, running, on_result, opening_by, answered_on, described_on, describing, executing, asked, rows_on, rested, reading, over_on}
+use Rattle.conversation.specs.Turns.{Accepted, hearing, saying, running, on_result, opening_by, answered_on, described_on, describing, executing, asked, rows_on, rested, reading, over_on}
 use Rattle.conversation.specs.declared.faults.DriverFault.{DriverFault}
-use Rattle.conversation.specs.declared.faults.DriverFault.TheVariants.{StillPending, NothingPending, NotEncrypted}
+use Rattle.conversation.specs.declared.faults.DriverFault.TheVariants.{StillPending, NotEncrypted}
 use Rattle.conversation.specs.declared.outcomes.Listing.{Listing}
 use Rattle.conversation.specs.declared.sessions.Session.{Session}
-use Rattle.script_lang.specs.Limits.{OfBatch, IsWithinLimits, HasParams, HasProperParams, IsProperStep}
-use Rattle.script_lang.specs.declared.steps.Act.{Act}
-use Rattle.script_lang.specs.declared.steps.Act.TheVariants as acts
-use Rattle.script_lang.specs.declared.steps.Step.{Step}
+use Rattle.script_lang.specs.Limits.{HasParams, HasProperParams}
 use Rattle.ae_base.specs.declared.keys.KeyMeta.{KeyMeta}
 use Rattle.aes_block.specs.Aes.{IsBlock}
 use Rattle.aes_block.specs.Bytes.{AreBytes}
@@ -56,18 +52,16 @@ use Rattle.engine.specs.Typed.{param_classes}
 use Rattle.wire_messages.specs.declared.params.SentParam.{SentParam}
 use Rattle.wire_messages.specs.declared.replies.Reply.{Reply}
 use Rattle.hmac_kdf.specs.Keys.{Keys}
-use Rattle.plain_meaning.specs.Alike.{Fits, FitThroughout}
+use Rattle.plain_meaning.specs.Alike.{Fits}
 use Rattle.plain_meaning.specs.Below.{LawsBelow}
-use Rattle.plain_meaning.specs.Laws.{Agrees, EndsWith, ServedIsPlain}
-use Rattle.plain_meaning.specs.Reference.{Came, came, declarations_of, means, nothing_held, held_at, with_held, reference}
-use Rattle.script_talk.specs.Steps.{turn, talk}
+use Rattle.plain_meaning.specs.Laws.{Agrees, EndsWith}
+use Rattle.plain_meaning.specs.Batches.{Came, came, declarations_of}
 use Rattle.wire_messages.specs.declared.requests.Request.TheVariants as request
 use Rattle.conversation.specs.declared.outcomes.Outcome as outcomes
 use Rattle.conversation.specs.declared.outcomes.Outcome.TheVariants as outcome
 use Rattle.conversation.specs.declared.sessions.Session.TheVariants as session
-use Rattle.script_lang.specs.declared.steps.Step.TheVariants as steps_of
-use Rattle.plain_meaning.specs.Reference as plain
-use Rattle.plain_meaning.proofs.Between.{StandsFor, IsSendableParam, DescribedAs, Always, HoldsBatch, HoldsIn, AllHold, Goes, stays_so, goes_by, seen_fits, sessions_fit, all_go, hold_place, all_held, empty_stands, resting, all_resting, at_resting, set_resting}
+use Rattle.plain_meaning.specs.Batches as plain
+use Rattle.plain_meaning.proofs.Between.{StandsFor, IsSendableParam, DescribedAs, Always, HoldsBatch, HoldsIn, Goes, stays_so, goes_by, sessions_fit, resting}
 use Rattle.plain_meaning.proofs.Pairs.{stands, Standing, standing_is_one_to_one, standing_is_within}
 use Rattle.plain_meaning.proofs.Sending.{Each, told_among}
 use Rattle.plain_meaning.proofs.Rows.{rows_opened, rows_skipped}
@@ -90,7 +84,7 @@ first false comes rest = rest
 abbrev pub text : Bool → Rest → Came → List outcomes.Outcome
 text aloud rest c = first aloud c.comes (rest c.comes c.accepted c.held c.state)
 
-printed : (comes : outcomes.Outcome) (end : End) (outs wanted : List outcomes.Outcome) → EndsWith end outs wanted → EndsWith end (comes ∷ outs) (comes ∷ wanted)
+pub printed : (comes : outcomes.Outcome) (end : End) (outs wanted : List outcomes.Outcome) → EndsWith end outs wanted → EndsWith end (comes ∷ outs) (comes ∷ wanted)
 printed comes (Done sessions) outs wanted h = ap (λ xs. comes ∷ xs) h
 printed comes Dry outs wanted h = record { rest = h.rest; is = ap (λ xs. comes ∷ xs) h.is }
 printed comes (BadReply n) outs wanted h = absurd h
@@ -236,7 +230,7 @@ module _ (laws : LawsBelow) (keys : KeyMap) (trusted : List (List ℕ)) (key_for
     seen_here : catalog_of plainly n ≡ here
     seen_here = (seen_alike (Standing key_for) state plainly n st.stores).worlds.catalog
 
-    prints : (comes : outcomes.Outcome) (after : Option Pending) → Held after → Holding comes None after plainly → IsMeant state [] (saying aloud (Some comes) (k comes None (resting after))) (first aloud comes (rest comes None after plainly))
+    pub prints : (comes : outcomes.Outcome) (after : Option Pending) → Held after → Holding comes None after plainly → IsMeant state [] (saying aloud (Some comes) (k comes None (resting after))) (first aloud comes (rest comes None after plainly))
     prints comes after h r =
         says state [] aloud (k comes None (resting after)) comes (rest comes None after plainly) (go comes None after state plainly st (stays_so Always state n after h) r)
 
@@ -350,7 +344,7 @@ module _ (laws : LawsBelow) (keys : KeyMap) (trusted : List (List ℕ)) (key_for
     asked_agrees p h sent s true e r = runs_agrees p h (h.same (eqb-true p.version here.version e)) sent s r
     asked_agrees p h sent s false e r = refused_agrees (moved p here.version) r
 
-    executing_agrees : (p : Pending) → HoldsBatch Always here p → RestOf (plain.execution_of keys trusted plainly n p) → IsMeant state [] (executing aloud trusted n (session.Pending p) k) (text aloud rest (plain.execution_of keys trusted plainly n p))
+    pub executing_agrees : (p : Pending) → HoldsBatch Always here p → RestOf (plain.execution_of keys trusted plainly n p) → IsMeant state [] (executing aloud trusted n (session.Pending p) k) (text aloud rest (plain.execution_of keys trusted plainly n p))
     executing_agrees p h r =
         let onward : Session → Talk = λ after. hearing aloud after nothing_shown (answered_on aloud trusted k) in
         let wanted = text aloud rest (plain.execution_of keys trusted plainly n p) in
@@ -418,7 +412,7 @@ module _ (laws : LawsBelow) (keys : KeyMap) (trusted : List (List ℕ)) (key_for
           subst (λ (c : Catalog). let came = plain.described plainly batch (plain.readied plainly readied) (describe c batch.text (declarations_of batch)) in RestOf came → IsMeant state [] (begins_so None) (text aloud rest came)) (sym seen_here)
           (described_agrees e (understood here batch.text (declarations_of batch)) refl) r
 
-      begins_agrees : (before : Option Pending) → Held before → RestOf (plain.begins plainly n batch (plain.readied plainly readied) before) → IsMeant state [] (describing aloud n batch (resting before) ready k) (text aloud rest (plain.begins plainly n batch (plain.readied plainly readied) before))
+      pub begins_agrees : (before : Option Pending) → Held before → RestOf (plain.begins plainly n batch (plain.readied plainly readied) before) → IsMeant state [] (describing aloud n batch (resting before) ready k) (text aloud rest (plain.begins plainly n batch (plain.readied plainly readied) before))
       begins_agrees None h = begun_agrees (why_unfit batch) refl
       begins_agrees (Some p) h = prints (outcome.Failed StillPending) (Some p) h
 
@@ -426,46 +420,3 @@ module _ (laws : LawsBelow) (keys : KeyMap) (trusted : List (List ℕ)) (key_for
     pub running_agrees : (batch : Batch) → HasParams batch → HasProperParams batch → (before : Option Pending) → Held before → RestOf (plain.begins plainly n batch (plain.readied plainly (plain.execution_of keys trusted plainly n)) before)
         → IsMeant state [] (running aloud trusted n batch (resting before) k) (text aloud rest (plain.begins plainly n batch (plain.readied plainly (plain.execution_of keys trusted plainly n)) before))
     running_agrees batch params proper before h r = begins_agrees batch params proper (λ p. executing aloud trusted n (session.Pending p) k) (plain.execution_of keys trusted plainly n) (λ p held v. executing_agrees p held) before h r
-
-  -- ---- a turn, whatever its outcome was
-
-  turn_agrees : (number : ℕ) (act : Act) (state plainly : State) (fits : Fits keys key_for (catalog_of state number)) (st : StandsFor keys key_for state plainly) (k : Session → Talk) (rest : Option Pending → State → List outcomes.Outcome)
-      (Holding : Option Pending → State → Type 0) (go : GoesOn state number (after_all k) (λ comes columns. rest) (λ comes columns. Holding))
-      → OfBatch HasParams act → OfBatch HasProperParams act → (before : Option Pending) → HoldsIn Always state.shared (transaction_at state number) before
-      → let c = means keys trusted number act before plainly in Holding c.held c.state → IsMeant state [] (turn trusted number act (resting before) k) (c.comes ∷ rest c.held c.state)
-  turn_agrees number (acts.Whole batch) state plainly fits st k rest Holding go within proper before h =
-      running_agrees state plainly number fits st true (after_all k) (λ comes columns. rest) (λ comes columns. Holding) go batch within proper before h
-  turn_agrees number (acts.Half batch) state plainly fits st k rest Holding go within proper before h =
-      begins_agrees state plainly number fits st true (after_all k) (λ comes columns. rest) (λ comes columns. Holding) go batch within proper (λ p. Prints (outcome.Described (described_params p.keys (uses_of p))) (k (session.Pending p))) (plain.waits plainly)
-      (λ p held v. prints state plainly number fits st true (after_all k) (λ comes columns. rest) (λ comes columns. Holding) go (outcome.Described (described_params p.keys (uses_of p))) (Some p) held) before h
-  turn_agrees number acts.Execute state plainly fits st k rest Holding go within proper (Some p) h =
-      executing_agrees state plainly number fits st true (after_all k) (λ comes columns. rest) (λ comes columns. Holding) go p h
-  turn_agrees number acts.Execute state plainly fits st k rest Holding go within proper None h =
-      prints state plainly number fits st true (after_all k) (λ comes columns. rest) (λ comes columns. Holding) go (outcome.Failed NothingPending) None h
-
--- ---- the steps
-
-module _ (laws : LawsBelow) (keys : KeyMap) (key_for : ℕ → List ℕ) where
-  talk_agrees : (steps : List Step) → All IsWithinLimits steps → All IsProperStep steps → (trusted : List (List ℕ)) (holds : List (Option Pending)) (state plainly : State)
-      → StandsFor keys key_for state plainly → AllHold Always state holds → FitThroughout keys key_for steps trusted holds plainly
-      → IsMeant laws keys trusted key_for state [] (talk steps trusted (all_resting holds)) (reference keys steps trusted holds plainly)
-  talk_agrees [] within proper trusted holds state plainly st h f = λ taken left a. refl
-  talk_agrees (steps_of.Trust path ∷ steps) within proper trusted holds state plainly st h f =
-      talk_agrees steps (All-tail IsWithinLimits (steps_of.Trust path) steps within) (All-tail IsProperStep (steps_of.Trust path) steps proper) (trusted ++ path ∷ []) holds state plainly st h f
-  talk_agrees (steps_of.Turn number act ∷ steps) within proper trusted holds state plainly st h f =
-      let step = steps_of.Turn number act in
-      let onward : Session → Talk = λ after. talk steps trusted (with_session (all_resting holds) number after) in
-      let rest : Option Pending → State → List outcomes.Outcome = λ after now. reference keys steps trusted (with_held holds number after) now in
-      let fits = seen_fits keys key_for state plainly number (subst (Fits keys key_for) st.stores.shared.worlds.catalog f.0) st in
-      subst (λ before. IsMeant laws keys trusted key_for state [] (turn trusted number act before onward) (let c = means keys trusted number act (held_at holds number) plainly in c.comes ∷ rest c.held c.state)) (sym (at_resting holds (number - 1)))
-      (turn_agrees laws keys trusted key_for number act state plainly fits st onward rest (λ after now. FitThroughout keys key_for steps trusted (with_held holds number after) now)
-      (λ comes columns after now beside stands goes further. subst (λ sessions. IsMeant laws keys trusted key_for now [] (talk steps trusted sessions) (rest after beside)) (sym (set_resting holds (number - 1) after))
-      (talk_agrees steps (All-tail IsWithinLimits step steps within) (All-tail IsProperStep step steps proper) trusted (with_held holds number after) now beside stands
-      (all_go Always state now number holds after goes h) further))
-      (All-head IsWithinLimits step steps within).1 (All-head IsProperStep step steps proper) (held_at holds number) (hold_place Always state number holds h) f.1)
-
--- ---- from the beginning
-
-pub served_is_plain : LawsBelow → ServedIsPlain
-served_is_plain laws keys steps within proper alike entropy bytes =
-    talk_agrees laws keys alike.0 steps within proper [] nothing_held empty_state empty_state (empty_stands keys alike.0 laws.catalogs) (all_held Always) alike.1 0 entropy bytes

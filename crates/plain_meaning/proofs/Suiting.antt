@@ -24,7 +24,7 @@ use Rattle.conversation.proofs.Interface.{fit_fits}
 use Rattle.script_lang.specs.Limits.{HasParams, HasProperParams}
 use Rattle.plain_meaning.specs.Alike.{Fits}
 use Rattle.plain_meaning.specs.Below.{LawsBelow}
-use Rattle.plain_meaning.specs.Reference.{declarations_of}
+use Rattle.plain_meaning.specs.Batches.{declarations_of}
 use Rattle.plain_meaning.proofs.Between.{IsSendableParam, DescribedAs, HoldsBatch}
 use Rattle.plain_meaning.proofs.Sending.{Each, told_among, params_used, encs_used, encs_found, all_fit}
 use Rattle.plain_meaning.proofs.Told.{OpenAs, open_told}

@@ -14,15 +14,41 @@ use Rattle.conversation.specs.Pending.{Pending, uses_of}
 use Rattle.conversation.specs.declared.outcomes.Outcome.{Outcome}
 use Rattle.conversation.specs.declared.outcomes.Outcome.TheVariants.{Refused}
 use Rattle.script_lang.specs.declared.steps.Act.{Act}
-use Rattle.script_lang.specs.declared.steps.Act.TheVariants.{Whole, Half, Execute}
-use Rattle.plain_meaning.specs.Reference.{declarations_of, why_unopened}
+use Rattle.script_lang.specs.declared.steps.Act.TheVariants.{Whole, Half, Execute, Rotate}
+use Rattle.column_rotate.specs.Moves.{Sends, move_of}
+use Rattle.column_rotate.specs.Rotating.{told_of}
+use Rattle.column_rotate.specs.Texts.{begins}
+use Rattle.column_rotate.specs.declared.sent.Sent.{Sent}
+use Rattle.column_rotate.specs.declared.sent.Sent.TheVariants.{Begin}
+use Rattle.plain_meaning.specs.Batches.{Came, declarations_of, runs_whole, why_unopened}
 
--- the batch that a turn describes or executes: its own, or the one that its session holds
+-- the batch that a turn describes or executes: its own, or the one that its session holds; a rotation has none
 abbrev pub batch_of : Act → Option Pending → Option Batch
 batch_of (Whole batch) held = Some batch
 batch_of (Half batch) held = Some batch
 batch_of Execute None = None
 batch_of Execute (Some p) = Some p.batch
+batch_of (Rotate old new) held = None
+
+-- ---- the batches that a turn runs
+
+-- what a whole batch comes to in a session that holds none
+abbrev pub ran : KeyMap → List (List ℕ) → ℕ → Batch → State → Came
+ran keys trusted number batch state = runs_whole keys trusted number batch None state
+
+-- a batch of a rotation, and the state in which it is run: the first, and each that is sent behind what came of one
+pub data IsSentIn (keys : KeyMap) (trusted : List (List ℕ)) (number : ℕ) (old new : List ℕ) (start : State) : Sent → Batch → State → Type 0 where
+  first_of_all : IsSentIn keys trusted number old new start Begin begins start
+  behind_one : (sent later : Sent) (batch next : Batch) (state : State) → IsSentIn keys trusted number old new start sent batch state
+      → move_of old new sent (ran keys trusted number batch state).accepted (told_of (ran keys trusted number batch state).comes) ≡ Sends next later
+      → IsSentIn keys trusted number old new start later next (ran keys trusted number batch state).state
+
+-- a turn's batch, in its state; or a batch of its rotation that may be sent, in the state in which it is run
+abbrev pub IsRunIn : KeyMap → List (List ℕ) → ℕ → Act → Option Pending → State → Batch → State → Type 0
+IsRunIn keys trusted number (Rotate old new) None state batch now = (sent : Sent) × IsSentIn keys trusted number old new state sent batch now × (why_unfit batch ≡ None)
+IsRunIn keys trusted number act held state batch now = (batch_of act held ≡ Some batch) × (now ≡ state)
+
+-- ---- statements without a typing
 
 -- Nothing stops a turn before its batch's statement is parsed, bound and typed: a batch of its own may be sent, and the session holds none; of
 -- a held batch the keys are opened, and the catalog has the version of its description.
@@ -46,6 +72,15 @@ pub record IsUntypedAt (state : State) (number : ℕ) (batch : Batch) (at : ℕ)
   pub is_bound : IsBoundAs state number batch bound
   pub untyped : ¬ (IsTyped bound)
   pub place : IsClashAt bound at
+
+-- a batch that a rotation runs, whose statement is bound and has no typing
+pub record RunsUntyped (keys : KeyMap) (trusted : List (List ℕ)) (number : ℕ) (old new : List ℕ) (state : State) : Type 0 where
+  pub batch : Batch
+  pub now : State
+  pub run : IsRunIn keys trusted number (Rotate old new) None state batch now
+  pub bound : Bound
+  pub is_bound : IsBoundAs now number batch bound
+  pub untyped : ¬ (IsTyped bound)
 
 -- a refusal with EncryptionClash
 abbrev pub IsClash : Outcome → Type 0

@@ -1,51 +1,15 @@
 -- The plaintext meaning of a script: the results of its steps over plain values. No cell, no random byte, no request and no reply is in it.
-use Rattle.std.specs.Prelude.{ℕ, ◌-◌, List, [], ◌∷◌, ◌++◌, map, replicate, slice_index_or, slice_set, Option, Some, None, Result, Ok, Err, ◌==◌, if◌then◌else◌, unwrap_or}
-use Rattle.ae_base.specs.Atoms.{Atom, plain_atom, value_of_atom}
-use Rattle.ae_base.specs.declared.batches.Batch.{Batch}
-use Rattle.ae_base.specs.declared.keys.KeyMeta.{KeyMeta}
-use Rattle.ae_base.specs.declared.batches.ParamDecl.{ParamDecl}
-use Rattle.ae_base.specs.declared.faults.SqlFault.{SqlFault}
-use Rattle.ae_base.specs.declared.faults.SqlFault.TheVariants.{Moved}
-use Rattle.ae_base.specs.declared.types.Enc.{Enc}
-use Rattle.ae_base.specs.declared.types.Enc.TheVariants as enc
-use Rattle.ae_base.specs.declared.values.Value.{Value}
-use Rattle.ae_base.specs.declared.values.Value.TheVariants as value
+use Rattle.std.specs.Prelude.{ℕ, ◌-◌, List, [], ◌∷◌, ◌++◌, replicate, slice_index_or, slice_set, Option, None}
 use Rattle.ae_edge.specs.Vaults.{KeyMap}
-use Rattle.catalog.specs.Catalogs.{Catalog}
-use Rattle.engine.specs.Step.{Answer}
-use Rattle.engine.specs.Step as engine
-use Rattle.engine.specs.declared.answers.ResultColumn.{ResultColumn}
-use Rattle.transactions.specs.Counted.{execution}
-use Rattle.transactions.specs.Stores.{Transacted, ask_of, transact}
-use Rattle.wire_messages.specs.Messages.{Description}
-use Rattle.statement_analysis.specs.Describing.{Meant, understood, describe, keys_of}
-use Rattle.server_core.specs.Serve.{State, catalog_of, sent_column}
-use Rattle.conversation.specs.Turns.{Accepted}
-use Rattle.conversation.specs.Batches.{why_unfit}
-use Rattle.conversation.specs.Keys.{open_trusted, meta_of}
-use Rattle.conversation.specs.Pending.{Pending, uses_of}
-use Rattle.conversation.specs.Sessions.{encs_of, first_open, described_params}
-use Rattle.conversation.specs.declared.faults.DriverFault.{DriverFault}
-use Rattle.conversation.specs.declared.faults.DriverFault.TheVariants.{StillPending, NothingPending, NotEncrypted}
-use Rattle.conversation.specs.declared.outcomes.Listing.{Listing}
+use Rattle.server_core.specs.Serve.{State}
+use Rattle.conversation.specs.Pending.{Pending}
 use Rattle.conversation.specs.declared.outcomes.Outcome.{Outcome}
-use Rattle.conversation.specs.declared.outcomes.Outcome.TheVariants as outcome
 use Rattle.script_lang.specs.declared.steps.Act.{Act}
-use Rattle.script_lang.specs.declared.steps.Act.TheVariants.{Whole, Half, Execute}
+use Rattle.script_lang.specs.declared.steps.Act.TheVariants.{Whole, Half, Execute, Rotate}
 use Rattle.script_lang.specs.declared.steps.Step.{Step}
 use Rattle.script_lang.specs.declared.steps.Step.TheVariants.{Turn, Trust}
-
--- the result of a turn, the columns of its answer's rows, those that its session accepted, what its session holds after it, nothing or a described batch, and the plain state
-pub record Came : Type 0 where
-  pub comes : Outcome
-  pub columns : List ResultColumn
-  pub accepted : Accepted
-  pub held : Option Pending
-  pub state : State
-
--- without rows
-abbrev pub came : Outcome → Option Pending → State → Came
-came comes held state = record { comes = comes; columns = []; accepted = None; held = held; state = state }
+use Rattle.plain_meaning.specs.Batches.{Came, executes, runs_half, runs_whole}
+use Rattle.plain_meaning.specs.Rotations.{rotates}
 
 -- what each session of a client holds between steps, by its number from 1 to 64
 abbrev pub nothing_held : List (Option Pending)
@@ -57,130 +21,13 @@ held_at holds number = slice_index_or holds (number - 1) None
 abbrev pub with_held : List (Option Pending) → ℕ → Option Pending → List (Option Pending)
 with_held holds number held = slice_set holds (number - 1) held
 
--- ---- keys
-
--- the fault where a key isn't opened, else what is found later
-abbrev pub unopened_or : {A : Type 0} → Result A DriverFault → Option DriverFault → Option DriverFault
-unopened_or (Ok keys) later = later
-unopened_or (Err f) later = Some f
-
--- why the first of the keys under which values are protected isn't opened
-abbrev pub why_unopened : KeyMap → List (List ℕ) → List KeyMeta → List Enc → Option DriverFault
-why_unopened keys trusted metas [] = None
-why_unopened keys trusted metas (enc.Plain ∷ encs) = why_unopened keys trusted metas encs
-why_unopened keys trusted metas (enc.Det key ∷ encs) = unopened_or (open_trusted keys trusted (meta_of metas key)) (why_unopened keys trusted metas encs)
-why_unopened keys trusted metas (enc.Rnd key ∷ encs) = unopened_or (open_trusted keys trusted (meta_of metas key)) (why_unopened keys trusted metas encs)
-
--- ---- answers
-
--- a plain world has no sealed atom, so NULL stands for none
-abbrev pub value_of : Atom → Value
-value_of a = unwrap_or (value_of_atom a) value.Null
-
-abbrev pub titled : List ResultColumn → List (List Atom) → Listing
-titled columns rows = record { titles = map (λ c. c.title) columns; rows = map (map value_of) rows }
-
--- rows are shown where the keys of their columns are opened
-abbrev pub shown : Listing → Option DriverFault → Outcome
-shown listing None = outcome.Rows listing
-shown listing (Some f) = outcome.Failed f
-
-abbrev pub encs_shown : List ResultColumn → List Enc
-encs_shown columns = map (λ c. c.enc) columns
-
-abbrev pub answered : KeyMap → List (List ℕ) → Catalog → Result Answer SqlFault → Outcome
-answered keys trusted catalog (Ok (engine.Rows columns rows)) =
-    shown (titled columns rows) (why_unopened keys trusted (keys_of catalog (encs_shown columns)) (encs_shown columns))
-answered keys trusted catalog (Ok (engine.Changed count)) = outcome.Changed count
-answered keys trusted catalog (Ok engine.Defined) = outcome.Defined
-answered keys trusted catalog (Err f) = outcome.Refused f
-
-abbrev pub columns_of : Result Answer SqlFault → List ResultColumn
-columns_of (Ok (engine.Rows columns rows)) = columns
-columns_of (Ok (engine.Changed count)) = []
-columns_of (Ok engine.Defined) = []
-columns_of (Err f) = []
-
--- the columns that a client accepts
-abbrev pub accepted_of : Result Answer SqlFault → Accepted
-accepted_of (Ok (engine.Rows columns rows)) = Some (map sent_column columns)
-accepted_of (Ok (engine.Changed count)) = None
-accepted_of (Ok engine.Defined) = None
-accepted_of (Err f) = None
-
-abbrev pub came_by : KeyMap → List (List ℕ) → Catalog → Transacted → Came
-came_by keys trusted catalog done =
-    record { comes = answered keys trusted catalog done.answer; columns = columns_of done.answer; accepted = accepted_of done.answer; held = None; state = done.after }
-
--- ---- a described batch is executed
-
-abbrev pub declarations_of : Batch → List ParamDecl
-declarations_of batch = map (λ p. p.declaration) batch.params
-
--- the statement is bound over all declarations, and takes all values as they are
-abbrev pub stepped : KeyMap → List (List ℕ) → State → ℕ → Batch → Result Meant SqlFault → Came
-stepped keys trusted state number batch (Ok meant) =
-    came_by keys trusted (catalog_of state number) (transact state number (ask_of (execution meant.bound meant.encs (map (λ p. plain_atom p.value) batch.params))))
-stepped keys trusted state number batch (Err f) = came (outcome.Refused f) None state
-
--- a key that isn't opened is the driver's fault; Moved where the catalog isn't that of the description
-abbrev pub executed_with : KeyMap → List (List ℕ) → State → ℕ → Pending → Option DriverFault → Came
-executed_with keys trusted state number p (Some f) = came (outcome.Failed f) None state
-executed_with keys trusted state number p None =
-    if p.version == (catalog_of state number).version
-    then stepped keys trusted state number p.batch (understood (catalog_of state number) p.batch.text (declarations_of p.batch))
-    else came (outcome.Refused (Moved (record { seen = p.version; now = (catalog_of state number).version }))) None state
-
-abbrev pub execution_of : KeyMap → List (List ℕ) → State → ℕ → Pending → Came
-execution_of keys trusted state number p = executed_with keys trusted state number p (why_unopened keys trusted p.keys (map (λ u. u.enc) (uses_of p)))
-
--- ---- a batch is described
-
-abbrev pub pending : Batch → Description → Pending
-pending batch description = record {
-  batch = batch;
-  version = description.version;
-  keys = description.keys;
-  encs = unwrap_or (encs_of batch.params description.params) [];
-}
-
-abbrev pub described : State → Batch → (Pending → Came) → Result Description SqlFault → Came
-described state batch ready (Ok description) = ready (pending batch description)
-described state batch ready (Err f) = came (outcome.Refused f) None state
-
--- a value that doesn't fit and a text that is too long don't leave the driver
-abbrev pub begun : State → ℕ → Batch → (Pending → Came) → Option DriverFault → Came
-begun state number batch ready (Some f) = came (outcome.Failed f) None state
-begun state number batch ready None = described state batch ready (describe (catalog_of state number) batch.text (declarations_of batch))
-
 -- ---- a turn
 
--- a session that has a batch begins no other
-abbrev pub begins : State → ℕ → Batch → (Pending → Came) → Option Pending → Came
-begins state number batch ready None = begun state number batch ready (why_unfit batch)
-begins state number batch ready (Some p) = came (outcome.Failed StillPending) (Some p) state
-
--- one without a described batch executes nothing
-abbrev pub executes : KeyMap → List (List ℕ) → State → ℕ → Option Pending → Came
-executes keys trusted state number (Some p) = execution_of keys trusted state number p
-executes keys trusted state number None = came (outcome.Failed NothingPending) None state
-
--- a described batch goes on so, unless a forced parameter would not be sent as a cell
-abbrev pub unless_open : State → Option (List ℕ) → Came → Came
-unless_open state (Some name) c = came (outcome.Failed (NotEncrypted name)) None state
-unless_open state None c = c
-
-abbrev pub readied : State → (Pending → Came) → Pending → Came
-readied state ready p = unless_open state (first_open p.batch.forced p.batch.params p.encs) (ready p)
-
--- half a batch waits as it was described
-abbrev pub waits : State → Pending → Came
-waits state p = came (outcome.Described (described_params p.keys (uses_of p))) (Some p) state
-
 abbrev pub means : KeyMap → List (List ℕ) → ℕ → Act → Option Pending → State → Came
-means keys trusted number (Whole batch) before state = begins state number batch (readied state (execution_of keys trusted state number)) before
-means keys trusted number (Half batch) before state = begins state number batch (readied state (waits state)) before
+means keys trusted number (Whole batch) before state = runs_whole keys trusted number batch before state
+means keys trusted number (Half batch) before state = runs_half number batch before state
 means keys trusted number Execute before state = executes keys trusted state number before
+means keys trusted number (Rotate old new) before state = rotates keys trusted number old new before state
 
 -- ---- the steps
 
