@@ -37,7 +37,8 @@ pub fn answers_are_narrower()
 {}
 
 /// Of two scripts that differ in protected values alone, each run over a fresh server with random
-/// bytes that suffice, what passes has one listing, in either version.
+/// bytes that suffice, what passes has one listing, in either version. Nothing is said of scripts
+/// with `:rotate`, which have no twins.
 pub fn twins_are_listed_alike()
     ensures { TwinsAreListedAlike }
 {

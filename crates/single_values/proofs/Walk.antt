@@ -15,6 +15,9 @@ use Rattle.ae_base.specs.declared.keys.EncryptedValue.{EncryptedValue}
 use Rattle.ae_base.specs.declared.keys.KeyMeta.{KeyMeta}
 use Rattle.ae_edge.specs.Vaults.{KeyMap}
 use Rattle.key_store.specs.Opening.{opened}
+use Rattle.sql_tree.specs.Statements.{Statement}
+use Rattle.sql_tree.specs.Statements as tree
+use Rattle.sql_tree.specs.declared.statements.Definition.TheVariants as written
 use Rattle.catalog.specs.Catalogs.{Catalog, key_of, meta_of, value_told, second_told, values_told}
 use Rattle.catalog.specs.Definitions.{MayDefine}
 use Rattle.catalog.specs.declared.keys.ColumnKey.{ColumnKey}
@@ -29,15 +32,26 @@ use Rattle.wire_messages.specs.Messages.{Description}
 use Rattle.conversation.specs.Batches.{why_unfit}
 use Rattle.conversation.specs.Pending.{Pending, uses_of}
 use Rattle.conversation.specs.Sessions.{first_open}
+use Rattle.conversation.specs.Talk.{Ends}
+use Rattle.conversation.specs.Turns.{Accepted}
 use Rattle.conversation.specs.declared.faults.DriverFault.{DriverFault}
+use Rattle.conversation.specs.declared.faults.DriverFault.TheVariants.{StillPending}
+use Rattle.conversation.specs.declared.outcomes.Outcome.{Outcome}
+use Rattle.conversation.specs.declared.outcomes.Outcome.TheVariants as outcome
+use Rattle.driver.specs.declared.outcomes.Fault.{Fault}
+use Rattle.driver.specs.declared.outcomes.Outcome.TheVariants as heard
+use Rattle.column_rotate.specs.Rotating.{fault_as, told_of}
 use Rattle.script_lang.specs.declared.steps.Step.{Step}
 use Rattle.script_lang.specs.Limits.{OfBatch}
 use Rattle.script_lang.specs.declared.steps.Act.{Act}
-use Rattle.script_lang.specs.declared.steps.Act.TheVariants.{Whole, Half, Execute}
+use Rattle.script_lang.specs.declared.steps.Act.TheVariants.{Whole, Half, Execute, Rotate}
 use Rattle.script_lang.specs.declared.steps.Step.TheVariants.{Turn, Trust}
 use Rattle.plain_meaning.specs.Alike.{Fits, FitThroughout, GivesOnly, Throughout}
-use Rattle.plain_meaning.specs.Reference.{Came, nothing_held, held_at, with_held, why_unopened, declarations_of, stepped, executed_with, execution_of, pending, unless_open, readied, described, begun, begins, executes, waits, means}
-use Rattle.single_values.specs.Single.{TextIsOfSingle, BatchIsOfSingle, IsSingleStep}
+use Rattle.plain_meaning.specs.Batches.{Came, came, why_unopened, declarations_of, stepped, executed_with, execution_of, pending, unless_open, readied, described, begun, begins, executes, runs_whole, waits}
+use Rattle.plain_meaning.specs.Reference.{nothing_held, held_at, with_held, means}
+use Rattle.plain_meaning.specs.Rotations.{Then, Told, rotates, runs}
+use Rattle.plain_meaning.proofs.Interface.{IsFineTold, IsTold, TellsNoKey, WritesNoKey, all_of_it}
+use Rattle.single_values.specs.Single.{TextIsOfSingle, BatchIsOfSingle, IsOfSingle, IsSingleStep}
 use Rattle.single_values.specs.Laws.{SingleValuesAreAlike}
 use Rattle.single_values.proofs.Fixed.{AreAs, Goes, IsAs, found_all, same_keys, stays}
 use Rattle.single_values.proofs.Steps.{binds_one, step_leads}
@@ -127,16 +141,75 @@ module _ (bound : BoundStatementsAre) (keys : KeyMap) (trusted : List (List ℕ)
   executes_comes (Some p) h = execution_comes p h
   executes_comes None h = record { goes = here; since = since; held = tt }
 
+-- ---- a rotation, batch by batch
+
+-- wherever it begins
+abbrev Leads : (Option Pending → State → Came) → Type 0
+Leads f = (held : Option Pending) → HoldsSingle held → (state : State) (told : ℕ → KeyValue) → AreAs (shared_of state) told → AreBegun state → Comes state told (f held state)
+
+goes_then : (old mid new : Catalog) (told : ℕ → KeyValue) (g : Goes old told mid) → Goes mid g.later new → Goes old told new
+goes_then old mid new told g h =
+    let le = g.next in
+    let more = h.next in
+    record { later = h.later; same = λ id lt. h.same id (omega (arith, lt, le)) ∙ g.same id lt; next = omega (arith, le, more); are = h.are }
+
+came_leads : (comes : Outcome) → Leads (λ held state. came comes held state)
+came_leads comes held h state told k since = record { goes = stays (shared_of state) told k; since = since; held = h }
+
+-- a text that tells of no key gives none a second value
+no_key_single : (s : Statement) → WritesNoKey s → IsOfSingle s
+no_key_single (tree.Definition (written.ReplaceTable old new)) h = tt
+no_key_single (tree.Definition d) h = absurd h
+no_key_single (tree.Insert table columns rows) h = tt
+no_key_single (tree.Update table assignments filter) h = tt
+no_key_single (tree.Delete table filter) h = tt
+no_key_single (tree.Select query) h = tt
+no_key_single (tree.Control control) h = tt
+
+keyless_single : (text : List ℕ) → TellsNoKey text → TextIsOfSingle text
+keyless_single text h s e = no_key_single s (rw e at h)
+
+abbrev Fine : Fault → Type 0
+Fine x = Unit {0}
+
+module _ (bound : BoundStatementsAre) (keys : KeyMap) (trusted : List (List ℕ)) (number : ℕ) where
+  whole_leads : (batch : Batch) → BatchIsOfSingle batch → Leads (runs_whole keys trusted number batch)
+  whole_leads batch one held h state told k since =
+      let executed = execution_of keys trusted state number in
+      begins_comes bound keys trusted state number told k since batch one (readied state executed)
+      (λ d. readied_comes bound keys trusted state number told k since executed (pending batch d) (execution_comes bound keys trusted state number told k since (pending batch d) one)) held h
+
+  module _ (old new : List ℕ) where
+    runs_leads : (batch : Batch) → BatchIsOfSingle batch → (f : Accepted → Then) → ((columns : Accepted) (comes : Told) → Leads (f columns comes)) → Leads (λ held state. runs keys trusted number old new batch held state f)
+    runs_leads batch one f go held h state told k since =
+        let c = runs_whole keys trusted number batch held state in
+        let first = whole_leads batch one held h state told k since in
+        let next = go c.accepted (told_of c.comes) c.held first.held c.state first.goes.later first.goes.are first.since in
+        record { goes = goes_then (shared_of state) (shared_of c.state) _ told first.goes next.goes; since = next.since; held = next.held }
+
+    -- what it tells matters to none of them
+    any_told : (comes : Told) → IsFineTold Fine comes
+    any_told (heard.Refused x) = tt
+    any_told other = tt
+
+    told_so : (columns : Accepted) (comes : Told) → IsTold ⊥ Fine columns comes
+    told_so columns comes = record { types = λ none. absurd none; rows = λ none. absurd none; fine = any_told comes }
+
+    rotates_leads : Leads (rotates keys trusted number old new)
+    rotates_leads None h =
+        all_of_it trusted number old new (λ comes after. Ends []) keys ⊥ Fine tt tt (λ move talk means. Leads means) (λ count. came_leads (outcome.Rotated count)) (λ x fine. came_leads (fault_as x))
+        (λ batch sends is may talk f go. runs_leads batch (keyless_single batch.text may.keyless) f (λ columns comes. go columns comes (told_so columns comes))) None h
+    rotates_leads (Some p) h = came_leads (outcome.Failed StillPending) (Some p) h
+
 -- ---- a turn
 
 means_comes : BoundStatementsAre → (keys : KeyMap) (trusted : List (List ℕ)) (number : ℕ) (act : Act) → OfBatch BatchIsOfSingle act → (before : Option Pending) → HoldsSingle before → (state : State) (told : ℕ → KeyValue) → AreAs (shared_of state) told → AreBegun state
     → Comes state told (means keys trusted number act before state)
-means_comes bound keys trusted number (Whole batch) one before h state told k since =
-    begins_comes bound keys trusted state number told k since batch one (readied state (execution_of keys trusted state number))
-    (λ d. readied_comes bound keys trusted state number told k since (execution_of keys trusted state number) (pending batch d) (execution_comes bound keys trusted state number told k since (pending batch d) one)) before h
+means_comes bound keys trusted number (Whole batch) one before h state told k since = whole_leads bound keys trusted number batch one before h state told k since
 means_comes bound keys trusted number (Half batch) one before h state told k since =
     begins_comes bound keys trusted state number told k since batch one (readied state (waits state)) (λ d. readied_comes bound keys trusted state number told k since (waits state) (pending batch d) (record { goes = here bound keys trusted state number told k since; since = since; held = one })) before h
 means_comes bound keys trusted number Execute one before h state told k since = executes_comes bound keys trusted state number told k since before h
+means_comes bound keys trusted number (Rotate old new) one before h state told k since = rotates_leads bound keys trusted number old new before h state told k since
 
 -- ---- all steps
 

@@ -56,8 +56,9 @@ use Rattle.wire_messages.specs.Exchanges.{Exchange, Served}
 use Rattle.wire_messages.specs.declared.params.SentParam.{SentParam}
 use Rattle.wire_messages.specs.declared.requests.Request.TheVariants as request
 use Rattle.plain_meaning.specs.Alike.{Fits, FitThroughout}
-use Rattle.plain_meaning.specs.Reference.{Came, came, declarations_of, means, held_at, with_held}
-use Rattle.plain_meaning.specs.Reference as plain
+use Rattle.plain_meaning.specs.Batches.{Came, came, declarations_of}
+use Rattle.plain_meaning.specs.Reference.{means, held_at, with_held}
+use Rattle.plain_meaning.specs.Batches as plain
 use Rattle.script_talk.specs.Steps.{turn, talk}
 use Rattle.plain_meaning.specs.Below.{LawsBelow}
 use Rattle.plain_meaning.proofs.Interface.{encs_alone, plain_atoms_of, execution_alone, is_ready, is_held, keys_told, stands_on, StandsFor, IsSendableParam, DescribedAs, Always, HoldsBatch, HoldsIn, AllHold, stays_so, seen_fits, all_go, hold_place, resting, all_resting, at_resting, set_resting, Standing, Each, told_among, all_fit, AnswersOf, AreSealed, none_sealed, one_sealed, encs_in, sealing_goes, unopened_is, OpenAs, transact_alone, tys_in, atoms_in, uses_sendable}
@@ -409,7 +410,7 @@ module _ (laws : LawsBelow) (keys : KeyMap) (key_for : ℕ → List ℕ) (litera
   step_goes : (step other : Step) (steps others : List Step) → IsWithinLimits step → IsProperStep step → Next steps others → Next (step ∷ steps) (other ∷ others)
   step_goes (steps_of.Turn number act) (steps_of.Turn n other) steps others within proper next = λ trusted holds laters w v walk st held z f t.
       subst (λ m. AreFollowed laws keys key_for literals twins (columns_met keys (steps_of.Turn number act ∷ steps) trusted holds walk) w v [] [] (talk (steps_of.Turn number act ∷ steps) trusted (all_resting holds)) (talk (steps_of.Turn m other ∷ others) trusted (all_resting laters))) (sym t.0)
-      (turn_next number act other steps others within.1 proper next trusted holds laters w v walk st held z f (refl, t.1, t.2))
+      (turn_next number act other steps others within.1 proper.0 next trusted holds laters w v walk st held z f (refl, t.1, t.2))
   step_goes (steps_of.Trust path) (steps_of.Trust other) steps others within proper next = λ trusted holds laters w v walk st held z f t.
       subst (λ p. AreFollowed laws keys key_for literals twins (columns_met keys steps (trusted ++ path ∷ []) holds walk) w v [] [] (talk steps (trusted ++ path ∷ []) (all_resting holds)) (talk others (trusted ++ p ∷ []) (all_resting laters))) (sym t.0)
       (next (trusted ++ path ∷ []) holds laters w v walk st held z f t.1)
