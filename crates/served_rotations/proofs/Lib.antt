@@ -1,0 +1,13 @@
+mod Apart
+mod Batches
+mod Deeds
+mod Meanings
+mod Moving
+mod Nothing
+mod Places
+mod Reading
+mod Requests
+mod Sound
+mod Told
+mod Traceless
+mod Whole

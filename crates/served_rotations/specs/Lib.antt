@@ -1,0 +1,4 @@
+pub mod Beside
+pub mod KeysFit
+pub mod Laws
+pub mod Moved
