@@ -1,5 +1,5 @@
 -- One call after another: printing, asking, hearing, and what the driver does by itself.
-use Rattle.std.proofs.Common.{◌≡◌, ℕ, ◌≤◌, List, [], ◌∷◌, ◌++◌, Option, Some, None, length, refl, sym, ◌∙◌, ap, subst, append-nil, inl, inr, arith}
+use Rattle.std.proofs.Common.{◌≡◌, ℕ, ◌≤◌, List, [], ◌∷◌, ◌++◌, Option, Some, None, Bool, true, false, length, refl, sym, ◌∙◌, ap, subst, append-nil, inl, inr, arith}
 use Rattle.std.specs.Prelude.{flat_map, IfSome}
 use Rattle.std.specs.Borrow.{GName}
 use Rattle.ae_base.specs.declared.frames.FrameVersion.{FrameVersion}
@@ -15,12 +15,13 @@ use Rattle.conversation.specs.declared.outcomes.Outcome.{Outcome}
 use Rattle.conversation.specs.declared.sessions.Session.{Session}
 use Rattle.conversation.specs.Devices.{Devices, AreOwn}
 use Rattle.conversation.specs.Devices as own
-use Rattle.conversation.specs.Paths.{Event, Asked, Took, Strayed, Drew, Opened, Printed, Follows, stays, asks, takes_more, takes_last, strays, replies_to, taken_in, OpensAll, IsStray}
-use Rattle.conversation.specs.Talk.{Talk, Stops, Asks, Hears, Heard, More, Got, hear, broken}
+use Rattle.conversation.specs.Paths.{Event, Asked, Took, Strayed, Drew, Opened, Printed, Follows, stays, asks, takes_more, takes_last, strays, notes_more, notes_last, notes_stray, replies_to, taken_in, OpensAll, IsStray}
+use Rattle.conversation.specs.Talk.{Talk, Stops, Asks, Hears, Notes, Heard, More, Got, hear, broken}
+use Rattle.conversation.specs.Turns.{hearing}
 use Rattle.outcome_text.specs.Counting.{asked, counted, printed}
 use Rattle.outcome_text.specs.Printing.{printed_outcome}
 use Rattle.run_effects.specs.Shares.{ClientSide, Wire, Outside, AreServed, Queue, Queues, queue_of, Stream, Standing, Streams, Comes, ClientPut, WirePut, WireRead, text_of, frames_of, exchanges_of, devices_of, with_devices}
-use Rattle.run_effects.specs.Ways.{Proceeds, HaltsAt, Breaks, AsksInPart, TakesOne, IsNextOf, IsNextOn, StaysWithin}
+use Rattle.run_effects.specs.Ways.{Proceeds, HaltsAt, Breaks, AsksInPart, TakesOne, IsNextOf, IsNextOn, StaysWithin, off}
 use Rattle.outcome_text.specs.declared.tallies.Tally.{Tally}
 use Rattle.run_effects.proofs.Going.{client_still, comes_still, stay, client_front, wire_front, breaks_between, silent_by}
 use Rattle.run_effects.proofs.Reading.{reads_same, reads_still}
@@ -274,17 +275,27 @@ took_goes reply t u old wire f h = record {
   limit = h.limit;
 }
 
--- a reply was taken, and more is awaited
-pub heard_more : (session after : Session) (shown more : Listing) (f : Heard → Talk) (reply : Reply) (old : Outside) (wire : Wire)
-    → hear session shown reply ≡ More after more → TakesOne reply old.wire wire → Proceeds (Hears session shown f) (Hears after more f) old (record old { wire = wire })
-heard_more session after shown more f reply old wire e h =
-    took_goes reply (Hears session shown f) (Hears after more f) old wire (takes_more session after shown more f reply (Hears after more f) [] e (stays (Hears after more f))) h
+-- a reply is taken, aloud or quietly, and more is awaited
+follows_more : (aloud : Bool) (session after : Session) (shown more : Listing) (f : Heard → Talk) (reply : Reply) → hear session shown reply ≡ More after more
+    → Follows (hearing aloud session shown f) (Took reply ∷ []) (hearing aloud after more f)
+follows_more true session after shown more f reply e = takes_more session after shown more f reply (Hears after more f) [] e (stays (Hears after more f))
+follows_more false session after shown more f reply e = notes_more session after shown more f reply (Notes after more f) [] e (stays (Notes after more f))
 
--- a reply was taken, and all was heard
-pub heard_last : (session : Session) (shown : Listing) (f : Heard → Talk) (reply : Reply) (heard : Heard) (old : Outside) (wire : Wire)
-    → hear session shown reply ≡ Got heard → TakesOne reply old.wire wire → Proceeds (Hears session shown f) (f heard) old (record old { wire = wire })
-heard_last session shown f reply heard old wire e h =
-    took_goes reply (Hears session shown f) (f heard) old wire (takes_last session shown f reply heard (f heard) [] e (stays (f heard))) h
+pub heard_more : (aloud : Bool) (session after : Session) (shown more : Listing) (f : Heard → Talk) (reply : Reply) (old : Outside) (wire : Wire)
+    → hear session shown reply ≡ More after more → TakesOne reply old.wire wire → Proceeds (hearing aloud session shown f) (hearing aloud after more f) old (record old { wire = wire })
+heard_more aloud session after shown more f reply old wire e h =
+    took_goes reply (hearing aloud session shown f) (hearing aloud after more f) old wire (follows_more aloud session after shown more f reply e) h
+
+-- a reply is taken, aloud or quietly, and all was heard
+follows_last : (aloud : Bool) (session : Session) (shown : Listing) (f : Heard → Talk) (reply : Reply) (heard : Heard) → hear session shown reply ≡ Got heard
+    → Follows (hearing aloud session shown f) (Took reply ∷ []) (f heard)
+follows_last true session shown f reply heard e = takes_last session shown f reply heard (f heard) [] e (stays (f heard))
+follows_last false session shown f reply heard e = notes_last session shown f reply heard (f heard) [] e (stays (f heard))
+
+pub heard_last : (aloud : Bool) (session : Session) (shown : Listing) (f : Heard → Talk) (reply : Reply) (heard : Heard) (old : Outside) (wire : Wire)
+    → hear session shown reply ≡ Got heard → TakesOne reply old.wire wire → Proceeds (hearing aloud session shown f) (f heard) old (record old { wire = wire })
+heard_last aloud session shown f reply heard old wire e h =
+    took_goes reply (hearing aloud session shown f) (f heard) old wire (follows_last aloud session shown f reply heard e) h
 
 keys_strayed : (next : Option Reply) (keys : Option KeyMap) → IfSome keys (OpensAll (Strayed next ∷ []))
 keys_strayed next None = tt
@@ -294,12 +305,17 @@ comes_strayed : (version : FrameVersion) (next : Option Reply) (s : Option Strea
 comes_strayed version next None q h = (h, refl)
 comes_strayed version next (Some s) q h = (refl, (h, refl), omega arith)
 
--- the next reply isn't awaited, or none is there
-pub strayed_goes : (session : Session) (shown : Listing) (f : Heard → Talk) (next : Option Reply) (old : Outside)
-    → IsStray session shown next → IsNextOn next old.wire → Proceeds (Hears session shown f) (Stops (broken session shown)) old old
-strayed_goes session shown f next old s e = record {
+-- the next reply isn't awaited, or none is there; aloud, the part of an answer before is printed
+follows_stray : (aloud : Bool) (session : Session) (shown : Listing) (f : Heard → Talk) (next : Option Reply) → IsStray session shown next
+    → Follows (hearing aloud session shown f) (Strayed next ∷ []) (Stops (off (hearing aloud session shown f)))
+follows_stray true session shown f next s = strays session shown f next (Stops (broken session shown)) [] s (stays (Stops (broken session shown)))
+follows_stray false session shown f next s = notes_stray session shown f next (Stops None) [] s (stays (Stops None))
+
+pub strayed_goes : (aloud : Bool) (session : Session) (shown : Listing) (f : Heard → Talk) (next : Option Reply) (old : Outside)
+    → IsStray session shown next → IsNextOn next old.wire → Proceeds (hearing aloud session shown f) (Stops (off (hearing aloud session shown f))) old old
+strayed_goes aloud session shown f next old s e = record {
   events = Strayed next ∷ [];
-  follows = strays session shown f next (Stops (broken session shown)) [] s (stays (Stops (broken session shown)));
+  follows = follows_stray aloud session shown f next s;
   put = record {
     client = record {
       out_same = refl;

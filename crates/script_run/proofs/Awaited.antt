@@ -23,6 +23,8 @@ use Rattle.conversation.specs.Cells.{is_row_of, read_atoms}
 use Rattle.conversation.specs.Devices.{Devices}
 use Rattle.conversation.specs.Sessions.{described, described_as, readied, first_open, encs_of, Told, Tells, Shows, Stray, replied, sent_ended, rows_ended, row_read}
 use Rattle.conversation.specs.Talk.{Hearing, More, Got, Missed, Said, hear, heard_answer, heard_description, described_outcome, broken, nothing_shown}
+use Rattle.conversation.specs.Turns.{Accepted}
+use Rattle.driver.specs.Accepted.{accepted_told}
 use Rattle.driver.specs.Calls.{SaysAs, ShowsAs, HaltsAs}
 use Rattle.script_run.specs.declared.around.RowHeard.{RowHeard}
 use Rattle.script_run.specs.declared.around.RowHeard.TheVariants as row
@@ -160,6 +162,12 @@ pub says_told : (trusted : List (List ℕ)) (told : Told) → TellsRows told →
 says_told trusted (Tells wanted next) w x after before now h = (ap (λ y. Tells y next) (sym h.0) ∙ ap (λ y. Tells x y) (sym h.1), h.2)
 says_told trusted (Shows header) w x after before now h = absurd w
 says_told trusted Stray w x after before now h = absurd h
+
+-- no columns are accepted
+pub rows_accepted : (told : Told) → TellsRows told → (old : Accepted) → accepted_told told old ≡ old
+rows_accepted (Tells wanted next) w old = refl
+rows_accepted (Shows header) w old = absurd w
+rows_accepted Stray w old = refl
 
 pub halts_told : (trusted : List (List ℕ)) (told : Told) → TellsRows told → (h : Halt) (before now : Devices) → HaltsAs trusted h told before now → now ≡ before
 halts_told trusted (Tells wanted next) w h before now p = p.1

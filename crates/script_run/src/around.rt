@@ -1,16 +1,17 @@
 //! All that a turn touches, in one trait.
 
-ghost use Rattle.std.specs.Prelude.{◌≡◌, ◌<◌, ◌^◌, List, Result, IfOk, true};
+ghost use Rattle.std.specs.Prelude.{◌≡◌, ◌<◌, ◌^◌, Bool, List, Result, IfOk};
 ghost use Rattle.wire_messages.specs.declared.requests.Request.{Request};
 ghost use Rattle.conversation.specs.declared.faults.DriverFault.{DriverFault};
 ghost use Rattle.conversation.specs.declared.sessions.Session.{Session};
 ghost use Rattle.conversation.specs.declared.sessions.Session.TheVariants.{Sent};
-ghost use Rattle.conversation.specs.Talk.{Talk, Ends, Asks, Hears, Prints, Heard, nothing_shown};
+ghost use Rattle.conversation.specs.Talk.{Talk, Ends, Asks, Prints, Heard, nothing_shown};
 ghost use Rattle.conversation.specs.Turns as turns;
-ghost use Rattle.driver.specs.Clients.{IsOfVault, session_of};
+ghost use Rattle.conversation.specs.Turns.{Onward};
+ghost use Rattle.driver.specs.Clients.{IsOfVault, columns_of, session_of};
 ghost use Rattle.run_effects.specs.Shares.{Outside};
 ghost use Rattle.run_effects.specs.Ways.{IsReadOut, Advances};
-ghost use Rattle.script_run.specs.Onward.{IsBegun, IsRows, IsDescribed, Leaves, RowsStay, shown_first, told_on, first_on, row_on};
+ghost use Rattle.script_run.specs.Onward.{IsBegun, IsRows, IsDescribed, Keeps, Leaves, RowsStay, shown_first, said_first, told_on, first_on, row_on};
 
 use ae_base::lists::Seq;
 use ae_base::names::Title;
@@ -86,10 +87,10 @@ pub trait Around {
             (outside self.new) }
         ensures sent { IfOk result
             (λ answer. IfOk answer (λ request. session_of driver.new number ≡ Sent)) }
-        ensures leaves { IfOk result
-            (λ _. Leaves number driver.old driver.new (outside self.new).client.keys) };
+        ensures keeps { IfOk result
+            (λ _. Keeps number driver.old driver.new (outside self.new).client.keys) };
 
-    /// Hears the description of a batch.
+    /// Hears the description of a batch, aloud or quietly.
     fn hear_description(
         &mut self,
         alloc: Global,
@@ -98,15 +99,15 @@ pub trait Around {
     ) -> Result<DescribeAnswer, Stop>
         requires begun { IsBegun (session_of driver.old number) }
         requires of_vault { IsOfVault (outside self.old).client.keys driver.old }
-        ensures leads { (f : Heard → Talk) → Advances result
-            (Hears (session_of driver.old number) nothing_shown f)
+        ensures leads { (aloud : Bool) (f : Heard → Talk) → Advances result
+            (turns.hearing aloud (session_of driver.old number) nothing_shown f)
             (told_on f (session_of driver.new number)) (outside self.old) (outside self.new) }
         ensures described { IfOk result
             (λ answer. IsDescribed answer (session_of driver.new number)) }
-        ensures leaves { IfOk result
-            (λ _. Leaves number driver.old driver.new (outside self.new).client.keys) };
+        ensures keeps { IfOk result
+            (λ _. Keeps number driver.old driver.new (outside self.new).client.keys) };
 
-    /// Hears the first reply to an execution.
+    /// Hears the first reply to an execution, aloud or quietly.
     fn hear_answer(
         &mut self,
         alloc: Global,
@@ -115,32 +116,36 @@ pub trait Around {
     ) -> Result<First, Stop>
         requires sent { session_of driver.old number ≡ Sent }
         requires of_vault { IsOfVault (outside self.old).client.keys driver.old }
-        ensures leads { (k : Session → Talk) → Advances result
-            (Hears (session_of driver.old number) nothing_shown
-            (turns.answered_on true driver.old.trusted (turns.after_all k)))
-            (first_on k (session_of driver.new number)) (outside self.old) (outside self.new) }
+        ensures leads { (aloud : Bool) (k : Onward) → Advances result
+            (turns.hearing aloud (session_of driver.old number) nothing_shown
+            (turns.answered_on aloud driver.old.trusted k))
+            (first_on aloud k (columns_of driver.new number) (session_of driver.new number))
+            (outside self.old) (outside self.new) }
         ensures rows { IfOk result (shown_first (session_of driver.new number)) }
+        ensures columns { IfOk result
+            (said_first (columns_of driver.old number) (columns_of driver.new number)) }
         ensures leaves { IfOk result
             (λ _. Leaves number driver.old driver.new (outside self.new).client.keys) };
 
-    /// Hears one more reply where rows are awaited. A listing that breaks off is printed.
+    /// Hears one more reply where rows are awaited. Aloud, a listing that breaks off is printed.
     fn hear_row(
         &mut self,
         alloc: Global,
         driver: &mut Driver,
         number: SessionId,
+        aloud: bool,
         shown: &mut Listing,
     ) -> Result<RowHeard, Stop>
         requires rows { IsRows (session_of driver.old number) }
         requires of_vault { IsOfVault (outside self.old).client.keys driver.old }
         ensures leads { (f : Heard → Talk) → Advances result
-            (Hears (session_of driver.old number) shown.old f)
-            (row_on f (session_of driver.new number) shown.new) (outside self.old)
+            (turns.hearing aloud (session_of driver.old number) shown.old f)
+            (row_on aloud f (session_of driver.new number) shown.new) (outside self.old)
             (outside self.new) }
         ensures rows { IfOk result (RowsStay (session_of driver.new number)) }
         ensures more { IfOk result
             (λ _. ((outside self.old).wire.taken < (outside self.new).wire.taken)
             × ((outside self.new).wire.taken < 2 ^ 64)) }
-        ensures leaves { IfOk result
-            (λ _. Leaves number driver.old driver.new (outside self.new).client.keys) };
+        ensures keeps { IfOk result
+            (λ _. Keeps number driver.old driver.new (outside self.new).client.keys) };
 }

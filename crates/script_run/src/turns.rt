@@ -1,21 +1,23 @@
-//! The turns of a session: a whole batch, half a batch, and the execution of what is pending.
+//! The turns of a session: a whole batch, half a batch, and the execution of what is pending. A
+//! batch is run aloud, where its outcome is printed, or quietly; it gives its outcome back.
 
-ghost use Rattle.std.specs.Prelude.{◌≡◌, ◌≤◌, List, Option, [], IfOk, length, true};
-ghost use Rattle.ae_base.specs.declared.faults.SqlFault.{SqlFault};
+ghost use Rattle.std.specs.Prelude.{◌≡◌, Some, None, IfOk, true};
 ghost use Rattle.conversation.specs.Pending as told;
-ghost use Rattle.conversation.specs.Talk.{Talk, Asks, Hears, Prints, Heard, Said, printing, nothing_shown};
+ghost use Rattle.conversation.specs.Talk.{Talk, Asks, Prints, Heard, Said, nothing_shown};
 ghost use Rattle.conversation.specs.Turns as turns;
+ghost use Rattle.conversation.specs.Turns.{Onward};
+ghost use Rattle.conversation.specs.declared.outcomes.Outcome as comes_as;
 ghost use Rattle.conversation.specs.declared.outcomes.Outcome.TheVariants as outcome_of;
 ghost use Rattle.conversation.specs.declared.sessions.Session.{Session};
 ghost use Rattle.conversation.specs.declared.sessions.Session.TheVariants.{Sent};
-ghost use Rattle.driver.specs.Clients.{IsOfVault, session_of};
+ghost use Rattle.driver.specs.Clients.{IsOfVault, columns_of, session_of};
 ghost use Rattle.run_effects.specs.Ways.{Advances};
-ghost use Rattle.script_run.specs.Onward.{IsBegun, IsRows, IsReady, Leaves, PrintsThen, ready_on};
+ghost use Rattle.script_run.specs.declared.turns.Described.TheVariants as described_as;
+ghost use Rattle.script_run.specs.Onward.{IsBegun, IsBlind, IsCleared, IsRows, IsReady, Keeps, Leaves, LooksAside, SaysThen, ready_on};
 
 use crate::around::{Around, First, RowHeard};
 use crate::hearing::is_skipping;
 use ae_base::batches::Batch;
-use ae_base::faults::SqlFault;
 use ae_base::lists::Seq;
 use ae_base::sessions::SessionId;
 use conversation::answers::DescribeAnswer;
@@ -30,40 +32,49 @@ use wire_messages::requests::Request;
 #[derive(Drop)]
 pub enum Described {
     Ready(Seq<DescribedParam>),
-    /// It was refused, which was printed.
-    Refused,
+    /// It was refused, with this outcome.
+    Refused(Outcome),
 }
 
-/// Prints an outcome.
-fn print<A: Around>(alloc: Global, env: &mut A, outcome: Outcome) -> Result<(), Stop>
-    ensures leads { (t : Talk) → Advances result (Prints outcome t) (λ _. t) (A.outside env.old)
+/// Prints an outcome where its batch is run aloud, and gives it back.
+fn say<A: Around>(
+    alloc: Global,
+    env: &mut A,
+    aloud: bool,
+    outcome: Outcome,
+) -> Result<Outcome, Stop>
+    ensures leads { (onward : comes_as.Outcome → Talk) → Advances result
+        (turns.saying aloud (Some outcome) (onward outcome)) onward (A.outside env.old)
         (A.outside env.new) }
+    ensures same { IfOk result (λ said. said ≡ outcome) }
     ensures keys { IfOk result
         (λ _. (A.outside env.new).client.keys ≡ (A.outside env.old).client.keys) }
 {
-    env.print(alloc, &outcome)
+    if !aloud {
+        return Ok(outcome);
+    }
+    match env.print(alloc, &outcome) {
+        Ok(()) => Ok(outcome),
+        Err(stop) => Err(stop),
+    }
 }
 
-/// Prints a fault of the driver.
-fn print_fault<A: Around>(alloc: Global, env: &mut A, fault: DriverFault) -> Result<(), Stop>
-    ensures leads { (t : Talk) → Advances result (Prints (outcome_of.Failed fault) t) (λ _. t)
+/// Says what was heard, where that is an outcome.
+fn say_heard<A: Around>(
+    alloc: Global,
+    env: &mut A,
+    aloud: bool,
+    outcome: Option<Outcome>,
+) -> Result<Outcome, Stop>
+    ensures leads { (onward : comes_as.Outcome → Talk) → Advances result
+        (turns.saying aloud outcome (onward (turns.outcome_or outcome))) onward
         (A.outside env.old) (A.outside env.new) }
     ensures keys { IfOk result
         (λ _. (A.outside env.new).client.keys ≡ (A.outside env.old).client.keys) }
 {
-    print(alloc, env, Outcome::Failed(fault))
-}
-
-/// Prints an outcome, where there is one.
-fn say<A: Around>(alloc: Global, env: &mut A, outcome: Option<Outcome>) -> Result<(), Stop>
-    ensures leads { (t : Talk) → Advances result (printing outcome t) (λ _. t) (A.outside env.old)
-        (A.outside env.new) }
-    ensures keys { IfOk result
-        (λ _. (A.outside env.new).client.keys ≡ (A.outside env.old).client.keys) }
-{
     match outcome {
-        Some(outcome) => print(alloc, env, outcome),
-        None => Ok(()),
+        Some(outcome) => say(alloc, env, aloud, outcome),
+        None => Ok(Outcome::Defined),
     }
 }
 
@@ -73,19 +84,20 @@ fn hear_rows<A: Around>(
     env: &mut A,
     driver: &mut Driver,
     number: SessionId,
+    aloud: bool,
     shown: &mut Listing,
 ) -> Result<Option<Outcome>, Stop>
     requires rows { IsRows (session_of driver.old number) }
     requires of_vault { IsOfVault (A.outside env.old).client.keys driver.old }
     ensures leads { (f : Heard → Talk) → Advances result
-        (Hears (session_of driver.old number) shown.old f)
+        (turns.hearing aloud (session_of driver.old number) shown.old f)
         (λ comes. f (Said comes (session_of driver.new number))) (A.outside env.old)
         (A.outside env.new) }
-    ensures leaves { IfOk result
-        (λ _. Leaves number driver.old driver.new (A.outside env.new).client.keys) }
+    ensures keeps { IfOk result
+        (λ _. Keeps number driver.old driver.new (A.outside env.new).client.keys) }
 {
     'replies: loop {
-        match env.hear_row(alloc, driver, number, shown) {
+        match env.hear_row(alloc, driver, number, aloud, shown) {
             Ok(RowHeard::More) => {}
             Ok(RowHeard::Said(outcome)) => return Ok(outcome),
             Err(stop) => return Err(stop),
@@ -93,25 +105,27 @@ fn hear_rows<A: Around>(
     }
 }
 
-/// Hears rows to their end, and prints their result.
+/// Hears rows to their end, and says their result.
 fn hear_out<A: Around>(
     alloc: Global,
     env: &mut A,
     driver: &mut Driver,
     number: SessionId,
+    aloud: bool,
     shown: Listing,
-) -> Result<(), Stop>
+) -> Result<Outcome, Stop>
     requires rows { IsRows (session_of driver.old number) }
     requires of_vault { IsOfVault (A.outside env.old).client.keys driver.old }
-    ensures leads { (f : Heard → Talk) (k : Session → Talk) → PrintsThen f k → Advances result
-        (Hears (session_of driver.old number) shown f) (λ _. k (session_of driver.new number))
-        (A.outside env.old) (A.outside env.new) }
-    ensures leaves { IfOk result
-        (λ _. Leaves number driver.old driver.new (A.outside env.new).client.keys) }
+    ensures leads { (f : Heard → Talk) (k : comes_as.Outcome → Session → Talk) → SaysThen aloud f k
+        → Advances result (turns.hearing aloud (session_of driver.old number) shown f)
+        (λ comes. k comes (session_of driver.new number)) (A.outside env.old)
+        (A.outside env.new) }
+    ensures keeps { IfOk result
+        (λ _. Keeps number driver.old driver.new (A.outside env.new).client.keys) }
 {
     let mut shown = shown;
-    match hear_rows(alloc, env, driver, number, &mut shown) {
-        Ok(outcome) => say(alloc, env, outcome),
+    match hear_rows(alloc, env, driver, number, aloud, &mut shown) {
+        Ok(outcome) => say_heard(alloc, env, aloud, outcome),
         Err(stop) => Err(stop),
     }
 }
@@ -125,24 +139,30 @@ fn nothing_shown(alloc: Global) -> Listing
     }
 }
 
-/// Hears to its end what is left of an answer that is no longer read.
+/// Hears to its end what is left of an answer that is no longer read, and gives its outcome back.
 fn rest<A: Around>(
     alloc: Global,
     env: &mut A,
     driver: &mut Driver,
     number: SessionId,
-) -> Result<(), Stop>
+    aloud: bool,
+    outcome: Outcome,
+) -> Result<Outcome, Stop>
     requires { IsOfVault (A.outside env.old).client.keys driver.old }
-    ensures leads { (k : Session → Talk) → Advances result
-        (turns.rested true k (session_of driver.old number)) (λ _. k (session_of driver.new number))
-        (A.outside env.old) (A.outside env.new) }
-    ensures leaves { IfOk result
-        (λ _. Leaves number driver.old driver.new (A.outside env.new).client.keys) }
+    ensures leads { (k : comes_as.Outcome → Session → Talk) → Advances result
+        (turns.rested aloud (k outcome) (session_of driver.old number))
+        (λ comes. k comes (session_of driver.new number)) (A.outside env.old)
+        (A.outside env.new) }
+    ensures keeps { IfOk result
+        (λ _. Keeps number driver.old driver.new (A.outside env.new).client.keys) }
 {
     if !is_skipping(driver.session(number)) {
-        return Ok(());
+        return Ok(outcome);
     }
-    hear_out(alloc, env, driver, number, nothing_shown(alloc))
+    match hear_out(alloc, env, driver, number, aloud, nothing_shown(alloc)) {
+        Ok(_) => Ok(outcome),
+        Err(stop) => Err(stop),
+    }
 }
 
 /// Hears the rows of an answer, and what is left of it.
@@ -151,39 +171,44 @@ fn read<A: Around>(
     env: &mut A,
     driver: &mut Driver,
     number: SessionId,
+    aloud: bool,
     shown: Listing,
-) -> Result<(), Stop>
+) -> Result<Outcome, Stop>
     requires rows { IsRows (session_of driver.old number) }
     requires of_vault { IsOfVault (A.outside env.old).client.keys driver.old }
-    ensures leads { (k : Session → Talk) → Advances result
-        (Hears (session_of driver.old number) shown (turns.rows_on true (λ _. k)))
-        (λ _. k (session_of driver.new number)) (A.outside env.old) (A.outside env.new) }
-    ensures leaves { IfOk result
-        (λ _. Leaves number driver.old driver.new (A.outside env.new).client.keys) }
+    ensures leads { (k : comes_as.Outcome → Session → Talk) → Advances result
+        (turns.hearing aloud (session_of driver.old number) shown (turns.rows_on aloud k))
+        (λ comes. k comes (session_of driver.new number)) (A.outside env.old)
+        (A.outside env.new) }
+    ensures keeps { IfOk result
+        (λ _. Keeps number driver.old driver.new (A.outside env.new).client.keys) }
 {
-    match hear_out(alloc, env, driver, number, shown) {
-        Ok(()) => rest(alloc, env, driver, number),
+    match hear_out(alloc, env, driver, number, aloud, shown) {
+        Ok(outcome) => rest(alloc, env, driver, number, aloud, outcome),
         Err(stop) => Err(stop),
     }
 }
 
-/// Prints a fault of the driver; then what is left of the answer is heard.
-fn print_and_rest<A: Around>(
+/// Says a fault of the driver; then what is left of the answer is heard.
+fn say_and_rest<A: Around>(
     alloc: Global,
     env: &mut A,
     driver: &mut Driver,
     number: SessionId,
+    aloud: bool,
     fault: DriverFault,
-) -> Result<(), Stop>
+) -> Result<Outcome, Stop>
     requires { IsOfVault (A.outside env.old).client.keys driver.old }
-    ensures leads { (k : Session → Talk) → Advances result
-        (Prints (outcome_of.Failed fault) (turns.rested true k (session_of driver.old number)))
-        (λ _. k (session_of driver.new number)) (A.outside env.old) (A.outside env.new) }
-    ensures leaves { IfOk result
-        (λ _. Leaves number driver.old driver.new (A.outside env.new).client.keys) }
+    ensures leads { (k : comes_as.Outcome → Session → Talk) → Advances result
+        (turns.saying aloud (Some (outcome_of.Failed fault))
+        (turns.rested aloud (k (outcome_of.Failed fault)) (session_of driver.old number)))
+        (λ comes. k comes (session_of driver.new number)) (A.outside env.old)
+        (A.outside env.new) }
+    ensures keeps { IfOk result
+        (λ _. Keeps number driver.old driver.new (A.outside env.new).client.keys) }
 {
-    match print_fault(alloc, env, fault) {
-        Ok(()) => rest(alloc, env, driver, number),
+    match say(alloc, env, aloud, Outcome::Failed(fault)) {
+        Ok(outcome) => rest(alloc, env, driver, number, aloud, outcome),
         Err(stop) => Err(stop),
     }
 }
@@ -194,23 +219,25 @@ fn hear_answer<A: Around>(
     env: &mut A,
     driver: &mut Driver,
     number: SessionId,
-) -> Result<(), Stop>
+    aloud: bool,
+) -> Result<Outcome, Stop>
     requires sent { session_of driver.old number ≡ Sent }
     requires of_vault { IsOfVault (A.outside env.old).client.keys driver.old }
-    ensures leads { (k : Session → Talk) → Advances result
-        (Hears (session_of driver.old number) nothing_shown
-        (turns.answered_on true driver.old.trusted (turns.after_all k)))
-        (λ _. k (session_of driver.new number)) (A.outside env.old) (A.outside env.new) }
+    ensures leads { (k : Onward) → LooksAside (columns_of driver.old number) k → Advances result
+        (turns.hearing aloud (session_of driver.old number) nothing_shown
+        (turns.answered_on aloud driver.old.trusted k))
+        (λ comes. k comes (columns_of driver.new number) (session_of driver.new number))
+        (A.outside env.old) (A.outside env.new) }
     ensures leaves { IfOk result
         (λ _. Leaves number driver.old driver.new (A.outside env.new).client.keys) }
 {
     match env.hear_answer(alloc, driver, number) {
         Ok(First::Shows(titles)) => {
             let rows = Seq::new(alloc);
-            read(alloc, env, driver, number, Listing { titles, rows })
+            read(alloc, env, driver, number, aloud, Listing { titles, rows })
         }
-        Ok(First::Skips(fault)) => print_and_rest(alloc, env, driver, number, fault),
-        Ok(First::Says(outcome)) => print(alloc, env, outcome),
+        Ok(First::Skips(fault)) => say_and_rest(alloc, env, driver, number, aloud, fault),
+        Ok(First::Says(outcome)) => say(alloc, env, aloud, outcome),
         Err(stop) => Err(stop),
     }
 }
@@ -231,74 +258,67 @@ fn answered<A: Around>(
     env: &mut A,
     driver: &mut Driver,
     number: SessionId,
+    aloud: bool,
     answer: Result<Request<'_>, DriverFault>,
-) -> Result<(), Stop>
+) -> Result<Outcome, Stop>
     requires sent { IfOk answer (λ request. session_of driver.old number ≡ Sent) }
     requires of_vault { IsOfVault (A.outside env.old).client.keys driver.old }
-    ensures leads { (k : Session → Talk) → Advances result
-        (turns.asked true (λ after. Hears after nothing_shown
-        (turns.answered_on true driver.old.trusted (turns.after_all k))) (turns.after_all k)
-        answer.entry (session_of driver.old number))
-        (λ _. k (session_of driver.new number)) (A.outside env.old) (A.outside env.new) }
+    ensures leads { (k : Onward) → LooksAside (columns_of driver.old number) k → Advances result
+        (turns.asked aloud (λ after. turns.hearing aloud after nothing_shown
+        (turns.answered_on aloud driver.old.trusted k)) k answer.entry
+        (session_of driver.old number))
+        (λ comes. k comes (columns_of driver.new number) (session_of driver.new number))
+        (A.outside env.old) (A.outside env.new) }
     ensures leaves { IfOk result
         (λ _. Leaves number driver.old driver.new (A.outside env.new).client.keys) }
 {
     match answer {
         Ok(request) => match ask(alloc, env, request) {
-            Ok(()) => hear_answer(alloc, env, driver, number),
+            Ok(()) => hear_answer(alloc, env, driver, number, aloud),
             Err(stop) => Err(stop),
         },
-        Err(fault) => print_fault(alloc, env, fault),
+        Err(fault) => say(alloc, env, aloud, Outcome::Failed(fault)),
     }
 }
 
 /// Executes what is pending.
-pub fn execute<A: Around>(
+fn execute<A: Around>(
     alloc: Global,
     env: &mut A,
     driver: &mut Driver,
     number: SessionId,
-) -> Result<(), Stop>
+    aloud: bool,
+) -> Result<Outcome, Stop>
     requires { IsOfVault (A.outside env.old).client.keys driver.old }
-    ensures leads { (k : Session → Talk) → Advances result
-        (turns.executing true driver.old.trusted number (session_of driver.old number)
-        (turns.after_all k))
-        (λ _. k (session_of driver.new number)) (A.outside env.old) (A.outside env.new) }
+    ensures leads { (k : Onward) → LooksAside (columns_of driver.old number) k → Advances result
+        (turns.executing aloud driver.old.trusted number (session_of driver.old number) k)
+        (λ comes. k comes (columns_of driver.new number) (session_of driver.new number))
+        (A.outside env.old) (A.outside env.new) }
     ensures leaves { IfOk result
         (λ _. Leaves number driver.old driver.new (A.outside env.new).client.keys) }
 {
     match env.execute(alloc, driver, number) {
-        Ok(answer) => answered(alloc, env, driver, number, answer),
+        Ok(answer) => answered(alloc, env, driver, number, aloud, answer),
         Err(stop) => Err(stop),
     }
 }
 
-/// Prints that a batch was refused.
-fn refused<A: Around>(alloc: Global, env: &mut A, fault: SqlFault) -> Result<Described, Stop>
-    ensures leads { (ready : told.Pending → Talk) (k : Session → Talk) (after : Session) → Advances
-        result (Prints (outcome_of.Refused fault) (k after)) (ready_on ready k after)
+/// Says the outcome of a batch that was refused.
+fn refused<A: Around>(
+    alloc: Global,
+    env: &mut A,
+    aloud: bool,
+    outcome: Outcome,
+) -> Result<Described, Stop>
+    ensures leads { (ready : told.Pending → Talk) (k : Onward) (after : Session) → Advances result
+        (turns.saying aloud (Some outcome) (k outcome None after)) (ready_on ready k after)
         (A.outside env.old) (A.outside env.new) }
-    ensures ready { (after : Session) → IfOk result (IsReady after) }
+    ensures refused { IfOk result (λ described. described ≡ described_as.Refused outcome) }
     ensures keys { IfOk result
         (λ _. (A.outside env.new).client.keys ≡ (A.outside env.old).client.keys) }
 {
-    match print(alloc, env, Outcome::Refused(fault)) {
-        Ok(()) => Ok(Described::Refused),
-        Err(stop) => Err(stop),
-    }
-}
-
-/// Prints that a batch wasn't begun.
-fn failed<A: Around>(alloc: Global, env: &mut A, fault: DriverFault) -> Result<Described, Stop>
-    ensures leads { (ready : told.Pending → Talk) (k : Session → Talk) (after : Session) → Advances
-        result (Prints (outcome_of.Failed fault) (k after)) (ready_on ready k after)
-        (A.outside env.old) (A.outside env.new) }
-    ensures ready { (after : Session) → IfOk result (IsReady after) }
-    ensures keys { IfOk result
-        (λ _. (A.outside env.new).client.keys ≡ (A.outside env.old).client.keys) }
-{
-    match print_fault(alloc, env, fault) {
-        Ok(()) => Ok(Described::Refused),
+    match say(alloc, env, aloud, outcome) {
+        Ok(outcome) => Ok(Described::Refused(outcome)),
         Err(stop) => Err(stop),
     }
 }
@@ -309,21 +329,22 @@ fn hear_description<A: Around>(
     env: &mut A,
     driver: &mut Driver,
     number: SessionId,
+    aloud: bool,
 ) -> Result<Described, Stop>
     requires begun { IsBegun (session_of driver.old number) }
     requires of_vault { IsOfVault (A.outside env.old).client.keys driver.old }
-    ensures leads { (ready : told.Pending → Talk) (k : Session → Talk) → Advances result
-        (Hears (session_of driver.old number) nothing_shown
-        (turns.described_on true ready (turns.after_all k)))
+    ensures leads { (ready : told.Pending → Talk) (k : Onward) → Advances result
+        (turns.hearing aloud (session_of driver.old number) nothing_shown
+        (turns.described_on aloud ready k))
         (ready_on ready k (session_of driver.new number)) (A.outside env.old) (A.outside env.new) }
     ensures ready { IfOk result (IsReady (session_of driver.new number)) }
-    ensures leaves { IfOk result
-        (λ _. Leaves number driver.old driver.new (A.outside env.new).client.keys) }
+    ensures keeps { IfOk result
+        (λ _. Keeps number driver.old driver.new (A.outside env.new).client.keys) }
 {
     match env.hear_description(alloc, driver, number) {
         Ok(DescribeAnswer::Ready(params)) => Ok(Described::Ready(params)),
-        Ok(DescribeAnswer::Refused(fault)) => refused(alloc, env, fault),
-        Ok(DescribeAnswer::Failed(fault)) => failed(alloc, env, fault),
+        Ok(DescribeAnswer::Refused(fault)) => refused(alloc, env, aloud, Outcome::Refused(fault)),
+        Ok(DescribeAnswer::Failed(fault)) => refused(alloc, env, aloud, Outcome::Failed(fault)),
         Err(stop) => Err(stop),
     }
 }
@@ -334,25 +355,27 @@ fn ask_description<A: Around>(
     env: &mut A,
     driver: &mut Driver,
     number: SessionId,
+    aloud: bool,
     answer: Result<Request<'_>, DriverFault>,
 ) -> Result<Described, Stop>
     requires begun { IfOk answer (λ request. IsBegun (session_of driver.old number)) }
+    requires columns { IfOk answer (λ request. columns_of driver.old number ≡ None) }
     requires of_vault { IsOfVault (A.outside env.old).client.keys driver.old }
-    ensures leads { (ready : told.Pending → Talk) (k : Session → Talk) → Advances result
-        (turns.asked true (λ after. Hears after nothing_shown
-        (turns.described_on true ready (turns.after_all k))) (turns.after_all k)
-        answer.entry (session_of driver.old number))
+    ensures leads { (ready : told.Pending → Talk) (k : Onward) → Advances result
+        (turns.asked aloud (λ after. turns.hearing aloud after nothing_shown
+        (turns.described_on aloud ready k)) k answer.entry (session_of driver.old number))
         (ready_on ready k (session_of driver.new number)) (A.outside env.old) (A.outside env.new) }
     ensures ready { IfOk result (IsReady (session_of driver.new number)) }
+    ensures cleared { IfOk result (IsCleared (columns_of driver.new number)) }
     ensures leaves { IfOk result
         (λ _. Leaves number driver.old driver.new (A.outside env.new).client.keys) }
 {
     match answer {
         Ok(request) => match ask(alloc, env, request) {
-            Ok(()) => hear_description(alloc, env, driver, number),
+            Ok(()) => hear_description(alloc, env, driver, number, aloud),
             Err(stop) => Err(stop),
         },
-        Err(fault) => failed(alloc, env, fault),
+        Err(fault) => refused(alloc, env, aloud, Outcome::Failed(fault)),
     }
 }
 
@@ -362,24 +385,49 @@ fn describe<A: Around>(
     env: &mut A,
     driver: &mut Driver,
     number: SessionId,
+    aloud: bool,
     batch: Batch,
 ) -> Result<Described, Stop>
     requires { IsOfVault (A.outside env.old).client.keys driver.old }
-    ensures leads { (ready : told.Pending → Talk) (k : Session → Talk) → Advances result
-        (turns.describing true number batch (session_of driver.old number) ready
-        (turns.after_all k))
+    ensures leads { (ready : told.Pending → Talk) (k : Onward) → Advances result
+        (turns.describing aloud number batch (session_of driver.old number) ready k)
         (ready_on ready k (session_of driver.new number)) (A.outside env.old) (A.outside env.new) }
     ensures ready { IfOk result (IsReady (session_of driver.new number)) }
+    ensures cleared { IfOk result (IsCleared (columns_of driver.new number)) }
     ensures leaves { IfOk result
         (λ _. Leaves number driver.old driver.new (A.outside env.new).client.keys) }
 {
     match driver.begin(alloc, number, batch) {
-        Ok(answer) => ask_description(alloc, env, driver, number, answer),
+        Ok(answer) => ask_description(alloc, env, driver, number, aloud, answer),
         Err(_) => Err(Stop::OutOfMemory),
     }
 }
 
 /// Describes a batch and executes it.
+pub fn run<A: Around>(
+    alloc: Global,
+    env: &mut A,
+    driver: &mut Driver,
+    number: SessionId,
+    aloud: bool,
+    batch: Batch,
+) -> Result<Outcome, Stop>
+    requires { IsOfVault (A.outside env.old).client.keys driver.old }
+    ensures leads { (k : Onward) → IsBlind k → Advances result
+        (turns.running aloud driver.old.trusted number batch (session_of driver.old number) k)
+        (λ comes. k comes (columns_of driver.new number) (session_of driver.new number))
+        (A.outside env.old) (A.outside env.new) }
+    ensures leaves { IfOk result
+        (λ _. Leaves number driver.old driver.new (A.outside env.new).client.keys) }
+{
+    match describe(alloc, env, driver, number, aloud, batch) {
+        Ok(Described::Ready(_)) => execute(alloc, env, driver, number, aloud),
+        Ok(Described::Refused(outcome)) => Ok(outcome),
+        Err(stop) => Err(stop),
+    }
+}
+
+/// Runs a batch aloud.
 pub fn whole<A: Around>(
     alloc: Global,
     env: &mut A,
@@ -394,14 +442,40 @@ pub fn whole<A: Around>(
     ensures leaves { IfOk result
         (λ _. Leaves number driver.old driver.new (A.outside env.new).client.keys) }
 {
-    match describe(alloc, env, driver, number, batch) {
-        Ok(Described::Ready(_)) => execute(alloc, env, driver, number),
-        Ok(Described::Refused) => Ok(()),
+    match run(alloc, env, driver, number, true, batch) {
+        Ok(outcome) => {
+            drop(outcome);
+            Ok(())
+        }
         Err(stop) => Err(stop),
     }
 }
 
-/// Describes half a batch.
+/// Executes aloud what is pending.
+pub fn execute_pending<A: Around>(
+    alloc: Global,
+    env: &mut A,
+    driver: &mut Driver,
+    number: SessionId,
+) -> Result<(), Stop>
+    requires { IsOfVault (A.outside env.old).client.keys driver.old }
+    ensures leads { (k : Session → Talk) → Advances result
+        (turns.executing true driver.old.trusted number (session_of driver.old number)
+        (turns.after_all k))
+        (λ _. k (session_of driver.new number)) (A.outside env.old) (A.outside env.new) }
+    ensures leaves { IfOk result
+        (λ _. Leaves number driver.old driver.new (A.outside env.new).client.keys) }
+{
+    match execute(alloc, env, driver, number, true) {
+        Ok(outcome) => {
+            drop(outcome);
+            Ok(())
+        }
+        Err(stop) => Err(stop),
+    }
+}
+
+/// Describes half a batch, aloud.
 pub fn half<A: Around>(
     alloc: Global,
     env: &mut A,
@@ -416,9 +490,19 @@ pub fn half<A: Around>(
     ensures leaves { IfOk result
         (λ _. Leaves number driver.old driver.new (A.outside env.new).client.keys) }
 {
-    match describe(alloc, env, driver, number, batch) {
+    match describe(alloc, env, driver, number, true, batch) {
         Ok(Described::Ready(params)) => print(alloc, env, Outcome::Described(params)),
-        Ok(Described::Refused) => Ok(()),
+        Ok(Described::Refused(_)) => Ok(()),
         Err(stop) => Err(stop),
     }
+}
+
+/// Prints an outcome.
+pub fn print<A: Around>(alloc: Global, env: &mut A, outcome: Outcome) -> Result<(), Stop>
+    ensures leads { (t : Talk) → Advances result (Prints outcome t) (λ _. t) (A.outside env.old)
+        (A.outside env.new) }
+    ensures keys { IfOk result
+        (λ _. (A.outside env.new).client.keys ≡ (A.outside env.old).client.keys) }
+{
+    env.print(alloc, &outcome)
 }
