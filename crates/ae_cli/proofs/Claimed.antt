@@ -20,7 +20,7 @@ use Rattle.conversation.specs.declared.outcomes.Outcome.{Outcome}
 use Rattle.conversation.specs.declared.outcomes.Outcome.TheVariants as outcome
 use Rattle.outcome_text.specs.Printing.{print}
 use Rattle.script_lang.specs.declared.steps.Act.{Act}
-use Rattle.script_lang.specs.declared.steps.Act.TheVariants.{Whole, Half, Execute}
+use Rattle.script_lang.specs.declared.steps.Act.TheVariants.{Whole, Half, Execute, Rotate}
 use Rattle.script_lang.specs.declared.steps.Step.{Step}
 use Rattle.script_lang.specs.declared.steps.Step.TheVariants.{Turn, Trust}
 use Rattle.script_source.specs.Scripts.{IsScript}
@@ -32,9 +32,10 @@ use Rattle.script_run.specs.declared.status.Status.{Status}
 use Rattle.script_run.specs.declared.status.Status.TheVariants as status
 use Rattle.run_effects.specs.declared.stops.Stop.TheVariants as stop
 use Rattle.plain_meaning.specs.Alike.{Alike}
-use Rattle.plain_meaning.specs.Clashes.{IsClash, IsReached}
+use Rattle.plain_meaning.specs.Clashes.{IsBoundAs, IsClash, IsReached, IsRunIn, IsUntypedAt, batch_of}
 use Rattle.plain_meaning.specs.Laws.{ClashesExactly}
-use Rattle.plain_meaning.specs.Reference.{Came, begun, executed_with, execution_of, held_at, means, nothing_held, readied, reference, waits, why_unopened, with_held}
+use Rattle.plain_meaning.specs.Batches.{Came, begun, executed_with, execution_of, readied, waits, why_unopened}
+use Rattle.plain_meaning.specs.Reference.{held_at, means, nothing_held, reference, with_held}
 use Rattle.run_command.specs.Ends.{RunDevices, RunsScript}
 use Rattle.run_command.specs.declared.runs.Count.{Count}
 use Rattle.run_command.specs.Plain.{IsDoneOrFault, PrintsPlain, meaning}
@@ -42,7 +43,7 @@ use Rattle.run_command.specs.RunOf.{IsRunOf}
 use Rattle.run_command.specs.Transcript.{TapsTranscript, transcript}
 use Rattle.ae_cli.specs.Does.{DidAsked, Does, IsCaused, uses}
 use Rattle.ae_cli.specs.Endings.{status_of}
-use Rattle.ae_cli.specs.Headline.{CameToItsEnd, Headline, IsStop, IsUntyped, TurnAt, WasStopped, turns_from}
+use Rattle.ae_cli.specs.Headline.{CameToItsEnd, HasUntyped, Headline, IsStop, IsUntyped, TurnAt, WasStopped, turns_from}
 use Rattle.ae_cli.specs.Seen.{Seen, run_devices}
 
 -- ---- a clash comes of nothing before typing
@@ -60,35 +61,66 @@ opened_is_none : (keys : KeyMap) (trusted : List (List ℕ)) (state : State) (nu
 opened_is_none keys trusted state number p (Some f) is = absurd is
 opened_is_none keys trusted state number p None is = (refl, eqb-true p.version (catalog_of state number).version (chosen (p.version == (catalog_of state number).version) _ _ is (λ clash. clash)))
 
-reached : (keys : KeyMap) (trusted : List (List ℕ)) (number : ℕ) (act : Act) (held : Option Pending) (state : State) → IsClash (means keys trusted number act held state).comes
-    → IsReached keys trusted state number act held
-reached keys trusted number (Whole batch) None state is = unfit_is_none state number batch (readied state (execution_of keys trusted state number)) (why_unfit batch) is
-reached keys trusted number (Whole batch) (Some p) state is = absurd is
-reached keys trusted number (Half batch) None state is = unfit_is_none state number batch (readied state (waits state)) (why_unfit batch) is
-reached keys trusted number (Half batch) (Some p) state is = absurd is
-reached keys trusted number Execute (Some p) state is = opened_is_none keys trusted state number p (why_unopened keys trusted p.keys (map (λ u. u.enc) (uses_of p))) is
-reached keys trusted number Execute None state is = absurd is
+-- what is known of a turn that clashes
+abbrev Untyped : KeyMap → List (List ℕ) → ℕ → Act → Option Pending → State → Type 0
+Untyped keys trusted number act held state = IsUntyped keys (record { trusted = trusted; session = number; act = act; held = held; state = state })
 
 clash_place : (comes : Outcome) → IsClash comes → (at : ℕ) × (comes ≡ outcome.Refused (EncryptionClash at))
 clash_place (outcome.Refused (EncryptionClash at)) is = (at, refl)
 clash_place other is = absurd is
 
 module _ (law : ClashesExactly) (keys : KeyMap) where
+  -- a turn with a batch of its own, or one that its session holds
+  module _ (trusted : List (List ℕ)) (number : ℕ) (act : Act) (held : Option Pending) (state : State) where
+    abbrev Clashes : Type 0
+    Clashes = IsClash (means keys trusted number act held state).comes
+
+    abbrev Runs : Type 0
+    Runs = (batch : Batch) × (now : State) × IsRunIn keys trusted number act held state batch now × ((at : ℕ) × IsUntypedAt now number batch at)
+
+    runs_clashing : Clashes → Runs
+    runs_clashing is =
+        let place = clash_place (means keys trusted number act held state).comes is in
+        let there = law.only keys trusted number act held state place.0 place.1 in
+        (there.0, there.1, there.2, (place.0, there.3))
+
+    has_untyped : IsReached keys trusted state number act held → (batch : Batch) (now : State) → batch_of act held ≡ Some batch → now ≡ state → (at : ℕ) → IsUntypedAt now number batch at → Untyped keys trusted number act held state
+    has_untyped reached batch now of here at u = inl (record {
+      reached = reached;
+      batch = batch;
+      of_turn = of;
+      bound = u.bound;
+      is_bound = subst (λ (s : State). IsBoundAs s number batch u.bound) here u.is_bound;
+      untyped = u.untyped;
+    })
+
+    own_clash : HasUntyped keys (record { trusted = trusted; session = number; act = act; held = held; state = state }) → Clashes
+    own_clash u = (law.exactly keys trusted number act held state u.batch u.bound u.reached u.of_turn u.is_bound).1 u.untyped
+
+  clash_so : (trusted : List (List ℕ)) (number : ℕ) (act : Act) (held : Option Pending) (state : State) → IsClash (means keys trusted number act held state).comes → Untyped keys trusted number act held state
+  clash_so trusted number (Whole batch) None state is =
+      let r = runs_clashing trusted number (Whole batch) None state is in
+      has_untyped trusted number (Whole batch) None state (unfit_is_none state number batch (readied state (execution_of keys trusted state number)) (why_unfit batch) is) r.0 r.1 r.2.0 r.2.1 r.3.0 r.3.1
+  clash_so trusted number (Whole batch) (Some p) state is = absurd is
+  clash_so trusted number (Half batch) None state is =
+      let r = runs_clashing trusted number (Half batch) None state is in
+      has_untyped trusted number (Half batch) None state (unfit_is_none state number batch (readied state (waits state)) (why_unfit batch) is) r.0 r.1 r.2.0 r.2.1 r.3.0 r.3.1
+  clash_so trusted number (Half batch) (Some p) state is = absurd is
+  clash_so trusted number Execute (Some p) state is =
+      let r = runs_clashing trusted number Execute (Some p) state is in
+      has_untyped trusted number Execute (Some p) state (opened_is_none keys trusted state number p (why_unopened keys trusted p.keys (map (λ u. u.enc) (uses_of p))) is) r.0 r.1 r.2.0 r.2.1 r.3.0 r.3.1
+  clash_so trusted number Execute None state is = absurd is
+  clash_so trusted number (Rotate old new) None state is = inr (record { old = old; new = new; rotates = refl; free = refl; runs = (law.rotated keys trusted number old new state).0 is })
+  clash_so trusted number (Rotate old new) (Some p) state is = absurd is
+
+  untyped_so : (trusted : List (List ℕ)) (number : ℕ) (act : Act) (held : Option Pending) (state : State) → Untyped keys trusted number act held state → IsClash (means keys trusted number act held state).comes
+  untyped_so trusted number act held state (inl u) = own_clash trusted number act held state u
+  untyped_so trusted number act held state (inr u) =
+      subst (λ act. IsClash (means keys trusted number act held state).comes) (sym u.rotates)
+      (subst (λ held. IsClash (means keys trusted number (Rotate u.old u.new) held state).comes) (sym u.free) ((law.rotated keys trusted number u.old u.new state).1 u.runs))
+
   clash_exactly : (t : TurnAt) → IsClash (means keys t.trusted t.session t.act t.held t.state).comes ↔ IsUntyped keys t
-  clash_exactly t = (
-    λ is.
-        let place = clash_place (means keys t.trusted t.session t.act t.held t.state).comes is in
-        let there = law.only keys t.trusted t.session t.act t.held t.state place.0 place.1 in
-        record {
-          reached = reached keys t.trusted t.session t.act t.held t.state is;
-          batch = there.0;
-          of_turn = there.1;
-          bound = there.2.bound;
-          is_bound = there.2.is_bound;
-          untyped = there.2.untyped;
-        },
-    λ u. (law.exactly keys t.trusted t.session t.act t.held t.state u.batch u.bound u.reached u.of_turn u.is_bound).1 u.untyped,
-  )
+  clash_exactly t = (clash_so t.trusted t.session t.act t.held t.state, untyped_so t.trusted t.session t.act t.held t.state)
 
   clashes_from : (steps : List Step) (trusted : List (List ℕ)) (holds : List (Option Pending)) (state : State)
       → AllZip (λ turn comes. IsClash comes ↔ IsUntyped keys turn) (turns_from keys steps trusted holds state) (reference keys steps trusted holds state)

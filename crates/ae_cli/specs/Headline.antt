@@ -1,5 +1,5 @@
 -- The first half of the headline, in one statement: what `ae run` prints, what passes, and where it refuses with EncryptionClash.
-use Rattle.std.specs.Prelude.{◌≡◌, ◌⊎◌, ◌↔◌, ℕ, List, [], ◌∷◌, ◌++◌, Option, Some, false, if◌then◌else◌}
+use Rattle.std.specs.Prelude.{◌≡◌, ◌⊎◌, ◌↔◌, ℕ, List, [], ◌∷◌, ◌++◌, Option, Some, None, false, if◌then◌else◌}
 use Rattle.std.specs.List.{AllZip}
 use Rattle.ae_base.specs.declared.batches.Batch.{Batch}
 use Rattle.ae_base.specs.declared.frames.FrameVersion.{FrameVersion}
@@ -10,13 +10,14 @@ use Rattle.server_core.specs.Serve.{State, empty_state}
 use Rattle.conversation.specs.Pending.{Pending}
 use Rattle.outcome_text.specs.Printing.{print, has_refusal}
 use Rattle.script_lang.specs.declared.steps.Act.{Act}
+use Rattle.script_lang.specs.declared.steps.Act.TheVariants.{Rotate}
 use Rattle.script_lang.specs.declared.steps.Step.{Step}
 use Rattle.script_lang.specs.declared.steps.Step.TheVariants.{Turn, Trust}
 use Rattle.script_source.specs.Scripts.{IsScript}
 use Rattle.script_run.specs.declared.status.Status.{Status}
 use Rattle.script_run.specs.declared.status.Status.TheVariants as status
 use Rattle.plain_meaning.specs.Alike.{Alike}
-use Rattle.plain_meaning.specs.Clashes.{IsBoundAs, IsClash, IsReached, IsTyped, batch_of}
+use Rattle.plain_meaning.specs.Clashes.{IsBoundAs, IsClash, IsReached, IsTyped, RunsUntyped, batch_of}
 use Rattle.plain_meaning.specs.Reference.{held_at, means, nothing_held, with_held}
 use Rattle.run_command.specs.Plain.{meaning}
 use Rattle.run_command.specs.Transcript.{TapsFront, TapsWhole}
@@ -45,13 +46,24 @@ turns_from keys (Turn session act ∷ steps) trusted holds state =
 turns_from keys (Trust path ∷ steps) trusted holds state = turns_from keys steps (trusted ++ path ∷ []) holds state
 
 -- Nothing stops the turn before typing; and the statement of its batch is bound, and has no encryption typing.
-pub record IsUntyped (keys : KeyMap) (turn : TurnAt) : Type 0 where
+pub record HasUntyped (keys : KeyMap) (turn : TurnAt) : Type 0 where
   pub reached : IsReached keys turn.trusted turn.state turn.session turn.act turn.held
   pub batch : Batch
   pub of_turn : batch_of turn.act turn.held ≡ Some batch
   pub bound : Bound
   pub is_bound : IsBoundAs turn.state turn.session batch bound
   pub untyped : ¬ (IsTyped bound)
+
+-- the turn is a rotation, and runs a batch whose statement is bound and has no encryption typing
+pub record RotatesUntyped (keys : KeyMap) (turn : TurnAt) : Type 0 where
+  pub old : List ℕ
+  pub new : List ℕ
+  pub rotates : turn.act ≡ Rotate old new
+  pub free : turn.held ≡ None
+  pub runs : RunsUntyped keys turn.trusted turn.session old new turn.state
+
+abbrev pub IsUntyped : KeyMap → TurnAt → Type 0
+IsUntyped keys turn = HasUntyped keys turn ⊎ RotatesUntyped keys turn
 
 -- turn by turn, the outcome in plain SQL is a refusal with EncryptionClash exactly if the turn is untyped
 abbrev pub ClashesAreUntyped : KeyMap → List Step → Type 0

@@ -39,8 +39,8 @@ use Rattle.conversation.specs.declared.outcomes.Outcome.TheVariants as outcome_o
 use Rattle.std.specs.declared.alloc.AllocError.{AllocError}
 use Rattle.conversation.specs.Pending.{Pending, Use, uses_in, uses_of}
 use Rattle.conversation.specs.Sessions.{encs_of, with_enc}
-use Rattle.plain_meaning.specs.Reference.{Came, declarations_of, pending}
-use Rattle.plain_meaning.specs.Reference as plain
+use Rattle.plain_meaning.specs.Batches.{Came, declarations_of, pending}
+use Rattle.plain_meaning.specs.Batches as plain
 use Rattle.plain_meaning.proofs.Interface.{parts_of, understood_alone, transact_alone}
 use Rattle.check_command.proofs.Following.{bind_ok}
 use Rattle.check_command.specs.Asked.{AnswersAs, ComesTo, IsDefinition}

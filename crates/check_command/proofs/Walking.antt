@@ -6,7 +6,7 @@ use Rattle.ae_edge.specs.Devices.{Adds, AddsFront, IsFront}
 use Rattle.ae_edge.proofs.Interface.{adds_none, adds_then}
 use Rattle.outcome_text.specs.Printing.{is_refusal, has_refusal}
 use Rattle.script_lang.specs.declared.steps.Step.{Step}
-use Rattle.script_lang.specs.declared.steps.Act.TheVariants.{Whole, Half, Execute}
+use Rattle.script_lang.specs.declared.steps.Act.TheVariants.{Whole, Half, Execute, Rotate}
 use Rattle.script_lang.specs.declared.steps.Step.TheVariants.{Turn, Trust}
 use Rattle.server_core.specs.Serve.{State, empty_state}
 use Rattle.check_command.specs.Check.{SessionBatch, checked, batches, outcomes, IsCheck, IsCheckFront}
@@ -66,6 +66,12 @@ step_more all left now next refused b old new after (Turn number Execute) s p =
     let w = p.state in
     let a = p.put in
     rw (i, w, a, or-none refused) (record { text = s.text; put = s.put; whole = s.whole; front = s.front; refuses = s.refuses })
+step_more all left now next refused b old new after (Turn number (Rotate from to)) s p =
+    let o : Ok b ≡ Ok false = p.refuses in
+    let i : b ≡ false = cc in
+    let w = p.state in
+    let a = p.put in
+    rw (i, w, a, or-none refused) (record { text = s.text; put = s.put; whole = s.whole; front = s.front; refuses = s.refuses })
 step_more all left now next refused b old new after (Trust path) s p =
     let o : Ok b ≡ Ok false = p.refuses in
     let i : b ≡ false = cc in
@@ -109,10 +115,12 @@ pub fault_put : (all left : List Step) (now next : State) (refused : Bool) (old 
 fault_put all left now next refused old new after (Turn number (Whole batch)) s p = part_put all left number batch now old new after s.text s.put s.front p
 fault_put all left now next refused old new after (Turn number (Half batch)) s p = part_put all left number batch now old new after s.text s.put s.front p
 fault_put all left now next refused old new after (Turn number Execute) s p = let o : Err unput.WriteFault ≡ Ok false = p.refuses in absurd cc
+fault_put all left now next refused old new after (Turn number (Rotate from to)) s p = let o : Err unput.WriteFault ≡ Ok false = p.refuses in absurd cc
 fault_put all left now next refused old new after (Trust path) s p = let o : Err unput.WriteFault ≡ Ok false = p.refuses in absurd cc
 
 pub short_put : (all left : List Step) (now next : State) (refused : Bool) (old new after : Option (List ℕ)) (step : Step) → SoFar all (step ∷ left) now refused old new → PutsStep (Err unput.OutOfMemory) now next step new after → PutsCheckFront all old after
 short_put all left now next refused old new after (Turn number (Whole batch)) s p = part_put all left number batch now old new after s.text s.put s.front p
 short_put all left now next refused old new after (Turn number (Half batch)) s p = part_put all left number batch now old new after s.text s.put s.front p
 short_put all left now next refused old new after (Turn number Execute) s p = let o : Err unput.OutOfMemory ≡ Ok false = p.refuses in absurd cc
+short_put all left now next refused old new after (Turn number (Rotate from to)) s p = let o : Err unput.OutOfMemory ≡ Ok false = p.refuses in absurd cc
 short_put all left now next refused old new after (Trust path) s p = let o : Err unput.OutOfMemory ≡ Ok false = p.refuses in absurd cc

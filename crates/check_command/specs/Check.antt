@@ -1,5 +1,6 @@
 -- The result of `check`: the walk of the plaintext meaning from the empty state, in which a definition is executed, every other batch ends
--- with its description, and nothing stays pending. So no session ever has a transaction. Behind a clash stands a chain of rules that shows it.
+-- with its description, nothing stays pending, and a rotation is passed over: its tables stay as they are. So no session ever has a
+-- transaction. Behind a clash stands a chain of rules that shows it.
 use Rattle.std.specs.Prelude.{◌≡◌, ◌⊎◌, ℕ, List, [], ◌∷◌, ◌++◌, flat_map, replicate, codes, decimal, encode_utf8_all, Option, Some, None, Result, Ok, Err, Bool, true, false}
 use Rattle.ae_base.specs.declared.batches.Batch.{Batch}
 use Rattle.ae_base.specs.declared.faults.SqlFault.{SqlFault}
@@ -16,9 +17,9 @@ use Rattle.conversation.specs.Pending.{Pending}
 use Rattle.conversation.specs.declared.faults.DriverFault.{DriverFault}
 use Rattle.conversation.specs.declared.outcomes.Outcome.{Outcome}
 use Rattle.script_lang.specs.declared.steps.Step.{Step}
-use Rattle.script_lang.specs.declared.steps.Act.TheVariants.{Whole, Half, Execute}
+use Rattle.script_lang.specs.declared.steps.Act.TheVariants.{Whole, Half, Execute, Rotate}
 use Rattle.script_lang.specs.declared.steps.Step.TheVariants.{Turn, Trust}
-use Rattle.plain_meaning.specs.Reference.{Came, begins, declarations_of, execution_of, waits}
+use Rattle.plain_meaning.specs.Batches.{Came, begins, declarations_of, execution_of, waits}
 use Rattle.outcome_text.specs.Printing.{line, printed_outcome}
 
 -- ---- which batches are executed
@@ -69,11 +70,12 @@ pub record SessionBatch : Type 0 where
   pub number : ℕ
   pub batch : Batch
 
--- the batches of a script: `:describe` ends one as `GO` does; `:execute` is nothing, nor is a path that is trusted
+-- the batches of a script: `:describe` ends one as `GO` does; `:execute` and `:rotate` are nothing, nor is a path that is trusted
 abbrev pub batch_in : Step → List SessionBatch
 batch_in (Turn number (Whole batch)) = record { number = number; batch = batch } ∷ []
 batch_in (Turn number (Half batch)) = record { number = number; batch = batch } ∷ []
 batch_in (Turn number Execute) = []
+batch_in (Turn number (Rotate old new)) = []
 batch_in (Trust path) = []
 
 abbrev pub batches : List Step → List SessionBatch

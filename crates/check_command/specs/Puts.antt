@@ -4,7 +4,7 @@ use Rattle.ae_base.specs.declared.batches.Batch.{Batch}
 use Rattle.ae_edge.specs.Devices.{Adds, AddsFront, Rose}
 use Rattle.outcome_text.specs.Printing.{is_refusal}
 use Rattle.script_lang.specs.declared.steps.Step.{Step}
-use Rattle.script_lang.specs.declared.steps.Act.TheVariants.{Whole, Half, Execute}
+use Rattle.script_lang.specs.declared.steps.Act.TheVariants.{Whole, Half, Execute, Rotate}
 use Rattle.script_lang.specs.declared.steps.Step.TheVariants.{Turn, Trust}
 use Rattle.server_core.specs.Serve.{State}
 use Rattle.check_command.specs.Check.{AreLinesOf, checked}
@@ -46,6 +46,7 @@ abbrev pub PutsStep : Result Bool Unput → State → State → Step → Option 
 PutsStep r old new (Turn number (Whole batch)) before after = PutsBatch r old new number batch before after
 PutsStep r old new (Turn number (Half batch)) before after = PutsBatch r old new number batch before after
 PutsStep r old new (Turn number Execute) before after = PutsNothing r old new before after
+PutsStep r old new (Turn number (Rotate from to)) before after = PutsNothing r old new before after
 PutsStep r old new (Trust path) before after = PutsNothing r old new before after
 
 -- the count of faults rose where a call failed, and never falls
