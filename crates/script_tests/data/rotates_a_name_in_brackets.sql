@@ -1,0 +1,1 @@
+:rotate [t] t2

@@ -1,0 +1,2 @@
+ :rotate t t2 	
+:rotate t  t2

@@ -1,0 +1,2 @@
+DECLARE @p INT = 1
+:rotate t t2
