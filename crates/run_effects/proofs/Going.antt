@@ -94,6 +94,7 @@ wire_then xs ys a b c p q = record {
   log = puts_then exchanges_of xs ys a.log b.log c.log p.log q.log;
   state = told_then (AreServed xs) (AreServed ys) (AreServed (xs ++ ys)) (serves_then xs ys) a.state b.state c.state p.state q.state;
   count = let x = p.count in let y = q.count in omega arith;
+  closed = q.closed ∙ p.closed;
 }
 
 put_then : (xs ys : List Event) (a b c : Outside) → HasPut Adds xs a b → HasPut Adds ys b c → HasPut Adds (xs ++ ys) a c
@@ -147,7 +148,7 @@ client_still a = record {
 }
 
 pub wire_still : (a : Wire) → WirePut Adds [] a a
-wire_still a = record { names = refl; version = refl; tap = adds_none a.tap; log = adds_none a.log; state = same_state a.state; count = omega arith }
+wire_still a = record { names = refl; version = refl; tap = adds_none a.tap; log = adds_none a.log; state = same_state a.state; count = omega arith; closed = refl }
 
 pub nothing_put : (a : Outside) → HasPut Adds [] a a
 nothing_put a = record { client = client_still a.client; wire = wire_still a.wire }
@@ -191,6 +192,7 @@ wire_front xs a b p = record {
   log = p.log;
   state = p.state;
   count = p.count;
+  closed = p.closed;
 }
 
 -- ---- one way after another

@@ -1,5 +1,5 @@
 -- What is told of all that a run touches, and what each device has of the events of a conversation.
-use Rattle.std.specs.Prelude.{◌≡◌, ℕ, ◌+◌, ◌≤◌, List, [], ◌∷◌, ◌++◌, length, map, flat_map, drop, Option, Some, None, IfSome}
+use Rattle.std.specs.Prelude.{◌≡◌, ℕ, ◌+◌, ◌≤◌, List, [], ◌∷◌, ◌++◌, length, map, flat_map, drop, Option, Some, None, IfSome, Bool}
 use Rattle.std.specs.Borrow.{GName}
 use Rattle.ae_base.specs.declared.frames.FrameVersion.{FrameVersion}
 use Rattle.ae_edge.specs.Devices.{WhereTold, Adds, IsFront}
@@ -65,7 +65,7 @@ pub record Stream : Type 0 where
 
 -- The other side: what it is lent, its frames, what was asked and answered and the state that it serves by, where they are told; the version
 -- in which all is spelled; the replies that wait, each with the place of its frame, and the place behind the frames of all that came; or the
--- stream as which they come; how many replies were taken, and the count of faults.
+-- stream as which they come; how many replies were taken, the count of faults, and whether the tap is closed.
 pub record Wire : Type 0 where
   pub names : List (List GName)
   pub tap : Option (List ℕ)
@@ -77,6 +77,7 @@ pub record Wire : Type 0 where
   pub stream : Option Stream
   pub taken : ℕ
   pub faults : ℕ
+  pub closed : Bool
 
 pub record Outside : Type 0 where
   pub client : ClientSide
@@ -130,6 +131,7 @@ pub record WirePut (P : Puts) (events : List Event) (old new : Wire) : Type 0 wh
   pub log : Adds (flat_map exchanges_of events) old.log new.log
   pub state : WhereTold (AreServed events) old.state new.state
   pub count : old.faults ≤ new.faults
+  pub closed : new.closed ≡ old.closed
 
 pub record HasPut (P : Puts) (events : List Event) (old new : Outside) : Type 0 where
   pub client : ClientPut P events old.client new.client
