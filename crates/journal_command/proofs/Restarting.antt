@@ -1,23 +1,23 @@
 -- Records that are served again: how far they were, and where one isn't.
-use Rattle.std.proofs.Common.{◌≡◌, ◌+◌, ◌<◌, ℕ, List, [], ◌∷◌, ◌++◌, length, get_or, take, drop, Bool, true, false, refl, sym, ap, subst, ◌∙◌, append-nil, append_assoc, length-append, take-append-drop, arith}
+use Rattle.std.proofs.Common.{◌≡◌, ◌+◌, ◌<◌, ◌≤◌, ℕ, List, [], ◌∷◌, ◌++◌, length, get_or, take, drop, Bool, true, false, Option, Some, None, Result, Ok, Err, refl, sym, ap, subst, ◌∙◌, append-nil, append_assoc, length-append, take-append-drop, arith}
 use Rattle.std.specs.List.{All}
 use Rattle.std.proofs.lemmas.List.{append_cancel_left, drop_more, flat_map_more, take_more}
 use Rattle.std.proofs.lemmas.List.Elements.{All-push, All-head, All-tail}
 use Rattle.journal_core.specs.Journals.{place_behind}
 use Rattle.recording.specs.Laws.{AreDone, AreServedAgain, IsIdle}
 use Rattle.recording.specs.Recorded.{is_done}
+use Rattle.server_core.specs.Replaying.{Ends, Replaying, Replays, StandsFor}
 use Rattle.server_core.specs.Serve.{State, serve}
+use Rattle.server_core.specs.declared.replays.Halt.{Halt}
+use Rattle.server_core.specs.declared.replays.Halt.TheVariants as halt
 use Rattle.wire_frames.specs.Decoding.{ReadsEach}
 use Rattle.wire_frames.specs.Laws.{HasOneReading}
 use Rattle.wire_frames.specs.declared.decoding.Decoded.TheVariants as decoded
 use Rattle.serve_command.specs.ServeAll.{messages_of, state_after}
 use Rattle.serve_command.specs.Serving.{IsProper}
-use Rattle.wire_messages.specs.Exchanges.{Served}
-use Rattle.wire_messages.specs.declared.replies.Reply.{Reply}
 use Rattle.wire_spelling.specs.Spelling.{SpellsRequest, asked_frame}
 use Rattle.journal_command.specs.Keeping.{Asked, entries_of, frames_in, messages_in}
 use Rattle.journal_command.specs.Restarts.{AnswersFront, AreServedRecords, IsServedRecord, RefusesAt, ServesFront, state_behind}
-use Rattle.journal_command.specs.declared.restarts.Front.TheVariants as front
 use Rattle.journal_command.proofs.Recording.{entries_append}
 
 -- ---- the request that stands first
@@ -25,11 +25,15 @@ use Rattle.journal_command.proofs.Recording.{entries_append}
 both : (b : Bool) → b ≡ true → b ≡ false → ⊥
 both b t f = cc
 
-pub front_undone : (asked : Asked) (replies : List Reply) (used : ℕ) (bytes : List ℕ) (old new : State) → ReadsEach SpellsRequest (decoded.One asked used) bytes
-    → (serve old asked.message ≡ record { replies = replies; after = new }) → is_done replies ≡ false → AnswersFront front.Refused bytes old new
-front_undone asked replies used bytes old new only s e = λ other first rest spelled whole done.
+pub front_done : (asked : Asked) (used : ℕ) (bytes : List ℕ) (old : State) (next : Replaying) → used ≤ length bytes → SpellsRequest asked (take used bytes) → Replays (Ok next) (serve old asked.message) → ServesFront used bytes old next
+front_done asked used bytes old next held spelled r = record { asked = asked; held = held; spelled = spelled; done = r.0; stands = r.1 }
+
+pub front_halts : (asked : Asked) (used : ℕ) (bytes : List ℕ) (old : State) (h : Halt) → ReadsEach SpellsRequest (decoded.One asked used) bytes → Replays (Err h) (serve old asked.message) → AnswersFront (Err h) bytes old
+front_halts asked used bytes old halt.NeedsCopy only r = tt
+front_halts asked used bytes old halt.OutOfMemory only r = tt
+front_halts asked used bytes old halt.NotDone only r = λ other first rest spelled whole done.
     let same = (only other first rest spelled whole).0 in
-    both (is_done (serve old asked.message).replies) (ap (λ (r : Asked). is_done (serve old r.message).replies) same ∙ done) (ap (λ (x : Served State). is_done x.replies) s ∙ e)
+    both (is_done (serve old asked.message).replies) (ap (λ (r : Asked). is_done (serve old r.message).replies) same ∙ done) r
 
 -- ---- one record
 
@@ -53,8 +57,8 @@ done_next : (state : State) (requests : List Asked) (r : Asked) (others : List A
 done_next state [] r others all = all.0
 done_next state (x ∷ requests) r others all = done_next (serve state x.message).after requests r others all.1
 
-pub more_served : (state : State) (entry rest : List ℕ) (now new : State) (used : ℕ) → HasServed state entry rest now → ServesFront used rest now new → HasServed state entry (drop used rest) new
-more_served state entry rest now new used h f =
+pub more_served : (state : State) (entry rest : List ℕ) (now : State) (next : Replaying) (used : ℕ) → HasServed state entry rest now → (f : ServesFront used rest now next) → HasServed state entry (drop used rest) (serve now f.asked.message).after
+more_served state entry rest now next used h f =
     let r = f.asked in
     record {
       requests = h.requests ++ r ∷ [];
@@ -65,11 +69,20 @@ more_served state entry rest now new used h f =
           ∙ sym (append_assoc (frames_in h.requests) (asked_frame r) (drop used rest))
           ∙ ap (λ (l : List ℕ). l ++ drop used rest) (flat_map_more asked_frame [] h.requests r);
       done = done_more state h.requests r h.done (ap (λ (x : State). is_done (serve x r.message).replies) (sym h.after) ∙ f.done);
-      after = f.after ∙ ap (λ (x : State). (serve x r.message).after) h.after ∙ sym (after_more state h.requests r);
+      after = ap (λ (x : State). (serve x r.message).after) h.after ∙ sym (after_more state h.requests r);
     }
 
 frame_long : (r : Asked) → 0 < length (asked_frame r)
 frame_long r = omega arith
+
+-- a replay stands where they lead to
+pub record HasReplayed (state : State) (entry rest : List ℕ) (replay : Replaying) : Type 0 where
+  pub now : State
+  pub served : HasServed state entry rest now
+  pub stands : StandsFor replay now
+
+pub more_replayed : (state : State) (entry rest : List ℕ) (replay next : Replaying) (used : ℕ) → (h : HasReplayed state entry rest replay) → ServesFront used rest h.now next → HasReplayed state entry (drop used rest) next
+more_replayed state entry rest replay next used h f = record { now = (serve h.now f.asked.message).after; served = more_served state entry rest h.now next used h.served f; stands = f.stands }
 
 -- the requests of the same bytes begin with those that were served
 pub record Goes (ones others : List Asked) (rest : List ℕ) : Type 0 where
@@ -90,9 +103,9 @@ goes law (x ∷ ones) (y ∷ others) rest p q e =
     let g = goes law ones others rest (All-tail IsProper x ones p) (All-tail IsProper y others q) tails in
     record { more = g.more; is = ap (λ (r : Asked). r ∷ others) (sym same.0) ∙ ap (λ (l : List Asked). x ∷ l) g.is; left = g.left; proper = g.proper }
 
-pub refused_front : HasOneReading SpellsRequest → (state : State) (entry rest : List ℕ) (now new : State) → HasServed state entry rest now → 0 < length rest → AnswersFront front.Refused rest now new
+pub refused_front : HasOneReading SpellsRequest → (state : State) (entry rest : List ℕ) (now : State) → HasServed state entry rest now → 0 < length rest → AnswersFront (Err halt.NotDone) rest now
     → (requests : List Asked) → IsServedRecord state requests entry → ⊥
-refused_front law state entry rest now new h some refused requests s =
+refused_front law state entry rest now h some refused requests s =
     let g = goes law h.requests requests rest h.proper s.proper (sym h.whole ∙ s.whole) in
     by g.more g.is g.left g.proper
   where
@@ -111,6 +124,22 @@ refused_open law state entry rest now h none goes_on requests s =
     by : (more : List Asked) → requests ≡ h.requests ++ more → rest ≡ frames_in more → ⊥
     by [] is left = goes_on (subst IsIdle (ap (state_after state) (is ∙ append-nil h.requests) ∙ sym h.after) s.idle)
     by (r ∷ more) is left = absurd (omega (arith, none, ap length left, length-append (asked_frame r) (frames_in more), frame_long r))
+
+pub entry_served : (state : State) (entry rest : List ℕ) (now server : State) → HasServed state entry rest now → length rest ≡ 0 → Ends (Some server) now → (requests : List Asked) × IsServedRecord state requests entry × (server ≡ state_after state requests)
+entry_served state entry rest now server h none ends = (
+  h.requests,
+  record {
+    proper = h.proper;
+    whole = h.whole ∙ by rest none;
+    done = h.done;
+    idle = subst IsIdle h.after ends.1;
+  },
+  ends.0 ∙ h.after,
+)
+  where
+    by : (rest : List ℕ) → length rest ≡ 0 → frames_in h.requests ++ rest ≡ frames_in h.requests
+    by [] e = append-nil (frames_in h.requests)
+    by (x ∷ rest) e = absurd (omega arith)
 
 -- ---- records one after another
 

@@ -165,11 +165,10 @@ fn serve_found<S: Source, W: Sink, D: Disk>(
     ensures write { result ≡ Ended.WriteFault → Rose (W.faults out.old) (W.faults out.new) }
     ensures stored { result ≡ Ended.DiskFault → Rose (D.faults disk.old) (D.faults disk.new) }
 {
-    let mut server = Server::new(alloc);
-    let again = serve_again(alloc, entries.as_slice(), &mut server);
+    let again = serve_again(alloc, entries.as_slice());
     drop(entries);
     match again {
-        Again::Served => serve_from(alloc, input, out, disk, server, journal),
+        Again::Served(server) => serve_from(alloc, input, out, disk, server, journal),
         Again::Refused(place) => Ended::Damaged(place),
         Again::OutOfMemory => Ended::OutOfMemory,
     }

@@ -17,17 +17,12 @@ use Rattle.journal_compaction.specs.Finding.{CountsFound, Finds, IsFoundBad, IsS
 use Rattle.journal_compaction.specs.declared.finding.Found.{Found}
 use Rattle.journal_compaction.specs.declared.finding.Found.TheVariants as found
 
--- the entries that are lent, served from the state of a new server
-pub led_to : (entries lent : List (List ℕ)) (start now : State) → lent ≡ entries → start ≡ empty_state → (records : List (List Asked)) × AreServedRecords start records lent × (now ≡ state_behind start records)
-    → LedTo entries now
-led_to entries lent start now p q x = record {
-  records = x.0;
-  served = subst (λ (l : List (List ℕ)). AreServedRecords empty_state x.0 l) p (subst (λ (st : State). AreServedRecords st x.0 lent) q x.1);
-  after = x.2 ∙ ap (λ (st : State). state_behind st x.0) q;
-}
+-- the entries that are lent
+pub led_to : (entries lent : List (List ℕ)) (now : State) → lent ≡ entries → (records : List (List Asked)) × AreServedRecords empty_state records lent × (now ≡ state_behind empty_state records) → LedTo entries now
+led_to entries lent now p x = record { records = x.0; served = subst (λ (l : List (List ℕ)). AreServedRecords empty_state x.0 l) p x.1; after = x.2 }
 
-pub refused_from : (entries lent : List (List ℕ)) (start : State) (place : ℕ) → lent ≡ entries → start ≡ empty_state → RefusesAt start lent place → RefusesAt empty_state entries place
-refused_from entries lent start place p q r = subst (λ (l : List (List ℕ)). RefusesAt empty_state l place) p (subst (λ (st : State). RefusesAt st lent place) q r)
+pub refused_from : (entries lent : List (List ℕ)) (place : ℕ) → lent ≡ entries → RefusesAt empty_state lent place → RefusesAt empty_state entries place
+refused_from entries lent place p r = subst (λ (l : List (List ℕ)). RefusesAt empty_state l place) p r
 
 abbrev Stays : Moments → Moments → Type 0
 Stays old new = Leaves (IsSomeImage old.now) old new

@@ -31,9 +31,8 @@ pub(crate) fn lead_to(alloc: Global, records: &[Blob], server: &Server) -> Resul
     requires { place_behind records.now < 2 ^ 64 }
     ensures { IfOk result (λ lead. IsTrue lead → LeadsTo records.now server.now) }
 {
-    let mut fresh = Server::new(alloc);
-    match serve_again(alloc, records, &mut fresh) {
-        Again::Served => same_worlds(alloc, fresh.shared_world(), server.shared_world()),
+    match serve_again(alloc, records) {
+        Again::Served(fresh) => same_worlds(alloc, fresh.shared_world(), server.shared_world()),
         Again::Refused(_) => Ok(false),
         Again::OutOfMemory => Err(AllocError),
     }

@@ -33,9 +33,8 @@ fn serve_found(alloc: Global, entries: Seq<Blob>) -> Found
     requires { place_behind entries < 2 ^ 64 }
     ensures { IsServed result entries }
 {
-    let mut server = Server::new(alloc);
-    match serve_again(alloc, entries.as_slice(), &mut server) {
-        Again::Served => Found::Served(entries, server),
+    match serve_again(alloc, entries.as_slice()) {
+        Again::Served(server) => Found::Served(entries, server),
         Again::Refused(place) => Found::Damaged(place),
         Again::OutOfMemory => Found::OutOfMemory,
     }

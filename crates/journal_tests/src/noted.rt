@@ -15,12 +15,14 @@ use std::{fs, io};
 
 /// The system's files, with a letter for each call that was made: M and O where a file was made and
 /// opened, H where it was held, W, C and S where it was written, cut and synced, and F and Y where
-/// a folder was opened and synced. Calls of one letter fail.
+/// a folder was opened and synced. Calls of one letter fail. Before a file is held, another one may
+/// be given its name.
 #[derive(Drop)]
 struct NotedFiles<'a> {
     rt: &'a HostRuntime,
     notes: &'a File,
     failing: Option<u8>,
+    renaming: Option<(&'a str, &'a str)>,
 }
 
 #[derive(Drop)]
@@ -149,6 +151,9 @@ impl<'a> Files for NotedFiles<'a> {
 
 impl<'a> LockedFiles for NotedFiles<'a> {
     fn hold(&self, file: &NotedFile<'a>) -> io::Result<()> {
+        if let Some((from, to)) = self.renaming {
+            self.rt.rename(from, to)?;
+        }
         file.note(b'H')?;
         self.rt.hold(&file.file)
     }
@@ -171,6 +176,7 @@ fn a_new_file_is_held_and_its_name_is_synced(rt: HostRuntime) -> Result<(), Fail
         rt: &rt,
         notes: &notes,
         failing: None,
+        renaming: None,
     };
     let mut disk = FileDisk::new(files, path.as_str());
     assert_eq!(rt; disk.size(), Measured::Bytes(0));
@@ -197,6 +203,7 @@ fn a_record_is_synced_before_its_gate(rt: HostRuntime) -> Result<(), Fail> {
         rt: &rt,
         notes: &notes,
         failing: None,
+        renaming: None,
     };
     let mut disk = FileDisk::new(files, path.as_str());
     assert_eq!(rt; add(rt.alloc(), &mut disk, EXECUTE), Appended::Done);
@@ -215,6 +222,7 @@ fn fails_at(rt: &HostRuntime, path: &str, log: &str, letter: u8) -> Result<bool,
         rt,
         notes: &notes,
         failing: Some(letter),
+        renaming: None,
     };
     let mut disk = FileDisk::new(files, path);
     let failed = disk.write(0, b"ab") == Stored::Failed && disk.sync() == Stored::Failed;
@@ -234,6 +242,33 @@ fn a_file_that_is_not_held_or_named_is_not_written(rt: HostRuntime) -> Result<()
     Ok(())
 }
 
+// Who held the file has given its name to another one, as a compaction does: a server on the file
+// that has lost its name would lose what it writes.
+#[test]
+fn a_file_that_has_lost_its_name_is_not_used(rt: HostRuntime) -> Result<(), Fail> {
+    let path = file_name(&rt, "noted_named")?;
+    let other = file_name(&rt, "noted_other")?;
+    let log = file_name(&rt, "noted_named_calls")?;
+    fs::write(&rt, path.as_str(), b"\x00")?;
+    fs::write(&rt, other.as_str(), b"ab")?;
+    let notes = File::create(&rt, log.as_str())?;
+    let files = NotedFiles {
+        rt: &rt,
+        notes: &notes,
+        failing: None,
+        renaming: Some((other.as_str(), path.as_str())),
+    };
+    let mut disk = FileDisk::new(files, path.as_str());
+    assert_eq!(rt; disk.write(0, b"cd"), Stored::Failed);
+    drop(disk);
+    drop(notes);
+    let bytes = fs::read(&rt, path.as_str())?;
+    assert_eq!(rt; bytes.as_slice(), b"ab".as_slice());
+    let letters = ended(&rt, path.as_str(), log.as_str())?;
+    assert_eq!(rt; letters.as_slice(), b"OH".as_slice());
+    Ok(())
+}
+
 // A journal is read once its file was synced: where that fails, the file is left as it is.
 #[test]
 fn a_file_that_is_not_synced_is_left(rt: HostRuntime) -> Result<(), Fail> {
@@ -245,6 +280,7 @@ fn a_file_that_is_not_synced_is_left(rt: HostRuntime) -> Result<(), Fail> {
         rt: &rt,
         notes: &notes,
         failing: Some(b'S'),
+        renaming: None,
     };
     let mut disk = FileDisk::new(files, path.as_str());
     assert_eq!(rt; add(rt.alloc(), &mut disk, EXECUTE), Appended::DiskFault);

@@ -1,5 +1,5 @@
 -- What is recorded makes the same shared world when it is served again.
-use Rattle.std.specs.Prelude.{◌≡◌, ℕ, ◌-◌, List, [], ◌∷◌, ◌++◌, map, None, true, replicate}
+use Rattle.std.specs.Prelude.{◌≡◌, ℕ, ◌-◌, List, [], ◌∷◌, ◌++◌, map, true}
 use Rattle.ae_edge.specs.Devices.{IsFront}
 use Rattle.transactions.specs.Journal.{journal}
 use Rattle.transactions.specs.Serial.{Call, no_logs}
@@ -8,11 +8,8 @@ use Rattle.transactions.specs.WellKept.{HasNoTransactions, IsStore}
 use Rattle.wire_messages.specs.declared.requests.Request.{Request}
 use Rattle.server_core.specs.Serve.{State, calls_of, serve}
 use Rattle.server_core.specs.States.{any_cell}
+pub use Rattle.server_core.specs.Replaying.{IsIdle}
 use Rattle.recording.specs.Recorded.{is_done, nothing_held, requests_recorded, after_requests, after_records}
-
--- no session has a transaction
-abbrev pub IsIdle : State → Type 0
-IsIdle state = state.sessions ≡ replicate 64 None
 
 -- each request is done
 abbrev pub AreDone : State → List Request → Type 0

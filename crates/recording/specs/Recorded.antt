@@ -4,21 +4,13 @@
 use Rattle.std.specs.Prelude.{ℕ, ◌-◌, List, [], ◌∷◌, ◌++◌, Bool, true, false, is_some, if◌then◌else◌, replicate, slice_index_or, slice_set}
 use Rattle.transactions.specs.Stores.{transaction_at}
 use Rattle.wire_messages.specs.Exchanges.{Served}
-use Rattle.wire_messages.specs.declared.replies.Done.TheVariants.{Defined, Changed}
-use Rattle.wire_messages.specs.declared.replies.Reply.{Reply}
-use Rattle.wire_messages.specs.declared.replies.Reply.TheVariants.{Ended}
 use Rattle.wire_messages.specs.declared.requests.Request.{Request}
 use Rattle.wire_messages.specs.declared.requests.Request.TheVariants.{Describe, Execute}
 use Rattle.statement_analysis.specs.Sorts.{sort_of}
 use Rattle.statement_analysis.specs.declared.sorts.Sort.{Sort}
 use Rattle.statement_analysis.specs.declared.sorts.Sort.TheVariants.{Reads, Changes, Defines, Begins, Commits, RollsBack, NoStatement}
 use Rattle.server_core.specs.Serve.{State, serve, serve_all}
-
--- accepted as a change, as a definition, or as BEGIN, COMMIT or ROLLBACK
-abbrev pub is_done : List Reply → Bool
-is_done (Ended Defined ∷ []) = true
-is_done (Ended (Changed count) ∷ []) = true
-is_done other = false
+pub use Rattle.server_core.specs.Replaying.{is_done}
 
 -- ---- one request
 

@@ -32,7 +32,7 @@ use Rattle.transactions.specs.Counted.{execution, step_of}
 use Rattle.transactions.specs.Forgotten.{IsUndone}
 use Rattle.transactions.specs.Laws.{TransactionsKeepStores}
 use Rattle.transactions.specs.Stores as stores
-use Rattle.transactions.specs.Stores.{Transacted, transact, world_of}
+use Rattle.transactions.specs.Stores.{Ask, Transacted, transact, world_of}
 use Rattle.transactions.proofs.Interface.{may_ask, rows_by_step}
 use Rattle.transactions.proofs.Interface.{seen_well}
 use Rattle.statement_analysis.proofs.Interface.{encs_count, keys_there, there_if}
@@ -125,6 +125,16 @@ pub record IsDoneWell {K : Type 0} (old : State) (session : ℕ) (new : State) (
   pub state : IsState new
   pub sent : IfOk result (λ answer. CanBeSent (catalog_of old session) (catalog_of new session) (answer_of answer))
 
+-- a state that can stand stays one
+pub left_well : TypingsAreOfColumns → TypedStatementsAreAdmitted → (old : State) (session : ℕ) (declarations : List ParamDecl) (meant : Meant) (atoms : List Atom) → IsState old → IsReady (catalog_of old session) declarations meant atoms
+    → IsState (transact old session (ask_of (meant, atoms))).after
+unfolding IsUnderstood IsReady
+left_well typings admitted old session declarations meant atoms s r =
+    let b = bound_on (catalog_of old session) declarations meant atoms typings r in
+    let may = may_ask is_short (world_of old session).world meant.bound.statement (execution meant.bound meant.encs atoms)
+    (record { bound = b; typed = admitted meant.bound meant.encs b.placed r.understood.typed; values = r.values }) in
+    call_leaves old session meant.bound meant.encs atoms b.encs r.values r.cells s may
+
 pub done_well : {K : Type 0} (laws : Laws) (old : State) (session : ℕ) (new : State) (declarations : List ParamDecl) (meant : Meant) (atoms : List Atom) (result : Result (code.Answer K) (Refusal SqlFault))
     → IsState old → IsReady (catalog_of old session) declarations meant atoms → Transacts result old new (transact old session (ask_of (meant, atoms)))
     → IfOk result (λ answer. IsUndone old session new (answer_of answer)) → IsDoneWell old session new result
@@ -135,9 +145,8 @@ done_well laws old session new declarations meant atoms result s r g undone =
     let b = bound_on (catalog_of old session) declarations meant atoms laws.typings r in
     let may = may_ask is_short world meant.bound.statement e (record { bound = b; typed = laws.admitted meant.bound meant.encs b.placed r.understood.typed; values = r.values }) in
     let k = laws.keeps is_short old session (ask_of (meant, atoms)) s.store may in
-    let left = call_leaves old session meant.bound meant.encs atoms b.encs r.values r.cells s may in
     record {
-      state = keeps result old new (transact old session (ask_of (meant, atoms))) g s left;
+      state = keeps result old new (transact old session (ask_of (meant, atoms))) g s (left_well laws.typings laws.admitted old session declarations meant atoms s r);
       sent = sendable old session declarations meant laws.typings r.understood result new (transact old session (ask_of (meant, atoms))) (seen_well is_short old session s.store).world.catalog g k.1
           (λ columns rows f. ((step_of (world_of old session) e).world, laws.shown world meant.bound meant.encs atoms columns rows b (rows_by_step old session e columns rows meant.bound.statement f))) undone;
     }
@@ -148,14 +157,15 @@ seen_catalog state session s = (seen_well is_short state session s.store).world.
 
 -- ---- over the parts of what is ready
 
-module _ (old : State) (session : ℕ) (declarations : List ParamDecl) (typed : Typed) (atoms : List Atom) (ready : IsReady (catalog_of old session) declarations (meant_of typed) atoms)
+module _ (catalog : Catalog) (declarations : List ParamDecl) (typed : Typed) (atoms : List Atom) (ready : IsReady catalog declarations (meant_of typed) atoms)
     (b : parts.Bound) (encs : List Enc) (values : List Atom) (is_b : b ≡ typed.bound) (is_encs : encs ≡ typed.encs) (are_values : values ≡ atoms) where
-  pub parts_bound : TypingsAreOfColumns → IsBoundOn (catalog_of old session) (bound_of b) encs values
-  parts_bound law = rw (is_b, is_encs, are_values) (bound_on (catalog_of old session) declarations (meant_of typed) atoms law ready)
+  pub parts_bound : TypingsAreOfColumns → IsBoundOn catalog (bound_of b) encs values
+  parts_bound law = rw (is_b, is_encs, are_values) (bound_on catalog declarations (meant_of typed) atoms law ready)
 
-  pub parts_given : {K : Type 0} (result : Result (code.Answer K) (Refusal SqlFault)) (new : State) → Transacts result old new (transact old session (stores.ask_of (execution (bound_of b) encs values)))
-      → Transacts result old new (transact old session (ask_of (meant_of typed, atoms)))
-  parts_given result new g =
-      subst (λ (v : List Atom). Transacts result old new (transact old session (stores.ask_of (execution (bound_of typed.bound) typed.encs v)))) are_values
-      (subst (λ (es : List Enc). Transacts result old new (transact old session (stores.ask_of (execution (bound_of typed.bound) es values)))) is_encs
-      (subst (λ (c : parts.Bound). Transacts result old new (transact old session (stores.ask_of (execution (bound_of c) encs values)))) is_b g))
+-- what holds of what its parts ask
+pub parts_given : (P : Ask → Type 0) (typed : Typed) (atoms : List Atom) (b : parts.Bound) (encs : List Enc) (values : List Atom) → b ≡ typed.bound → encs ≡ typed.encs → values ≡ atoms → P (stores.ask_of (execution (bound_of b) encs values))
+    → P (ask_of (meant_of typed, atoms))
+parts_given P typed atoms b encs values is_b is_encs are_values g =
+    subst (λ (v : List Atom). P (stores.ask_of (execution (bound_of typed.bound) typed.encs v))) are_values
+    (subst (λ (es : List Enc). P (stores.ask_of (execution (bound_of typed.bound) es values))) is_encs
+    (subst (λ (c : parts.Bound). P (stores.ask_of (execution (bound_of c) encs values))) is_b g))

@@ -1,15 +1,17 @@
 //! A request to execute, over a state.
 
-ghost use Rattle.std.specs.Prelude.{◌≡◌, ◌<◌, [], ℕ, IfOk, List, vec_capacity, vec_len};
+ghost use Rattle.std.specs.Prelude.{◌≡◌, ◌<◌, [], ℕ, IfOk, List, None, vec_capacity, vec_len};
 ghost use Rattle.std.specs.List.{All};
 ghost use Rattle.ae_base.specs.declared.batches.ParamDecl.{ParamDecl};
 ghost use Rattle.catalog.specs.WellFormed.{IsCatalog, IsKeyThere};
 ghost use Rattle.sql_tree.specs.Bound.{bound_of};
+ghost use Rattle.sql_tree.specs.Sorts.{control_in};
 ghost use Rattle.engine.specs.Answers.{answer_of};
 ghost use Rattle.engine.specs.Step as engine;
 ghost use Rattle.engine.specs.WellTyped.{AreResults};
 ghost use Rattle.transactions.specs.Answers.{Transacts};
 ghost use Rattle.transactions.specs.Forgotten.{IsUndone};
+ghost use Rattle.transactions.specs.Lone.{GoesAlone, IsAlone};
 ghost use Rattle.transactions.specs.Stores.{transact};
 ghost use Rattle.wire_messages.specs.Exchanges.{HasKinds};
 ghost use Rattle.wire_messages.specs.Messages.{IsFew};
@@ -34,6 +36,7 @@ use engine::answers::{Answer, ResultColumn};
 use engine::laws::{rows_are_shown, typed_statements_are_admitted};
 use std::alloc::{AllocError, Global};
 use transactions::laws::transactions_keep_stores;
+use transactions::lone::Lone;
 use transactions::stores::Store;
 use wire_messages::params::SentParam;
 use wire_messages::replies::{Done, Reply};
@@ -149,9 +152,30 @@ fn shown(
     rows_replies(alloc, catalog, columns, rows)
 }
 
+/// What a session that is alone is answered to a statement other than BEGIN, COMMIT and ROLLBACK.
+pub(crate) fn done_alone(
+    alloc: Global,
+    lone: &mut Lone<Cell>,
+    ready: Ready,
+) -> Result<Answer<Cell>, Refusal>
+    requires control { control_in (meant_of ready.typed).bound.statement ≡ None }
+    requires ready { (declarations : List ParamDecl)
+        × IsReady lone.old.transaction.own.world.catalog declarations (meant_of ready.typed)
+        ready.atoms }
+    ensures session { lone.new.session ≡ lone.old.session }
+    ensures exact { (state : spec.State) → IsAlone lone.old state
+        → GoesAlone result lone.new state
+        (transact state lone.old.session (spec.ask_of (ready_of ready))) }
+{
+    typings_are_of_columns();
+    let Ready { typed, atoms } = ready;
+    let (bound, encs) = typed.into_parts();
+    lone.execute(alloc, bound, encs.as_slice(), atoms.as_slice())
+}
+
 /// What the state answers. It stays one, and rows come only where nothing is changed but the notes
 /// of the session's transaction.
-fn done(
+pub(crate) fn done(
     alloc: Global,
     store: &mut Store<Cell>,
     session: SessionId,

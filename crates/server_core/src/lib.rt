@@ -7,6 +7,7 @@ mod executing;
 pub mod laws;
 pub mod peers;
 mod preparing;
+pub mod replays;
 mod replies;
 mod requests;
 mod rows;

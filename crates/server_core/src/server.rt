@@ -8,6 +8,7 @@ ghost use Rattle.statement_analysis.specs.Sorts as sorts;
 ghost use Rattle.server_core.specs.Calls.{Serves};
 ghost use Rattle.server_core.specs.Correspond.{IsServedAlike};
 ghost use Rattle.server_core.specs.Serve.{empty_state};
+ghost use Rattle.server_core.specs.States.{IsState};
 ghost use Rattle.transactions.specs.Stores.{transaction_at};
 
 use crate::laws::requests_are_served_alike;
@@ -59,6 +60,23 @@ impl Server {
         Server {
             store: Store::new(alloc),
         }
+    }
+
+    /// One that serves by a state.
+    pub(crate) fn over(store: Store<Cell>) -> Server
+        requires { IsState store }
+        ensures { result ≡ store }
+    {
+        Server { store }
+    }
+
+    /// The state by which it serves.
+    pub(crate) fn into_store(self) -> Store<Cell>
+        ensures same { result ≡ self }
+        ensures state { IsState result }
+    {
+        let Server { store } = self;
+        store
     }
 
     /// Serves a request whole: the replies to it, which are of its kinds, and the state after it.

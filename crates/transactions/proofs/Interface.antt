@@ -2,6 +2,8 @@
 
 -- From states that correspond, a session gets answers and states that do.
 pub use Rattle.transactions.proofs.Alike.{transact_alike, zip_at, zip_set}
+-- The transaction of the session that is alone.
+pub use Rattle.transactions.proofs.AloneSince.{alone_at}
 -- What a statement asks, for all that is said of requests: crates above cite these lemmas.
 pub use Rattle.transactions.proofs.Asking.{asks_alike, asks_renamed, may_ask, rows_by_step}
 pub use Rattle.transactions.proofs.Asking.{same_execution}

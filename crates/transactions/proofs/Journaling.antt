@@ -53,12 +53,12 @@ set_set [] k x y = refl
 set_set (z ∷ xs) zero x y = refl
 set_set (z ∷ xs) (suc k) x y = ap (λ ys. z ∷ ys) (set_set xs k x y)
 
-set_none : (n k : ℕ) → slice_set (replicate n none_of) k none_of ≡ replicate n none_of
+pub set_none : (n k : ℕ) → slice_set (replicate n none_of) k none_of ≡ replicate n none_of
 set_none zero k = refl
 set_none (suc n) zero = refl
 set_none (suc n) (suc k) = ap (λ ys. none_of ∷ ys) (set_none n k)
 
-at_set : {A : Type 0} (xs : List A) (k : ℕ) (x d : A) → k < length xs → slice_index_or (slice_set xs k x) k d ≡ x
+pub at_set : {A : Type 0} (xs : List A) (k : ℕ) (x d : A) → k < length xs → slice_index_or (slice_set xs k x) k d ≡ x
 at_set [] k x d h = absurd (omega arith)
 at_set (z ∷ xs) zero x d h = refl
 at_set (z ∷ xs) (suc k) x d h = at_set xs k x d (omega arith)
@@ -179,7 +179,7 @@ lasting_accepted (d ∷ deeds) = by (is_lasting d.execution.bound.statement d.an
 
 -- ---- a transaction, made again
 
-seen_free : (shared : Counted) (used : List Used) → All (Seen shared) used → conflict shared used ≡ None
+pub seen_free : (shared : Counted) (used : List Used) → All (Seen shared) used → conflict shared used ≡ None
 seen_free shared [] h = refl
 seen_free shared (u ∷ used) h =
     let same = eq-eqb (count_of shared u.table) u.seen (sym (All-head (Seen shared) u used h)) in

@@ -1,4 +1,5 @@
 mod Alike
+mod AloneSince
 mod Apart
 mod Asking
 mod Between

@@ -95,7 +95,7 @@ noted_each P c (n ∷ names) used new h = by (is_used used n) refl (λ us k g. n
         (All-push P used u h (All-head (λ name. is_used used name ≡ false → P (record { table = name; seen = count_of c name })) n names new e))
 
 -- what is not used then was not used before
-unnoted : (c : Counted) (names : List (List ℕ)) (used : List Used) (name : List ℕ) → is_used (with_uses c used names) name ≡ false → is_used used name ≡ false
+pub unnoted : (c : Counted) (names : List (List ℕ)) (used : List Used) (name : List ℕ) → is_used (with_uses c used names) name ≡ false → is_used used name ≡ false
 unnoted c names used name h = by (is_used used name) refl
   where
     by : (b : Bool) → is_used used name ≡ b → is_used used name ≡ false
@@ -360,7 +360,7 @@ empty_held h = record { catalog = h; shape = record { contents = refl; counts = 
     none zero = All-nil (IsNotedIn nothing_counted)
     none (suc n) = All-cons (IsNotedIn nothing_counted) None (replicate n None) tt (none n)
 
-begun_noted : (shared : Counted) → IsCatalog shared.world.catalog → IsInShape shared → IsNoted shared (begun_over shared)
+pub begun_noted : (shared : Counted) → IsCatalog shared.world.catalog → IsInShape shared → IsNoted shared (begun_over shared)
 begun_noted shared catalog shape = record {
   catalog = catalog;
   shape = shape;
@@ -476,7 +476,7 @@ may_raise shared t laid all_names h e same =
       apart = h.differ;
     }))
 
-raised_shape : (c : Counted) (names : List (List ℕ)) → IsInShape c → IsInShape (raised_all c names)
+pub raised_shape : (c : Counted) (names : List (List ℕ)) → IsInShape c → IsInShape (raised_all c names)
 raised_shape c [] h = h
 raised_shape c (name ∷ names) h = raised_shape (raised c name) names (record { contents = h.contents; counts = set_length c.counts (lies c.world.catalog name) (count_of c name + 1) ∙ h.counts })
 
@@ -488,7 +488,7 @@ raised_more c (name ∷ names) p =
     omega arith
 
 -- what a table that was not used gives
-merged_theirs : {A : Type 0} (U : List ℕ → Bool) (theirs : List ℕ → A) (tables : List TableDef) (items : List A) (k : ℕ) (def : TableDef) → length items ≡ length tables → slice_get tables k ≡ Some def → U def.name ≡ false
+pub merged_theirs : {A : Type 0} (U : List ℕ → Bool) (theirs : List ℕ → A) (tables : List TableDef) (items : List A) (k : ℕ) (def : TableDef) → length items ≡ length tables → slice_get tables k ≡ Some def → U def.name ≡ false
     → slice_get (merged U theirs tables items) k ≡ Some (theirs def.name)
 merged_theirs U theirs [] items k def n e u = absurd cc
 merged_theirs U theirs (t ∷ tables) [] k def n e u = absurd (omega arith)

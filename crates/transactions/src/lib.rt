@@ -3,6 +3,7 @@
 
 mod counts;
 pub mod laws;
+pub mod lone;
 mod slots;
 pub mod stores;
 mod transactions;

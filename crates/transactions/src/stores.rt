@@ -1,18 +1,21 @@
 //! What the server keeps, and what its sessions ask of it.
 
-ghost use Rattle.std.specs.Prelude.{◌≡◌, ◌↔◌, IfOk, IsTrue, None, is_some, replicate};
+ghost use Rattle.std.specs.Prelude.{◌≡◌, ◌↔◌, IfOk, IsTrue, None, Ok, is_some, replicate};
 ghost use Rattle.sql_tree.specs.Bound.{bound_of, statement_of};
 ghost use Rattle.sql_tree.specs.Sorts.{is_definition};
 ghost use Rattle.engine.specs.Answers.{answer_of};
 ghost use Rattle.engine.specs.BoundOn.{IsBoundOn};
+ghost use Rattle.engine.specs.Step.{Defined};
 ghost use Rattle.transactions.specs.Answers.{StepsWhere, Transacts};
 ghost use Rattle.transactions.specs.Counted.{execution};
+ghost use Rattle.transactions.specs.Lone.{IsAlone};
 ghost use Rattle.transactions.specs.Noted.{AreApart, IsHeld};
 ghost use Rattle.transactions.specs.Forgotten.{IsUndone, forgotten, used_by};
 ghost use Rattle.transactions.specs.Stores as spec;
 ghost use Rattle.transactions.specs.Stores.{ask_of, transact, transaction_at, world_of};
 
 use crate::counts::Counted;
+use crate::lone::Lone;
 use crate::slots::Slots;
 use crate::transactions::Transaction;
 use ae_base::atoms::Atom;
@@ -68,6 +71,29 @@ impl<K: Same> Store<K> {
             shared: Counted::new(alloc),
             slots: Slots::new(alloc),
         }
+    }
+
+    /// A shared world, and no transactions. It takes no memory.
+    pub(crate) fn idle(alloc: Global, shared: Counted<K>) -> Store<K>
+        requires { IsHeld (record { shared = shared; sessions = replicate 64 None }) }
+        ensures { result ≡ record { shared = shared; sessions = replicate 64 None } }
+    {
+        Store {
+            shared,
+            slots: Slots::new(alloc),
+        }
+    }
+
+    /// Has a session begin a transaction into which the shared world moves, where no session has
+    /// one. It takes no memory.
+    pub fn begin_alone(self, alloc: Global, session: SessionId) -> Lone<K>
+        requires { self.sessions ≡ replicate 64 None }
+        ensures session { result.session ≡ session }
+        ensures answer { (transact self session spec.Begins).answer ≡ Ok Defined }
+        ensures alone { IsAlone result (transact self session spec.Begins).after }
+    {
+        let Store { shared, slots: _ } = self;
+        Lone::begin(alloc, session, shared)
     }
 
     /// The catalog of the world that a session sees: its transaction's own, or the shared one.
@@ -256,7 +282,7 @@ impl<K: Same> Store<K> {
 }
 
 /// Executes a statement in a transaction, in which a definition other than REPLACE BY has no place.
-fn step_in<K: Same>(
+pub(crate) fn step_in<K: Same>(
     alloc: Global,
     transaction: &mut Transaction<K>,
     bound: Bound,

@@ -7,9 +7,10 @@ ghost use Rattle.sql_tree.specs.Bound.{bound_of, statement_of};
 ghost use Rattle.engine.specs.BoundOn.{IsBoundOn};
 ghost use Rattle.sql_tree.specs.Sorts.{replaced_in, tables_of};
 ghost use Rattle.transactions.specs.Answers.{StepsIn};
-ghost use Rattle.transactions.specs.Counted.{count_of, execution};
+ghost use Rattle.transactions.specs.Counted.{count_of, execution, raised_all};
 ghost use Rattle.transactions.specs.Effects as effects;
 ghost use Rattle.transactions.specs.Effects.{changed_where_accepted, noted};
+ghost use Rattle.transactions.specs.Lone.{HasBegun};
 ghost use Rattle.transactions.specs.Noted.{AreApart, IsInShape, IsNoted, MayLieOver};
 ghost use Rattle.transactions.specs.Stores as spec;
 ghost use Rattle.transactions.specs.Stores.{is_used, over, renamed_names, taken_over, with_changed, with_uses};
@@ -169,6 +170,22 @@ impl<K: Same> Transaction<K> {
         take_over(&mut own, shared, used.as_slice());
         own.raise_tables(changed.as_slice());
         *shared = own;
+    }
+
+    /// Its own world, in which the counts of the tables that it has changed are raised. It takes no
+    /// memory.
+    pub(crate) fn finish(self) -> Counted<K>
+        requires { HasBegun self }
+        ensures { result ≡ raised_all self.own self.changed }
+    {
+        let Transaction {
+            mut own,
+            version: _,
+            used: _,
+            changed,
+        } = self;
+        own.raise_tables(changed.as_slice());
+        own
     }
 }
 

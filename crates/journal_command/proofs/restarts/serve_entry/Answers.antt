@@ -1,26 +1,27 @@
 -- One request more, or one that is refused.
-use Rattle.std.proofs.Common.{rules, ◌≡◌, ◌<◌, ℕ, List, length, Bool, true, false, sym, subst}
+use Rattle.std.proofs.Common.{rules, ◌≡◌, ◌<◌, ℕ, List, length, sym, subst, ◌∙◌}
 use Rattle.std.proofs.lemmas.List.{take_rest}
-use Rattle.journal_command.proofs.Restarting.{HasServed, more_served, refused_front, refused_open}
+use Rattle.journal_command.proofs.Restarting.{HasReplayed, entry_served, more_replayed, refused_front, refused_open}
 use Rattle.journal_command.proofs.restarts.serve_entry.Goals as goal
-
-both : (b : Bool) → b ≡ true → b ≡ false → ⊥
-both b t f = cc
 
 pub frames-preserved : goal.frames-preserved
 frames-preserved c =
     let rest = c.frames.rest.now in
-    let used = c.in-Done.used in
-    subst (λ (l : List ℕ). HasServed c.args.server.now c.args.entry.now l c.serve_front.new.server) (sym (take_rest rest used))
-    (more_served c.args.server.now c.args.entry.now rest c.frames.server c.serve_front.new.server used c.frames.invariant c.in-Done.ensures)
+    let so_far = c.frames.invariant.so_far in
+    record {
+      so_far = subst (λ (l : List ℕ). HasReplayed c.args.server c.args.entry.now l c.in-Ok.field-0.1) (sym (take_rest rest c.in-Ok.field-0.0))
+          (more_replayed c.args.server c.args.entry.now rest c.frames.replay c.in-Ok.field-0.1 c.in-Ok.field-0.0 so_far (c.in-Ok.ensures.front so_far.now so_far.stands));
+      copies = c.in-Ok.ensures.copies ∙ c.frames.invariant.copies;
+    }
 
-pub returns-in-Refused : goal.returns-in-Refused
-returns-in-Refused c =
-    let long : 0 < length c.frames.rest.now = search rules in
-    refused_front c.one_reading.ensures.requests c.args.server.now c.args.entry.now c.frames.rest.now c.frames.server c.serve_front.new.server c.frames.invariant long c.in-Refused.ensures
-
-pub returns-else-is_idle : goal.returns-else-is_idle
-returns-else-is_idle c =
+pub returns-in-Some : goal.returns-in-Some
+returns-in-Some c =
     let none : length c.frames.rest.now ≡ 0 = search rules in
-    refused_open c.one_reading.ensures.requests c.args.server.now c.args.entry.now c.frames.rest.now c.frames.server c.frames.invariant none
-    (λ idle. both c.is_idle.result (c.is_idle.ensures.1 idle) c.if-is_idle.false)
+    let so_far = c.frames.invariant.so_far in
+    entry_served c.args.server c.args.entry.now c.frames.rest.now so_far.now c.in-Some.server so_far.served none (c.in-Some.ensures so_far.now so_far.stands)
+
+pub returns-in-None : goal.returns-in-None
+returns-in-None c =
+    let none : length c.frames.rest.now ≡ 0 = search rules in
+    let so_far = c.frames.invariant.so_far in
+    refused_open c.one_reading.ensures.requests c.args.server c.args.entry.now c.frames.rest.now so_far.now so_far.served none (c.in-None.ensures so_far.now so_far.stands)

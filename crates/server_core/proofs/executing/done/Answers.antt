@@ -1,13 +1,16 @@
 -- What is ready may be executed, and what is answered may be sent.
 use Rattle.std.proofs.Common.{◌∙◌}
+use Rattle.transactions.specs.Answers.{Transacts}
+use Rattle.transactions.specs.Stores.{transact}
 use Rattle.statement_analysis.specs.Describing.{meant_of}
+use Rattle.server_core.specs.Serve.{catalog_of}
 use Rattle.server_core.proofs.Readiness.{Laws, parts_bound, parts_given, done_well}
 use Rattle.server_core.proofs.executing.done.Goals as goal
 
 pub execute-requires : goal.execute-requires
 execute-requires c =
     let r = c.requires.ready in
-    parts_bound c.args.store.now c.args.session r.0 c.args.ready.typed c.args.ready.atoms r.1 c.into_parts-bound.result.0 c.as_slice.result.now c.as_slice-2.result.now c.into_parts-bound.ensures.bound
+    parts_bound (catalog_of c.args.store.now c.args.session) r.0 c.args.ready.typed c.args.ready.atoms r.1 c.into_parts-bound.result.0 c.as_slice.result.now c.as_slice-2.result.now c.into_parts-bound.ensures.bound
     (c.as_slice.ensures ∙ c.into_parts-bound.ensures.encs) c.as_slice-2.ensures c.typings_are_of_columns.ensures
 
 pub returns : goal.returns
@@ -19,7 +22,7 @@ returns c =
       keeps = c.transactions_keep_stores.ensures;
       shown = c.rows_are_shown.ensures;
     } in
-    let given = parts_given c.args.store.now c.args.session r.0 c.args.ready.typed c.args.ready.atoms r.1 c.into_parts-bound.result.0 c.as_slice.result.now c.as_slice-2.result.now c.into_parts-bound.ensures.bound
-    (c.as_slice.ensures ∙ c.into_parts-bound.ensures.encs) c.as_slice-2.ensures c.execute.result c.execute.new.self c.execute.ensures.exact in
+    let given = parts_given (λ ask. Transacts c.execute.result c.args.store.now c.execute.new.self (transact c.args.store.now c.args.session ask)) c.args.ready.typed c.args.ready.atoms
+    c.into_parts-bound.result.0 c.as_slice.result.now c.as_slice-2.result.now c.into_parts-bound.ensures.bound (c.as_slice.ensures ∙ c.into_parts-bound.ensures.encs) c.as_slice-2.ensures c.execute.ensures.exact in
     let well = done_well laws c.args.store.now c.args.session c.execute.new.self r.0 (meant_of c.args.ready.typed) c.args.ready.atoms c.execute.result c.requires.state r.1 given c.execute.ensures.undone in
     record { exact = given; state = well.state; rows = well.sent; undone = c.execute.ensures.undone }

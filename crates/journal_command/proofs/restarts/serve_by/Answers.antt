@@ -1,25 +1,26 @@
 -- One record more, or one that is refused.
 use Rattle.std.proofs.Common.{◌≡◌, ◌+◌, [], ◌∷◌, take, drop, ap, ◌∙◌, arith}
 use Rattle.journal_core.specs.Journals.{place_behind}
+use Rattle.server_core.specs.Serve.{empty_state}
 use Rattle.journal_command.proofs.Adding.{place_append}
 use Rattle.journal_command.proofs.Restarting.{entries_taken, next_entry, one_more_served, refuses_at}
-use Rattle.journal_command.proofs.restarts.serve_again.Goals as goal
+use Rattle.journal_command.proofs.restarts.serve_by.Goals as goal
 
-pub overflow_add-place-in-Served : goal.overflow_add-place-in-Served
-overflow_add-place-in-Served c =
+pub overflow_add-place-in-Ok : goal.overflow_add-place-in-Ok
+overflow_add-place-in-Ok c =
     let entries = c.args.entries.now in
     let i = c.entries.entry-index in
     let whole = next_entry entries i c.entry-item.result c.entries-test.true c.entry-item.is in
     let sum : place_behind entries ≡ place_behind (take i entries) + place_behind (c.entry-item.result ∷ drop (i + 1) entries) = ap place_behind whole ∙ place_append (take i entries) (c.entry-item.result ∷ drop (i + 1) entries) in
     omega (arith, sum, c.entries.invariant.place, c.len.ensures, c.requires)
 
-pub returns-in-Refused : goal.returns-in-Refused
-returns-in-Refused c =
+pub returns-in-Err-NotDone : goal.returns-in-Err-NotDone
+returns-in-Err-NotDone c =
     let entries = c.args.entries.now in
     let i = c.entries.entry-index in
     let x = c.entry-item.result in
-    let refused = rw c.as_slice.ensures at c.in-Refused.ensures in
-    refuses_at c.args.server.now entries (take i entries) x (drop (i + 1) entries) c.entries.server c.entries.place c.entries.invariant.so_far
+    let refused = rw c.as_slice.ensures at c.in-Err-NotDone.ensures in
+    refuses_at empty_state entries (take i entries) x (drop (i + 1) entries) c.entries.server c.entries.place c.entries.invariant.so_far
     (next_entry entries i x c.entries-test.true c.entry-item.is) c.entries.invariant.place refused
 
 pub entries-preserved : goal.entries-preserved
@@ -27,9 +28,9 @@ entries-preserved c =
     let entries = c.args.entries.now in
     let i = c.entries.entry-index in
     let x = c.entry-item.result in
-    let served = rw c.as_slice.ensures at c.in-Served.ensures in
+    let served = rw c.as_slice.ensures at c.in-Ok.ensures in
     let taken = entries_taken entries i x c.entries-test.true c.entry-item.is in
     record {
-      so_far = rw taken (one_more_served c.args.server.now (take i entries) x c.entries.server c.serve_entry.new.server c.entries.invariant.so_far served);
+      so_far = rw taken (one_more_served empty_state (take i entries) x c.entries.server c.in-Ok.next c.entries.invariant.so_far served);
       place = rw taken (omega (arith, c.entries.invariant.place, c.len.ensures, place_append (take i entries) (x ∷ [])));
     }
