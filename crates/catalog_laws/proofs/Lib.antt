@@ -1,0 +1,4 @@
+mod Following
+mod Names
+mod Numbers
+mod Told
