@@ -35,8 +35,8 @@ use wrap_command::commands::wrap;
 ///   and prints what the cells hold. `run --summary` does the same, and puts four lines in the place
 ///   of the text: the steps, the refusals, the result rows and the requests.
 /// - `drive` runs a script against recorded replies: it takes their frames from `replies`, and puts
-///   those of the requests alone to `tap`, which it closes behind the last. The frames of `run` and `drive` are of version 1, and with
-///   `--frames 2` of version 2, in which rows share frames.
+///   those of the requests alone to `tap`, which it closes behind the last. The frames of `run` and
+///   `drive` are of version 1, and with `--frames 2` of version 2, in which rows share frames.
 /// - `check` reads a script from `script`, executes its definitions, describes every other batch
 ///   without executing it, and puts the result of each to `out`, with the rules that show it for a
 ///   clash.

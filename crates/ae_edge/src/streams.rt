@@ -66,6 +66,7 @@ pub fn put_all<W: Sink>(sink: &mut W, bytes: &[u8]) -> PutAll
     ensures count { W.faults sink.old ≤ W.faults sink.new }
     ensures fault { result ≡ PutAll.WriteFault → Rose (W.faults sink.old) (W.faults sink.new) }
     ensures counts { CountsPutAll result (W.faults sink.old) (W.faults sink.new) }
+    ensures stays { W.closed sink.new ≡ W.closed sink.old }
 {
     let mut rest = bytes;
     'pieces: while !rest.is_empty() {

@@ -9,7 +9,7 @@ use Rattle.ae_edge.specs.Vaults.{KeyMap}
 use Rattle.ae_edge.proofs.Interface.{told_same, adds_none, removes_none}
 use Rattle.wire_messages.specs.declared.requests.Request.{Request}
 use Rattle.wire_messages.specs.declared.replies.Reply.{Reply}
-use Rattle.server_core.specs.Serve.{State}
+use Rattle.server_core.specs.Beside.{Beside}
 use Rattle.conversation.specs.declared.outcomes.Listing.{Listing}
 use Rattle.conversation.specs.declared.outcomes.Outcome.{Outcome}
 use Rattle.conversation.specs.declared.sessions.Session.{Session}
@@ -54,8 +54,8 @@ own_uncounted = of_own (λ xs. (t : Tally) → counted xs t ≡ t) (λ t. refl) 
 none_taken : (xs : List Event) → AreOwn xs → flat_map taken_in xs ≡ []
 none_taken = of_own (λ xs. flat_map taken_in xs ≡ []) refl (λ bytes xs h. h) (λ meta key xs h. h)
 
-own_serves : (xs : List Event) → AreOwn xs → (x : State) → AreServed xs x x
-own_serves = of_own (λ xs. (x : State) → AreServed xs x x) (λ x. refl) (λ bytes xs h. h) (λ meta key xs h. h)
+own_serves : (xs : List Event) → AreOwn xs → (x : Beside) → AreServed xs x x
+own_serves = of_own (λ xs. (x : Beside) → AreServed xs x x) (λ x. refl) (λ bytes xs h. h) (λ meta key xs h. h)
 
 own_queues : (version : FrameVersion) (xs : List Event) → AreOwn xs → (x : Queue) → Queues version xs x x
 own_queues version = of_own (λ xs. (x : Queue) → Queues version xs x x) (λ x. refl) (λ bytes xs h. h) (λ meta key xs h. h)
@@ -94,6 +94,7 @@ own_goes t u old x g = record {
       log = added_none (flat_map exchanges_of g.events) old.wire.log (no_exchanges g.events g.own);
       state = told_same (AreServed g.events) (own_serves g.events g.own) old.wire.state;
       count = omega arith;
+      closed = refl;
     };
   };
   read = record {
@@ -124,7 +125,7 @@ twice_nil : (xs : List ℕ) → (xs ++ []) ++ [] ≡ xs
 twice_nil xs = append-nil (xs ++ []) ∙ append-nil xs
 
 pub wire_printed : (comes : Outcome) (w : Wire) → WirePut Adds (Printed comes ∷ []) w w
-wire_printed comes w = record { names = refl; version = refl; tap = adds_none w.tap; log = adds_none w.log; state = told_same (AreServed (Printed comes ∷ [])) (λ x. refl) w.state; count = omega arith }
+wire_printed comes w = record { names = refl; version = refl; tap = adds_none w.tap; log = adds_none w.log; state = told_same (AreServed (Printed comes ∷ [])) (λ x. refl) w.state; count = omega arith; closed = refl }
 
 module _ (comes : Outcome) (d : ClientSide) (out : Option (List ℕ)) (faults : ℕ) (names : List GName) (same : names ≡ d.out_names) (count : d.out_faults ≤ faults) where
   pub client_printed : Adds (printed_outcome comes) d.out out → (tally : Tally) → ClientPut Adds (Printed comes ∷ []) d (record d { out_names = names; out = out; tally = tally; out_faults = faults })
@@ -329,7 +330,7 @@ strayed_goes aloud session shown f next old s e = record {
       entropy_count = omega arith;
       vault_count = omega arith;
     };
-    wire = record { names = refl; version = refl; tap = adds_none old.wire.tap; log = adds_none old.wire.log; state = told_same (AreServed (Strayed next ∷ [])) (λ x. refl) old.wire.state; count = omega arith };
+    wire = record { names = refl; version = refl; tap = adds_none old.wire.tap; log = adds_none old.wire.log; state = told_same (AreServed (Strayed next ∷ [])) (λ x. refl) old.wire.state; count = omega arith; closed = refl };
   };
   read = record { tally = refl; wire = record { comes = comes_strayed old.wire.version next old.wire.stream (queue_of old.wire) e; taken = omega arith } };
   limit = λ h. h;

@@ -6,7 +6,7 @@ use Rattle.ae_base.specs.declared.frames.FrameVersion.{FrameVersion}
 use Rattle.ae_edge.specs.Devices.{Rose, WhereTold, Adds, AddsFront}
 use Rattle.ae_edge.specs.Vaults.{KeyMap}
 use Rattle.ae_edge.proofs.Interface.{told_then, told_same, adds_none, adds_then, removes_none, removes_then, front_of, front_same, rose_before}
-use Rattle.server_core.specs.Serve.{State}
+use Rattle.server_core.specs.Beside.{Beside}
 use Rattle.conversation.specs.Paths.{Event, Asked, Took, Strayed, Drew, Opened, Printed, stays, replies_to, taken_in, drawn_in, OpensAll}
 use Rattle.conversation.specs.Talk.{Talk}
 use Rattle.conversation.proofs.Interface.{follows_then, opens_then}
@@ -50,7 +50,7 @@ comes_then version xs ys None (Some s) t a b c p q = absurd p
 comes_then version xs ys (Some r) None t a b c p q = absurd p
 comes_then version xs ys (Some r) (Some s) None a b c p q = absurd q
 
-pub serves_then : (xs ys : List Event) (a b c : State) → AreServed xs a b → AreServed ys b c → AreServed (xs ++ ys) a c
+pub serves_then : (xs ys : List Event) (a b c : Beside) → AreServed xs a b → AreServed ys b c → AreServed (xs ++ ys) a c
 serves_then [] ys a b c p q = subst (λ w. AreServed ys w c) p q
 serves_then (Asked request replies ∷ xs) ys a b c p q = (p.0, p.1, serves_then xs ys p.0 b c p.2 q)
 serves_then (Took reply ∷ xs) ys a b c p q = serves_then xs ys a b c p q
@@ -94,6 +94,7 @@ wire_then xs ys a b c p q = record {
   log = puts_then exchanges_of xs ys a.log b.log c.log p.log q.log;
   state = told_then (AreServed xs) (AreServed ys) (AreServed (xs ++ ys)) (serves_then xs ys) a.state b.state c.state p.state q.state;
   count = let x = p.count in let y = q.count in omega arith;
+  closed = q.closed ∙ p.closed;
 }
 
 put_then : (xs ys : List Event) (a b c : Outside) → HasPut Adds xs a b → HasPut Adds ys b c → HasPut Adds (xs ++ ys) a c
@@ -129,7 +130,7 @@ pub no_keys : (keys : Option KeyMap) → IfSome keys (OpensAll [])
 no_keys None = tt
 no_keys (Some keys) = tt
 
-pub same_state : (a : Option State) → WhereTold (AreServed []) a a
+pub same_state : (a : Option Beside) → WhereTold (AreServed []) a a
 same_state = told_same (AreServed []) (λ x. refl)
 
 pub client_still : (a : ClientSide) → ClientPut Adds [] a a
@@ -147,7 +148,7 @@ client_still a = record {
 }
 
 pub wire_still : (a : Wire) → WirePut Adds [] a a
-wire_still a = record { names = refl; version = refl; tap = adds_none a.tap; log = adds_none a.log; state = same_state a.state; count = omega arith }
+wire_still a = record { names = refl; version = refl; tap = adds_none a.tap; log = adds_none a.log; state = same_state a.state; count = omega arith; closed = refl }
 
 pub nothing_put : (a : Outside) → HasPut Adds [] a a
 nothing_put a = record { client = client_still a.client; wire = wire_still a.wire }
@@ -191,6 +192,7 @@ wire_front xs a b p = record {
   log = p.log;
   state = p.state;
   count = p.count;
+  closed = p.closed;
 }
 
 -- ---- one way after another

@@ -1,6 +1,10 @@
 mod Calls
 mod Counted
 mod Going
+mod Leaving
+mod Passing
 mod Queueing
+mod Reaching
 mod Reading
+mod Unstreamed
 pub mod Interface

@@ -1,2 +1,4 @@
+pub mod Endings
+pub mod Events
 pub mod Shares
 pub mod Ways

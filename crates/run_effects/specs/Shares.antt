@@ -1,17 +1,18 @@
 -- What is told of all that a run touches, and what each device has of the events of a conversation.
-use Rattle.std.specs.Prelude.{◌≡◌, ℕ, ◌+◌, ◌≤◌, List, [], ◌∷◌, ◌++◌, length, map, flat_map, drop, Option, Some, None, IfSome}
+use Rattle.std.specs.Prelude.{◌≡◌, ℕ, ◌+◌, ◌≤◌, List, [], ◌∷◌, ◌++◌, length, map, flat_map, drop, Option, Some, None, IfSome, Bool}
 use Rattle.std.specs.Borrow.{GName}
 use Rattle.ae_base.specs.declared.frames.FrameVersion.{FrameVersion}
 use Rattle.ae_edge.specs.Devices.{WhereTold, Adds, IsFront}
 use Rattle.ae_edge.specs.Vaults.{KeyMap}
-use Rattle.wire_messages.specs.Exchanges.{Exchange}
+use Rattle.wire_messages.specs.Exchanges.{Exchange, Served}
+use Rattle.wire_messages.specs.declared.requests.Request.{Request}
 use Rattle.wire_messages.specs.declared.replies.Reply.{Reply}
 use Rattle.wire_payloads.specs.Payloads.{replies_of}
 use Rattle.wire_payloads.specs.declared.payloads.Payload.{Payload}
 use Rattle.wire_spelling.specs.Packing.{HasFrame, packed, payload_frame}
 use Rattle.wire_spelling.specs.Spelling.{request_frame}
 use Rattle.wire_frames.specs.Frames.{Placed, placed_answer}
-use Rattle.server_core.specs.Serve.{State, serve}
+use Rattle.server_core.specs.Beside.{Beside, serve_beside}
 use Rattle.conversation.specs.Devices.{Devices}
 use Rattle.conversation.specs.Paths.{Event, Asked, Took, Strayed, Drew, Opened, Printed, next_of, replies_to, taken_in, drawn_in, outcome_in, OpensAll}
 use Rattle.outcome_text.specs.Counting.{counted}
@@ -63,20 +64,21 @@ pub record Stream : Type 0 where
   pub left : Option (List ℕ)
   pub faults : ℕ
 
--- The other side: what it is lent, its frames, what was asked and answered and the state that it serves by, where they are told; the version
+-- The other side: what it is lent, its frames, what was asked and answered and the server and what others ask of it, where they are told; the version
 -- in which all is spelled; the replies that wait, each with the place of its frame, and the place behind the frames of all that came; or the
--- stream as which they come; how many replies were taken, and the count of faults.
+-- stream as which they come; how many replies were taken, the count of faults, and whether the tap is closed.
 pub record Wire : Type 0 where
   pub names : List (List GName)
   pub tap : Option (List ℕ)
   pub log : Option (List Exchange)
-  pub state : Option State
+  pub state : Option Beside
   pub version : FrameVersion
   pub waiting : List (Placed Reply)
   pub behind : ℕ
   pub stream : Option Stream
   pub taken : ℕ
   pub faults : ℕ
+  pub closed : Bool
 
 pub record Outside : Type 0 where
   pub client : ClientSide
@@ -96,15 +98,19 @@ abbrev pub exchanges_of : Event → List Exchange
 exchanges_of (Asked request replies) = record { request = request; replies = replies } ∷ []
 exchanges_of other = []
 
--- the state served the requests
-abbrev pub AreServed : List Event → State → State → Type 0
-AreServed [] old new = new ≡ old
-AreServed (Asked request replies ∷ events) old new = (next : State) × (serve old request ≡ record { replies = replies; after = next }) × AreServed events next new
-AreServed (Took reply ∷ events) old new = AreServed events old new
-AreServed (Strayed next ∷ events) old new = AreServed events old new
-AreServed (Drew bytes ∷ events) old new = AreServed events old new
-AreServed (Opened meta key ∷ events) old new = AreServed events old new
-AreServed (Printed comes ∷ events) old new = AreServed events old new
+-- whoever serves so served the requests, from the first state to the second
+abbrev pub AreServedBy : {State : Type 0} → (State → Request → Served State) → List Event → State → State → Type 0
+AreServedBy serving [] old new = new ≡ old
+AreServedBy {State} serving (Asked request replies ∷ events) old new = (next : State) × (serving old request ≡ record { replies = replies; after = next }) × AreServedBy serving events next new
+AreServedBy serving (Took reply ∷ events) old new = AreServedBy serving events old new
+AreServedBy serving (Strayed next ∷ events) old new = AreServedBy serving events old new
+AreServedBy serving (Drew bytes ∷ events) old new = AreServedBy serving events old new
+AreServedBy serving (Opened meta key ∷ events) old new = AreServedBy serving events old new
+AreServedBy serving (Printed comes ∷ events) old new = AreServedBy serving events old new
+
+-- a server beside whose client others may ask served them
+abbrev pub AreServed : List Event → Beside → Beside → Type 0
+AreServed = AreServedBy serve_beside
 
 -- ---- what was put: whole, or a front of it
 
@@ -130,6 +136,7 @@ pub record WirePut (P : Puts) (events : List Event) (old new : Wire) : Type 0 wh
   pub log : Adds (flat_map exchanges_of events) old.log new.log
   pub state : WhereTold (AreServed events) old.state new.state
   pub count : old.faults ≤ new.faults
+  pub closed : new.closed ≡ old.closed
 
 pub record HasPut (P : Puts) (events : List Event) (old new : Outside) : Type 0 where
   pub client : ClientPut P events old.client new.client

@@ -9,6 +9,7 @@ ghost use Rattle.conversation.specs.Talk.{Talk, Ends, Asks, Prints, Heard, nothi
 ghost use Rattle.conversation.specs.Turns as turns;
 ghost use Rattle.conversation.specs.Turns.{Onward};
 ghost use Rattle.driver.specs.Clients.{IsOfVault, columns_of, session_of};
+ghost use Rattle.run_effects.specs.Endings.{closed_as};
 ghost use Rattle.run_effects.specs.Shares.{Outside};
 ghost use Rattle.run_effects.specs.Ways.{IsReadOut, Advances};
 ghost use Rattle.script_run.specs.Onward.{IsBegun, IsRows, IsDescribed, Keeps, Leaves, RowsStay, shown_first, said_first, told_on, first_on, row_on};
@@ -61,7 +62,9 @@ pub trait Around {
     /// Ends it, where nothing more is asked, and looks whether any reply is left. None may be.
     fn finish(&mut self, alloc: Global) -> Result<(), Stop>
         ensures leads { (sessions : List Session) → Advances result (Ends sessions)
-            (λ _. Ends sessions) (outside self.old) (outside self.new) }
+            (λ _. Ends sessions) (outside self.old)
+            (closed_as (outside self.old).wire.closed (outside self.new)) }
+        ensures tap { (outside self.new).wire.tap ≡ (outside self.old).wire.tap }
         ensures read { IfOk result
             (λ _. IsReadOut (outside self.new).wire.stream (outside self.new).wire.waiting) }
         ensures ended { IfOk result (λ _. is_ended self.new) };

@@ -50,7 +50,7 @@ use Rattle.conversation.specs.declared.outcomes.Outcome.TheVariants as outcome
 use Rattle.conversation.specs.declared.sessions.ColumnType.{ColumnType}
 use Rattle.conversation.specs.declared.sessions.Session.{Session}
 use Rattle.conversation.specs.declared.sessions.Session.TheVariants as session
-use Rattle.served_rotations.specs.Beside.{Beside, first_of, serve_beside}
+use Rattle.server_core.specs.Beside.{Beside, first_of, serve_beside}
 
 -- ---- where a rotation is
 

@@ -44,7 +44,8 @@ use Rattle.wire_messages.specs.declared.params.SentParam.{SentParam}
 use Rattle.wire_messages.specs.declared.requests.Request.{Request}
 use Rattle.served_rotations.specs.KeysFit.{Fits}
 use Rattle.served_rotations.specs.Moved.{AreMoved}
-use Rattle.served_rotations.specs.Beside.{Beside, all_asked, first_of, rest_of}
+use Rattle.server_core.specs.Beside.{Beside, first_of, rest_of}
+use Rattle.served_rotations.specs.Beside.{all_asked}
 use Rattle.served_rotations.proofs.Apart.{IsOther, after_by, executed_after}
 use Rattle.served_rotations.proofs.Batches.{AreSent, Goes, OnAnswer, OnServed, Passes, StopsAt, Walk, batch_goes, describe_of, execute_of, next, now, pending_of}
 use Rattle.served_rotations.proofs.Deeds.{IsDone, described_means}

@@ -34,7 +34,9 @@ use Rattle.column_rotate.specs.Headers.{are_alike, columns_in}
 use Rattle.column_rotate.specs.Moves.{is_empty, rows_told}
 use Rattle.column_rotate.specs.Rotating.{committing, comparing, fails_with, fault_as, putting_each, reading_new, reading_old, replacing, rolling_back, told_of, unless_refused}
 use Rattle.column_rotate.specs.Texts.{begins, commits, puts, reads_all, replaces, rolls_back}
-use Rattle.served_rotations.specs.Beside.{Beside, first_of, others_asked, rest_of, rotation}
+use Rattle.server_core.specs.Beside.{Beside, first_of, rest_of}
+use Rattle.served_rotations.specs.Beside.{others_asked, rotation}
+use Rattle.served_rotations.specs.Laws.{IsFinished}
 use Rattle.ae_base.specs.declared.keys.KeyMeta.{KeyMeta}
 use Rattle.ae_base.specs.declared.tables.ColumnDef.{ColumnDef}
 use Rattle.ae_base.specs.declared.types.Enc.{Enc}
@@ -58,19 +60,27 @@ module _ (stay : ProperTablesStay) (keys : KeyMap) (trusted : List (List ℕ)) (
   abbrev others_behind : State → List (List Request) → List Request → State
   others_behind s between requests = (serve_all s (others_asked between requests)).1
 
-  -- it is finished, or the shared world is the others'
-  abbrev pub IsFine : Walk → Passed Beside → Type 0
-  IsFine w p = ((n : ℕ) × (p.outcomes ≡ outcome.Rotated n ∷ [])) ⊎ AlikeBut number p.state.state (others_behind w.alone w.beside.between (requests_in p.exchanges))
+  -- one outcome at most; it is finished, or the shared world is the others'
+  pub record IsFine (w : Walk) (p : Passed Beside) : Type 0 where
+    pub one : length p.outcomes ≤ 1
+    pub fine : IsFinished p ⊎ AlikeBut number p.state.state (others_behind w.alone w.beside.between (requests_in p.exchanges))
 
   -- where it isn't finished
-  pub shared_of : (w : Walk) (p : Passed Beside) → IsFine w p → ¬ ((n : ℕ) × (p.outcomes ≡ outcome.Rotated n ∷ [])) → p.state.state.shared ≡ (others_behind w.alone w.beside.between (requests_in p.exchanges)).shared
-  shared_of w p (inl h) not_so = absurd (not_so h)
-  shared_of w p (inr h) not_so = h.shared
+  pub shared_of : (w : Walk) (p : Passed Beside) → IsFine w p → ¬ (IsFinished p) → p.state.state.shared ≡ (others_behind w.alone w.beside.between (requests_in p.exchanges)).shared
+  shared_of w p h not_so = of h.fine
+    where
+      of : IsFinished p ⊎ AlikeBut number p.state.state (others_behind w.alone w.beside.between (requests_in p.exchanges)) → p.state.state.shared ≡ (others_behind w.alone w.beside.between (requests_in p.exchanges)).shared
+      of (inl f) = absurd (not_so f)
+      of (inr a) = a.shared
 
   fine_passes : Passes IsFine
-  fine_passes w request p (inl h) = inl h
-  fine_passes w request p (inr h) =
-      inr (subst (AlikeBut number p.state.state) (sym (behind_more w.alone (first_of w.beside.between) (others_asked (rest_of w.beside.between) (requests_in p.exchanges)))) h)
+  fine_passes w request p h = record { one = h.one; fine = of h.fine }
+    where
+      of : IsFinished p ⊎ AlikeBut number p.state.state (others_behind (next w request).alone (rest_of w.beside.between) (requests_in p.exchanges))
+          → IsFinished p ⊎ AlikeBut number p.state.state (others_behind w.alone w.beside.between (request ∷ requests_in p.exchanges))
+      of (inl f) = inl f
+      of (inr a) =
+          inr (subst (AlikeBut number p.state.state) (sym (behind_more w.alone (first_of w.beside.between) (others_asked (rest_of w.beside.between) (requests_in p.exchanges)))) a)
 
   -- the tables of each world are proper
   abbrev pub IsTidy : State → Type 0
@@ -95,7 +105,7 @@ module _ (stay : ProperTablesStay) (keys : KeyMap) (trusted : List (List ℕ)) (
     pub others : All (All (IsOther number)) w.beside.between
 
   stops_fine : (w : Walk) → Stands w → StopsAt IsFine w
-  stops_fine w s entropy end = inr s.alike
+  stops_fine w s entropy end = record { one = omega arith; fine = inr s.alike }
 
   first_others : (between : List (List Request)) → All (All (IsOther number)) between → All (IsOther number) (first_of between)
   first_others [] h = All-nil (IsOther number)
@@ -349,7 +359,7 @@ module _ (stay : ProperTablesStay) (keys : KeyMap) (trusted : List (List ℕ)) (
     Ready w t = Goes keys IsFine w [] t
 
     ends : (w : Walk) → Stands w → (comes : Outcome) → Ready w (ending comes session.Idle)
-    ends w s comes taken entropy bytes = inr s.alike
+    ends w s comes taken entropy bytes = record { one = omega arith; fine = inr s.alike }
 
     either : (w : Walk) (F : Fault → Session → Talk) (G : Told → Session → Talk) (t : Told) → ((f : Fault) → Ready w (F f session.Idle)) → ((t : Told) → Ready w (G t session.Idle)) → Ready w (unless_refused F G t session.Idle)
     either w F G (told.Refused f) a b = a f
@@ -371,7 +381,7 @@ module _ (stay : ProperTablesStay) (keys : KeyMap) (trusted : List (List ℕ)) (
         roll_back_goes rolls_back (λ comes columns after. fails_with trusted number old new ending f after) _ controls.rolled_back refl w s (λ comes columns w s. fails w s f)
 
     finishes : (w : Walk) (all : ℕ) → Ready w (ending (outcome.Rotated all) session.Idle)
-    finishes w all taken entropy bytes = inl (all, refl)
+    finishes w all taken entropy bytes = record { one = omega arith; fine = inl (all, refl, refl) }
 
     commits_so : (w : Walk) → Stands w → (all : ℕ) → Ready w (committing trusted number old new ending all session.Idle)
     commits_so w s all =

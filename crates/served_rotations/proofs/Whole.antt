@@ -59,7 +59,8 @@ use Rattle.wire_messages.specs.Conditions.{IsRequest}
 use Rattle.wire_messages.specs.declared.columns.SentColumn.{SentColumn}
 use Rattle.wire_messages.specs.declared.params.SentParam.{SentParam}
 use Rattle.wire_messages.specs.declared.requests.Request.{Request}
-use Rattle.served_rotations.specs.Beside.{first_of, rotated_beside, rotation}
+use Rattle.server_core.specs.Beside.{first_of}
+use Rattle.served_rotations.specs.Beside.{rotated_beside, rotation}
 use Rattle.served_rotations.specs.KeysFit.{Fits}
 use Rattle.served_rotations.specs.Moved.{AreMoved}
 use Rattle.served_rotations.specs.Laws.{FinishedIsWhole, behind}

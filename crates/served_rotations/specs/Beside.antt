@@ -1,37 +1,17 @@
 -- A rotation over a server, between whose requests other sessions ask theirs.
 use Rattle.std.specs.Prelude.{ℕ, List, [], ◌∷◌, ◌++◌}
 use Rattle.ae_edge.specs.Vaults.{KeyMap}
-use Rattle.wire_messages.specs.Exchanges.{Served}
 use Rattle.wire_messages.specs.declared.requests.Request.{Request}
 use Rattle.wire_messages.specs.declared.requests.Request.TheVariants.{Describe, Execute}
 use Rattle.conversation.specs.Drive.{Passed, over}
 use Rattle.conversation.specs.Talk.{Talk, Ends, Prints}
 use Rattle.conversation.specs.declared.sessions.Session.TheVariants.{Idle}
 use Rattle.column_rotate.specs.Rotating.{rotating}
-use Rattle.server_core.specs.Serve.{State, serve, serve_all}
+use Rattle.server_core.specs.Beside.{Beside, first_of, rest_of, serve_beside}
 
 abbrev pub session_of : Request → ℕ
 session_of (Describe session text declarations) = session
 session_of (Execute session version text params) = session
-
--- a server's state, and what other sessions ask before each request that is still to come
-pub record Beside : Type 0 where
-  pub state : State
-  pub between : List (List Request)
-
-abbrev pub first_of : List (List Request) → List Request
-first_of [] = []
-first_of (requests ∷ more) = requests
-
-abbrev pub rest_of : List (List Request) → List (List Request)
-rest_of [] = []
-rest_of (requests ∷ more) = more
-
--- the others' requests come first, and nobody here hears their replies
-abbrev pub serve_beside : Beside → Request → Served Beside
-serve_beside b request =
-    let s = serve (serve_all b.state (first_of b.between)).1 request in
-    record { replies = s.replies; after = record { state = s.after; between = rest_of b.between } }
 
 -- all requests in the order in which they were served
 abbrev pub all_asked : List (List Request) → List Request → List Request

@@ -1,5 +1,5 @@
 -- The laws of rotations over a server: a table is moved whole or not at all, whatever other sessions ask meanwhile.
-use Rattle.std.specs.Prelude.{◌≡◌, ◌≢◌, ℕ, List, [], ◌∷◌, ◌++◌, length}
+use Rattle.std.specs.Prelude.{◌≡◌, ◌≢◌, ◌≤◌, ℕ, List, [], ◌∷◌, ◌++◌, length}
 use Rattle.std.specs.List.{All, AllZip}
 use Rattle.ae_base.specs.Atoms.{Atom}
 use Rattle.ae_base.specs.Sessions.{IsSession}
@@ -8,13 +8,14 @@ use Rattle.aes_block.specs.Bytes.{AreBytes}
 use Rattle.sql_tree.specs.OnTables.{columns_among}
 use Rattle.wire_messages.specs.Conditions.{IsRequest}
 use Rattle.wire_messages.specs.declared.requests.Request.{Request}
-use Rattle.conversation.specs.Drive.{Passed, requests_in}
-use Rattle.conversation.specs.declared.outcomes.Outcome.{Outcome}
+use Rattle.conversation.specs.Drive.{Done, Passed, requests_in}
 use Rattle.conversation.specs.declared.outcomes.Outcome.TheVariants as outcome
+use Rattle.conversation.specs.declared.sessions.Session.TheVariants.{Idle}
 use Rattle.transactions.specs.Rotating.{IsRotated}
 use Rattle.server_core.specs.Serve.{State, empty_state, serve_all}
 use Rattle.proper_values.specs.Proper.{IsIdentifier}
-use Rattle.served_rotations.specs.Beside.{Beside, all_asked, others_asked, rotated_beside, session_of}
+use Rattle.server_core.specs.Beside.{Beside}
+use Rattle.served_rotations.specs.Beside.{all_asked, others_asked, rotated_beside, session_of}
 use Rattle.served_rotations.specs.KeysFit.{Fits}
 use Rattle.served_rotations.specs.Moved.{AreMoved}
 
@@ -22,10 +23,20 @@ use Rattle.served_rotations.specs.Moved.{AreMoved}
 abbrev pub behind : State → List Request → State
 behind state requests = (serve_all state requests).1
 
-abbrev pub IsFinished : List Outcome → Type 0
-IsFinished outcomes = (n : ℕ) × (outcomes ≡ outcome.Rotated n ∷ [])
+-- its one outcome says so, and it came to its end
+abbrev pub IsFinished : Passed Beside → Type 0
+IsFinished p = (n : ℕ) × (p.outcomes ≡ outcome.Rotated n ∷ []) × (p.end ≡ Done (Idle ∷ []))
 
--- whatever was requested before, and whatever other sessions request between any two requests of the rotation: where it isn't finished, the shared
+-- whatever was requested before, and whatever other sessions request between any two requests of the rotation: it comes to one outcome at most
+abbrev pub RotationsTellOneOutcome : Type 0
+RotationsTellOneOutcome = (keys : KeyMap) (trusted : List (List ℕ)) (number : ℕ) (old new : List ℕ) (entropy : List ℕ)
+    (history : List Request) (between : List (List Request))
+    → IsSession number → IsIdentifier old → IsIdentifier new → AreBytes entropy
+    → All (All (λ request. IsRequest request × (session_of request ≢ number))) between
+    → let start : Beside = record { state = behind empty_state history; between = between } in
+    length (rotated_beside keys trusted number old new entropy start).outcomes ≤ 1
+
+-- and where it isn't finished, because it failed, or because it was stopped for want of random bytes or by a reply that wasn't awaited, the shared
 -- world is what the others' requests alone give
 abbrev pub UnfinishedLeavesNoTrace : Type 0
 UnfinishedLeavesNoTrace = (keys : KeyMap) (trusted : List (List ℕ)) (number : ℕ) (old new : List ℕ) (entropy : List ℕ)
@@ -34,7 +45,7 @@ UnfinishedLeavesNoTrace = (keys : KeyMap) (trusted : List (List ℕ)) (number : 
     → All (All (λ request. IsRequest request × (session_of request ≢ number))) between
     → let start : Beside = record { state = behind empty_state history; between = between } in
     let p = rotated_beside keys trusted number old new entropy start in
-    ¬ (IsFinished p.outcomes) → p.state.state.shared ≡ (behind start.state (others_asked between (requests_in p.exchanges))).shared
+    ¬ (IsFinished p) → p.state.state.shared ≡ (behind start.state (others_asked between (requests_in p.exchanges))).shared
 
 -- ---- one that is finished
 

@@ -1,6 +1,6 @@
 //! The laws of rotations over a server: functions that do nothing, whose contracts are the laws.
 
-ghost use Rattle.served_rotations.specs.Laws.{FinishedIsWhole, UnfinishedLeavesNoTrace};
+ghost use Rattle.served_rotations.specs.Laws.{FinishedIsWhole, RotationsTellOneOutcome, UnfinishedLeavesNoTrace};
 
 use cell_codec::{derived_keys_are_keys, sealing_is_read_back};
 use key_store::opened_are_keys;
@@ -12,6 +12,17 @@ use rotation_laws::laws::{
 use server_core::laws::requests_may_be_asked;
 use transactions::laws::rotations_are_whole;
 use value_norm::{norm_is_bounded, value_of_is_the_one};
+
+/// Whatever was requested of a server before, and whatever other sessions request between any two
+/// requests of a rotation: it comes to one outcome at most.
+pub fn rotations_tell_one_outcome()
+    ensures { RotationsTellOneOutcome }
+{
+    proper_tables_stay();
+    begins_commits_and_rolls_back();
+    reading_is_whole();
+    texts_parse();
+}
 
 /// Whatever was requested of a server before, and whatever other sessions request between any two
 /// requests of a rotation: where the rotation isn't finished, because it failed or was stopped on its

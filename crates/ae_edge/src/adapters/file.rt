@@ -1,6 +1,6 @@
 //! Files that are opened at their first use, as a sink or a source.
 
-ghost use Rattle.std.specs.Prelude.{◌≡◌, ◌≤◌, [], IsTrue, None, false};
+ghost use Rattle.std.specs.Prelude.{◌≡◌, ◌≤◌, [], None, false, true};
 ghost use Rattle.ae_edge.specs.Devices.{Rose};
 ghost use Rattle.ae_edge.specs.Files.{IsKept, OpensThen};
 ghost use Rattle.ae_edge.specs.Sinks.{Closes, CountsClosing, CountsPut, IsPut, PutsKnown};
@@ -87,16 +87,18 @@ impl<R: Files + Drop> Sink for LazyFile<R, StdSink<R::File>> {
 
     ghost names = { λ s. [] };
 
+    ghost closed = { λ s. s.closed };
+
     fn put(&mut self, bytes: &[u8]) -> Put
         ensures piece { IsPut bytes.now result }
         ensures count { self.old.faults ≤ self.new.faults }
         ensures failed { result ≡ Put.Failed → Rose self.old.faults self.new.faults }
         ensures counts { CountsPut result self.old.faults self.new.faults }
+        ensures stays { self.new.closed ≡ self.old.closed }
+        ensures nothing { self.old.closed ≡ true → result ≡ Put.Failed }
         ensures files { self.new.files ≡ self.old.files }
         ensures name { self.new.name ≡ self.old.name }
         ensures shut { self.new.file ≡ None → result ≡ Put.Failed }
-        ensures closed { self.new.closed ≡ self.old.closed }
-        ensures nothing { IsTrue self.old.closed → result ≡ Put.Failed }
         // The file stays open once it is, and each piece is put behind what was put before.
         ensures known { OpensThen
             (λ old new. PutsKnown bytes.now result (R.File.contents old.writer)
@@ -116,8 +118,6 @@ impl<R: Files + Drop> Sink for LazyFile<R, StdSink<R::File>> {
 }
 
 impl<R: Files + Drop> Close for LazyFile<R, StdSink<R::File>> {
-    ghost closed = { λ s. s.closed };
-
     // The file is let go. One that was never opened is opened first, so that it is emptied, and a
     // reader of a named pipe sees an end.
     fn close(&mut self) -> Closing

@@ -1,6 +1,6 @@
 //! A sink over a writer.
 
-ghost use Rattle.std.specs.Prelude.{◌≡◌, ◌≤◌, None, []};
+ghost use Rattle.std.specs.Prelude.{◌≡◌, ◌≤◌, None, [], false, true};
 ghost use Rattle.ae_edge.specs.Devices.{Rose};
 ghost use Rattle.ae_edge.specs.Sinks.{CountsPut, IsPut, PutsKnown};
 
@@ -30,6 +30,8 @@ impl<W: Write> Sink for StdSink<W> {
     ghost faults = { λ s. s.faults };
 
     ghost names = { λ s. [] };
+
+    ghost closed = { λ s. false };
 
     fn put(&mut self, bytes: &[u8]) -> Put
         ensures piece { IsPut bytes.now result }

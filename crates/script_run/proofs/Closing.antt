@@ -1,0 +1,58 @@
+-- The tap is closed behind the end, and nothing is put on it there.
+use Rattle.std.proofs.Common.{◌≡◌, ℕ, List, [], ◌∷◌, ◌++◌, Option, Some, None, Result, Ok, Err, refl, ◌∙◌, ap, subst, append-nil, inl, inr}
+use Rattle.ae_edge.specs.Devices.{Adds, AddsFront, IsFront}
+use Rattle.conversation.specs.Talk.{Talk, Ends}
+use Rattle.conversation.specs.declared.sessions.Session.{Session}
+use Rattle.run_effects.specs.Endings.{ClosesBehind, closed_as}
+use Rattle.run_effects.specs.Shares.{Outside, Wire}
+use Rattle.run_effects.specs.Ways.{Advances, Proceeds, StopsBy}
+use Rattle.run_effects.specs.declared.stops.Stop.{Stop}
+use Rattle.run_effects.proofs.Interface.{leads_then}
+use Rattle.script_run.specs.declared.connection.EndFault.{EndFault}
+use Rattle.script_run.specs.declared.connection.EndFault.TheVariants as ending
+use Rattle.script_run.specs.declared.connection.ReplyFault.TheVariants as fault
+use Rattle.script_run.specs.Connections.{Finishes}
+use Rattle.script_run.proofs.Lent.{fails_same}
+
+-- ---- nothing is put
+
+still : (a b : Option (List ℕ)) → Adds [] a b → b ≡ a
+still (Some x) (Some y) e = ap (λ (w : List ℕ). Some w) (e ∙ append-nil x)
+still None None e = refl
+still (Some x) None e = absurd e
+still None (Some y) e = absurd e
+
+front_of_none : (front : List ℕ) → IsFront front [] → front ≡ []
+front_of_none [] f = refl
+front_of_none (x ∷ front) f = let e = f.is in cc
+
+front_still : (a b : Option (List ℕ)) → AddsFront [] a b → b ≡ a
+front_still (Some x) (Some y) g = ap (λ (w : List ℕ). Some w) (g.grew ∙ ap (λ w. x ++ w) (front_of_none g.front g.of_it) ∙ append-nil x)
+front_still None None g = refl
+front_still (Some x) None g = absurd g
+front_still None (Some y) g = absurd g
+
+pub finished_tap : (result : Result (Unit {0}) EndFault) (old new : Wire) → Finishes result old new → new.tap ≡ old.tap
+finished_tap (Ok o) old new f = still old.tap new.tap f.0.0.tap
+finished_tap (Err ending.WriteFault) old new f = still old.tap new.tap f.0.0.tap
+finished_tap (Err (ending.Replies fault.BadReply)) old new f = still old.tap new.tap f.0.0.tap
+finished_tap (Err (ending.Replies fault.ReadFault)) old new f = still old.tap new.tap f.0.0.tap
+finished_tap (Err (ending.Replies fault.TooLong)) old new f = still old.tap new.tap f.0.tap
+finished_tap (Err (ending.Replies fault.OutOfMemory)) old new f = front_still old.tap new.tap f.0.tap
+
+-- ---- to the end, or no further
+
+pub ends_then : (result : Result (Unit {0}) Stop) (t : Talk) (sessions : List Session) (a b c : Outside) → Proceeds t (Ends sessions) a b
+    → Advances result (Ends sessions) (λ o. Ends sessions) b (closed_as b.wire.closed c) → Advances result t (λ o. Ends sessions) a (closed_as a.wire.closed c)
+ends_then result t sessions a b c p l =
+    leads_then result t (Ends sessions) (λ o. Ends sessions) a b (closed_as a.wire.closed c) p
+    (subst (λ w. Advances result (Ends sessions) (λ o. Ends sessions) b (closed_as w c)) p.put.wire.closed l)
+
+pub stops_so : (s : Stop) (t : Talk) (a b : Outside) → StopsBy s t a b → StopsBy s t a (closed_as a.wire.closed b)
+stops_so s t a b h = let e = (fails_same s t a b h).closed in subst (λ w. StopsBy s t a (closed_as w b)) e h
+
+pub behind_end : (t : Talk) (sessions : List Session) (a b c : Outside) → Proceeds t (Ends sessions) a b → c.wire.tap ≡ b.wire.tap → ClosesBehind t a c.wire
+behind_end t sessions a b c p e = inr (record { sessions = sessions; end = b; goes = p; tap = e })
+
+pub as_before : (s : Stop) (t : Talk) (a b : Outside) → StopsBy s t a b → ClosesBehind t a b.wire
+as_before s t a b h = inl (fails_same s t a b h).closed
