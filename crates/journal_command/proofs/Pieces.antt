@@ -19,7 +19,7 @@ use Rattle.transactions.specs.WellKept.{HasNoTransactions, IsStore}
 use Rattle.journal_command.specs.Durable.{DurableState}
 use Rattle.journal_command.specs.Endings.{ended_by}
 use Rattle.journal_command.specs.Keeping.{Asked, frames_of}
-use Rattle.journal_command.specs.Running.{HasRoomFor, KeepsBy, PutsOf, ServesPieces}
+use Rattle.journal_command.specs.Running.{HasKeptAll, HasRoomFor, KeepsBy, PutsOf, ServesPieces}
 use Rattle.journal_command.specs.Stopping.{Outside}
 use Rattle.journal_command.specs.Turns.{Comes, EndsAt, IsSoFar}
 use Rattle.journal_command.specs.declared.endings.Ended.{Ended}
@@ -27,7 +27,7 @@ use Rattle.journal_command.specs.declared.endings.Ended.TheVariants as ended
 use Rattle.journal_command.specs.declared.endings.Stop.{Stop}
 use Rattle.journal_command.specs.declared.endings.Stop.TheVariants as stops
 use Rattle.journal_command.specs.declared.turns.Came.TheVariants as came
-use Rattle.journal_command.proofs.Turning.{kept_so_far, so_far_first}
+use Rattle.journal_command.proofs.Turning.{kept_all, kept_so_far, so_far_first}
 
 -- so much was taken of the input that so many bytes may still be; its requests were answered, and less than a frame is held
 pub record Going (start : State) (count : ℕ) (feed : Feeding) (durable : DurableState) (source left : Option (List ℕ)) (first now : Outside) : Type 0 where
@@ -62,6 +62,10 @@ module _ (law : RequestsAreSerialFrom) (start : State) (count : ℕ) (feed : Fee
   abbrev so_kept : HasRoomFor start g.taken first now
   so_kept = kept_so_far start g.taken feed durable first now g.so_far
 
+  -- all requests of the bytes taken were answered
+  abbrev so_all : HasKeptAll start g.taken g.taken first now
+  so_all = kept_all start g.taken feed durable first now g.so_far (inl g.waits)
+
   abbrev so_open : AnswersOpen start g.taken first.out now.out
   so_open = answers_open start g.taken feed durable.state first.out now.out g.so_far.stands g.waits
 
@@ -88,9 +92,9 @@ module _ (law : RequestsAreSerialFrom) (start : State) (count : ℕ) (feed : Fee
           waits = h.1;
         }
 
-    pub ends_refused : (place : ℕ) (new : Outside) → After (λ begin bytes old. AnswersAll begin bytes (Refused place) old.out new.out × HasRoomFor begin bytes old new) → ServesPieces (ended.BadFrame place) start source after first new
+    pub ends_refused : (place : ℕ) (new : Outside) → After (λ begin bytes old. AnswersAll begin bytes (Refused place) old.out new.out × HasKeptAll begin bytes bytes old new) → ServesPieces (ended.BadFrame place) start source after first new
     ends_refused place new f =
-        let h = holds (λ begin bytes old. AnswersAll begin bytes (Refused place) old.out new.out × HasRoomFor begin bytes old new) f in
+        let h = holds (λ begin bytes old. AnswersAll begin bytes (Refused place) old.out new.out × HasKeptAll begin bytes bytes old new) f in
         record { taken = g.taken ++ piece; lost = lost_more piece after took; puts = (still_within, inl h.0); keeps = h.1; serial = serially (g.taken ++ piece) }
 
     stopped : (stop : Stop) (new : Outside) → PutsOf stop start (g.taken ++ piece) first.out new.out × KeepsBy stop start (g.taken ++ piece) first new → ServesPieces (ended_by stop) start source after first new
@@ -105,13 +109,14 @@ module _ (law : RequestsAreSerialFrom) (start : State) (count : ℕ) (feed : Fee
         (stopped stop new (holds (λ begin bytes old. PutsOf stop begin bytes old.out new.out × KeepsBy stop begin bytes old new) f))
 
   -- more bytes were taken than were looked at
-  kept_fed : (piece : List ℕ) → HasRoomFor start (g.taken ++ piece) first now
+  kept_fed : (piece : List ℕ) → HasKeptAll start g.taken (g.taken ++ piece) first now
   kept_fed piece =
-      let k = so_kept.kept in
-      record {
+      let k = so_all.kept.kept in
+      let fed : HasRoomFor start (g.taken ++ piece) first now = record {
         kept = record { answered = k.answered; tried = k.tried; few = k.few; others = k.others ++ piece; begins = begins_fed g.taken (k.answered ++ k.tried) k.others piece k.begins; put = k.put; kept = k.kept; room = k.room };
-        room = so_kept.room;
-      }
+        room = so_all.kept.room;
+      } in
+      record { kept = fed; all = so_all.all; none = so_all.none }
 
   -- a byte past the limit
   pub ends_past : (piece : List ℕ) (after : Option (List ℕ)) → WhereTold (Takes (taken.Bytes piece)) left after → length piece ≡ 1 → count ≡ 0 → ServesPieces ended.TooLong start source after first now
@@ -123,12 +128,12 @@ module _ (law : RequestsAreSerialFrom) (start : State) (count : ℕ) (feed : Fee
         taken = g.taken ++ piece;
         lost = lost_more piece after took;
         puts = (omega (arith, all, one, length-append g.taken piece), subst (λ (l : List ℕ). AnswersOpen start l first.out now.out) (sym front) so_open);
-        keeps = kept_fed piece;
+        keeps = subst (λ (l : List ℕ). HasKeptAll start l (g.taken ++ piece) first now) (sym front) (kept_fed piece);
         serial = serially (g.taken ++ piece);
       }
 
   pub ends_unread : (after : Option (List ℕ)) → WhereTold (Takes taken.Failed) left after → ServesPieces ended.ReadFault start source after first now
-  ends_unread after h = record { taken = g.taken; lost = lost_same after (removes_failed left after h); puts = (within, so_open); keeps = so_kept; serial = serially g.taken }
+  ends_unread after h = record { taken = g.taken; lost = lost_same after (removes_failed left after h); puts = (within, so_open); keeps = so_all; serial = serially g.taken }
 
   pub ends_without : (after : Option (List ℕ)) → WhereTold (Takes taken.OutOfMemory) left after → ServesPieces ended.OutOfMemory start source after first now
   ends_without after h = record { taken = g.taken; lost = lost_same after (removes_unheld left after h); puts = (within, inl so_first); keeps = so_kept.kept; serial = serially g.taken }
@@ -139,14 +144,14 @@ module _ (law : RequestsAreSerialFrom) (start : State) (count : ℕ) (feed : Fee
     taken = g.taken;
     lost = lost_same after (removes_end left after h);
     puts = (within, at_end left after h, answers_all start g.taken feed durable.state first.out now.out g.so_far.stands Whole e);
-    keeps = so_kept;
+    keeps = so_all;
     serial = serially g.taken;
   }
   ends_whole (ended.BadFrame place) after h e = record {
     taken = g.taken;
     lost = lost_same after (removes_end left after h);
     puts = (within, inr (at_end left after h, answers_all start g.taken feed durable.state first.out now.out g.so_far.stands (Rest place) (e.0, e.1, g.waits)));
-    keeps = so_kept;
+    keeps = so_all;
     serial = serially g.taken;
   }
   ends_whole ended.ReadFault after h e = absurd e

@@ -135,6 +135,10 @@ module _ (may : RequestsMayBeAsked) (law : FrontsAreAccepted) where
 
   is_durable : (how : Ended) (records : List (List Asked)) (taken : List ℕ) (a c : Option Moments) (out out_after : Option (List ℕ)) → KeepsRecords how records taken a c out out_after → IsDurable records taken a c out out_after
   is_durable ended.OutOfMemory records taken a c out out_after k = k
+  is_durable ended.Done records taken a c out out_after k = k.kept.durable
+  is_durable ended.ReadFault records taken a c out out_after k = k.kept.durable
+  is_durable ended.TooLong records taken a c out out_after k = k.kept.durable
+  is_durable (ended.BadFrame place) records taken a c out out_after k = k.kept.durable
   is_durable other records taken a c out out_after k = k.durable
 
   run_stays : (how : Ended) (source left out out_after : Option (List ℕ)) (a c : Option Moments) → Runs how source left a c out out_after → WhereTold StaysServable a c

@@ -1,5 +1,5 @@
 -- One request more is answered and recorded, and what stands where it isn't.
-use Rattle.std.proofs.Common.{◌≡◌, inl, inr, ◌<◌, ◌^◌, ℕ, List, [], ◌∷◌, ◌++◌, length, map, drop, Option, refl, sym, ap, subst, ◌∙◌, append-nil, arith}
+use Rattle.std.proofs.Common.{◌≡◌, ◌⊎◌, inl, inr, ◌<◌, ◌^◌, ℕ, List, [], ◌∷◌, ◌++◌, length, map, drop, Option, refl, sym, ap, subst, ◌∙◌, append-nil, arith}
 use Rattle.ae_edge.specs.Devices.{AddsFront}
 use Rattle.ae_edge.proofs.Interface.{adds_then_front, front_of, front_same}
 use Rattle.frame_feed.specs.Feeding.{Feeding, behind, empty_feed, with_piece}
@@ -12,12 +12,13 @@ use Rattle.serve_command.specs.Serving.{Begins, AnswersAll, AnswersFirst, Breaks
 use Rattle.serve_command.specs.Turns as serving
 use Rattle.serve_command.specs.Turns.{IsNext}
 use Rattle.serve_command.proofs.Interface.{answers_all, answers_first, begins_more, breaks_off, frames_more, refused_so, stands_fed, stands_first, stands_more}
-use Rattle.wire_frames.specs.Frames.{Refused, IsNotYet, is_request_head}
+use Rattle.wire_frames.specs.Frames.{Refused, IsNotYet, IsRefused, is_request_head}
 use Rattle.wire_frames.specs.declared.decoding.Way.TheVariants.{ToServer}
+use Rattle.wire_spelling.specs.Spelling.{SpellsRequest}
 use Rattle.journal_command.specs.Durable.{DurableState}
 use Rattle.journal_command.specs.Keeping.{Asked, entries_of, frames_of, held_after, held_behind, keeping, records_of}
 use Rattle.journal_command.specs.Records.{HaveRoom, HasNoRoom, TriesEntries}
-use Rattle.journal_command.specs.Running.{HasKept, HasNoRoomFor, HasRoomFor, KeepsBy, PutsOf}
+use Rattle.journal_command.specs.Running.{HasKept, HasKeptAll, HasNoRoomFor, HasRoomFor, KeepsBy, PutsOf}
 use Rattle.journal_command.specs.Stopping.{Outside, AreThere, MayBeThere}
 use Rattle.journal_command.specs.Turns.{AnswersNext, IsSoFar, StopsNext, Turns}
 use Rattle.journal_command.specs.declared.endings.Stop.{Stop}
@@ -122,6 +123,11 @@ module _ (start : State) (taken : List ℕ) (feed : Feeding) (durable : DurableS
       kept_whole answered feed.held now s.stands.begins
       (front_of (reply_frames start answered) (reply_frames start answered) first.out now.out s.stands.put (front_same (reply_frames start answered))) s.there
 
+  -- less than a frame is held, or what is refused
+  pub kept_all : IsNotYet is_request_head feed.held ⊎ IsRefused is_request_head SpellsRequest feed.held → HasKeptAll start taken taken first now
+  unfolding kept_so_far kept_whole
+  kept_all ends = record { kept = kept_so_far; all = record { others = feed.held; begins = s.stands.begins; ends = ends }; none = refl }
+
   -- its records are on the disk, and some of its replies were put
   kept_in_part : (r : Asked) (used : ℕ) (new : Outside) → IsNext feed r used → AreThere (entries_of (keeping durable.state held r).records) now new
       → AddsFront (answer_frames durable.state r) now.out new.out → HasRoomFor start taken first new
@@ -196,10 +202,10 @@ module _ (start : State) (taken : List ℕ) (feed : Feeding) (durable : DurableS
   waits_so_far after new t =
       (subst (λ (d : DurableState). IsSoFar start taken feed d first new) (sym t.2) (subst (λ (x : Outside). IsSoFar start taken feed durable first x) (sym t.3) s), t.0)
 
-  pub refused_so_far : (place : ℕ) (after : DurableState) (new : Outside) → Turns (turn.Refused place) feed held durable after now new → AnswersAll start taken (Refused place) first.out new.out × HasRoomFor start taken first new
+  pub refused_so_far : (place : ℕ) (after : DurableState) (new : Outside) → Turns (turn.Refused place) feed held durable after now new → AnswersAll start taken (Refused place) first.out new.out × HasKeptAll start taken taken first new
   refused_so_far place after new t =
-      subst (λ (x : Outside). AnswersAll start taken (Refused place) first.out x.out × HasRoomFor start taken first x) (sym t.2)
-      (answers_all start taken feed durable.state first.out now.out s.stands (Refused place) (t.0, t.1), kept_so_far)
+      subst (λ (x : Outside). AnswersAll start taken (Refused place) first.out x.out × HasKeptAll start taken taken first x) (sym t.2)
+      (answers_all start taken feed durable.state first.out now.out s.stands (Refused place) (t.0, t.1), kept_all (inr t.1))
 
 -- a piece that there was no memory for
 pub unfed : (start : State) (taken piece : List ℕ) (feed : Feeding) (durable : DurableState) (first now : Outside) → IsSoFar start taken feed durable first now

@@ -13,12 +13,13 @@ use Rattle.journal_core.specs.declared.mounting.Mounted.TheVariants as mounted
 use Rattle.recording.specs.Recorded.{nothing_held}
 use Rattle.recording.proofs.Interface.{none_behind, store_behind}
 use Rattle.server_core.specs.Laws.{RequestsMayBeAsked}
+use Rattle.serve_command.specs.Serving.{most_stream_bytes}
 use Rattle.server_core.specs.Serve.{State, empty_state}
-use Rattle.journal_command.specs.Journaling.{IsBad, IsDurable, IsFull, IsntFull, IsRefused, IsUnserved, KeepsRecords, Runs, ServesFound, ServesFrom, ServesJournal}
+use Rattle.journal_command.specs.Journaling.{IsBad, IsDurable, IsFull, IsntFull, IsRefused, IsUnserved, KeepsAll, KeepsRecords, Runs, ServesFound, ServesFrom, ServesJournal}
 use Rattle.journal_command.specs.Keeping.{Asked, entries_of, messages_in, records_of}
 use Rattle.journal_command.specs.Records.{AreTried, HasFront, HasLeast, HaveRoom, IsOfRun}
 use Rattle.journal_command.specs.Restarts.{AreServedRecords, RefusesAt, state_behind}
-use Rattle.journal_command.specs.Running.{HasKept, HasNoRoomFor, HasRoomFor, KeepsSo, ServesPieces}
+use Rattle.journal_command.specs.Running.{HasKept, HasKeptAll, HasNoRoomFor, HasRoomFor, KeepsSo, ServesPieces}
 use Rattle.journal_command.specs.Stopping.{outside}
 use Rattle.journal_command.specs.declared.endings.Ended.{Ended}
 use Rattle.journal_command.specs.declared.endings.Ended.TheVariants as ended
@@ -105,6 +106,10 @@ module _ (may : RequestsMayBeAsked) (journal : JournalState) (entries : List (Li
     unfolding is_durable
     isnt_full taken k = record { durable = is_durable taken k.kept; room = room (k.kept.answered ++ k.kept.tried) k.room }
 
+    keeps_all : (bytes taken : List ℕ) → HasKeptAll start bytes taken (outside journal.gate b out) (outside gate c out_after) → KeepsAll records bytes taken a c out out_after
+    unfolding is_durable isnt_full
+    keeps_all bytes taken k = record { kept = isnt_full taken k.kept; all = k.all; none = k.none }
+
     is_full : (taken : List ℕ) → HasNoRoomFor start taken (outside journal.gate b out) (outside gate c out_after) → IsFull records taken a c out out_after
     unfolding is_durable
     is_full taken k = record {
@@ -123,9 +128,17 @@ module _ (may : RequestsMayBeAsked) (journal : JournalState) (entries : List (Li
 
     has_kept : (how : Ended) (taken : List ℕ) → KeepsSo how start taken (outside journal.gate b out) (outside gate c out_after) → HasKept start taken (outside journal.gate b out) (outside gate c out_after)
     has_kept ended.OutOfMemory taken k = k
+    has_kept ended.Done taken k = k.kept.kept
+    has_kept ended.ReadFault taken k = k.kept.kept
+    has_kept ended.TooLong taken k = k.kept.kept
+    has_kept (ended.BadFrame place) taken k = k.kept.kept
     has_kept other taken k = k.kept
 
     keeps : (how : Ended) (taken : List ℕ) → KeepsSo how start taken (outside journal.gate b out) (outside gate c out_after) → KeepsRecords how records taken a c out out_after
+    keeps ended.Done taken k = keeps_all taken taken k
+    keeps ended.ReadFault taken k = keeps_all taken taken k
+    keeps ended.TooLong taken k = keeps_all (take most_stream_bytes taken) taken k
+    keeps (ended.BadFrame place) taken k = keeps_all taken taken k
     keeps ended.JournalFull taken k = is_full taken k
     keeps ended.OutOfMemory taken k = is_durable taken k
     keeps other taken k = isnt_full taken k

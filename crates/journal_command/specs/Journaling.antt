@@ -10,11 +10,11 @@ use Rattle.server_core.specs.Laws.{AreServedSeriallyFrom}
 use Rattle.server_core.specs.Serve.{State, empty_state}
 use Rattle.recording.specs.Recorded.{nothing_held}
 use Rattle.serve_command.specs.ServeAll.{messages_of, reply_frames}
-use Rattle.serve_command.specs.Serving.{Begins}
+use Rattle.serve_command.specs.Serving.{Begins, most_stream_bytes}
 use Rattle.journal_command.specs.Keeping.{Asked, entries_of, frames_in, records_of}
 use Rattle.journal_command.specs.Records.{HasLeast, HaveRoom, IsOfRun}
 use Rattle.journal_command.specs.Restarts.{AreServedRecords, RefusesAt, state_behind}
-use Rattle.journal_command.specs.Running.{PutsSo, ServesPieces}
+use Rattle.journal_command.specs.Running.{AreAllOf, PutsSo, ServesPieces}
 use Rattle.journal_command.specs.Stopping.{outside}
 use Rattle.journal_command.specs.declared.endings.Ended.{Ended}
 use Rattle.journal_command.specs.declared.endings.Ended.TheVariants as ended
@@ -48,7 +48,18 @@ pub record IsFull (records : List (List Asked)) (taken : List ℕ) (disk disk_af
   pub is : records_of (state_behind empty_state records) nothing_held (durable.answered ++ durable.tried) ≡ records_of (state_behind empty_state records) nothing_held durable.answered ++ last ∷ []
   pub full : most_bytes < place_behind (entries_of (records ++ records_of (state_behind empty_state records) nothing_held durable.answered)) + 10 + length (frames_in last)
 
+-- all requests of some of the bytes taken were answered, and no other one was tried
+pub record KeepsAll (records : List (List Asked)) (bytes taken : List ℕ) (disk disk_after : Option Moments) (out out_after : Option (List ℕ)) : Type 0 where
+  pub kept : IsntFull records taken disk disk_after out out_after
+  pub all : AreAllOf bytes kept.durable.answered
+  pub none : kept.durable.tried ≡ []
+
+-- at an end to which all requests within the limit were answered, the records of all these are kept, whatever the output exposes
 abbrev pub KeepsRecords : Ended → List (List Asked) → List ℕ → Option Moments → Option Moments → Option (List ℕ) → Option (List ℕ) → Type 0
+KeepsRecords ended.Done records taken disk disk_after out out_after = KeepsAll records taken taken disk disk_after out out_after
+KeepsRecords ended.ReadFault records taken disk disk_after out out_after = KeepsAll records taken taken disk disk_after out out_after
+KeepsRecords ended.TooLong records taken disk disk_after out out_after = KeepsAll records (take most_stream_bytes taken) taken disk disk_after out out_after
+KeepsRecords (ended.BadFrame place) records taken disk disk_after out out_after = KeepsAll records taken taken disk disk_after out out_after
 KeepsRecords ended.JournalFull records taken disk disk_after out out_after = IsFull records taken disk disk_after out out_after
 KeepsRecords ended.OutOfMemory records taken disk disk_after out out_after = IsDurable records taken disk disk_after out out_after
 KeepsRecords other records taken disk disk_after out out_after = IsntFull records taken disk disk_after out out_after

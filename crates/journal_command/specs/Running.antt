@@ -1,5 +1,5 @@
 -- Requests of an input that are answered and recorded: what is put for them, and what a crash leaves of their records.
-use Rattle.std.specs.Prelude.{◌≡◌, ◌⊎◌, ℕ, ◌+◌, ◌≤◌, ◌<◌, List, [], ◌∷◌, ◌++◌, length, Option}
+use Rattle.std.specs.Prelude.{◌≡◌, ◌⊎◌, ℕ, ◌+◌, ◌≤◌, ◌<◌, List, [], ◌∷◌, ◌++◌, length, take, Option}
 use Rattle.ae_edge.specs.Devices.{AddsFront, Removes}
 use Rattle.journal_core.specs.Appends.{most_bytes}
 use Rattle.journal_core.specs.Journals.{place_behind}
@@ -11,6 +11,8 @@ use Rattle.serve_command.specs.ServeAll.{messages_of, reply_frames}
 use Rattle.serve_command.specs.Serving.{Begins, AnswersFirst, BreaksOff, Ends, most_stream_bytes}
 use Rattle.serve_command.specs.declared.commands.Served.TheVariants as served
 use Rattle.transactions.specs.WellKept.{HasNoTransactions, IsStore}
+use Rattle.wire_frames.specs.Frames.{IsNotYet, IsRefused, is_request_head}
+use Rattle.wire_spelling.specs.Spelling.{SpellsRequest}
 use Rattle.journal_command.specs.Keeping.{Asked, entries_of, frames_in, records_of}
 use Rattle.journal_command.specs.Records.{HaveRoom, TriesEntries}
 use Rattle.journal_command.specs.Stopping.{Outside}
@@ -43,6 +45,18 @@ pub record HasNoRoomFor (start : State) (taken : List ℕ) (old new : Outside) :
   pub is : records_of start nothing_held (kept.answered ++ kept.tried) ≡ records_of start nothing_held kept.answered ++ last ∷ []
   pub full : most_bytes < old.gate + place_behind (entries_of (records_of start nothing_held kept.answered)) + 10 + length (frames_in last)
 
+-- These are all requests of some bytes: less than a frame stands behind them, or what is refused.
+pub record AreAllOf (bytes : List ℕ) (requests : List Asked) : Type 0 where
+  pub others : List ℕ
+  pub begins : Begins bytes requests others
+  pub ends : IsNotYet is_request_head others ⊎ IsRefused is_request_head SpellsRequest others
+
+-- all requests of some of the bytes taken were answered, and no other one was tried
+pub record HasKeptAll (start : State) (bytes taken : List ℕ) (old new : Outside) : Type 0 where
+  pub kept : HasRoomFor start taken old new
+  pub all : AreAllOf bytes kept.kept.answered
+  pub none : kept.kept.tried ≡ []
+
 -- ---- where a request wasn't answered whole
 
 abbrev pub PutsOf : Stop → State → List ℕ → Option (List ℕ) → Option (List ℕ) → Type 0
@@ -72,7 +86,12 @@ PutsSo ended.DiskFault start taken left old new = (length taken ≤ most_stream_
 PutsSo ended.JournalFull start taken left old new = (length taken ≤ most_stream_bytes) × AnswersFirst start taken old new
 PutsSo (ended.Damaged place) start taken left old new = ⊥
 
+-- what is kept of them: at an end to which all requests within the limit were answered, the records of all these
 abbrev pub KeepsSo : Ended → State → List ℕ → Outside → Outside → Type 0
+KeepsSo ended.Done start taken old new = HasKeptAll start taken taken old new
+KeepsSo ended.ReadFault start taken old new = HasKeptAll start taken taken old new
+KeepsSo ended.TooLong start taken old new = HasKeptAll start (take most_stream_bytes taken) taken old new
+KeepsSo (ended.BadFrame place) start taken old new = HasKeptAll start taken taken old new
 KeepsSo ended.JournalFull start taken old new = HasNoRoomFor start taken old new
 KeepsSo ended.OutOfMemory start taken old new = HasKept start taken old new
 KeepsSo other start taken old new = HasRoomFor start taken old new

@@ -13,7 +13,7 @@ use Rattle.serve_command.specs.Serving.{AnswersAll}
 use Rattle.serve_command.specs.Turns.{IsNext, Stands}
 use Rattle.journal_command.specs.Durable.{DurableState, IsSound, AnswersWhole}
 use Rattle.journal_command.specs.Keeping.{Asked, entries_of, frames_of, held_after, keeping, records_of}
-use Rattle.journal_command.specs.Running.{HasRoomFor, KeepsBy, PutsOf}
+use Rattle.journal_command.specs.Running.{HasKeptAll, KeepsBy, PutsOf}
 use Rattle.journal_command.specs.Stopping.{Outside, AreThere, StopsBy, Faults, CountsStop}
 use Rattle.journal_command.specs.declared.endings.Ended.{Ended}
 use Rattle.journal_command.specs.declared.endings.Ended.TheVariants as ended
@@ -81,7 +81,7 @@ pub record IsSoFar (start : State) (taken : List ℕ) (feed : Feeding) (durable 
 
 abbrev pub Comes : State → Came → List ℕ → Feeding → DurableState → Outside → Outside → Type 0
 Comes start came.Waits taken feed durable first now = IsSoFar start taken feed durable first now × IsNotYet is_request_head feed.held
-Comes start (came.Refused place) taken feed durable first now = AnswersAll start taken (Refused place) first.out now.out × HasRoomFor start taken first now
+Comes start (came.Refused place) taken feed durable first now = AnswersAll start taken (Refused place) first.out now.out × HasKeptAll start taken taken first now
 Comes start (came.Stopped stop) taken feed durable first now = PutsOf stop start taken first.out now.out × KeepsBy stop start taken first now
 
 abbrev pub CountsCame : Came → Faults → Faults → Type 0

@@ -32,7 +32,7 @@ fn file_of(alloc: Global, entries: &[&[u8]]) -> Result<Vec<u8>, AllocError> {
 }
 
 // The file that a server leaves behind some requests.
-fn left_by(alloc: Global, input: Vec<u8>) -> Result<Vec<u8>, Fail> {
+pub(crate) fn left_by(alloc: Global, input: Vec<u8>) -> Result<Vec<u8>, Fail> {
     let mut disk = MemDisk::new(alloc, b"", Vec::new(alloc))?;
     let (ended, _) = served(alloc, &mut disk, input);
     if ended != Ended::Done {
@@ -60,7 +60,7 @@ fn compacted(
 }
 
 // The frames of texts, each with the version of the catalog that it is executed at.
-fn frames(alloc: Global, texts: &[(u8, &str)]) -> Result<Vec<u8>, AllocError> {
+pub(crate) fn frames(alloc: Global, texts: &[(u8, &str)]) -> Result<Vec<u8>, AllocError> {
     let mut frames = Vec::new(alloc);
     for (version, text) in texts {
         push_execute(&mut frames, 1, *version, text)?;

@@ -14,6 +14,8 @@ mod journals;
 #[cfg(test)]
 mod noted;
 #[cfg(test)]
+mod rotations;
+#[cfg(test)]
 mod served;
 #[cfg(test)]
 mod stops;

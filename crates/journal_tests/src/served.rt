@@ -9,7 +9,7 @@ use journal_command::endings::Ended;
 use std::alloc::{AllocError, Global};
 use std::test::Fail;
 
-const SELECT: &str = "SELECT a FROM t";
+pub(crate) const SELECT: &str = "SELECT a FROM t";
 
 // Statements of one session, each with the version of the catalog that it is executed at.
 const STATEMENTS: [(u8, &str); 5] = [
@@ -32,7 +32,7 @@ const ROWS: [[Option<u8>; 2]; 6] = [
 ];
 
 // The bytes of a frame of done.
-const DONE_BYTES: usize = 15;
+pub(crate) const DONE_BYTES: usize = 15;
 
 // Puts a frame of session 1 at the end: the two bytes that it begins with, and what stands before the
 // text, and behind it.
@@ -67,7 +67,7 @@ pub(crate) fn served(alloc: Global, disk: &mut MemDisk, input: Vec<u8>) -> (Ende
 }
 
 // How many frames of rows replies have; none where they are a refusal.
-fn rows_of(replies: &[u8]) -> Option<u8> {
+pub(crate) fn rows_of(replies: &[u8]) -> Option<u8> {
     let mut rows = 0u8;
     let mut rest = replies;
     for _ in 0..replies.len() {
