@@ -307,4 +307,5 @@ def main():
     os.utime(stamp, (began, began))
 
 
-main()
+if __name__ == "__main__":
+    main()

@@ -112,6 +112,9 @@ def main():
         if server and server.run.poll() is None:
             server.run.terminate()
             server.run.wait()
+    if status == 7 and sys.stderr.isatty():
+        launcher = os.path.join(os.path.dirname(os.path.dirname(program)), "ae")
+        os.spawnl(os.P_WAIT, launcher, "ae", "--why", "7", "over")
     sys.exit(status)
 
 

@@ -145,8 +145,8 @@ class Document:
 
 def links(document, documents):
     """Links to files and anchors that don't exist."""
-    for number, line in enumerate(document.lines, 1):
-        for _, target in LINK.findall(line):
+    for number, text in document.texts():
+        for _, target in LINK.findall(text):
             if re.match(r"https?:|mailto:", target):
                 continue
             path, _, anchor = target.partition("#")
