@@ -133,11 +133,11 @@ fn a_stop_at_any_call_leaves_the_journal(rt: HostRuntime) -> Result<(), Fail> {
     let alloc = rt.alloc();
     let file = left_by(alloc, statements(alloc)?)?;
     let want = file_of(alloc, &[EXECUTE, INSERT])?;
-    for call in 0u64..8 {
-        // The mount has four calls.
+    for call in 0u64..20 {
+        // The mount has four calls and two for each of the three records, which are read again.
         let (ended, new, stays) = compacted(alloc, file.as_slice(), &[call], &[])?;
         assert!(rt; stays, "at {call}");
-        if call < 4 {
+        if call < 16 {
             assert!(rt; ended == Compacted::DiskFault, "at {call}");
             assert_eq!(rt; new.as_slice(), OLD);
         } else {
