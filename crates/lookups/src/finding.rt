@@ -232,7 +232,8 @@ fn one_each<'a>(
     alloc: Global,
     list: &'a [BoundOperand],
 ) -> Result<Seq<Seq<&'a BoundOperand>>, AllocError>
-    ensures { IfOk result (λ keys. operands_listed keys ≡ map (λ v. v ∷ []) (map operand_of list.now)) }
+    ensures { IfOk result (λ keys.
+        operands_listed keys ≡ map (λ v. v ∷ []) (map operand_of list.now)) }
 {
     let mut keys = Seq::new(alloc);
     for operand in list {

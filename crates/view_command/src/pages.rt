@@ -51,7 +51,8 @@ fn push_foot(text: &mut String, page: bool) -> Result<(), AllocError>
 
 /// What stands behind the frames.
 fn foot_of(alloc: Global, page: bool, tally: &Tally, viewed: Viewed) -> Result<String, AllocError>
-    ensures { IfOk result (λ text. string_bytes text ≡ foot_text page tally.now (ended_text viewed)) }
+    ensures { IfOk result (λ text.
+        string_bytes text ≡ foot_text page tally.now (ended_text viewed)) }
 {
     let mut text = String::new(alloc);
     push_tally(alloc, &mut text, page, tally)?;
