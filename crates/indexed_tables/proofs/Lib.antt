@@ -1,3 +1,5 @@
 mod Among
+mod Changing
 mod Keeping
 mod Lent
+mod Placing

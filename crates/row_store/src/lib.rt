@@ -2,6 +2,9 @@
 #![tactic(auto)]
 
 pub mod changes;
+pub mod numbered;
+mod numbers;
+mod owning;
 pub mod pages;
 mod places;
 pub mod tables;

@@ -5,3 +5,5 @@
 mod indexes;
 #[cfg(test)]
 mod pages;
+#[cfg(test)]
+mod tables;
