@@ -1,7 +1,7 @@
 //! A file of std as a disk.
 
-ghost use Rattle.std.specs.Prelude.{◌≡◌, ◌≤◌, ◌<◌, ◌+◌, ◌^◌, None, [], length};
-ghost use Rattle.ae_edge.specs.Devices.{risen};
+ghost use Rattle.std.specs.Prelude.{◌≡◌, ◌≤◌, ◌<◌, ◌+◌, ◌^◌, length};
+ghost use Rattle.ae_edge.specs.Devices.{risen, silent};
 ghost use Rattle.ae_edge.specs.Sources.{IsPiece};
 ghost use Rattle.disk.specs.Calls.{CountsGiven, CountsMeasured, CountsStored, IsWithin};
 
@@ -148,11 +148,7 @@ impl<'a, R: LockedFiles + Drop> FileDisk<'a, R> {
 }
 
 impl<'a, R: LockedFiles + Drop> Disk for FileDisk<'a, R> {
-    ghost told = { λ d. None };
-
-    ghost faults = { λ d. d.faults };
-
-    ghost names = { λ d. [] };
+    ghost seen = { λ d. silent d.faults };
 
     fn size(&mut self) -> Measured
         ensures count { self.old.faults ≤ self.new.faults }

@@ -1,7 +1,7 @@
 //! A journal is found on a disk, and the end of its file put in order.
 
 ghost use Rattle.std.specs.Prelude.{◌≡◌, ◌≢◌, ◌≤◌, ◌+◌, ◌∷◌, ◌↔◌, [], List, ℕ, IfSome, IsTrue, length};
-ghost use Rattle.ae_edge.specs.Devices.{WhereTold};
+ghost use Rattle.ae_edge.specs.Devices.{Calls, WhereTold};
 ghost use Rattle.disk.specs.Calls.{CountsStored};
 ghost use Rattle.disk.specs.Crashes.{kept};
 ghost use Rattle.disk.specs.Durable.{IsKept};
@@ -42,12 +42,10 @@ fn lacks_gate(file: &[u8]) -> bool
 
 /// Puts the end of a file in order: its closed gate is the last byte, and all is on the disk.
 fn repair<D: Disk>(disk: &mut D, file: &[u8], gate: usize) -> Stored
-    requires kept { IfSome (D.told disk.old) (λ d. d.now ≡ kept file.now) }
+    requires kept { IfSome (D.seen disk.old).content (λ d. d.now ≡ kept file.now) }
     requires parsed { (entries : List (List ℕ)) × IsParsed entries gate file.now }
-    ensures content { WhereTold (Repairs result gate file.now) (D.told disk.old) (D.told disk.new) }
-    ensures same { D.names disk.new ≡ D.names disk.old }
-    ensures count { D.faults disk.old ≤ D.faults disk.new }
-    ensures counts { CountsStored result (D.faults disk.old) (D.faults disk.new) }
+    ensures { Calls (WhereTold (Repairs result gate file.now)) (CountsStored result)
+        (D.seen disk.old) (D.seen disk.new) }
 {
     if lacks_gate(file) {
         write_through(disk, 0, &[0])
@@ -60,12 +58,10 @@ fn repair<D: Disk>(disk: &mut D, file: &[u8], gate: usize) -> Stored
 
 /// Reads a file as a journal, and puts its end in order.
 fn settle<D: Disk>(alloc: Global, disk: &mut D, file: &[u8]) -> Mounted
-    requires kept { IfSome (D.told disk.old) (λ d. d.now ≡ kept file.now) }
-    ensures content { WhereTold (Settles result file.now) (D.told disk.old) (D.told disk.new) }
+    requires kept { IfSome (D.seen disk.old).content (λ d. d.now ≡ kept file.now) }
+    ensures call { Calls (WhereTold (Settles result file.now)) (CountsMounted result)
+        (D.seen disk.old) (D.seen disk.new) }
     ensures whole { IsWhole result }
-    ensures same { D.names disk.new ≡ D.names disk.old }
-    ensures count { D.faults disk.old ≤ D.faults disk.new }
-    ensures counts { CountsMounted result (D.faults disk.old) (D.faults disk.new) }
 {
     match parse(alloc, file) {
         Parsed::Whole(records, gate) => match repair(disk, file, gate) {
@@ -80,12 +76,10 @@ fn settle<D: Disk>(alloc: Global, disk: &mut D, file: &[u8]) -> Mounted
 
 /// Reads a file that is on the disk as a journal, and puts its end in order.
 fn settle_file<D: Disk>(alloc: Global, disk: &mut D) -> Mounted
-    requires kept { IfSome (D.told disk.old) IsKept }
-    ensures content { WhereTold (SettlesFile result) (D.told disk.old) (D.told disk.new) }
+    requires kept { IfSome (D.seen disk.old).content IsKept }
+    ensures call { Calls (WhereTold (SettlesFile result)) (CountsMounted result)
+        (D.seen disk.old) (D.seen disk.new) }
     ensures whole { IsWhole result }
-    ensures same { D.names disk.new ≡ D.names disk.old }
-    ensures count { D.faults disk.old ≤ D.faults disk.new }
-    ensures counts { CountsMounted result (D.faults disk.old) (D.faults disk.new) }
 {
     match read_whole(disk, alloc) {
         Given::Bytes(file) => settle(alloc, disk, file.as_slice()),
@@ -99,12 +93,10 @@ impl Journal {
     /// It syncs first, so that what it reads is on the disk. While the call is under way a crash
     /// leaves the records of some image that it could leave before.
     pub fn mount<D: Disk>(alloc: Global, disk: &mut D) -> Mounted
-        ensures content { WhereTold (Mounts result) (D.told disk.old) (D.told disk.new) }
+        ensures call { Calls (WhereTold (Mounts result)) (CountsMounted result)
+            (D.seen disk.old) (D.seen disk.new) }
         ensures whole { IsWhole result }
-        ensures mounted { IsReady result (D.told disk.new) }
-        ensures same { D.names disk.new ≡ D.names disk.old }
-        ensures count { D.faults disk.old ≤ D.faults disk.new }
-        ensures counts { CountsMounted result (D.faults disk.old) (D.faults disk.new) }
+        ensures mounted { IsReady result (D.seen disk.new).content }
     {
         match disk.sync() {
             Stored::Done => settle_file(alloc, disk),
