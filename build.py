@@ -53,7 +53,7 @@ class Crate:
 
 
 def start(verb, folder, path):
-    """Starts a command of `rt` in a folder, with what it says in a log, and behind other work: the preview comes first."""
+    """Starts a command of `rt` in a folder, with what it says in a log, at a lower priority: the preview comes first."""
     os.makedirs(os.path.dirname(path), exist_ok=True)
     with open(path, "wb") as log:
         return subprocess.Popen(
@@ -218,7 +218,7 @@ def build_by_gate(top, crates, program, preview, made):
     copy_crates(top, crates, room)
     run, progress = start(["ci"], room, log), Progress(crates, preview)
     try:
-        # (the program's tests, which come behind it, aren't awaited)
+        # (the program's tests, which come after it, aren't waited for)
         while program in progress.left:
             ended = run.poll() is not None
             for name, was_there in told_by_gate(log).items():

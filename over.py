@@ -53,7 +53,7 @@ class Seen:
 
 
 def words_of(words):
-    """Returns the file of the recording, the scripts and the command. No script stands for standard input."""
+    """Returns the file of the recording, the scripts and the command. None is standard input."""
     tap, scripts = None, [None]
     if words[:1] == ["--tap"]:
         tap, words = "".join(words[1:2]), words[2:]

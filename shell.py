@@ -28,7 +28,7 @@ batch is a client of its own over the one server: a transaction stays open from
 batch to batch, but half a batch ends with its client.
   :session N     the batches that follow run in session N, from 1 to 64
   :trust PATH    from here on column keys are opened by trusted paths alone
-  :force @name   behind its DECLARE: it is sent as a cell or not at all
+  :force @name   after its DECLARE: it is sent as a cell or not at all
   :describe      in place of GO: shows how each parameter would be sent
   :quit          ends the shell, the server and its open transactions
 Ctrl-C drops the lines that were typed, or stops an answer. A change that was
@@ -74,7 +74,7 @@ class Printer:
         print(f"\033[31m{text}\033[0m" if self.is_coloured and text.startswith(("error ", "ae: ")) else text)
 
     def table(self, lines):
-        """Prints titles and rows, and the line behind them. The widths are those of the titles and of the first rows."""
+        """Prints titles and rows, and the line after them. The widths are those of the titles and of the first rows."""
         titles = [visible(it) for it in next(lines).split("\t")]
         first = list(itertools.islice(lines, SAMPLE))
         rows = [[visible(it) for it in FIELD.findall(line)] for line in first if not line.startswith(("(", "error "))]

@@ -57,7 +57,7 @@ def answers():
             frames, size = frames + 1, size + behind - at
             place = 2 if kind == 0x83 else 4
             while place < len(body):
-                # A number of 9 bytes, and a cell behind its kind and its length.
+                # A number of 9 bytes, and a cell after its kind and its length.
                 number = int.from_bytes(body[place + 1 : place + 9], "big")
                 length = int.from_bytes(body[place + 10 : place + 12], "big")
                 found.append((number, body[place + 12 : place + 12 + length]))

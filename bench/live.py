@@ -166,7 +166,7 @@ def half_an_answer():
 
 
 def two_days():
-    """The example, with a server that is killed behind the last answer of the first day."""
+    """The example, with a server that is killed after the last answer of the first day."""
     no_journal()
     shutil.copytree(os.path.join(example, "keys"), "keys")
     server = Server([program, "serve", "--journal"])

@@ -4,7 +4,7 @@
 # Usage: bench/pieces.sh
 . "$(dirname "$0")/lib.sh"
 
-# frame_feed and the crates that it stands on.
+# frame_feed and the crates that it uses.
 needed=$(awk -F '[:#]' '/^[a-z]/ { split($1, word, " "); below[word[1]] = $2 }
     function visit(name, deps, n, i) {
         if (!(name in below) || name in seen) return

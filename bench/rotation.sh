@@ -8,7 +8,7 @@ n=${1:-25000}
 mkdir keys
 printf '%s\n' 000102030405060708090a0b0c0d0e0f101112131415161718191a1b1c1d1e1f >keys/main.key
 
-# rows COUNT: the keys, the two tables and so many rows
+# rows COUNT: the keys, the two tables and COUNT rows
 rows() {
     for key in k j; do
         echo "$key" | od -An -tx1 | tr -d ' \n' | awk '{ while (length($0) < 64) $0 = $0 $0; print substr($0, 1, 64) }' >"$key"
@@ -26,7 +26,7 @@ rows() {
     awk -v n="$1" 'BEGIN { for (i = 0; i < n; i++) printf "DECLARE @c NVARCHAR(8) = N\047%d\047\nINSERT INTO t (id, c) VALUES (%d, @c)\nGO\n", i, i }'
 }
 
-# rotated COUNT: the seconds of the INSERTs, and those of the rotation behind them
+# rotated COUNT: the seconds of the INSERTs, and those of the rotation after them
 rotated() {
     rows "$1" >script
     inserts=$(seconds 0 run)

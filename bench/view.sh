@@ -5,7 +5,7 @@
 . "$(dirname "$0")/lib.sh"
 n=${1:-25}
 program=${2:-$top/built/ae-view}
-[ $# -ge 2 ] || "$top/ae" build
+[ $# -ge 2 ] || "$top/ae" view </dev/null >/dev/null # builds it
 python3 "$top/bench/view.py" "$program" "${n}000000" "$((4 * n))000000" >figures
 read -r small small_kb <figures
 read -r large large_kb <<END

@@ -9,7 +9,7 @@ def execute(text, version, session=1):
 
 
 def record(*frames):
-    """A record of a journal behind its open gate, as docs/formats.md spells it; a closed gate ends the file."""
+    """A record of a journal after its open gate, as docs/formats.md spells it; a closed gate ends the file."""
     held = b"".join(frames)
     return b"\1" + len(held).to_bytes(8, "big") + held
 

@@ -4,7 +4,7 @@
 Usage: tools/csv_to_script.py TABLE [--types TYPES] [--null TEXT] [--rows N] < FILE.csv > SCRIPT
 
 The first line of the file names the columns. Each needs a type: INT, BIGINT, NVARCHAR(n) or VARBINARY(n), exactly as
-the table declares it. It stands behind the name, as in `id INT,name NVARCHAR(20)`, or in TYPES, as in --types
+the table declares it. It follows the name, as in `id INT,name NVARCHAR(20)`, or in TYPES, as in --types
 'INT,NVARCHAR(20)', which names with blanks need. A field that equals TEXT is NULL; without --null these are the empty
 ones. Each value becomes a parameter, so protected columns are encrypted. A batch inserts N rows, or as many as the
 limits of a batch allow.

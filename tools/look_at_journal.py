@@ -1,8 +1,8 @@
 #!/usr/bin/env python3
-"""Lists a journal without a server: its records and their places, by kind, and what stands behind its closed gate.
+"""Lists a journal without a server: its records and their places, by kind, and what follows its closed gate.
 
 Usage: ae journal < journal.bin. Nothing is written but the list. Only the first line of a text is shown, and no value of a parameter;
-literals in a text are shown as they are. Ends with status 1 if the file is damaged, or if more stands behind the closed gate than one
+literals in a text are shown as they are. Ends with status 1 if the file is damaged, or if more follows the closed gate than one
 record that was being written leaves. A start cuts that off, so copy the file first.
 A frame is measured by its header here; a server also reads its body, and serves it again.
 """

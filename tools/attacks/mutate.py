@@ -10,7 +10,7 @@ import signal
 import subprocess
 import sys
 
-# The statuses that a stream may end with: 5 is want of memory.
+# The statuses that a stream may end with: 5 is out of memory.
 STATUSES = {"serve": {0, 5, 10}, "drive": {0, 1, 5, 11}}
 MOST_BYTES = 20000  # of a recorded stream, so that each takes a millisecond or two
 NUMBERS = [0, 1, 2, 3, 4, 0x40, 0x41, 0x7F, 0x80, 0x81, 0xFF, 0x100, 0xFFFF, 0x10000, 0x10001, 0xFFFFFF, 0x1000000, 0x1000001]

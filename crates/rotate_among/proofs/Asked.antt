@@ -1,0 +1,81 @@
+-- A request that is asked behind those of others, whole or in part; and what is heard of the replies to it.
+use Rattle.std.proofs.Common.{◌≡◌, ℕ, List, [], ◌∷◌, ◌++◌, Option, None, refl, sym, ◌∙◌, ap, subst, append-nil, arith, inr}
+use Rattle.std.specs.Borrow.{GName}
+use Rattle.ae_edge.specs.Devices.{WhereTold, Adds, AddsFront}
+use Rattle.ae_edge.proofs.Interface.{adds_front_none}
+use Rattle.wire_frames.specs.Frames.{Placed}
+use Rattle.wire_messages.specs.Exchanges.{Exchange}
+use Rattle.wire_messages.specs.declared.replies.Reply.{Reply}
+use Rattle.wire_messages.specs.declared.requests.Request.{Request}
+use Rattle.wire_spelling.specs.Packing.{packed}
+use Rattle.wire_spelling.specs.Spelling.{request_frame}
+use Rattle.conversation.specs.Paths.{Asked}
+use Rattle.run_effects.specs.Shares.{Queue, Wire, AreServed, queue_of}
+use Rattle.run_effects.specs.Ways.{AsksInPart, IsSilent}
+use Rattle.run_effects.proofs.Interface.{queued}
+use Rattle.script_run.specs.Connections.{Sends}
+use Rattle.script_run.specs.declared.connection.Sent.{Sent}
+use Rattle.script_run.specs.declared.connection.Sent.TheVariants as sent
+use Rattle.server_core.specs.Beside.{Beside}
+use Rattle.rotate_among.specs.Passing.{Passes}
+
+abbrev queue : List (Placed Reply) → ℕ → Queue
+queue waiting behind = record { waiting = waiting; behind = behind }
+
+module _ (request : Request) (replies : List Reply) (old : Wire) (unlogged : old.log ≡ None) (unread : old.stream ≡ None) (state : Option Beside)
+    (served : WhereTold (AreServed (Asked request replies ∷ [])) old.state state) (names : List (List GName)) (same : names ≡ old.names) where
+  abbrev Passed : List ℕ
+  Passed = request_frame old.version request ++ packed old.version replies
+
+  abbrev passed_one : Exchange
+  passed_one = record { request = request; replies = replies }
+
+  logged : Adds (passed_one ∷ []) old.log old.log
+  logged = subst (λ w. Adds (passed_one ∷ []) w w) (sym unlogged) tt
+
+  silent : IsSilent old.stream (Asked request replies ∷ [])
+  silent = subst (λ s. IsSilent s (Asked request replies ∷ [])) (sym unread) tt
+
+  -- of its frames nothing was put
+  pub lacked : AsksInPart request old (record old { names = names; state = state })
+  lacked = (
+    refl,
+    inr (
+      replies,
+      silent,
+      record { names = same; version = refl; tap = adds_front_none (Passed ++ []) old.tap; log = logged; state = served; count = omega arith; closed = refl },
+    ),
+  )
+
+  -- it was asked, whole or in part
+  pub sends_so : (result : Sent) (tap : Option (List ℕ)) (faults : ℕ) (waiting : List (Placed Reply)) (behind : ℕ)
+      → Passes result old.version request replies old.tap tap old.faults faults (queue_of old) (queue waiting behind)
+      → Sends result request old (record old { names = names; tap = tap; state = state; waiting = waiting; behind = behind; faults = faults })
+  sends_so sent.Whole tap faults waiting behind h = (
+    replies,
+    record { names = same; version = refl; tap = subst (λ w. Adds w old.tap tap) (sym (append-nil Passed)) h.0; log = logged; state = served; count = h.1; closed = refl },
+    record { comes = queued old.version (Asked request replies ∷ []) old.stream (queue_of old) (queue waiting behind) unread h.2; taken = omega arith },
+    λ h. h,
+  )
+  sends_so sent.WriteFault tap faults waiting behind h = (
+    (
+      refl,
+      inr (
+        replies,
+        silent,
+        record { names = same; version = refl; tap = subst (λ w. AddsFront w old.tap tap) (sym (append-nil Passed)) h.0; log = logged; state = served; count = h.1; closed = refl },
+      ),
+    ),
+    h.2,
+  )
+  sends_so sent.OutOfMemory tap faults waiting behind h = (
+    refl,
+    inr (
+      replies,
+      silent,
+      record { names = same; version = refl; tap = subst (λ w. AddsFront w old.tap tap) (sym (append-nil Passed)) h.0; log = logged; state = served; count = h.1; closed = refl },
+    ),
+  )
+
+pub three_same : {A : Type 0} (a b c d e : A) → a ≡ b → c ≡ d → a ∷ c ∷ e ∷ [] ≡ b ∷ d ∷ e ∷ []
+three_same a b c d e f g = ap (λ x. x ∷ c ∷ e ∷ []) f ∙ ap (λ x. b ∷ x ∷ e ∷ []) g

@@ -1,0 +1,5 @@
+mod Asked
+mod Came
+mod Others
+mod Passed
+mod Tapped

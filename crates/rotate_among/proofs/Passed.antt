@@ -1,0 +1,261 @@
+-- What passed over a server that others ask too, by how far a rotation's conversation was followed.
+use Rattle.std.proofs.Common.{◌≡◌, ◌≢◌, ◌≤◌, ℕ, List, [], ◌∷◌, ◌++◌, Option, Some, None, Result, Ok, Err, refl, sym, ◌∙◌, ap, subst, append-nil, length, length-append, arith}
+use Rattle.std.specs.Prelude.{IfOk, flat_map, option_map}
+use Rattle.std.specs.List.{All}
+use Rattle.ae_base.specs.Sessions.{IsSession}
+use Rattle.ae_base.specs.declared.frames.FrameVersion.{FrameVersion}
+use Rattle.ae_edge.specs.Vaults.{KeyMap}
+use Rattle.aes_block.specs.Bytes.{AreBytes}
+use Rattle.wire_frames.specs.Frames.{Placed}
+use Rattle.wire_messages.specs.Conditions.{IsRequest}
+use Rattle.wire_messages.specs.declared.replies.Reply.{Reply}
+use Rattle.wire_messages.specs.declared.requests.Request.{Request}
+use Rattle.conversation.specs.Drive.{BadReply, Done, Dry, End, Passed, over}
+use Rattle.conversation.specs.Paths.{Event, Asked, Took, Strayed, Drew, Opened, Printed, drawn_in, outcome_in}
+use Rattle.conversation.specs.Devices.{IsAtDraw}
+use Rattle.conversation.specs.Talk.{Talk, Ends, Stops, Asks, Hears, Notes, Draws, Opens, Prints}
+use Rattle.conversation.specs.declared.outcomes.Outcome.{Outcome}
+use Rattle.conversation.specs.declared.outcomes.Outcome.TheVariants as outcome
+use Rattle.conversation.specs.declared.sessions.Session.{Session}
+use Rattle.conversation.specs.declared.sessions.Session.TheVariants.{Idle}
+use Rattle.column_rotate.specs.Rotating as rotating_as
+use Rattle.column_rotate.specs.Rotating.{fault_as, rotating}
+use Rattle.driver.specs.declared.outcomes.Fault.{Fault}
+use Rattle.driver.specs.declared.outcomes.Fault.TheVariants.{OfServer, OfDriver}
+use Rattle.proper_values.specs.Proper.{IsIdentifier}
+use Rattle.run_effects.specs.Shares.{Outside, exchanges_of, frames_of, messages_of}
+use Rattle.run_effects.specs.Ways.{Proceeds, IsStuck}
+use Rattle.run_effects.proofs.Interface.{Reached, Starts, ahead, beside_serves, reached, state_there}
+use Rattle.run_command.specs.Transcript.{exchange_frames}
+use Rattle.script_run.specs.Rotations.{rotated_as}
+use Rattle.server_core.specs.Beside.{Beside, serve_beside}
+use Rattle.server_core.specs.Serve.{State, empty_state}
+use Rattle.served_rotations.specs.Beside.{rotated_beside, rotation, session_of}
+use Rattle.served_rotations.specs.Laws.{FinishedIsWhole, IsFinished, RotationsTellOneOutcome, UnfinishedLeavesNoTrace, behind}
+use Rattle.rotate_among.specs.Beside.{beside, told_beside}
+use Rattle.rotate_among.specs.Coming.{Comes, Kept, Lent, Names, outside, untouched}
+use Rattle.rotate_among.specs.Moving as moving
+use Rattle.rotate_among.specs.Moving.{AreOthers, HasFrames, HasNoTrace, Leaves, PassedSo}
+use Rattle.rotate_among.specs.declared.rotating.Rotated.{Rotated}
+use Rattle.rotate_among.specs.declared.rotating.Rotated.TheVariants as came
+
+-- ---- plain lists
+
+-- one at most, and one at the end
+only_one : (xs : List Outcome) (x : Outcome) → length (xs ++ x ∷ []) ≤ 1 → xs ++ x ∷ [] ≡ x ∷ []
+only_one [] x h = refl
+only_one (y ∷ xs) x h = let l = length-append xs (x ∷ []) in absurd (omega (arith, h, l))
+
+same_head : (x y : Outcome) → x ∷ [] ≡ y ∷ [] → x ≡ y
+same_head x y e = cc
+
+-- a fault is no count of rows
+not_rotated : (f : Fault) (n : ℕ) → fault_as f ≡ outcome.Rotated n → ⊥
+not_rotated (OfServer f) n e = cc
+not_rotated (OfDriver f) n e = cc
+
+-- the frames of what passed
+framed : (version : FrameVersion) (events : List Event) → flat_map (frames_of version) events ≡ flat_map (exchange_frames version) (flat_map exchanges_of events)
+framed version [] = refl
+framed version (Asked request replies ∷ events) = ap (λ w. exchange_frames version (record { request = request; replies = replies }) ++ w) (framed version events)
+framed version (Took reply ∷ events) = framed version events
+framed version (Strayed next ∷ events) = framed version events
+framed version (Drew bytes ∷ events) = framed version events
+framed version (Opened meta key ∷ events) = framed version events
+framed version (Printed comes ∷ events) = framed version events
+
+-- the state that is told
+told_state : (between : List (List Request)) (after : Option State) (v : Beside) → told_beside between None after ≡ Some v → after ≡ Some v.state
+told_state between (Some s) v e = ap (option_map (λ (b : Beside). b.state)) e
+told_state between None v e = absurd cc
+
+-- both hold of each
+pub all_both : (session : ℕ) (between : List (List Request)) → All (All IsRequest) between → AreOthers session between
+    → All (All (λ request. IsRequest request × (session_of request ≢ session))) between
+all_both session between a b i d lt j e less = (a i d lt j e less, b i d lt j e less)
+
+-- ---- over a server
+
+module _ (once : RotationsTellOneOutcome) (traceless : UnfinishedLeavesNoTrace) (whole : FinishedIsWhole)
+    (keys : KeyMap) (trusted : List (List ℕ)) (session : ℕ) (old new : List ℕ) (history : List Request) (between : List (List Request))
+    (numbered : IsSession session) (old_named : IsIdentifier old) (new_named : IsIdentifier new) (before : All IsRequest history)
+    (others : All (All (λ request. IsRequest request × (session_of request ≢ session))) between)
+    (after : Session) (version : FrameVersion) (a b : Lent) (told : a.keys ≡ Some keys) (from : a.state ≡ Some (behind empty_state history)) where
+  abbrev start : Beside
+  start = beside between (behind empty_state history)
+
+  abbrev ending : rotating_as.Ends
+  ending comes session_after = Prints comes (Ends (session_after ∷ []))
+
+  abbrev t : Talk
+  t = rotation trusted session old new
+
+  module _ (names names_after : Names) (kept : Kept) where
+    abbrev first : Outside
+    first = outside version names (untouched between) a
+
+    abbrev last : Outside
+    last = outside version names_after kept b
+
+    starts : Starts keys start first
+    starts = record { state = ap (option_map (beside between)) from; keys = told; waiting = refl; queue = refl }
+
+    module _ (u : Talk) (g : Proceeds t u first last) where
+      abbrev there : Beside
+      there = (state_there (λ (x : Beside). x) serve_beside beside_serves keys t start first starts u last g).0
+
+      abbrev left : List Reply
+      left = messages_of kept.waiting
+
+      abbrev drawn : List ℕ
+      drawn = flat_map drawn_in g.events ++ []
+
+      abbrev p : Passed Beside
+      p = rotated_beside keys trusted session old new drawn start
+
+      way : Reached serve_beside keys t start u g.events there left
+      way = reached (λ (x : Beside). x) serve_beside beside_serves keys t start first starts u last g
+
+      bytes : AreBytes drawn
+      bytes = subst AreBytes (sym (append-nil (flat_map drawn_in g.events))) way.bytes
+
+      abbrev rest : Passed Beside
+      rest = over serve_beside keys u way.taken [] there left
+
+      passed : p ≡ ahead g.events rest
+      passed = way.is []
+
+      stays : b.state ≡ Some there.state
+      stays = told_state kept.between b.state there (state_there (λ (x : Beside). x) serve_beside beside_serves keys t start first starts u last g).1
+
+      -- nothing passes from there on
+      record Halts (state : Beside) (outcomes : List Outcome) (end : End) : Type 0 where
+        nothing : rest ≡ record { exchanges = []; outcomes = outcomes; entropy = []; state = state; end = end }
+
+      module _ (outcomes : List Outcome) (end : End) (h : Halts there outcomes end) where
+        is_so : p ≡ ahead g.events (record { exchanges = []; outcomes = outcomes; entropy = []; state = there; end = end })
+        is_so = passed ∙ ap (ahead g.events) h.nothing
+
+        state_so : b.state ≡ Some p.state.state
+        state_so = stays ∙ ap (λ (x : Passed Beside). Some x.state.state) (sym is_so)
+
+        outcomes_so : p.outcomes ≡ flat_map outcome_in g.events ++ outcomes
+        outcomes_so = ap (λ (x : Passed Beside). x.outcomes) is_so
+
+        end_so : p.end ≡ end
+        end_so = ap (λ (x : Passed Beside). x.end) is_so
+
+        frames_so : HasFrames version kept.frames p
+        frames_so =
+            let x : p.exchanges ≡ flat_map exchanges_of g.events ++ [] = ap (λ (x : Passed Beside). x.exchanges) is_so in
+            g.put.wire.tap ∙ framed version g.events ∙ ap (flat_map (exchange_frames version)) (sym (x ∙ append-nil (flat_map exchanges_of g.events)))
+
+        unfinished : ¬ (IsFinished p) → HasNoTrace start p
+        unfinished = traceless keys trusted session old new drawn history between numbered old_named new_named bytes others
+
+        so_many : length p.outcomes ≤ 1
+        so_many = once keys trusted session old new drawn history between numbered old_named new_named bytes others
+
+        passed_so : (P : Passed Beside → Type 0) → P p → PassedSo keys trusted session old new start P b.state
+        passed_so P h = record { drawn = drawn; state = state_so; is = h }
+
+    -- ---- it ended
+
+    ended : (r : Result ℕ Fault) → Proceeds t (ending (rotated_as r) after) first last
+        → PassedSo keys trusted session old new start (λ p. moving.Ends keys old new start r p × HasFrames version kept.frames p) b.state
+    ended r g = by r g refl
+      where
+        one : (x : Outcome) (g : Proceeds t (ending x after) first last) (end : End) (h : Halts (ending x after) g (there (ending x after) g) (x ∷ []) end) → (p (ending x after) g).outcomes ≡ x ∷ []
+        one x g end h =
+            let o = outcomes_so (ending x after) g (x ∷ []) end h in
+            let n : length (flat_map outcome_in g.events ++ x ∷ []) ≤ 1 = subst (λ w. length w ≤ 1) o (so_many (ending x after) g (x ∷ []) end h) in
+            o ∙ only_one (flat_map outcome_in g.events) x n
+
+        halts : (x : Outcome) (g : Proceeds t (ending x after) first last) → (end : End) × Halts (ending x after) g (there (ending x after) g) (x ∷ []) end
+        halts x g = (_, record { nothing = refl })
+
+        by : (r : Result ℕ Fault) (g : Proceeds t (ending (rotated_as r) after) first last) → r ≡ r
+            → PassedSo keys trusted session old new start (λ p. moving.Ends keys old new start r p × HasFrames version kept.frames p) b.state
+        by (Ok n) g e =
+            let u = ending (outcome.Rotated n) after in
+            let h = halts (outcome.Rotated n) g in
+            passed_so u g (outcome.Rotated n ∷ []) h.0 h.1 _ (
+              (λ key_for fit. whole keys key_for trusted session old new (drawn u g) history between numbered old_named new_named (bytes u g) before others fit n (one (outcome.Rotated n) g h.0 h.1)),
+              frames_so u g (outcome.Rotated n ∷ []) h.0 h.1,
+            )
+        by (Err f) g e =
+            let u = ending (fault_as f) after in
+            let h = halts (fault_as f) g in
+            let o = one (fault_as f) g h.0 h.1 in
+            passed_so u g (fault_as f ∷ []) h.0 h.1 _ (
+              unfinished u g (fault_as f ∷ []) h.0 h.1 (λ w. not_rotated f w.0 (same_head (fault_as f) (outcome.Rotated w.0) (sym o ∙ w.1))),
+              frames_so u g (fault_as f ∷ []) h.0 h.1,
+            )
+
+    -- ---- it stopped
+
+    dry_not_done : (sessions : List Session) (e : End) → e ≡ Dry → e ≡ Done sessions → ⊥
+    dry_not_done sessions e h i = cc
+
+    bad_not_done : (n : ℕ) (sessions : List Session) (e : End) → e ≡ BadReply n → e ≡ Done sessions → ⊥
+    bad_not_done n sessions e h i = cc
+
+    -- for want of random bytes
+    at_draw : (u : Talk) (g : Proceeds t u first last) → IsAtDraw u → PassedSo keys trusted session old new start (HasNoTrace start) b.state
+    at_draw (Draws f) g d =
+        let h : Halts (Draws f) g (there (Draws f) g) [] Dry = record { nothing = refl } in
+        passed_so (Draws f) g [] Dry h (HasNoTrace start)
+        (unfinished (Draws f) g [] Dry h (λ w. dry_not_done _ (p (Draws f) g).end (end_so (Draws f) g [] Dry h) w.2))
+    at_draw (Ends sessions) g d = absurd d
+    at_draw (Stops comes) g d = absurd d
+    at_draw (Asks request more) g d = absurd d
+    at_draw (Hears after shown f) g d = absurd d
+    at_draw (Notes after shown f) g d = absurd d
+    at_draw (Opens meta f) g d = absurd d
+    at_draw (Prints comes more) g d = absurd d
+
+    stopped_so : (u : Talk) (g : Proceeds t u first last) (n : ℕ) → Halts u g (there u g) [] (BadReply n)
+        → PassedSo keys trusted session old new start (λ p. HasNoTrace start p × HasFrames version kept.frames p) b.state
+    stopped_so u g n h =
+        passed_so u g [] (BadReply n) h _
+        (unfinished u g [] (BadReply n) h (λ w. bad_not_done n _ (p u g).end (end_so u g [] (BadReply n) h) w.2), frames_so u g [] (BadReply n) h)
+
+    -- at a reply that isn't awaited
+    at_reply : (u : Talk) (g : Proceeds t u first last) → IsStuck u kept.waiting → PassedSo keys trusted session old new start (λ p. HasNoTrace start p × HasFrames version kept.frames p) b.state
+    at_reply (Stops None) g d = stopped_so (Stops None) g _ (record { nothing = refl })
+    at_reply (Ends sessions) g d = by kept.waiting d refl
+      where
+        by : (waiting : List (Placed Reply)) → IsStuck (Ends sessions) waiting → kept.waiting ≡ waiting
+            → PassedSo keys trusted session old new start (λ p. HasNoTrace start p × HasFrames version kept.frames p) b.state
+        by [] d e = absurd d
+        by (x ∷ waiting) d e =
+            stopped_so (Ends sessions) g _
+            (record { nothing = ap (λ w. over serve_beside keys (Ends sessions) (way (Ends sessions) g).taken [] (there (Ends sessions) g) (messages_of w)) e })
+    at_reply (Stops (Some comes)) g d = absurd d
+    at_reply (Asks request more) g d = absurd d
+    at_reply (Hears after shown f) g d = absurd d
+    at_reply (Notes after shown f) g d = absurd d
+    at_reply (Draws f) g d = absurd d
+    at_reply (Opens meta f) g d = absurd d
+    at_reply (Prints comes more) g d = absurd d
+
+  -- by how it ended
+  leaves_so : (r : Rotated) → Comes r (rotating trusted session old new Idle) after version between a b → Leaves version keys trusted session old new start r b.state
+  leaves_so (came.Ended r frames) h =
+      subst (λ w. PassedSo keys trusted session old new start (λ p. moving.Ends keys old new start r p × HasFrames version w p) b.state) h.is
+      (of r h.names h.names_after h.kept (h.leads ending))
+    where
+      of : (r : Result ℕ Fault) (names names_after : Names) (kept : Kept) → Proceeds t (ending (rotated_as r) after) (first names names_after kept) (last names names_after kept)
+          → PassedSo keys trusted session old new start (λ p. moving.Ends keys old new start r p × HasFrames version kept.frames p) b.state
+      of r names names_after kept g = ended names names_after kept r g
+  leaves_so came.EntropyFault h = let c = h.1 in let g = (c.leads ending).0 in at_draw c.names c.names_after c.kept g.rest g.goes g.place
+  leaves_so came.VaultFault h = tt
+  leaves_so (came.BadReply place frames) h =
+      let g = h.leads ending in
+      subst (λ w. PassedSo keys trusted session old new start (λ p. HasNoTrace start p × HasFrames version w p) b.state) h.is (at_reply h.names h.names_after h.kept g.rest g.goes g.place.0)
+
+  pub leaves_if : {E : Type 0} (result : Result Rotated E) (first_session : Session) → first_session ≡ Idle
+      → IfOk result (λ r. Comes r (rotating trusted session old new first_session) after version between a b)
+      → IfOk result (λ r. Leaves version keys trusted session old new start r b.state)
+  leaves_if (Ok r) first_session e h = leaves_so r (subst (λ w. Comes r (rotating trusted session old new w) after version between a b) e h)
+  leaves_if (Err why) first_session e h = tt

@@ -1,0 +1,4 @@
+pub mod Beside
+pub mod Coming
+pub mod Moving
+pub mod Passing

@@ -1,0 +1,52 @@
+-- What a rotation leaves of a server that others ask too.
+use Rattle.std.specs.Prelude.{◌≡◌, ◌≢◌, ℕ, List, flat_map, Option, Some, Result, Ok, Err}
+use Rattle.std.specs.List.{All}
+use Rattle.ae_base.specs.declared.frames.FrameVersion.{FrameVersion}
+use Rattle.ae_edge.specs.Vaults.{KeyMap}
+use Rattle.wire_messages.specs.declared.requests.Request.{Request}
+use Rattle.conversation.specs.Drive.{Passed, requests_in}
+use Rattle.driver.specs.declared.outcomes.Fault.{Fault}
+use Rattle.run_command.specs.Transcript.{exchange_frames}
+use Rattle.server_core.specs.Beside.{Beside}
+use Rattle.server_core.specs.Serve.{State}
+use Rattle.served_rotations.specs.Beside.{all_asked, others_asked, rotated_beside, session_of}
+use Rattle.served_rotations.specs.Laws.{FitMeanwhile, IsWhole, behind}
+use Rattle.rotate_among.specs.declared.rotating.Rotated.{Rotated}
+use Rattle.rotate_among.specs.declared.rotating.Rotated.TheVariants as came
+
+abbrev pub IsOther : ℕ → Request → Type 0
+IsOther session request = session_of request ≢ session
+
+abbrev pub AreOthers : ℕ → List (List Request) → Type 0
+AreOthers session between = All (All (IsOther session)) between
+
+-- the shared world is what the others' requests alone give
+abbrev pub HasNoTrace : Beside → Passed Beside → Type 0
+HasNoTrace start p = p.state.state.shared ≡ (behind start.state (others_asked start.between (requests_in p.exchanges))).shared
+
+-- all values that a column key has meanwhile, and that open, are to give one key
+abbrev pub IsMovedWhole : KeyMap → (old new : List ℕ) → Beside → Passed Beside → ℕ → Type 0
+IsMovedWhole keys old new start p n =
+    (key_for : ℕ → List ℕ) → FitMeanwhile keys key_for start.state (all_asked start.between (requests_in p.exchanges)) → IsWhole key_for old new start p n
+
+abbrev pub Ends : KeyMap → (old new : List ℕ) → Beside → Result ℕ Fault → Passed Beside → Type 0
+Ends keys old new start (Ok n) p = IsMovedWhole keys old new start p n
+Ends keys old new start (Err f) p = HasNoTrace start p
+
+-- by the random bytes that were drawn, so much passed over the server; these are its frames, and this is the state that it leaves
+pub record PassedSo (keys : KeyMap) (trusted : List (List ℕ)) (session : ℕ) (old new : List ℕ) (start : Beside) (P : Passed Beside → Type 0) (after : Option State) : Type 0 where
+  pub drawn : List ℕ
+  pub state : after ≡ Some (rotated_beside keys trusted session old new drawn start).state.state
+  pub is : P (rotated_beside keys trusted session old new drawn start)
+
+abbrev pub HasFrames : FrameVersion → List ℕ → Passed Beside → Type 0
+HasFrames version frames p = frames ≡ flat_map (exchange_frames version) p.exchanges
+
+-- by how it ended
+abbrev pub Leaves : FrameVersion → KeyMap → (trusted : List (List ℕ)) → (session : ℕ) → (old new : List ℕ) → Beside → Rotated → Option State → Type 0
+Leaves version keys trusted session old new start (came.Ended rotated frames) after =
+    PassedSo keys trusted session old new start (λ p. Ends keys old new start rotated p × HasFrames version frames p) after
+Leaves version keys trusted session old new start came.EntropyFault after = PassedSo keys trusted session old new start (HasNoTrace start) after
+Leaves version keys trusted session old new start (came.BadReply place frames) after =
+    PassedSo keys trusted session old new start (λ p. HasNoTrace start p × HasFrames version frames p) after
+Leaves version keys trusted session old new start came.VaultFault after = Unit {0}

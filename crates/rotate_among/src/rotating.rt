@@ -1,0 +1,196 @@
+//! The rotation of a table, among other sessions.
+
+ghost use Rattle.std.specs.Prelude.{◌≡◌, List, IfOk, Some, false};
+ghost use Rattle.std.specs.List.{All};
+ghost use Rattle.ae_edge.specs.Vaults.{KeyMap};
+ghost use Rattle.wire_messages.specs.Conditions.{IsRequest};
+ghost use Rattle.wire_messages.specs.declared.requests.Request.{Request};
+ghost use Rattle.column_rotate.specs.Rotating as rotating_as;
+ghost use Rattle.conversation.specs.declared.sessions.Session.TheVariants.{Idle};
+ghost use Rattle.driver.specs.Clients.{IsOfVault, session_of};
+ghost use Rattle.server_core.specs.Serve.{empty_state};
+ghost use Rattle.served_rotations.specs.Laws.{behind};
+ghost use Rattle.script_run.specs.Onward as onward;
+ghost use Rattle.rotate_among.specs.Beside.{beside};
+ghost use Rattle.rotate_among.specs.Coming.{Comes, IfEnded, IsBy};
+ghost use Rattle.rotate_among.specs.Moving.{AreOthers, Leaves};
+
+use crate::among_connection::{AmongConnection, Lack};
+use crate::frames::Frames;
+use ae_base::frames::FrameVersion;
+use ae_base::lists::Seq;
+use ae_base::names::Name;
+use ae_base::sessions::SessionId;
+use ae_edge::entropies::Entropy;
+use ae_edge::vaults::Vault;
+use driver::{Driver, Fault};
+use outcome_text::tallies::Tally;
+use run_command::peer_connection::Waiting;
+use run_effects::stops::Stop;
+use script_run::env::Env;
+use script_run::runs::rotate_lent;
+use served_rotations::laws::{
+    finished_rotations_are_whole, rotations_tell_one_outcome, unfinished_rotations_leave_no_trace,
+};
+use server_core::peers::Peer;
+use std::alloc::{AllocError, Global};
+use wire_messages::requests::Request;
+
+/// How a rotation ended.
+#[derive(Drop)]
+pub enum Rotated {
+    /// So many rows were moved, or why nothing was changed; and the rotation's requests in order,
+    /// each followed by the replies to it.
+    Ended(Result<u64, Fault>, Frames),
+    /// The source of random bytes failed.
+    EntropyFault,
+    /// The vault failed.
+    VaultFault,
+    /// The reply at this place among the bytes of the replies to the rotation isn't awaited; and
+    /// its requests in order, each followed by the replies to it.
+    BadReply(u64, Frames),
+}
+
+/// How a rotation ended, by what it came to or why it stopped, unless a request lacked memory. It
+/// doesn't stop for a stream of replies or for a text, since it has none.
+fn rotated_by(
+    ended: Result<Result<u64, Fault>, Stop>,
+    frames: Frames,
+    lacks: bool,
+) -> Result<Rotated, AllocError>
+    ensures by { IsBy result ended frames }
+    ensures whole { IfOk result (λ _. lacks ≡ false) }
+{
+    if lacks {
+        return Err(AllocError);
+    }
+    match ended {
+        Ok(rotated) => Ok(Rotated::Ended(rotated, frames)),
+        Err(Stop::EntropyFault) => Ok(Rotated::EntropyFault),
+        Err(Stop::VaultFault) => Ok(Rotated::VaultFault),
+        Err(Stop::BadReply(place)) => Ok(Rotated::BadReply(place, frames)),
+        Err(Stop::ReadFault | Stop::TooLong | Stop::WriteFault | Stop::OutOfMemory) => Err(
+            AllocError,
+        ),
+    }
+}
+
+/// Moves the rows of a table to another, which takes its place, while others ask the same peer.
+fn rotate<P: Peer, V: Vault, E: Entropy>(
+    alloc: Global,
+    peer: &mut P,
+    driver: &mut Driver,
+    vault: &mut V,
+    entropy: &mut E,
+    version: FrameVersion,
+    session: SessionId,
+    old: &Name,
+    new: &Name,
+    between: &[Seq<Request<'static>>],
+) -> Result<Rotated, AllocError>
+    requires { IsOfVault (V.keys vault.old) driver.old }
+    ensures leaves { IfOk result
+        (IfEnded (onward.Leaves session driver.old driver.new (V.keys vault.new))) }
+    ensures comes { IfOk result (λ rotated. Comes rotated
+        (rotating_as.rotating driver.old.trusted session old.now new.now
+        (session_of driver.old session))
+        (session_of driver.new session) version between.now
+        (record {
+          entropy = E.to_come entropy.old;
+          keys = V.keys vault.old;
+          state = P.state peer.old;
+          entropy_faults = E.faults entropy.old;
+          vault_faults = V.faults vault.old;
+        })
+        (record {
+          entropy = E.to_come entropy.new;
+          keys = V.keys vault.new;
+          state = P.state peer.new;
+          entropy_faults = E.faults entropy.new;
+          vault_faults = V.faults vault.new;
+        })) }
+{
+    let mut frames = Frames::new(alloc);
+    let mut text = Frames::new(alloc);
+    let mut waiting = Waiting::new(alloc);
+    let mut lacks = false;
+    let mut lack = Lack { unasked: None };
+    let mut env = Env {
+        out: &mut text,
+        entropy,
+        vault,
+        tally: Tally::nothing(),
+        connection: AmongConnection {
+            tap: &mut frames,
+            peer,
+            waiting: &mut waiting,
+            lacks: &mut lacks,
+            lack: &mut lack,
+            between,
+            at: 0,
+            version,
+            taken: 0,
+            behind: 0,
+        },
+    };
+    let ended = rotate_lent(alloc, &mut env, driver, session, old, new);
+    rotated_by(ended, frames, lacks)
+}
+
+/// Moves the rows of the table `old` to the table `new`, which takes its place and its name, in a
+/// session of this driver, while others ask the same peer: `between` holds what they ask before
+/// each request of the rotation, none where it is shorter. Nobody here hears the replies to theirs,
+/// and none of them is of this session. The driver keeps keys of this vault alone. The frames are
+/// in this version. Want of memory is the only other answer. Unless it ended, the session may still
+/// have its transaction.
+pub fn rotate_among<P: Peer, V: Vault, E: Entropy>(
+    alloc: Global,
+    peer: &mut P,
+    driver: &mut Driver,
+    vault: &mut V,
+    entropy: &mut E,
+    version: FrameVersion,
+    session: SessionId,
+    old: &Name,
+    new: &Name,
+    between: &[Seq<Request<'static>>],
+) -> Result<Rotated, AllocError>
+    requires of_vault { IsOfVault (V.keys vault.old) driver.old }
+    requires others { AreOthers session between.now }
+    ensures leaves { IfOk result
+        (IfEnded (onward.Leaves session driver.old driver.new (V.keys vault.new))) }
+    ensures comes { IfOk result (λ rotated. Comes rotated
+        (rotating_as.rotating driver.old.trusted session old.now new.now
+        (session_of driver.old session))
+        (session_of driver.new session) version between.now
+        (record {
+          entropy = E.to_come entropy.old;
+          keys = V.keys vault.old;
+          state = P.state peer.old;
+          entropy_faults = E.faults entropy.old;
+          vault_faults = V.faults vault.old;
+        })
+        (record {
+          entropy = E.to_come entropy.new;
+          keys = V.keys vault.new;
+          state = P.state peer.new;
+          entropy_faults = E.faults entropy.new;
+          vault_faults = V.faults vault.new;
+        })) }
+    ensures rotated { (keys : KeyMap) (history : List Request) → V.keys vault.old ≡ Some keys
+        → P.state peer.old ≡ Some (behind empty_state history)
+        → session_of driver.old session ≡ Idle → All IsRequest history
+        → All (All IsRequest) between.now → IfOk result (λ rotated.
+        Leaves version keys driver.old.trusted session old.now new.now
+        (beside between.now (behind empty_state history)) rotated (P.state peer.new)) }
+{
+    rotations_tell_one_outcome();
+    unfinished_rotations_leave_no_trace();
+    finished_rotations_are_whole();
+    let _ = session.number();
+    let _ = old.as_str();
+    let _ = new.as_str();
+    rotate(
+        alloc, peer, driver, vault, entropy, version, session, old, new, between,
+    )
+}
