@@ -17,7 +17,8 @@ STATEMENTS = {
     "SELECT with IN": (1000, 1.5, "SELECT a FROM t WHERE k IN ({}, {})"),
     "a join": (1000, 1.5, "SELECT y.a FROM t AS x JOIN t AS y ON y.k = x.k WHERE x.k = {}"),
     "UPDATE of another column": (1000, 1.5, "UPDATE t SET a = 1 WHERE k = {}"),
-    "DELETE": (20, None, "DELETE FROM t WHERE k = {}"),
+    "UPDATE of the key": (1000, 1.5, "UPDATE t SET k = {} WHERE k = {}"),
+    "DELETE": (1000, 1.5, "DELETE FROM t WHERE k = {}"),
 }
 
 
@@ -41,9 +42,10 @@ def made(count, protected):
 
 
 def keys_of(text, count, often):
-    """The keys of each run of a statement, all over the table."""
+    """The keys of each run of a statement, all over the table; the first of an UPDATE of the key is new."""
     wanted = text.count("{}")
-    return [[(i * wanted + j) * 7919 % count for j in range(wanted)] for i in range(often)]
+    keys = [[(i * wanted + j) * 7919 % count for j in range(wanted)] for i in range(often)]
+    return [[count + i, *known[1:]] for i, known in enumerate(keys)] if "SET k" in text else keys
 
 
 def processor_seconds(program, text):

@@ -1,21 +1,17 @@
 -- Keys of which no column is set, and rows that stay distinct on them.
-use Rattle.std.proofs.Common.{◌≡◌, ℕ, ◌+◌, List, [], ◌∷◌, map, refl, ap, sym, ◌∙◌, subst, Bool, true, false, Option, Some, None, Result, Ok, Err}
+use Rattle.std.proofs.Common.{◌≡◌, ℕ, ◌+◌, List, [], ◌∷◌, map, refl, ap, sym, ◌∙◌, Bool, true, false, Option, Some, None, Result, Ok}
 use Rattle.std.specs.Prelude.{◌||◌, if◌then◌else◌}
 use Rattle.std.specs.List.{All, list_any}
 use Rattle.std.proofs.lemmas.List.Elements.{All-head, All-tail, All-cons, All-nil}
 use Rattle.ae_base.specs.Atoms.{Atom}
-use Rattle.ae_base.specs.Results.{AnswersAs}
 use Rattle.ae_base.specs.declared.faults.SqlFault.{SqlFault}
-use Rattle.ae_base.specs.declared.refusals.Refusal.{Refusal}
-use Rattle.ae_base.specs.declared.refusals.Refusal.TheVariants.{Fault, OutOfMemory}
 use Rattle.scalar.specs.Eval.{atom_at}
 use Rattle.sql_tree.specs.Bound.{BoundAssignment}
-use Rattle.operators.specs.Alike.{key_of}
+use Rattle.operators.specs.Alike.{are_alike, key_of}
 use Rattle.unique_keys.specs.Keys.{has_twins, first_twins, unless_twins}
-use Rattle.unique_keys.specs.Indexes.{Indexed, IndexesRows, AreDistinct, AreAdmitted, keys_of}
-use Rattle.unique_keys.proofs.Interface.{twins_same}
-use Rattle.key_index.specs.Places.{IndexesKeys}
-use Rattle.indexed_tables.specs.Updates.{is_set, sets_a_key, AreKept, nothing_more}
+use Rattle.unique_keys.specs.Indexes.{Indexed, IndexesRows, AreDistinct, keys_of, number_where}
+use Rattle.unique_keys.proofs.Interface.{twins_same, where_keys}
+use Rattle.indexed_tables.specs.Updates.{is_set, sets_a_key, AreKept}
 
 or_left : (a b : Bool) → (a || b) ≡ false → a ≡ false
 or_left true b e = absurd cc
@@ -58,14 +54,18 @@ module _ (sets : List BoundAssignment) where
   keys_kept key (o ∷ old) [] e h = absurd h
   keys_kept key (o ∷ old) (n ∷ new) e h = ap (λ k. k ∷ map (key_of key) new) (key_kept key o n e h.0) ∙ ap (λ ks. key_of key o ∷ ks) (keys_kept key old new e h.1)
 
-  pub indexes_kept : (indexes : List Indexed) (old new : List (List Atom)) → sets_a_key sets (keys_of indexes) ≡ false → AreKept sets old new → All (IndexesRows old) indexes → All (IndexesRows new) indexes
-  indexes_kept [] old new e h i = All-nil (IndexesRows new)
-  indexes_kept (x ∷ indexes) old new e h i =
-      let one = or_left (list_any (is_set sets) x.places) (sets_a_key sets (keys_of indexes)) e in
-      All-cons (IndexesRows new) x indexes (subst (λ ks. IndexesKeys ks x.keyed) (sym (keys_kept x.places old new one h)) (All-head (IndexesRows old) x indexes i))
-      (indexes_kept indexes old new (or_right (list_any (is_set sets) x.places) (sets_a_key sets (keys_of indexes)) e) h (All-tail (IndexesRows old) x indexes i))
+  index_kept : (index : Indexed) (numbers : List ℕ) (old new : List (List Atom)) → list_any (is_set sets) index.places ≡ false → AreKept sets old new → IndexesRows numbers old index → IndexesRows numbers new index
+  index_kept index numbers old new e h i = λ key.
+      i key ∙ sym (where_keys key index.places numbers old) ∙ ap (number_where (are_alike key) numbers) (sym (keys_kept index.places old new e h)) ∙ where_keys key index.places numbers new
 
-  distinct_kept : (keys : List (List ℕ)) (old new : List (List Atom)) → sets_a_key sets keys ≡ false → AreKept sets old new → AreDistinct keys old → AreDistinct keys new
+  pub indexes_kept : (indexes : List Indexed) (numbers : List ℕ) (old new : List (List Atom)) → sets_a_key sets (keys_of indexes) ≡ false → AreKept sets old new → All (IndexesRows numbers old) indexes → All (IndexesRows numbers new) indexes
+  indexes_kept [] numbers old new e h i = All-nil (IndexesRows numbers new)
+  indexes_kept (x ∷ indexes) numbers old new e h i =
+      let one = or_left (list_any (is_set sets) x.places) (sets_a_key sets (keys_of indexes)) e in
+      All-cons (IndexesRows numbers new) x indexes (index_kept x numbers old new one h (All-head (IndexesRows numbers old) x indexes i))
+      (indexes_kept indexes numbers old new (or_right (list_any (is_set sets) x.places) (sets_a_key sets (keys_of indexes)) e) h (All-tail (IndexesRows numbers old) x indexes i))
+
+  pub distinct_kept : (keys : List (List ℕ)) (old new : List (List Atom)) → sets_a_key sets keys ≡ false → AreKept sets old new → AreDistinct keys old → AreDistinct keys new
   distinct_kept [] old new e h d = All-nil (λ k. has_twins k new ≡ false)
   distinct_kept (key ∷ keys) old new e h d =
       let one = or_left (list_any (is_set sets) key) (sets_a_key sets keys) e in
@@ -79,16 +79,3 @@ module _ (sets : List BoundAssignment) where
 pub distinct_none : (keys : List (List ℕ)) → AreDistinct keys []
 distinct_none [] = All-nil (λ k. has_twins k [] ≡ false)
 distinct_none (key ∷ keys) = All-cons (λ k. has_twins k [] ≡ false) key keys refl (distinct_none keys)
-
--- ---- indexes that are made anew
-
-abbrev admitted : Result (Unit {0}) (Refusal SqlFault)
-admitted = Ok tt
-
-pub renewed_answer : (keys : List (List ℕ)) (rows standing : List (List Atom)) (before after : List Indexed) → rows ≡ standing → keys_of before ≡ keys → AreAdmitted [] rows admitted before after → tested keys standing ≡ done
-renewed_answer keys rows standing before after e k a = ap (λ ks. tested ks standing) (sym k) ∙ ap (tested (keys_of before)) (sym e) ∙ a.answer
-
-pub renewed_failed : (A : Type 0) (keys : List (List ℕ)) (rows standing : List (List Atom)) (before after : List Indexed) → rows ≡ standing → keys_of before ≡ keys → (refusal : Refusal SqlFault) → AreAdmitted [] rows (Err refusal) before after
-    → AnswersAs (nothing_more {A = A}) (Err refusal) (tested keys standing)
-renewed_failed A keys rows standing before after e k (Fault f) a = ap (λ ks. tested ks standing) (sym k) ∙ ap (tested (keys_of before)) (sym e) ∙ a.answer
-renewed_failed A keys rows standing before after e k OutOfMemory a = tt

@@ -1,3 +1,6 @@
 mod Among
+mod Changing
+mod Exchanging
 mod Keeping
 mod Lent
+mod Placing

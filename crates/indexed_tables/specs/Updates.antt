@@ -12,10 +12,6 @@ abbrev pub changed_rows : {A E : Type 0} → Result A E → List (List Atom) →
 changed_rows (Ok x) rows changes = written rows changes
 changed_rows (Err error) rows changes = rows
 
--- what says only that it was done
-abbrev pub nothing_more : {A : Type 0} → A → Unit {0}
-nothing_more x = tt
-
 -- an assignment sets the column of a place
 abbrev pub is_set : List (BoundAssignment) → ℕ → Bool
 is_set sets place = list_any (λ a. a.place == place) sets

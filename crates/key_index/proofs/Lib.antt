@@ -1,5 +1,4 @@
-mod Counting
 mod Cutting
-mod Dropping
+mod Entries
 pub mod Interface
-mod Looking
+mod Seeking

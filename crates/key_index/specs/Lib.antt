@@ -1,3 +1,2 @@
 pub mod Lookups
-pub mod Moves
-pub mod Places
+pub mod Numbers

@@ -1,234 +1,111 @@
-//! An index: the places of the rows with a key, in order.
+//! An index: the number of the row with a key.
 
-ghost use Rattle.std.specs.Prelude.{◌≡◌, ◌<◌, ◌≤◌, ◌++◌, ◌∷◌, [], List, length, map, drop, not, filter, ◌==◌, nat_lt, OnOk, OnErr};
-ghost use Rattle.std.specs.List.{All};
+ghost use Rattle.std.specs.Prelude.{◌≡◌, ◌≤◌, ◌+◌, ◌<◌, List, length, Some, None, OnOk};
 ghost use Rattle.ae_base.specs.Atoms.{Atom};
-ghost use Rattle.key_index.specs.Moves.{moved};
-ghost use Rattle.key_index.specs.Places.{nothing, places_at, HasPlaces, HasMore, IndexesKeys, IndexesFront};
+ghost use Rattle.key_index.specs.Numbers.{number_at, HasNone, HasNumber, HasSame, put_in, taken_out};
 
 use crate::keys::{Kept, Key};
-use crate::moving::move_places;
 use ae_base::lists::Seq;
 use ae_base::sameness::Same;
-use indexmap::IndexSet;
+use indexmap::IndexMap;
 use std::alloc::{AllocError, Global};
 use std::marker::Model;
 
-/// The places of rows by their keys.
+/// The numbers of rows by their keys, of which no two are alike.
 pub struct KeyIndex<K: Same> {
-    keys: IndexSet<Vec<Kept<K>>>,
-    lists: Vec<Vec<usize>>,
+    numbers: IndexMap<Vec<Kept<K>>, usize>,
 }
 
 impl<K: Same> Drop for KeyIndex<K> {
     fn drop(self) {
-        let KeyIndex { keys: _, lists: _ } = self;
+        let KeyIndex { numbers: _ } = self;
     }
 }
 
 impl<K: Same> Model for KeyIndex<K> {
-    ghost use Rattle.std.specs.Prelude.{◌≡◌, map, length};
-    ghost use Rattle.key_index.specs.Places.{Keyed};
+    ghost use Rattle.std.specs.Prelude.{map};
+    ghost use Rattle.indexmap.specs.IndexMap.{spare};
+    ghost use Rattle.key_index.specs.Numbers.{Keyed};
 
     ghost Value = { Keyed };
 
     ghost view = { λ i. record {
-      keys = map (λ key. key.items) i.keys.keys;
-      lists = map (λ list. list.items) i.lists.items;
+      entries = map (λ e. (e.0.items, e.1)) i.numbers.entries;
+      spare = spare i.numbers;
     } };
-
-    ghost invariant = { λ i. length i.lists.items ≡ length i.keys.keys };
 }
 
 impl<K: Same> KeyIndex<K> {
     /// No rows yet. It takes no memory.
     pub fn new(alloc: Global) -> KeyIndex<K>
-        ensures { result ≡ nothing }
+        ensures { HasNone result }
     {
         KeyIndex {
-            keys: IndexSet::new(alloc),
-            lists: Vec::new(alloc),
+            numbers: IndexMap::new(alloc),
         }
     }
 
-    /// The places of the rows with a key, in the order in which they were put in. It takes no
-    /// memory.
-    pub fn places_of(&self, key: &Key<K>) -> &[usize]
-        ensures { result.now ≡ places_at self.now key.now }
+    /// The number of the row with a key. It takes no memory.
+    pub fn number_of(&self, key: &Key<K>) -> Option<usize>
+        ensures { result ≡ number_at self.now key.now }
     {
-        match self.keys.get_index_of(&key.atoms) {
-            Some(place) => self.lists[place].as_slice(),
-            None => &[],
+        match self.numbers.get(&key.atoms) {
+            Some(number) => Some(*number),
+            None => None,
         }
     }
 
-    /// Takes out a place of a key. It takes no memory.
-    pub fn remove(&mut self, key: &Key<K>, place: usize)
-        ensures { HasPlaces self.old self.new key.now
-            (filter (λ p. not (p == place)) (places_at self.old key.now)) }
+    /// Makes room for so many more keys, if there is memory for it.
+    pub fn reserve(&mut self, count: usize) -> Result<(), AllocError>
+        ensures same { HasSame self.old self.new }
+        ensures room { OnOk result (count ≤ self.new.spare) }
     {
-        if let Some(at) = self.keys.get_index_of(&key.atoms) {
-            take_out(&mut self.lists[at], place);
-        }
+        self.numbers.reserve(count)
     }
 
-    /// Takes out all places from this one on, of every key, and with them the newest keys that have
-    /// no others. It takes no memory.
-    pub fn forget_from(&mut self, place: usize)
-        ensures { (key : List Atom)
-            → places_at self.new key ≡ filter (λ p. nat_lt p place) (places_at self.old key) }
+    /// Gives a key a number, in the place of one that it had. It takes no memory.
+    pub fn put(&mut self, key: Key<K>, number: usize)
+        requires { 0 < self.old.spare }
+        ensures number { HasNumber self.old self.new key (Some number) }
+        ensures room { self.old.spare ≤ self.new.spare + 1 }
     {
-        keep_before(&mut self.lists, place);
-        let used = used_len(self.lists.as_slice());
-        self.lists.truncate(used);
-        self.keys.truncate(used);
-    }
-
-    /// Puts where rows stand after moves in the place of where they stood, and takes out the keys of
-    /// which no row stays. It takes no memory.
-    pub fn follow(&mut self, moves: &[Option<usize>])
-        ensures { (key : List Atom)
-            → places_at self.new key ≡ moved moves.now (places_at self.old key) }
-    {
-        self.move_lists(moves);
-        self.drop_unused();
-    }
-
-    /// Puts where rows stand after moves in the place of where they stood.
-    fn move_lists(&mut self, moves: &[Option<usize>])
-        ensures { (key : List Atom)
-            → places_at self.new key ≡ moved moves.now (places_at self.old key) }
-    {
-        move_all(&mut self.lists, moves);
-    }
-
-    /// Takes out the keys that have no places.
-    fn drop_unused(&mut self)
-        ensures { (key : List Atom) → places_at self.new key ≡ places_at self.old key }
-    {
-        for at in (0..self.lists.len()).rev() {
-            self.drop_if_unused(at);
-        }
-    }
-
-    /// Takes out one of the keys, if it has no places; the last one takes its place.
-    fn drop_if_unused(&mut self, at: usize)
-        requires { at < length self.old.lists }
-        ensures same { (key : List Atom) → places_at self.new key ≡ places_at self.old key }
-        ensures len { at ≤ length self.new.lists }
-    {
-        // A proof learns from this call that no key comes twice.
-        let _ = self.keys.len();
-        if self.lists[at].is_empty() {
-            let _ = self.lists.swap_remove(at);
-            drop(self.keys.swap_remove_index(at));
-        }
-    }
-
-    /// Puts in a place behind the others of a key. Without memory all keys have the places that
-    /// they had.
-    pub fn insert(&mut self, alloc: Global, key: Key<K>, place: usize) -> Result<(), AllocError>
-        ensures ok { OnOk result
-            (HasPlaces self.old self.new key (places_at self.old key ++ place ∷ [])) }
-        ensures err { OnErr result (self.new ≡ self.old) }
-    {
-        let list = vec![in alloc; place]?;
-        self.lists.reserve(1)?;
         let Key { atoms } = key;
-        let (at, added) = self.keys.insert_full(atoms)?;
-        if added {
-            self.lists.push_reserved(list);
-            return Ok(());
+        match self.numbers.insert(atoms, number) {
+            Ok(_) => {}
+            Err(_) => unreachable!(),
         }
-        self.lists[at].push(place)?;
-        Ok(())
     }
 
-    /// Puts in these keys, at one place after another from this one on. Without memory some of them
-    /// may be there, behind the places that were there.
-    pub fn put_all(
-        &mut self,
-        alloc: Global,
-        from: usize,
-        keys: Seq<Key<K>>,
-    ) -> Result<(), AllocError>
-        ensures ok { OnOk result (HasMore self.old from keys self.new) }
-        ensures front { (known : List (List Atom)) → IndexesKeys known self.old
-            → length known ≡ from
-            → IndexesFront known self.new }
+    /// Takes out a key. It takes no memory.
+    pub fn remove(&mut self, key: &Key<K>)
+        ensures number { HasNumber self.old self.new key.now None }
+        ensures room { self.old.spare ≤ self.new.spare }
     {
-        if keys.len() > usize::MAX - from {
-            return Err(AllocError);
-        }
-        let mut place = from;
+        let _ = self.numbers.swap_remove(&key.atoms);
+    }
+
+    /// Gives keys, one after another, a number each. It takes no memory.
+    pub fn put_all(&mut self, numbers: &[usize], keys: Seq<Key<K>>)
+        requires each { length numbers.now ≡ length keys }
+        requires room { length keys ≤ self.old.spare }
+        ensures { (key : List Atom) → number_at self.new key
+            ≡ put_in key (number_at self.old key) numbers.now keys }
+    {
+        let mut i = 0;
         for key in keys.into_vec() {
-            match self.insert(alloc, key, place) {
-                Ok(()) => {}
-                Err(error) => return Err(error),
-            }
-            place += 1;
+            self.put(key, numbers[i]);
+            i += 1;
         }
-        Ok(())
     }
-}
 
-/// Puts where rows stand after moves in the place of where they stood, in each list.
-fn move_all(lists: &mut Vec<Vec<usize>>, moves: &[Option<usize>])
-    ensures lists { map (λ list. list.items) lists.new.items
-        ≡ map (moved moves.now) (map (λ list. list.items) lists.old.items) }
-    ensures len { length lists.new.items ≡ length lists.old.items }
-{
-    move_each(lists, moves);
-}
-
-fn move_each(lists: &mut [Vec<usize>], moves: &[Option<usize>])
-    ensures { map (λ list. list.items) lists.new
-        ≡ map (moved moves.now) (map (λ list. list.items) lists.old) }
-{
-    for list in lists.iter_mut() {
-        move_places(list, moves);
+    /// Takes out some keys. It takes no memory.
+    pub fn remove_all(&mut self, keys: &[Key<K>])
+        ensures numbers { (key : List Atom) → number_at self.new key
+            ≡ taken_out key (number_at self.old key) keys.now }
+        ensures room { self.old.spare ≤ self.new.spare }
+    {
+        for key in keys {
+            self.remove(key);
+        }
     }
-}
-
-/// Keeps those of each list that come before a place.
-fn keep_before(lists: &mut Vec<Vec<usize>>, place: usize)
-    ensures lists { map (λ list. list.items) lists.new.items
-        ≡ map (filter (λ p. nat_lt p place)) (map (λ list. list.items) lists.old.items) }
-    ensures len { length lists.new.items ≡ length lists.old.items }
-{
-    cut_each(lists, place);
-}
-
-/// How many lists there are up to the last one that has a place.
-fn used_len(lists: &[Vec<usize>]) -> usize
-    ensures { All (λ list. list.items ≡ []) (drop result lists.now) }
-{
-    let mut len = lists.len();
-    while len > 0 && lists[len - 1].is_empty() {
-        len -= 1;
-    }
-    len
-}
-
-fn cut_each(lists: &mut [Vec<usize>], place: usize)
-    ensures { map (λ list. list.items) lists.new
-        ≡ map (filter (λ p. nat_lt p place)) (map (λ list. list.items) lists.old) }
-{
-    for list in lists.iter_mut() {
-        cut_from(list, place);
-    }
-}
-
-/// Takes out of a list the places from this one on.
-fn cut_from(list: &mut Vec<usize>, place: usize)
-    ensures { list.new.items ≡ filter (λ p. nat_lt p place) list.old.items }
-{
-    list.retain(|p| *p < place);
-}
-
-/// Takes a place out of a list.
-fn take_out(list: &mut Vec<usize>, place: usize)
-    ensures { list.new.items ≡ filter (λ p. not (p == place)) list.old.items }
-{
-    list.retain(|p| *p != place);
 }

@@ -1,7 +1,6 @@
-//! The places of rows, found by what they have in the columns of a key.
+//! The numbers of rows, found by what they have in the columns of a key.
 #![tactic(auto)]
 
 pub mod index;
 pub mod keys;
 pub mod lookups;
-pub mod moving;

@@ -1,9 +1,10 @@
 //! The first of some keys that an index has, or that comes twice.
 
-ghost use Rattle.std.specs.Prelude.{◌≡◌, ◌<◌, ◌+◌, ◌++◌, [], ◌∷◌, length, true, not, IfOk};
+ghost use Rattle.std.specs.Prelude.{◌≡◌, ◌<◌, ◌+◌, ◌++◌, [], ◌∷◌, ℕ, length, true, not, IfOk};
 ghost use Rattle.std.specs.List.{list_any};
 ghost use Rattle.operators.specs.Alike.{are_alike};
-ghost use Rattle.key_index.specs.Lookups.{first_alike, looked_up};
+ghost use Rattle.row_store.specs.Numbers.{AreRising};
+ghost use Rattle.key_index.specs.Lookups.{first_alike, is_among, is_known, looked_up};
 
 use crate::index::KeyIndex;
 use crate::keys::{Kept, Key};
@@ -47,39 +48,44 @@ impl<'a, K: Same> Seen<'a, K> {
     }
 }
 
-/// The place, in the list, of the first of some new keys that is in the index or before it in the
-/// list. Each key up to and with that one is looked up once.
+/// The place, in the list, of the first of some new keys that the index has, with another number
+/// than those that go, or that comes before it in the list. Each key up to and with that one is
+/// looked up once.
 pub fn first_alike<K: Same, L: Ledger>(
     alloc: Global,
     index: &KeyIndex<K>,
+    gone: &[usize],
     keys: &[Key<K>],
     lookups: &mut Steps<L>,
 ) -> Result<Option<usize>, AllocError>
-    ensures place { IfOk result (λ place. place ≡ first_alike index.now keys.now) }
+    requires { (to : ℕ) × AreRising 0 to gone.now }
+    ensures place { IfOk result (λ place. place ≡ first_alike gone.now index.now keys.now) }
     ensures lookups { IfOk result
         (λ place. lookups.new ≡ lookups.old + looked_up (length keys.now) place) }
 {
     let mut seen = Seen::new(alloc);
-    let place = first_among(index, keys, &mut seen, lookups);
+    let place = first_among(index, gone, keys, &mut seen, lookups);
     drop(seen);
     place
 }
 
 fn first_among<'a, K: Same, L: Ledger>(
     index: &KeyIndex<K>,
+    gone: &[usize],
     keys: &'a [Key<K>],
     seen: &mut Seen<'a, K>,
     lookups: &mut Steps<L>,
 ) -> Result<Option<usize>, AllocError>
+    requires rising { (to : ℕ) × AreRising 0 to gone.now }
     requires none { seen.old ≡ [] }
-    ensures place { IfOk result (λ place. place ≡ first_alike index.now keys.now) }
+    ensures place { IfOk result (λ place. place ≡ first_alike gone.now index.now keys.now) }
     ensures lookups { IfOk result
         (λ place. lookups.new ≡ lookups.old + looked_up (length keys.now) place) }
 {
     for i in 0..keys.len() {
         let key = &keys[i];
         lookups.tick();
-        if !index.places_of(key).is_empty() {
+        if is_known(index, gone, key) {
             return Ok(Some(i));
         }
         if !seen.note(key)? {
@@ -89,28 +95,54 @@ fn first_among<'a, K: Same, L: Ledger>(
     Ok(None)
 }
 
+/// Whether an index has a key, with another number than those that go.
+fn is_known<K: Same>(index: &KeyIndex<K>, gone: &[usize], key: &Key<K>) -> bool
+    requires { (to : ℕ) × AreRising 0 to gone.now }
+    ensures { result ≡ is_known gone.now index.now key.now }
+{
+    match index.number_of(key) {
+        Some(number) => !is_among(gone, number),
+        None => false,
+    }
+}
+
+/// Whether a number is one of some that rise.
+fn is_among(numbers: &[usize], number: usize) -> bool
+    requires { (to : ℕ) × AreRising 0 to numbers.now }
+    ensures { result ≡ is_among numbers.now number }
+{
+    match numbers.binary_search(&number) {
+        Ok(_) => true,
+        Err(_) => false,
+    }
+}
+
 /// `first_alike` where nobody counts.
 pub fn first_uncounted<K: Same>(
     alloc: Global,
     index: &KeyIndex<K>,
+    gone: &[usize],
     keys: &[Key<K>],
 ) -> Result<Option<usize>, AllocError>
-    ensures { IfOk result (λ place. place ≡ first_alike index.now keys.now) }
+    requires { (to : ℕ) × AreRising 0 to gone.now }
+    ensures { IfOk result (λ place. place ≡ first_alike gone.now index.now keys.now) }
 {
-    first_from::<K, Brand>(alloc, index, keys, Blank::new(1))
+    first_from::<K, Brand>(alloc, index, gone, keys, Blank::new(1))
 }
 
 fn first_from<K: Same, L: Ledger>(
     alloc: Global,
     index: &KeyIndex<K>,
+    gone: &[usize],
     keys: &[Key<K>],
     blank: Blank,
 ) -> Result<Option<usize>, AllocError>
+    requires rising { (to : ℕ) × AreRising 0 to gone.now }
     requires name { blank.name ≡ L.name }
     requires parts { blank.parts ≡ L.parts }
     requires some { 0 < blank.parts }
-    ensures { IfOk result (λ place. place ≡ first_alike index.now keys.now) }
+    ensures { IfOk result (λ place. place ≡ first_alike gone.now index.now keys.now) }
 {
     let mut lookups = Steps::<L>::new(blank);
-    first_alike(alloc, index, keys, &mut lookups)
+    first_alike(alloc, index, gone, keys, &mut lookups)
 }

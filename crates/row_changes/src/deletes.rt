@@ -1,6 +1,6 @@
 //! The rows that a DELETE hits.
 
-ghost use Rattle.std.specs.Prelude.{◌≡◌, length, map, count_by, IfOk};
+ghost use Rattle.std.specs.Prelude.{◌≡◌, length, map, IfOk};
 ghost use Rattle.std.specs.List.{All};
 ghost use Rattle.std.specs.Option.{option_map};
 ghost use Rattle.ae_base.specs.Results.{AnswersAs, each};
@@ -41,11 +41,4 @@ pub fn hits<K: Same>(
         }
     }
     Ok(hits)
-}
-
-/// How many rows are hit.
-pub fn count_hits(hits: &[bool]) -> u64
-    ensures { result ≡ count_by (λ hit. hit) hits.now }
-{
-    hits.iter().filter(|hit| **hit).count() as u64
 }

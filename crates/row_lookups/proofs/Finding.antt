@@ -9,8 +9,7 @@ use Rattle.ae_base.specs.Atoms.{Atom}
 use Rattle.operators.specs.Alike.{key_of, are_alike}
 use Rattle.operators.proofs.Interface.{drop_there}
 use Rattle.sql_tree.specs.Bound.{BoundOperand}
-use Rattle.key_index.specs.Places.{places_at, places_from}
-use Rattle.unique_keys.specs.Indexes.{Indexed, IndexesRows}
+use Rattle.indexed_tables.specs.Tables.{places_from}
 use Rattle.keyed_joins.specs.Keyed.{no_nulls}
 use Rattle.keyed_joins.proofs.Interface.{alike_same_keys, null_same_keys}
 use Rattle.lookups.specs.Lookups.{Lookup, is_found, key_at, rows_found}
@@ -38,10 +37,9 @@ from_where places key n (row ∷ rows) =
     ap (λ l. cond (are_alike key (key_of places row)) (n ∷ l) l) (from_where places key (n + 1) rows)
 
 -- the places of a key without NULL
-pub index_places : (rows : List Row) (index : Indexed) (key : Row) → IndexesRows rows index → no_nulls key ≡ true → places_at index.keyed key ≡ places_with index.places key rows
-index_places rows index key h e =
-    h key ∙ from_where index.places key 0 rows
-    ∙ where_same (λ row. are_alike key (key_of index.places row)) (has_key index.places key) 0 rows (λ row. alike_same_keys key (key_of index.places row) e)
+pub index_places : (places : List ℕ) (key : Row) (rows : List Row) → no_nulls key ≡ true → places_from 0 key (map (key_of places) rows) ≡ places_with places key rows
+index_places places key rows e =
+    from_where places key 0 rows ∙ where_same (λ row. are_alike key (key_of places row)) (has_key places key) 0 rows (λ row. alike_same_keys key (key_of places row) e)
 
 -- and of one with NULL
 pub null_places : (places : List ℕ) (key : Row) (rows : List Row) → no_nulls key ≡ false → [] ≡ places_with places key rows

@@ -49,8 +49,14 @@ pub fn places_in<K: Same>(
     ensures { IfOk result (λ places. places.items
         ≡ places_where (is_found params.now (lookup_made lookup.now) row.now) 0 table.now.rows) }
 {
-    let index = table.index_on(lookup.places.as_slice());
-    places_found(alloc, index, lookup.keys.as_slice(), row, params)
+    places_found(
+        alloc,
+        table,
+        lookup.places.as_slice(),
+        lookup.keys.as_slice(),
+        row,
+        params,
+    )
 }
 
 /// The rows at some places of a table.

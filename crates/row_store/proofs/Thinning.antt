@@ -1,13 +1,12 @@
 -- Pages that lose the rows that are hit, and then share one where they fit.
 use Rattle.std.proofs.Common.{◌≡◌, ℕ, zero, suc, ◌+◌, ◌<◌, ◌≤◌, List, [], ◌∷◌, ◌++◌, length, length-append, get_or, take, drop, slice_set, refl, ap, sym, ◌∙◌, subst, append_assoc, arith, Bool, true, false, not, cond, inl, inr}
-use Rattle.std.specs.Prelude.{count_by}
 use Rattle.std.specs.List.{All, SwappedAt}
 use Rattle.std.proofs.lemmas.Bool.{cases_lt}
 use Rattle.std.proofs.lemmas.List.{append-nil, take_all, drop_all, take_more, drop_more, take_more_set, take-set, take-set-le, drop-set-lt, length-set, length-take, length-drop}
 use Rattle.std.proofs.lemmas.List.Elements.{All-head, All-tail}
-use Rattle.std.proofs.lemmas.List.Sums.{sum_by-cons}
 use Rattle.row_store.specs.Paged.{flat, lengths, IsDense, IsPaged, merged_next, merged_at, compaction}
-use Rattle.row_store.specs.Changes.{unhit}
+use Rattle.row_store.specs.Changes.{unhit, marked, IsPast}
+use Rattle.row_store.proofs.Marking.{drop_drop, marked_front, marked_long}
 use Rattle.row_store.proofs.Packing.{next_flat, next_dense, next_small, lengths_of_set, small_set}
 
 -- ---- the rows of one page: those that stay so far stand in front, and the rest is as it was
@@ -60,19 +59,6 @@ unhit_less (row ∷ rows) [] = omega arith
 unhit_less (row ∷ rows) (true ∷ hits) = let le = unhit_less rows hits in omega (arith, le)
 unhit_less (row ∷ rows) (false ∷ hits) = let le = unhit_less rows hits in omega (arith, le)
 
-pub unhit_count : {T : Type 0} (rows : List T) (hits : List Bool) → length hits ≡ length rows → length (unhit rows hits) ≡ count_by (λ (hit : Bool). not hit) hits
-unhit_count [] [] n = refl
-unhit_count [] (h ∷ hits) n = absurd (omega arith)
-unhit_count (row ∷ rows) [] n = absurd (omega arith)
-unhit_count (row ∷ rows) (true ∷ hits) n =
-    let rest = unhit_count rows hits (omega arith) in
-    let one : count_by (λ (hit : Bool). not hit) (true ∷ hits) ≡ 0 + count_by (λ (hit : Bool). not hit) hits = sum_by-cons (λ (hit : Bool). cond (not hit) 1 0) true hits in
-    omega (arith, rest, one)
-unhit_count (row ∷ rows) (false ∷ hits) n =
-    let rest = unhit_count rows hits (omega arith) in
-    let one : count_by (λ (hit : Bool). not hit) (false ∷ hits) ≡ 1 + count_by (λ (hit : Bool). not hit) hits = sum_by-cons (λ (hit : Bool). cond (not hit) 1 0) false hits in
-    omega (arith, rest, one)
-
 -- ---- page by page
 
 unhit_append : {T : Type 0} (rows rest : List T) (hits : List Bool) → length rows ≤ length hits → unhit (rows ++ rest) hits ≡ unhit rows (take (length rows) hits) ++ unhit rest (drop (length rows) hits)
@@ -92,11 +78,6 @@ thinning_start old hits n small = record { so_far = refl; left = omega (arith, n
 
 drop_next : {A : Type 0} (xs : List A) (i : ℕ) (x : A) → i < length xs → x ≡ get_or xs i x → drop i xs ≡ x ∷ drop (i + 1) xs
 drop_next xs i x lt e = drop_more xs i x lt ∙ ap (λ z. z ∷ drop (i + 1) xs) (sym e)
-
-drop_drop : {A : Type 0} (n m : ℕ) (xs : List A) → drop n (drop m xs) ≡ drop (m + n) xs
-drop_drop n zero xs = let e : n ≡ zero + n = omega arith in ap (λ k. drop k xs) e
-drop_drop n (suc m) [] = drop_all n [] (omega arith) ∙ sym (drop_all (suc m + n) [] (omega arith))
-drop_drop n (suc m) (x ∷ xs) = let e : suc (m + n) ≡ suc m + n = omega arith in drop_drop n m xs ∙ ap (λ k. drop k (x ∷ xs)) e
 
 module _ {T : Type 0} (old now : List (List T)) (hits : List Bool) (i before : ℕ) (rows new : List T) (lt : i < length now) (is : rows ≡ get_or now i rows) (s : AreThinning old now hits i before) where
   left_here : length (flat (drop i now)) ≡ length rows + length (flat (drop (i + 1) now))
@@ -126,6 +107,46 @@ module _ {T : Type 0} (old now : List (List T)) (hits : List Bool) (i before : �
       flat_behind : (pages : List (List T)) (page : List T) → flat (pages ++ page ∷ []) ≡ flat pages ++ page
       flat_behind [] page = append-nil page
       flat_behind (p ∷ pages) page = ap (λ l. p ++ l) (flat_behind pages page) ∙ sym (append_assoc p (flat pages) page)
+
+-- ---- the places that are left
+
+-- behind so many rows the places that are left mark the rest
+pub record AreLeft {T : Type 0} (old now : List (List T)) (places : List ℕ) (i before used : ℕ) : Type 0 where
+  pub thinning : AreThinning old now (marked 0 (length (flat old)) places) i before
+  pub left : drop before (marked 0 (length (flat old)) places) ≡ marked before (length (flat (drop i now))) (drop used places)
+  pub few : used ≤ length places
+
+pub left_start : {T : Type 0} (old : List (List T)) (places : List ℕ) → All (λ n. n ≤ 256) (lengths old) → AreLeft old old places 0 0 0
+left_start old places small = record {
+  thinning = thinning_start old (marked 0 (length (flat old)) places) (marked_long 0 (length (flat old)) places) small;
+  left = refl;
+  few = omega arith;
+}
+
+module _ {T : Type 0} (old now : List (List T)) (places : List ℕ) (i before used : ℕ) (rows new : List T) (lt : i < length now) (is : rows ≡ get_or now i rows) (s : AreLeft old now places i before used) where
+  abbrev hits : List Bool
+  hits = marked 0 (length (flat old)) places
+
+  abbrev rest : ℕ
+  rest = length (flat (drop (i + 1) now))
+
+  all_left : drop before hits ≡ marked before (length rows + rest) (drop used places)
+  all_left = s.left ∙ ap (λ n. marked before n (drop used places)) (left_here old now hits i before rows new lt is s.thinning)
+
+  pub left_within : before + length rows ≤ length (flat old)
+  left_within = omega (arith, thin_within old now hits i before rows new lt is s.thinning, marked_long 0 (length (flat old)) places)
+
+  pub left_more : (more : ℕ) → length rows ≤ 256 → more ≤ length (drop used places) → new ≡ unhit rows (marked before (length rows) (drop used places)) → IsPast before (length rows) (drop used places) more
+      → AreLeft old (slice_set now i new) places (i + 1) (before + length rows) (used + more)
+  left_more more small few w past =
+      let front : take (length rows) (drop before hits) ≡ marked before (length rows) (drop used places) = ap (take (length rows)) all_left ∙ marked_front before (length rows) rest (drop used places) in
+      let same : drop (i + 1) (slice_set now i new) ≡ drop (i + 1) now = drop-set-lt (i + 1) now i new (omega arith) in
+      record {
+        thinning = thinning_more old now hits i before rows new lt is s.thinning small (w ∙ ap (unhit rows) (sym front));
+        left = sym (drop_drop (length rows) before hits) ∙ ap (drop (length rows)) all_left ∙ past rest ∙ ap (marked (before + length rows) rest) (drop_drop more used places)
+            ∙ ap (λ ps. marked (before + length rows) (length (flat ps)) (drop (used + more) places)) (sym same);
+        few = omega (arith, few, s.few, length-drop used places);
+      }
 
 pub thinned : {T : Type 0} (old now : List (List T)) (hits : List Bool) (i before : ℕ) → length now ≤ i → AreThinning old now hits i before → flat now ≡ unhit (flat old) hits
 thinned old now hits i before le s =

@@ -2,6 +2,8 @@
 #![tactic(auto)]
 
 pub mod changes;
+pub mod numbered;
+mod numbers;
 pub mod pages;
 mod places;
 pub mod tables;

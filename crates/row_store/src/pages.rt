@@ -1,8 +1,8 @@
 //! Pages of at most 256 rows.
 
-ghost use Rattle.std.specs.Prelude.{◌≡◌, ◌<◌, ◌≤◌, ◌+◌, ◌++◌, ◌∷◌, [], length, remove, slice_set, slice_index_or, IfOk};
+ghost use Rattle.std.specs.Prelude.{◌≡◌, ◌<◌, ◌≤◌, ◌+◌, ◌^◌, ◌++◌, ◌∷◌, [], length, drop, remove, slice_set, slice_index_or, true, false, IfOk};
 ghost use Rattle.std.specs.Vec.{vec_capacity};
-ghost use Rattle.row_store.specs.Changes.{unhit};
+ghost use Rattle.row_store.specs.Changes.{unhit, marked, is_at, IsPast, StartsAt};
 
 use std::alloc::{AllocError, Global};
 use std::marker::Model;
@@ -86,12 +86,18 @@ impl<T: Drop> Page<T> {
         let _ = self.rows.remove(i);
     }
 
-    /// Drops the rows that are hit; the others move up. It takes no memory.
-    pub(crate) fn drop_hit(&mut self, hits: &[bool])
-        requires { length hits.now ≡ length self.old }
-        ensures { self.new ≡ unhit self.old hits.now }
+    /// Drops the rows at some places, counted on from the page's first; the others move up. It
+    /// answers how many of the places it came to, and takes no memory.
+    pub(crate) fn drop_at(&mut self, first: usize, places: &[usize]) -> usize
+        requires { first + length self.old < 2 ^ 64 }
+        ensures rows { self.new ≡ unhit self.old (marked first (length self.old) places.now) }
+        ensures used { IsPast first (length self.old) places.now result }
+        ensures few { result ≤ length places.now }
     {
-        drop_rows(&mut self.rows, hits);
+        if !starts_before(places, first + self.rows.len()) {
+            return 0;
+        }
+        drop_rows(&mut self.rows, first, places)
     }
 
     /// Puts the rows of another page at the end. It takes no memory.
@@ -104,18 +110,41 @@ impl<T: Drop> Page<T> {
     }
 }
 
-/// Drops the rows that are hit; the others move up.
-fn drop_rows<T: Drop>(rows: &mut Vec<T>, hits: &[bool])
-    requires { length hits.now ≡ length rows.old.items }
-    ensures rows { rows.new.items ≡ unhit rows.old.items hits.now }
+/// Drops the rows at some places, counted on from the first; the others move up. It answers how
+/// many of the places it came to.
+fn drop_rows<T: Drop>(rows: &mut Vec<T>, first: usize, places: &[usize]) -> usize
+    requires { first + length rows.old.items < 2 ^ 64 }
+    ensures rows { rows.new.items
+        ≡ unhit rows.old.items (marked first (length rows.old.items) places.now) }
+    ensures used { IsPast first (length rows.old.items) places.now result }
+    ensures few { result ≤ length places.now }
     ensures capacity { vec_capacity rows.new ≡ vec_capacity rows.old }
 {
     let mut kept = 0;
-    for (place, hit) in hits.iter().enumerate() {
-        if !*hit {
-            rows.swap(kept, place);
+    let mut used = 0;
+    for at in 0..rows.len() {
+        if is_at(places, used, first + at) {
+            used += 1;
+        } else {
+            rows.swap(kept, at);
             kept += 1;
         }
     }
     rows.truncate(kept);
+    used
+}
+
+/// Whether the next of some places is this one.
+fn is_at(places: &[usize], next: usize, place: usize) -> bool
+    ensures at { result ≡ is_at place (drop next places.now) }
+    ensures there { result ≡ true → next < length places.now }
+{
+    next < places.len() && places[next] == place
+}
+
+/// Whether the first of some places lies before this one.
+fn starts_before(places: &[usize], end: usize) -> bool
+    ensures { result ≡ false → StartsAt end places.now }
+{
+    !places.is_empty() && places[0] < end
 }

@@ -1,12 +1,14 @@
 //! Tables: lists of rows in pages.
 
-ghost use Rattle.std.specs.Prelude.{◌≡◌, ◌<◌, ◌≤◌, ◌+◌, ◌*◌, ◌/◌, ◌++◌, ◌∷◌, [], length, slice_index_or, slice_set, remove, count_by, not, IfOk, OnOk};
-ghost use Rattle.std.specs.List.{All};
-ghost use Rattle.row_store.specs.Changes.{written, unhit};
+ghost use Rattle.std.specs.Prelude.{◌≡◌, ◌<◌, ◌≤◌, ◌+◌, ◌*◌, ◌/◌, ◌^◌, ◌++◌, ◌∷◌, [], ℕ, length, map, slice_index_or, slice_set, remove, IfOk, OnOk};
+ghost use Rattle.std.specs.List.{All, Contains};
+ghost use Rattle.row_store.specs.Changes.{written, unhit, hit, marked};
+ghost use Rattle.row_store.specs.Numbers.{AreRising};
 ghost use Rattle.std.specs.Vec.{vec_capacity};
 ghost use Rattle.row_store.specs.Paged.{IsPaged, IsKept, IsPlace, flat, lengths, last_room, compaction_at, compaction, merged_at, can_merge};
 
 use crate::changes::Change;
+use crate::numbers::place_of;
 use crate::pages::Page;
 use crate::places::{Place, Start, find, seek};
 use ae_base::atoms::Row;
@@ -170,16 +172,26 @@ impl<T: Drop> Paged<T> {
         self.spare = 0;
     }
 
-    /// Drops the rows that are hit; those behind them move up. It takes no memory, and goes over the
-    /// pages twice.
-    pub fn drop_hit(&mut self, hits: &[bool])
-        requires { length hits.now ≡ length self.old.rows }
-        ensures { self.new.rows ≡ unhit self.old.rows hits.now }
+    /// Drops the rows at some places, which rise; those behind them move up. It takes no memory,
+    /// and goes over the rows of those pages alone.
+    pub fn drop_at(&mut self, places: &[usize])
+        requires { AreRising 0 (length self.old.rows) places.now }
+        ensures { self.new.rows
+            ≡ unhit self.old.rows (marked 0 (length self.old.rows) places.now) }
     {
-        thin(&mut self.pages, hits);
+        thin(&mut self.pages, places);
         pack(&mut self.pages);
-        self.count = count_unhit(hits);
+        self.count -= places.len();
         self.spare = 0;
+    }
+
+    /// The rows at some places, which rise, lent. It goes over the pages once.
+    pub fn rows_at(&self, alloc: Global, places: &[usize]) -> Result<Vec<&T>, AllocError>
+        requires { AreRising 0 (length self.now.rows) places.now }
+        ensures { IfOk result (λ rows. map (λ row. row.now) rows.items
+            ≡ hit self.now.rows (marked 0 (length self.now.rows) places.now)) }
+    {
+        lent_at(alloc, self.pages.as_slice(), places)
     }
 }
 
@@ -207,6 +219,59 @@ impl<T: Duplicate> Paged<T> {
         }
         Ok(())
     }
+}
+
+impl Paged<usize> {
+    /// The place of a number that is one of these, where they rise.
+    pub(crate) fn place_of(&self, number: usize) -> usize
+        requires rising { (to : ℕ) × AreRising 0 to self.now.rows }
+        requires there { Contains self.now.rows number }
+        ensures within { result < length self.now.rows }
+        ensures number { slice_index_or self.now.rows result 0 ≡ number }
+    {
+        place_of(self.pages.as_slice(), number)
+    }
+
+    /// Equal numbers.
+    pub(crate) fn copied(&self, alloc: Global) -> Result<Paged<usize>, AllocError>
+        ensures { IfOk result (λ copy. copy.rows ≡ self.now.rows) }
+    {
+        let mut copy = Paged::new(alloc);
+        for page in &self.pages {
+            copy.append_numbers(alloc, page.rows())?;
+        }
+        Ok(copy)
+    }
+
+    /// Puts some numbers at the end.
+    fn append_numbers(&mut self, alloc: Global, numbers: &[usize]) -> Result<(), AllocError>
+        ensures { OnOk result (self.new.rows ≡ self.old.rows ++ numbers.now) }
+    {
+        for number in numbers {
+            self.reserve(alloc, 1)?;
+            self.append(*number);
+        }
+        Ok(())
+    }
+}
+
+/// The rows at some places, which rise, lent.
+fn lent_at<'a, T: Drop>(
+    alloc: Global,
+    pages: &'a [Page<T>],
+    places: &[usize],
+) -> Result<Vec<&'a T>, AllocError>
+    requires { AreRising 0 (length (flat pages.now)) places.now }
+    ensures { IfOk result (λ rows. map (λ row. row.now) rows.items
+        ≡ hit (flat pages.now) (marked 0 (length (flat pages.now)) places.now)) }
+{
+    let mut rows = Vec::new(alloc);
+    let mut near = Start::first();
+    for place in places {
+        near = seek(pages, near, *place);
+        rows.push(pages[near.page].get(*place - near.before))?;
+    }
+    Ok(rows)
 }
 
 /// Has at least so many empty pages ready.
@@ -325,28 +390,23 @@ fn replace_each<T: Drop>(pages: &mut Vec<Page<T>>, changes: Seq<Change<T>>)
     }
 }
 
-/// Drops the rows that are hit from each page.
-fn thin<T: Drop>(pages: &mut Vec<Page<T>>, hits: &[bool])
-    requires paged { length hits.now ≡ length (flat pages.old.items) }
+/// Drops the rows at some places from their pages.
+fn thin<T: Drop>(pages: &mut Vec<Page<T>>, places: &[usize])
+    requires few { length (flat pages.old.items) < 2 ^ 64 }
     requires small { All (λ n. n ≤ 256) (lengths pages.old.items) }
-    ensures rows { flat pages.new.items ≡ unhit (flat pages.old.items) hits.now }
+    ensures rows { flat pages.new.items
+        ≡ unhit (flat pages.old.items) (marked 0 (length (flat pages.old.items)) places.now) }
     ensures small { All (λ n. n ≤ 256) (lengths pages.new.items) }
     ensures length { length pages.new.items ≡ length pages.old.items }
     ensures capacity { vec_capacity pages.new ≡ vec_capacity pages.old }
 {
     let mut before = 0;
+    let mut used = 0;
     for page in 0..pages.len() {
         let rows = pages[page].len();
-        pages[page].drop_hit(&hits[before..before + rows]);
+        used += pages[page].drop_at(before, &places[used..]);
         before += rows;
     }
-}
-
-/// How many rows aren't hit.
-fn count_unhit(hits: &[bool]) -> usize
-    ensures { result ≡ count_by (λ hit. not hit) hits.now }
-{
-    hits.iter().filter(|hit| !**hit).count()
 }
 
 /// Has pages share one where they fit, from the last to the first.

@@ -1,4 +1,4 @@
-//! Indexes with several places for a key.
+//! Indexes: the number of each key.
 
 use ae_base::atoms::{Atom, AtomOf, Row};
 use ae_base::cells::Cell;
@@ -6,7 +6,6 @@ use ae_base::values::Datum;
 use key_index::index::KeyIndex;
 use key_index::keys::Key;
 use key_index::lookups::first_uncounted;
-use key_index::moving::moves;
 use std::alloc::{AllocError, Global};
 
 fn key(alloc: Global, n: Option<i64>) -> Result<Key<Cell>, AllocError> {
@@ -26,93 +25,68 @@ fn keys(alloc: Global, numbers: &[Option<i64>]) -> Result<Vec<Key<Cell>>, AllocE
     Ok(keys)
 }
 
-// Puts keys into an index, whose places count up from 0.
-fn fill(
-    alloc: Global,
-    index: &mut KeyIndex<Cell>,
-    numbers: &[Option<i64>],
-) -> Result<(), AllocError> {
-    for (place, n) in numbers.iter().enumerate() {
-        index.insert(alloc, key(alloc, *n)?, place)?;
+// Puts keys into an index, with numbers that count up from 10.
+fn fill(alloc: Global, index: &mut KeyIndex<Cell>, keys: &[Option<i64>]) -> Result<(), AllocError> {
+    for (i, n) in keys.iter().enumerate() {
+        let key = key(alloc, *n)?;
+        index.reserve(1)?;
+        index.put(key, 10 + i);
     }
     Ok(())
 }
 
-// Whether a key has these places.
-fn has(
-    alloc: Global,
-    index: &KeyIndex<Cell>,
-    n: Option<i64>,
-    places: &[usize],
-) -> Result<bool, AllocError> {
-    Ok(index.places_of(&key(alloc, n)?) == places)
+fn keeps_numbers(alloc: Global, index: &mut KeyIndex<Cell>) -> Result<[bool; 5], AllocError> {
+    fill(alloc, index, &[Some(7), None, Some(8)])?;
+    let first = index.number_of(&key(alloc, Some(7))?) == Some(10);
+    let null = index.number_of(&key(alloc, None)?) == Some(11);
+    index.remove(&key(alloc, Some(7))?);
+    let gone = index.number_of(&key(alloc, Some(7))?).is_none();
+    let stays = index.number_of(&key(alloc, Some(8))?) == Some(12);
+    fill(alloc, index, &[Some(8)])?;
+    let later = index.number_of(&key(alloc, Some(8))?) == Some(10);
+    Ok([first, null, gone, stays, later])
 }
 
-fn keeps_places(alloc: Global, index: &mut KeyIndex<Cell>) -> Result<[bool; 5], AllocError> {
-    fill(alloc, index, &[Some(7), None, Some(7), Some(8)])?;
-    let both = has(alloc, index, Some(7), &[0, 2])?;
-    let null = has(alloc, index, None, &[1])?;
-    index.remove(&key(alloc, Some(7))?, 0);
-    let second = has(alloc, index, Some(7), &[2])?;
-    index.forget_from(2);
-    let none = has(alloc, index, Some(7), &[])?;
-    let stays = has(alloc, index, None, &[1])?;
-    Ok([both, null, second, none, stays])
-}
-
-/// Places stand under their key in the order in which they were put in, NULL is a key like others,
-/// and what is taken out is gone.
+/// A key has the number that it was given last, NULL is a key like others, and what is taken out is
+/// gone.
 #[test]
-fn places_of_keys(rt: HostRuntime) -> Result<(), AllocError> {
+fn numbers_of_keys(rt: HostRuntime) -> Result<(), AllocError> {
     let mut index = KeyIndex::new(rt.alloc());
-    let kept = keeps_places(rt.alloc(), &mut index);
+    let kept = keeps_numbers(rt.alloc(), &mut index);
     drop(index);
     assert!(rt; kept? == [true; 5]);
     Ok(())
 }
 
-fn follows_rows(alloc: Global, index: &mut KeyIndex<Cell>) -> Result<[bool; 3], AllocError> {
-    fill(alloc, index, &[Some(7), None, Some(7), Some(8)])?;
-    let moves = moves(alloc, &[false, true, true, false])?;
-    index.follow(moves.as_slice());
-    let first = has(alloc, index, Some(7), &[0])?;
-    let none = has(alloc, index, None, &[])?;
-    let last = has(alloc, index, Some(8), &[1])?;
-    Ok([first, none, last])
-}
-
-/// Where rows are dropped, the places of those behind them move down.
-#[test]
-fn places_that_move(rt: HostRuntime) -> Result<(), AllocError> {
-    let mut index = KeyIndex::new(rt.alloc());
-    let followed = follows_rows(rt.alloc(), &mut index);
-    drop(index);
-    assert!(rt; followed? == [true; 3]);
-    Ok(())
-}
-
-// The first of some new keys that an index of the key 1 has, or that is alike to one before it.
+// The first of some new keys that an index of the keys 1 and 5 has, with another number than one
+// that goes, or that is alike to one before it.
 fn first_alike(
     alloc: Global,
     index: &mut KeyIndex<Cell>,
+    gone: Option<usize>,
     new: &[Option<i64>],
 ) -> Result<Option<usize>, AllocError> {
-    fill(alloc, index, &[Some(1)])?;
+    fill(alloc, index, &[Some(1), Some(5)])?;
     let new = keys(alloc, new)?;
-    first_uncounted(alloc, index, new.as_slice())
+    match gone {
+        Some(number) => first_uncounted(alloc, index, &[number], new.as_slice()),
+        None => first_uncounted(alloc, index, &[], new.as_slice()),
+    }
 }
 
 /// The first new key that is known, or alike to one before it.
 #[test]
 fn first_key_that_is_alike(rt: HostRuntime) -> Result<(), AllocError> {
-    let cases: [(&[Option<i64>], Option<usize>); 3] = [
-        (&[Some(2), Some(3), Some(2)], Some(2)),
-        (&[None, Some(1)], Some(1)),
-        (&[Some(2), Some(3)], None),
+    let cases: [(Option<usize>, &[Option<i64>], Option<usize>); 5] = [
+        (None, &[Some(2), Some(3), Some(2)], Some(2)),
+        (None, &[None, Some(1)], Some(1)),
+        (None, &[Some(2), Some(3)], None),
+        (Some(10), &[Some(2), Some(1)], None),
+        (Some(10), &[Some(1), Some(5)], Some(1)),
     ];
-    for (new, first) in cases {
+    for (gone, new, first) in cases {
         let mut index = KeyIndex::new(rt.alloc());
-        let found = first_alike(rt.alloc(), &mut index, new);
+        let found = first_alike(rt.alloc(), &mut index, gone, new);
         drop(index);
         assert!(rt; found? == first);
     }

@@ -1,5 +1,5 @@
 -- The rows that an UPDATE or a DELETE can hit, where its filter gives a unique key.
-use Rattle.std.specs.Prelude.{ℕ, List, [], ◌∷◌, Option, None, Bool, false, get_or, slice_set, if◌then◌else◌}
+use Rattle.std.specs.Prelude.{ℕ, List, [], ◌∷◌, Option, None, Bool, false, get_or, if◌then◌else◌}
 use Rattle.std.specs.List.{list_all}
 use Rattle.ae_base.specs.Atoms.{Atom}
 use Rattle.sql_tree.specs.Bound.{BoundCondition}
@@ -26,9 +26,3 @@ among_others test stay (row ∷ rows) (x ∷ made) = if test row then x ∷ amon
 -- the change of one of the rows at some places, as one of all rows
 abbrev pub at_its_place : List ℕ → Change (List Atom) → Change (List Atom)
 at_its_place places change = record { place = get_or places change.place 0; row = change.row }
-
--- whether each of some rows is hit, with those at some places asked anew
-abbrev pub put_at : List ℕ → List Bool → List Bool → List Bool
-put_at [] hits all = all
-put_at (place ∷ places) [] all = all
-put_at (place ∷ places) (hit ∷ hits) all = put_at places hits (slice_set all place hit)

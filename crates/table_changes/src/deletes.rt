@@ -1,6 +1,6 @@
 //! The rows of a table that a DELETE drops.
 
-ghost use Rattle.std.specs.Prelude.{◌≡◌, ◌<◌, ℕ, length, replicate, false, Some, IfOk};
+ghost use Rattle.std.specs.Prelude.{◌≡◌, ◌++◌, ◌∷◌, [], ℕ, length, Some, IfOk, OnOk, if◌then◌else◌};
 ghost use Rattle.std.specs.List.{All};
 ghost use Rattle.std.specs.Option.{option_map};
 ghost use Rattle.ae_base.specs.Results.{AnswersAs, each};
@@ -8,7 +8,9 @@ ghost use Rattle.sql_tree.specs.Conditions.{condition_of};
 ghost use Rattle.sql_tree.specs.Placed.{IsPlacedFilter};
 ghost use Rattle.lookups.specs.Lent.{lookup_made};
 ghost use Rattle.row_changes.specs.Changes.{all_tested, row_to_delete};
-ghost use Rattle.table_changes.specs.Found.{lookup_of_filter, put_at};
+ghost use Rattle.row_store.specs.Changes.{hit, marked};
+ghost use Rattle.row_store.specs.Numbers.{AreRising, counted};
+ghost use Rattle.table_changes.specs.Found.{lookup_of_filter};
 
 use crate::filters::lookup_of_filter;
 use crate::found::{places_found, rows_at};
@@ -24,58 +26,63 @@ use row_changes::deletes::hits;
 use sql_tree::bound::BoundCondition;
 use std::alloc::{AllocError, Global};
 
-/// For each row of a table with so many columns and these unique keys whether a DELETE with this
-/// filter drops it, or the first fault. Where the filter gives a unique key, the rows of that key
-/// alone are asked.
-pub fn hits_in<K: Same>(
+/// The places of the rows that a DELETE with this filter drops from a table with so many columns
+/// and these unique keys, which rise; or the first fault. Where the filter gives a unique key, the
+/// rows of that key alone are asked.
+pub fn dropped_in<K: Same>(
     alloc: Global,
     width: usize,
     keys: &[UniqueKey],
     table: &Table<K>,
     filter: &Option<BoundCondition>,
     params: &[Atom<K>],
-) -> Result<Seq<bool>, Refusal>
+) -> Result<Seq<usize>, Refusal>
     requires filter { IsPlacedFilter width (length params.now)
         (option_map condition_of filter.now) }
     requires keys { table.now.keys ≡ keys.now }
     requires wide { All (λ row. length row ≡ width) table.now.rows }
-    ensures hits { AnswersAs (all_tested table.now.rows) result
+    ensures hits { AnswersAs
+        (λ places. all_tested table.now.rows (marked 0 (length table.now.rows) places)) result
         (each (row_to_delete (option_map condition_of filter.now) params.now) table.now.rows) }
-    ensures each { IfOk result (λ hits. length hits ≡ length table.now.rows) }
+    ensures rising { IfOk result (AreRising 0 (length table.now.rows)) }
 {
     match lookup_of_filter(alloc, keys, width, filter)? {
-        Some(lookup) => hits_found(alloc, table, &lookup, filter, params),
-        None => hits_walked(alloc, table, filter, params),
+        Some(lookup) => dropped_found(alloc, table, &lookup, filter, params),
+        None => dropped_walked(alloc, table, filter, params),
     }
 }
 
-/// For each row of a table whether a DELETE drops it, of which all are asked.
-fn hits_walked<K: Same>(
+/// The places of the rows of a table that a DELETE drops, of which all are asked.
+fn dropped_walked<K: Same>(
     alloc: Global,
     table: &Table<K>,
     filter: &Option<BoundCondition>,
     params: &[Atom<K>],
-) -> Result<Seq<bool>, Refusal>
+) -> Result<Seq<usize>, Refusal>
     requires { All
         (λ row. IsPlacedFilter (length row) (length params.now) (option_map condition_of filter.now))
         table.now.rows }
-    ensures hits { AnswersAs (all_tested table.now.rows) result
+    ensures hits { AnswersAs
+        (λ places. all_tested table.now.rows (marked 0 (length table.now.rows) places)) result
         (each (row_to_delete (option_map condition_of filter.now) params.now) table.now.rows) }
-    ensures each { IfOk result (λ hits. length hits ≡ length table.now.rows) }
+    ensures rising { IfOk result (AreRising 0 (length table.now.rows)) }
 {
     let rows = lent(alloc, table.rows())?;
-    hits(alloc, rows.as_slice(), filter, params)
+    match hits(alloc, rows.as_slice(), filter, params) {
+        Ok(hits) => Ok(places_hit(alloc, hits.as_slice())?),
+        Err(refusal) => Err(refusal),
+    }
 }
 
-/// For each row of a table whether a DELETE drops it, of which those that the look-up of its filter
-/// finds are asked.
-fn hits_found<K: Same>(
+/// The places of the rows of a table that a DELETE drops, of which those that the look-up of its
+/// filter finds are asked.
+fn dropped_found<K: Same>(
     alloc: Global,
     table: &Table<K>,
     lookup: &Lookup<'_>,
     filter: &Option<BoundCondition>,
     params: &[Atom<K>],
-) -> Result<Seq<bool>, Refusal>
+) -> Result<Seq<usize>, Refusal>
     requires lookup { (width : ℕ)
         × IsPlacedFilter width (length params.now) (option_map condition_of filter.now)
         × (lookup_of_filter table.now.keys width (option_map condition_of filter.now)
@@ -83,32 +90,48 @@ fn hits_found<K: Same>(
     requires placed { All
         (λ row. IsPlacedFilter (length row) (length params.now) (option_map condition_of filter.now))
         table.now.rows }
-    ensures hits { AnswersAs (all_tested table.now.rows) result
+    ensures hits { AnswersAs
+        (λ places. all_tested table.now.rows (marked 0 (length table.now.rows) places)) result
         (each (row_to_delete (option_map condition_of filter.now) params.now) table.now.rows) }
-    ensures each { IfOk result (λ hits. length hits ≡ length table.now.rows) }
+    ensures rising { IfOk result (AreRising 0 (length table.now.rows)) }
 {
     let places = places_found(alloc, table, lookup, params)?;
     let rows = rows_at(alloc, table, places.as_slice())?;
     match hits(alloc, rows.as_slice(), filter, params) {
-        Ok(hits) => Ok(at_their_places(alloc, hits.as_slice(), places.as_slice(), table.len())?),
+        Ok(hits) => Ok(places_of_hit(alloc, hits.as_slice(), places.as_slice())?),
         Err(refusal) => Err(refusal),
     }
 }
 
-/// Whether each of so many rows is hit, where those at some places are asked.
-fn at_their_places(
-    alloc: Global,
-    hits: &[bool],
-    places: &[usize],
-    count: usize,
-) -> Result<Seq<bool>, AllocError>
-    requires long { length hits.now ≡ length places.now }
-    requires there { All (λ place. place < count) places.now }
-    ensures { IfOk result (λ all. all ≡ put_at places.now hits.now (replicate count false)) }
+/// The places of those rows that are hit, of all.
+fn places_hit(alloc: Global, hits: &[bool]) -> Result<Seq<usize>, AllocError>
+    ensures { IfOk result (λ places. places ≡ hit (counted 0 (length hits.now)) hits.now) }
 {
-    let mut all = vec![in alloc; false; count]?;
-    for (i, place) in places.iter().enumerate() {
-        all[*place] = hits[i];
+    let mut places = Seq::new(alloc);
+    for (place, hit) in hits.iter().enumerate() {
+        note(&mut places, place, *hit)?;
     }
-    Ok(Seq::from_vec(all))
+    Ok(places)
+}
+
+/// The places of those rows that are hit, of some.
+fn places_of_hit(alloc: Global, hits: &[bool], places: &[usize]) -> Result<Seq<usize>, AllocError>
+    requires { length hits.now ≡ length places.now }
+    ensures { IfOk result (λ dropped. dropped ≡ hit places.now hits.now) }
+{
+    let mut dropped = Seq::new(alloc);
+    for (i, hit) in hits.iter().enumerate() {
+        note(&mut dropped, places[i], *hit)?;
+    }
+    Ok(dropped)
+}
+
+/// Notes a place, if the row there is hit.
+fn note(places: &mut Seq<usize>, place: usize, hit: bool) -> Result<(), AllocError>
+    ensures { OnOk result (places.new ≡ places.old ++ (if hit then place ∷ [] else [])) }
+{
+    if !hit {
+        return Ok(());
+    }
+    places.push(place)
 }

@@ -1,7 +1,7 @@
--- New rows that are put into the indexes of unique keys, one index after another.
-use Rattle.std.proofs.Common.{◌≡◌, ℕ, zero, suc, ◌+◌, ◌<◌, ◌≤◌, List, [], ◌∷◌, ◌++◌, length, get_or, take, drop, map, slice_set, refl, ap, sym, ◌∙◌, subst, arith, length-drop, true, false, Option, Some, None, Result, Ok, Err}
+-- Rows that go and come in the indexes of unique keys, one index after another.
+use Rattle.std.proofs.Common.{◌≡◌, ℕ, zero, suc, ◌+◌, ◌<◌, ◌≤◌, List, [], ◌∷◌, ◌++◌, length, get_or, take, drop, map, slice_set, refl, ap, sym, ◌∙◌, subst, arith, length-drop, true, false, Bool, Option, Some, None, Result, Ok, Err}
 use Rattle.std.specs.List.{All}
-use Rattle.std.proofs.lemmas.List.{take_all, take_more, drop_all, drop-map, drop-set-lt, length-map, map-append}
+use Rattle.std.proofs.lemmas.List.{append-nil, take_all, take_more, drop_all, drop-map, drop-set-lt, length-map, map-append}
 use Rattle.std.proofs.lemmas.List.Elements.{All-cons, All-nil, All-head, All-tail}
 use Rattle.ae_base.specs.Atoms.{Atom}
 use Rattle.ae_base.specs.declared.faults.SqlFault.{SqlFault}
@@ -11,13 +11,11 @@ use Rattle.ae_base.specs.declared.refusals.Refusal.TheVariants as code
 use Rattle.ae_base.specs.Results.{Answers}
 use Rattle.operators.proofs.Interface.{drop_there}
 use Rattle.operators.specs.Alike.{key_of}
-use Rattle.std.specs.Prelude.{OnOk}
-use Rattle.key_index.specs.Places.{Keyed, IndexesKeys, HasMore}
-use Rattle.key_index.proofs.Interface.{front_same, indexed_more}
+use Rattle.row_store.specs.Changes.{unhit, hit}
 use Rattle.unique_keys.specs.Keys.{has_twins, first_twins, unless_twins}
-use Rattle.unique_keys.specs.Indexes.{Indexed, IndexesRows, IndexesFirst, AreDistinct, AreAdmitted, keys_of}
+use Rattle.unique_keys.specs.Indexes.{Indexed, IndexesRows, AreDistinct, AreExchanged, keys_of}
 use Rattle.unique_keys.specs.Admitting.{keys_for}
-use Rattle.unique_keys.proofs.Twins.{first_next, first_found}
+use Rattle.unique_keys.proofs.Twins.{first_next, first_found, unhit_differ}
 
 -- ---- lists of indexes
 
@@ -48,28 +46,11 @@ key_read [] i index lt e = absurd (omega arith)
 key_read (x ∷ indexes) zero index lt e = ap (λ (y : Indexed). y.places) e
 key_read (x ∷ indexes) (suc i) index lt e = key_read indexes i index (omega (arith, lt)) e
 
-pub first_of : (rows : List (List Atom)) (index : Indexed) → IndexesRows rows index → IndexesFirst rows index
-first_of rows index i = front_same (map (key_of index.places) rows) index.keyed i
-
-pub all_first : (rows : List (List Atom)) (indexes : List Indexed) → All (IndexesRows rows) indexes → All (IndexesFirst rows) indexes
-all_first rows [] h = All-nil (IndexesFirst rows)
-all_first rows (x ∷ indexes) h = All-cons (IndexesFirst rows) x indexes (first_of rows x (All-head (IndexesRows rows) x indexes h)) (all_first rows indexes (All-tail (IndexesRows rows) x indexes h))
-
 -- ---- one index after another
 
 -- none of the first so many refuses the rows
 abbrev pub NoneRefuses : (indexes : List Indexed) (rows : List (List Atom)) (i : ℕ) → Type 0
 NoneRefuses indexes rows i = first_twins 1 (keys_of indexes) rows ≡ first_twins (i + 1) (drop i (keys_of indexes)) rows
-
--- the first so many have the new rows
-pub record ArePut (from : ℕ) (all : List (List (List Atom))) (i : ℕ) (before now : List Indexed) : Type 0 where
-  pub keys : keys_of now ≡ keys_of before
-  pub rest : drop i now ≡ drop i before
-  pub front : (old : List (List Atom)) → All (IndexesRows old) before → length old ≡ from → All (IndexesFirst old) now
-  pub done : (old new : List (List Atom)) → All (IndexesRows old) before → length old ≡ from → all ≡ keys_for (keys_of before) new → All (IndexesRows (old ++ new)) (take i now)
-
-pub put_start : (from : ℕ) (all : List (List (List Atom))) (before : List Indexed) → ArePut from all 0 before before
-put_start from all before = record { keys = refl; rest = refl; front = λ old h n. all_first old before h; done = λ old new h n e. All-nil (IndexesRows (old ++ new)) }
 
 keys_long : (indexes : List Indexed) → length (keys_of indexes) ≡ length indexes
 keys_long indexes = length-map indexes (λ (x : Indexed). x.places)
@@ -87,18 +68,18 @@ drop_one xs zero = refl
 drop_one [] (suc i) = sym (drop_all (suc i + 1) [] (omega arith))
 drop_one (x ∷ xs) (suc i) = let one : suc i + 1 ≡ suc (i + 1) = omega arith in drop_one xs i ∙ ap (λ n. drop n (x ∷ xs)) (sym one)
 
-module _ (rows : List (List Atom)) (indexes : List Indexed) (i : ℕ) (index : Indexed) (lt : i < length indexes) (is : index ≡ get_or indexes i index) where
+module _ (numbers : List ℕ) (there rows : List (List Atom)) (indexes : List Indexed) (i : ℕ) (index : Indexed) (lt : i < length indexes) (is : index ≡ get_or indexes i index) where
   key_is : index.places ≡ get_or (keys_of indexes) i index.places
   key_is = key_read indexes i index lt is
 
   key_within : i < length (keys_of indexes)
   key_within = omega (arith, lt, keys_long indexes)
 
-  pub one_indexed : All (IndexesRows rows) indexes → IndexesRows rows index
-  one_indexed h = all_read (IndexesRows rows) indexes i index h lt is
+  pub one_indexed : All (IndexesRows numbers there) indexes → IndexesRows numbers there index
+  one_indexed h = all_read (IndexesRows numbers there) indexes i index h lt is
 
-  pub one_distinct : AreDistinct (keys_of indexes) rows → has_twins index.places rows ≡ false
-  one_distinct d = all_read (λ key. has_twins key rows ≡ false) (keys_of indexes) i index.places d key_within key_is
+  pub one_distinct : AreDistinct (keys_of indexes) there → has_twins index.places there ≡ false
+  one_distinct d = all_read (λ key. has_twins key there ≡ false) (keys_of indexes) i index.places d key_within key_is
 
   pub one_refuses : NoneRefuses indexes rows i → has_twins index.places rows ≡ true → first_twins 1 (keys_of indexes) rows ≡ Some (i + 1)
   one_refuses s t = first_found rows (keys_of indexes) i index.places key_within key_is (first_twins 1 (keys_of indexes) rows) s t
@@ -112,45 +93,145 @@ module _ (rows : List (List Atom)) (indexes : List Indexed) (i : ℕ) (index : I
       ap (λ l. l ++ keys ∷ []) a ∙ ap (λ k. keys_for (take i ks) new ++ k ∷ []) e ∙ sym (map-append (λ key. map (key_of key) new) (take i ks) (index.places ∷ []))
       ∙ ap (λ ps. keys_for ps new) (sym (take_more ks i index.places key_within ∙ ap (λ p. take i ks ++ p ∷ []) (sym key_is)))
 
-module _ (from : ℕ) (all left : List (List (List Atom))) (i : ℕ) (before now : List Indexed) (index after : Indexed) (keys : List (List Atom)) (long : length all ≡ length before) (is : index ≡ get_or now i index) (first : keys ∷ left ≡ drop i all) (s : ArePut from all i before now) where
-  before_within : i < length before
-  before_within = omega (arith, long, ap length first, length-drop i all)
+-- ---- room for more rows
 
-  now_within : i < length now
-  now_within = omega (arith, before_within, keys_long now, ap length s.keys, keys_long before)
+-- the first so many have room, and all are of the rows that they were of
+pub record AreReserved (count i : ℕ) (before now : List Indexed) : Type 0 where
+  pub keys : keys_of now ≡ keys_of before
+  pub same : (numbers : List ℕ) (there : List (List Atom)) → All (IndexesRows numbers there) before → All (IndexesRows numbers there) now
+  pub room : All (λ (index : Indexed). count ≤ index.keyed.spare) (take i now)
 
-  same_index : index ≡ get_or before i index
-  same_index = is ∙ same_read now before i index s.rest
+pub reserved_start : (count : ℕ) (before : List Indexed) → AreReserved count 0 before before
+reserved_start count before = record { keys = refl; same = λ numbers there h. h; room = All-nil (λ (index : Indexed). count ≤ index.keyed.spare) }
 
-  its_keys : (new : List (List Atom)) → all ≡ keys_for (keys_of before) new → keys ≡ map (key_of index.places) new
-  its_keys new e =
-      let mine : List ℕ → List (List Atom) = λ key. map (key_of key) new in
-      let there = drop_there (keys_of before) i index.places (key_within [] before i index before_within same_index) (key_is [] before i index before_within same_index) in
-      ap (λ l. get_or l 0 keys) (first ∙ ap (drop i) e ∙ drop-map mine i (keys_of before) ∙ ap (map mine) there)
+module _ (count i : ℕ) (before now : List Indexed) (index after : Indexed) (lt : i < length now) (is : index ≡ get_or now i index) (s : AreReserved count i before now) (p : after.places ≡ index.places)
+    (r : (numbers : List ℕ) (there : List (List Atom)) → IndexesRows numbers there index → IndexesRows numbers there after) where
+  pub reserved_keys : keys_of (slice_set now i after) ≡ keys_of before
+  reserved_keys = keys_set now i index after is p ∙ s.keys
 
-  pub put_keys : after.places ≡ index.places → keys_of (slice_set now i after) ≡ keys_of before
-  put_keys p = keys_set now i index after is p ∙ s.keys
+  pub reserved_same : (numbers : List ℕ) (there : List (List Atom)) → All (IndexesRows numbers there) before → All (IndexesRows numbers there) (slice_set now i after)
+  reserved_same numbers there h =
+      let all = s.same numbers there h in
+      all_set (IndexesRows numbers there) now i after all (r numbers there (all_read (IndexesRows numbers there) now i index all lt is))
 
-  pub put_front : ((old : List (List Atom)) → IndexesRows old index → length old ≡ from → IndexesFirst old after) → (old : List (List Atom)) → All (IndexesRows old) before → length old ≡ from → All (IndexesFirst old) (slice_set now i after)
-  put_front f old h n = all_set (IndexesFirst old) now i after (s.front old h n) (f old (one_indexed old before i index before_within same_index h) n)
-
-  pub put_more : after.places ≡ index.places → ((old : List (List Atom)) → IndexesRows old index → length old ≡ from → IndexesFirst old after)
-      → ((old new : List (List Atom)) → IndexesRows old index → length old ≡ from → keys ≡ map (key_of index.places) new → IndexesRows (old ++ new) after) → ArePut from all (i + 1) before (slice_set now i after)
-  put_more p f r = record {
-    keys = put_keys p;
-    rest = drop-set-lt (i + 1) now i after (omega arith) ∙ sym (drop_one now i) ∙ ap (drop 1) s.rest ∙ drop_one before i;
-    front = put_front f;
-    done = λ old new h n e. all_taken (IndexesRows (old ++ new)) now i after now_within (s.done old new h n e) (r old new (one_indexed old before i index before_within same_index h) n (its_keys new e));
+  pub reserved_more : count ≤ after.keyed.spare → AreReserved count (i + 1) before (slice_set now i after)
+  reserved_more room = record {
+    keys = reserved_keys;
+    same = reserved_same;
+    room = all_taken (λ (index : Indexed). count ≤ index.keyed.spare) now i after lt s.room room;
   }
 
-  pub left_over : left ≡ drop (i + 1) all
-  left_over = ap (drop 1) first ∙ drop_one all i
+pub reserved_all : (count i : ℕ) (before now : List Indexed) → length now ≤ i → AreReserved count i before now → All (λ (index : Indexed). count ≤ index.keyed.spare) now
+reserved_all count i before now le s = subst (All (λ (index : Indexed). count ≤ index.keyed.spare)) (take_all i now le) s.room
 
-pub put_over : (from : ℕ) (all left : List (List (List Atom))) (i : ℕ) (before now : List Indexed) → length all ≡ length before → left ≡ drop i all → length left ≡ 0 → ArePut from all i before now
-    → (old new : List (List Atom)) → All (IndexesRows old) before → length old ≡ from → all ≡ keys_for (keys_of before) new → All (IndexesRows (old ++ new)) now
-put_over from all left i before now long e none s old new h n k =
-    let le : length now ≤ i = omega (arith, long, ap length e, none, length-drop i all, keys_long now, ap length s.keys, keys_long before) in
-    subst (All (IndexesRows (old ++ new))) (take_all i now le) (s.done old new h n k)
+-- ---- rows that go, and others that come
+
+-- what is known of the rows before and after
+pub record AreLed (known : List ℕ) (there : List (List Atom)) (hits : List Bool) (rows : List (List Atom)) (old new : List (List (List Atom))) (before : List Indexed) : Type 0 where
+  pub long : length known ≡ length there
+  pub indexed : All (IndexesRows known there) before
+  pub distinct : AreDistinct (keys_of before) there
+  pub old_keys : old ≡ keys_for (keys_of before) (hit there hits)
+  pub new_keys : new ≡ keys_for (keys_of before) rows
+  pub stay_distinct : AreDistinct (keys_of before) (unhit there hits ++ rows)
+
+-- the first so many have them
+pub record AreSwapped (numbers : List ℕ) (old new : List (List (List Atom))) (i : ℕ) (before now : List Indexed) : Type 0 where
+  pub keys : keys_of now ≡ keys_of before
+  pub rest : drop i now ≡ drop i before
+  pub done : (known : List ℕ) (there : List (List Atom)) (hits : List Bool) (rows : List (List Atom)) → AreLed known there hits rows old new before → All (IndexesRows (unhit known hits ++ numbers) (unhit there hits ++ rows)) (take i now)
+
+pub swapped_start : (numbers : List ℕ) (old new : List (List (List Atom))) (before : List Indexed) → AreSwapped numbers old new 0 before before
+swapped_start numbers old new before = record { keys = refl; rest = refl; done = λ known there hits rows l. All-nil (IndexesRows (unhit known hits ++ numbers) (unhit there hits ++ rows)) }
+
+module _ (numbers : List ℕ) (old new left : List (List (List Atom))) (i : ℕ) (before now : List Indexed) (keys : List (List Atom)) (long : length new ≡ length before) (first : keys ∷ left ≡ drop i new) (s : AreSwapped numbers old new i before now) where
+  before_within : i < length before
+  before_within = omega (arith, long, ap length first, length-drop i new)
+
+  pub now_within : i < length now
+  now_within = omega (arith, before_within, keys_long now, ap length s.keys, keys_long before)
+
+  pub left_over : left ≡ drop (i + 1) new
+  left_over = ap (drop 1) first ∙ drop_one new i
+
+  pub swap_each : All (λ (ks : List (List Atom)). length numbers ≡ length ks) new → length numbers ≡ length keys
+  swap_each h = All-head (λ (ks : List (List Atom)). length numbers ≡ length ks) keys left (subst (All (λ (ks : List (List Atom)). length numbers ≡ length ks)) (sym first) (all_drop i new h))
+    where
+      all_drop : (n : ℕ) (xs : List (List (List Atom))) → All (λ (ks : List (List Atom)). length numbers ≡ length ks) xs → All (λ (ks : List (List Atom)). length numbers ≡ length ks) (drop n xs)
+      all_drop zero xs h = h
+      all_drop (suc n) [] h = h
+      all_drop (suc n) (x ∷ xs) h = all_drop n xs (All-tail (λ (ks : List (List Atom)). length numbers ≡ length ks) x xs h)
+
+  module _ (index : Indexed) (is : index ≡ get_or now i index) where
+    same_index : index ≡ get_or before i index
+    same_index = is ∙ same_read now before i index s.rest
+
+    within_keys : i < length (keys_of before)
+    within_keys = omega (arith, before_within, keys_long before)
+
+    its_key : index.places ≡ get_or (keys_of before) i index.places
+    its_key = key_read before i index before_within same_index
+
+    its_keys : (all : List (List (List Atom))) (mine rows : List (List Atom)) → mine ≡ get_or (drop i all) 0 mine → all ≡ keys_for (keys_of before) rows → mine ≡ map (key_of index.places) rows
+    its_keys all mine rows m e =
+        let of_key : List ℕ → List (List Atom) = λ key. map (key_of key) rows in
+        let there = drop_there (keys_of before) i index.places within_keys its_key in
+        m ∙ ap (λ l. get_or l 0 mine) (ap (drop i) e ∙ drop-map of_key i (keys_of before) ∙ ap (map of_key) there)
+
+    pub swap_room : (count : ℕ) → All (λ (x : Indexed). count ≤ x.keyed.spare) before → count ≤ index.keyed.spare
+    swap_room count h = all_read (λ (x : Indexed). count ≤ x.keyed.spare) before i index h before_within same_index
+
+    pub swapped_more : (after : Indexed) (old_keys : List (List Atom)) → old_keys ≡ get_or old i old_keys → after.places ≡ index.places
+        → ((known : List ℕ) (there : List (List Atom)) (hits : List Bool) (rows : List (List Atom)) → length known ≡ length there → IndexesRows known there index → has_twins index.places there ≡ false
+        → old_keys ≡ map (key_of index.places) (hit there hits) → keys ≡ map (key_of index.places) rows → has_twins index.places (unhit there hits ++ rows) ≡ false
+        → IndexesRows (unhit known hits ++ numbers) (unhit there hits ++ rows) after)
+        → AreSwapped numbers old new (i + 1) before (slice_set now i after)
+    swapped_more after old_keys o p r = record {
+      keys = keys_set now i index after is p ∙ s.keys;
+      rest = drop-set-lt (i + 1) now i after (omega arith) ∙ sym (drop_one now i) ∙ ap (drop 1) s.rest ∙ drop_one before i;
+      done = λ known there hits rows l.
+          all_taken (IndexesRows (unhit known hits ++ numbers) (unhit there hits ++ rows)) now i after now_within (s.done known there hits rows l)
+          (r known there hits rows l.long (all_read (IndexesRows known there) before i index l.indexed before_within same_index)
+          (all_read (λ key. has_twins key there ≡ false) (keys_of before) i index.places l.distinct within_keys its_key)
+          (its_keys old old_keys (hit there hits) (o ∙ sym (get_or-drop old i old_keys)) l.old_keys)
+          (its_keys new keys rows (ap (λ ks. get_or ks 0 keys) first) l.new_keys)
+          (all_read (λ key. has_twins key (unhit there hits ++ rows) ≡ false) (keys_of before) i index.places l.stay_distinct within_keys its_key));
+    }
+
+pub swapped_all : (numbers : List ℕ) (old new left : List (List (List Atom))) (i : ℕ) (before now : List Indexed) → length new ≡ length before → left ≡ drop i new → length left ≡ 0 → AreSwapped numbers old new i before now
+    → (known : List ℕ) (there : List (List Atom)) (hits : List Bool) (rows : List (List Atom)) → AreLed known there hits rows old new before → All (IndexesRows (unhit known hits ++ numbers) (unhit there hits ++ rows)) now
+swapped_all numbers old new left i before now long e none s known there hits rows l =
+    let le : length now ≤ i = omega (arith, long, ap length e, none, length-drop i new, keys_long now, ap length s.keys, keys_long before) in
+    subst (All (IndexesRows (unhit known hits ++ numbers) (unhit there hits ++ rows))) (take_all i now le) (s.done known there hits rows l)
+
+-- keys of some rows for each index
+pub keys_there : (before ready : List Indexed) (rows : List (List Atom)) (all : List (List (List Atom))) → keys_of ready ≡ keys_of before → all ≡ keys_for (keys_of before) rows → length all ≡ length ready
+keys_there before ready rows all same e = ap length e ∙ length-map (keys_of before) (λ key. map (key_of key) rows) ∙ ap length (sym same) ∙ keys_long ready
+
+pub keys_each : (count : ℕ) (keys : List (List ℕ)) (rows : List (List Atom)) (all : List (List (List Atom))) → all ≡ keys_for keys rows → count ≡ length rows → All (λ (ks : List (List Atom)). count ≡ length ks) all
+keys_each count keys rows all e n = subst (All (λ (ks : List (List Atom)). count ≡ length ks)) (sym e) (each keys)
+  where
+    each : (keys : List (List ℕ)) → All (λ (ks : List (List Atom)). count ≡ length ks) (keys_for keys rows)
+    each [] = All-nil (λ (ks : List (List Atom)). count ≡ length ks)
+    each (key ∷ keys) = All-cons (λ (ks : List (List Atom)). count ≡ length ks) (map (key_of key) rows) (keys_for keys rows) (n ∙ sym (length-map rows (key_of key))) (each keys)
+
+-- room for none is there
+pub room_for_none : (indexes : List Indexed) → All (λ (index : Indexed). 0 ≤ index.keyed.spare) indexes
+room_for_none [] = All-nil (λ (index : Indexed). 0 ≤ index.keyed.spare)
+room_for_none (index ∷ indexes) = All-cons (λ (index : Indexed). 0 ≤ index.keyed.spare) index indexes (omega arith) (room_for_none indexes)
+
+-- rows that stay of those that differ, with none behind them
+pub distinct_left : (keys : List (List ℕ)) (there : List (List Atom)) (hits : List Bool) → AreDistinct keys there → AreDistinct keys (unhit there hits ++ [])
+distinct_left [] there hits d = All-nil (λ key. has_twins key (unhit there hits ++ []) ≡ false)
+distinct_left (key ∷ keys) there hits d =
+    All-cons (λ key. has_twins key (unhit there hits ++ []) ≡ false) key keys
+    (ap (has_twins key) (append-nil (unhit there hits)) ∙ unhit_differ key there hits (All-head (λ key. has_twins key there ≡ false) key keys d))
+    (distinct_left keys there hits (All-tail (λ key. has_twins key there ≡ false) key keys d))
+
+pub indexed_left : (known : List ℕ) (there : List (List Atom)) (hits : List Bool) (indexes : List Indexed) → All (IndexesRows (unhit known hits ++ []) (unhit there hits ++ [])) indexes → All (IndexesRows (unhit known hits) (unhit there hits)) indexes
+indexed_left known there hits indexes h =
+    subst (λ ns. All (IndexesRows ns (unhit there hits)) indexes) (append-nil (unhit known hits))
+    (subst (λ rows. All (IndexesRows (unhit known hits ++ []) rows) indexes) (append-nil (unhit there hits)) h)
 
 -- ---- the answer
 
@@ -166,45 +247,17 @@ refused None x (code.Fault e) a = absurd cc
 refused (Some n) x (code.Fault e) a = cc
 refused o x code.OutOfMemory a = tt
 
-pub admitted_none : {A : Type 0} (old new : List (List Atom)) (result : Result (Unit {0}) (Refusal SqlFault)) (refusal : Refusal SqlFault) (x : A) (before : List Indexed) → result ≡ Err refusal
-    → Answers (Err refusal) (unless_twins (first_twins 1 (keys_of before) (old ++ new)) x) → All (IndexesRows old) before → AreAdmitted old new result before before
-admitted_none old new result refusal x before e a h =
-    subst (λ r. AreAdmitted old new r before before) (sym e)
-    (record { keys = refl; answer = refused (first_twins 1 (keys_of before) (old ++ new)) x refusal a; indexed = h })
+pub refused_same : {A : Type 0} (known : List ℕ) (there : List (List Atom)) (hits : List Bool) (their : List ℕ) (new : List (List Atom)) (refusal : Refusal SqlFault) (x : A) (before after : List Indexed) → keys_of after ≡ keys_of before
+    → Answers (Err refusal) (unless_twins (first_twins 1 (keys_of before) (unhit there hits ++ new)) x) → All (IndexesRows known there) after → AreExchanged known there hits their new (Err refusal) before after
+refused_same known there hits their new refusal x before after k a h = record { keys = k; answer = refused (first_twins 1 (keys_of before) (unhit there hits ++ new)) x refusal a; indexed = h }
 
-pub admitted_all : (old new : List (List Atom)) (keys : List (List (List Atom))) (before after : List Indexed) → unless_twins (first_twins 1 (keys_of before) (old ++ new)) (keys_for (keys_of before) new) ≡ Ok keys → keys_of after ≡ keys_of before
-    → (keys ≡ keys_for (keys_of before) new → All (IndexesRows (old ++ new)) after) → AreAdmitted old new (Ok tt) before after
-admitted_all old new keys before after a k h =
-    let found = found_none (first_twins 1 (keys_of before) (old ++ new)) (keys_for (keys_of before) new) keys a in
-    record { keys = k; answer = ap (λ o. unless_twins o tt) found.0; indexed = h found.1 }
+-- where no two rows are alike, all indexes have them
+pub none_alike : {A : Type 0} (o : Option ℕ) (x y : A) → unless_twins o x ≡ Ok y → o ≡ None
+none_alike o x y e = (found_none o x y e).0
 
--- ---- what is taken out again
-
-pub record AreForgetting (rows : List (List Atom)) (i : ℕ) (now : List Indexed) : Type 0 where
-  pub done : All (IndexesRows rows) (take i now)
-  pub front : All (IndexesFirst rows) now
-
-module _ (rows : List (List Atom)) (i : ℕ) (now : List Indexed) (index after : Indexed) (lt : i < length now) (is : index ≡ get_or now i index) (s : AreForgetting rows i now) where
-  pub forget_index : IndexesFirst rows index
-  forget_index = all_read (IndexesFirst rows) now i index s.front lt is
-
-  pub forget_more : IndexesRows rows after → AreForgetting rows (i + 1) (slice_set now i after)
-  forget_more r = record { done = all_taken (IndexesRows rows) now i after lt s.done r; front = all_set (IndexesFirst rows) now i after s.front (first_of rows after r) }
-
-pub forget_keys : (now : List Indexed) (i : ℕ) (index after : Indexed) → index ≡ get_or now i index → after.places ≡ index.places → keys_of (slice_set now i after) ≡ keys_of now
-forget_keys now i index after e p = keys_set now i index after e p
-
--- ---- the keys of rows
-
-pub put_rows : (places : List ℕ) (from : ℕ) (before after : Keyed) (old new keys : List (List Atom)) → keys ≡ map (key_of places) new → HasMore before from keys after → IndexesKeys (map (key_of places) old) before → length old ≡ from → IndexesKeys (map (key_of places) (old ++ new)) after
-put_rows places from before after old new keys k m i n =
-    subst (λ ks. IndexesKeys ks after) (ap (λ ks. map (key_of places) old ++ ks) k ∙ sym (map-append (key_of places) old new))
-    (indexed_more (map (key_of places) old) keys before after from (sym n ∙ sym (length-map old (key_of places))) i m)
-
-pub put_ok : {A E : Type 0} (result : Result A E) (places : List ℕ) (from : ℕ) (before after : Keyed) (old new keys : List (List Atom)) → keys ≡ map (key_of places) new → OnOk result (HasMore before from keys after) → IndexesKeys (map (key_of places) old) before → length old ≡ from
-    → OnOk result (IndexesKeys (map (key_of places) (old ++ new)) after)
-put_ok (Err e) places from before after old new keys k m i n = m
-put_ok (Ok x) places from before after old new keys k m i n = put_rows places from before after old new keys k m i n
+pub all_exchanged : (known : List ℕ) (there : List (List Atom)) (hits : List Bool) (their : List ℕ) (new : List (List Atom)) (before after : List Indexed) → first_twins 1 (keys_of before) (unhit there hits ++ new) ≡ None → keys_of after ≡ keys_of before
+    → All (IndexesRows (unhit known hits ++ their) (unhit there hits ++ new)) after → AreExchanged known there hits their new (Ok tt) before after
+all_exchanged known there hits their new before after none k h = record { keys = k; answer = ap (λ o. unless_twins o tt) none; indexed = h }
 
 -- ---- indexes that are made anew
 

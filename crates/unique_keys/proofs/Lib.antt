@@ -1,5 +1,5 @@
 mod Admission
-mod Following
 pub mod Interface
+mod Numbering
 mod Twins
 mod TwinsAlike

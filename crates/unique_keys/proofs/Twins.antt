@@ -2,20 +2,25 @@
 use Rattle.std.proofs.Common.{◌≡◌, ℕ, ◌+◌, ◌<◌, List, [], ◌∷◌, ◌++◌, length, get_or, drop, map, append_assoc, refl, ap, sym, ◌∙◌, Bool, true, false, cond, Option, Some, None}
 use Rattle.std.specs.Prelude.{◌||◌, if◌then◌else◌, is_some}
 use Rattle.std.specs.List.{All, list_any}
+use Rattle.std.proofs.lemmas.Bool.{or_parts}
+use Rattle.std.proofs.lemmas.List.{append-nil}
 use Rattle.std.proofs.lemmas.List.Elements.{All-cons, All-nil}
 use Rattle.std.proofs.lemmas.List.Folds.{list_any-append}
 use Rattle.ae_base.specs.Atoms.{Atom}
 use Rattle.operators.specs.Alike.{key_of, alike_on, are_alike}
 use Rattle.operators.proofs.Interface.{any-map, any_same, alike_back, alike_on-keys}
 use Rattle.operators.proofs.Interface.{drop_there}
-use Rattle.key_index.specs.Places.{Keyed, IndexesKeys}
-use Rattle.key_index.specs.Lookups.{is_known, first_known, first_alike}
-use Rattle.key_index.proofs.Interface.{known_is}
+use Rattle.row_store.specs.Changes.{unhit, hit}
+use Rattle.row_store.specs.Numbers.{AreRising}
+use Rattle.key_index.specs.Numbers.{Keyed, number_at}
+use Rattle.key_index.specs.Lookups.{is_known, is_left, first_known, first_alike}
+use Rattle.unique_keys.specs.Indexes.{Indexed, IndexesRows, has_key}
 use Rattle.unique_keys.specs.Keys.{has_twins, first_twins}
+use Rattle.unique_keys.proofs.Numbering.{left_unhit, one_of_distinct, unhit_none}
 
 -- ---- either way round
 
-key_turned : (key : List ℕ) (row other : List Atom) → alike_on key row other ≡ alike_on key other row
+pub key_turned : (key : List ℕ) (row other : List Atom) → alike_on key row other ≡ alike_on key other row
 key_turned key row other = alike_on-keys key row other ∙ alike_back (key_of key row) (key_of key other) ∙ sym (alike_on-keys key other row)
 
 any_keys : (key : List ℕ) (row : List Atom) (rows : List (List Atom)) → list_any (are_alike (key_of key row)) (map (key_of key) rows) ≡ list_any (alike_on key row) rows
@@ -32,7 +37,7 @@ shuffle false true false c d = refl
 shuffle false false true c d = refl
 shuffle false false false c d = refl
 
-has_twins-append : (key : List ℕ) (old new : List (List Atom)) → has_twins key (old ++ new) ≡ (has_twins key old || (list_any (λ row. list_any (alike_on key row) new) old || has_twins key new))
+pub has_twins-append : (key : List ℕ) (old new : List (List Atom)) → has_twins key (old ++ new) ≡ (has_twins key old || (list_any (λ row. list_any (alike_on key row) new) old || has_twins key new))
 has_twins-append key [] new = refl
 has_twins-append key (row ∷ old) new =
     ap (λ b. b || has_twins key (old ++ new)) (list_any-append (alike_on key row) old new)
@@ -63,13 +68,13 @@ twins_same key (row ∷ rows) (o ∷ others) e =
 -- ---- new keys that are looked up
 
 -- what is known or seen are the keys of these rows
-abbrev AreSeen : List ℕ → Keyed → (seen : List (List Atom)) → List (List Atom) → Type 0
-AreSeen key index seen rows = (k : List Atom) → (is_known index k || list_any (are_alike k) seen) ≡ list_any (are_alike k) (map (key_of key) rows)
+abbrev AreSeen : List ℕ → List ℕ → Keyed → (seen : List (List Atom)) → List (List Atom) → Type 0
+AreSeen key gone index seen rows = (k : List Atom) → (is_known gone index k || list_any (are_alike k) seen) ≡ list_any (are_alike k) (map (key_of key) rows)
 
-seen_more : (key : List ℕ) (index : Keyed) (seen rows : List (List Atom)) (row : List Atom) → AreSeen key index seen rows → AreSeen key index (seen ++ key_of key row ∷ []) (rows ++ row ∷ [])
-seen_more key index seen rows row s = λ k.
-    ap (λ b. is_known index k || b) (list_any-append (are_alike k) seen (key_of key row ∷ []))
-    ∙ or_assoc (is_known index k) (list_any (are_alike k) seen) (list_any (are_alike k) (key_of key row ∷ []))
+seen_more : (key gone : List ℕ) (index : Keyed) (seen rows : List (List Atom)) (row : List Atom) → AreSeen key gone index seen rows → AreSeen key gone index (seen ++ key_of key row ∷ []) (rows ++ row ∷ [])
+seen_more key gone index seen rows row s = λ k.
+    ap (λ b. is_known gone index k || b) (list_any-append (are_alike k) seen (key_of key row ∷ []))
+    ∙ or_assoc (is_known gone index k) (list_any (are_alike k) seen) (list_any (are_alike k) (key_of key row ∷ []))
     ∙ ap (λ b. b || list_any (are_alike k) (key_of key row ∷ [])) (s k)
     ∙ sym (list_any-append (are_alike k) (map (key_of key) rows) (key_of key row ∷ []))
     ∙ ap (list_any (are_alike k)) (map_push rows)
@@ -82,25 +87,40 @@ seen_more key index seen rows row s = λ k.
     map_push [] = refl
     map_push (r ∷ rows) = ap (λ l. key_of key r ∷ l) (map_push rows)
 
-found_twins : (key : List ℕ) (n : ℕ) (index : Keyed) (seen old new : List (List Atom)) → AreSeen key index seen old → has_twins key old ≡ false → is_some (first_known n index seen (map (key_of key) new)) ≡ has_twins key (old ++ new)
-found_twins key n index seen old [] s d = sym (ap (has_twins key) (append_nil old) ∙ d)
-  where
-    append_nil : (xs : List (List Atom)) → xs ++ [] ≡ xs
-    append_nil [] = refl
-    append_nil (x ∷ xs) = ap (λ l. x ∷ l) (append_nil xs)
-found_twins key n index seen old (row ∷ new) s d =
-    by_test (is_known index (key_of key row) || list_any (are_alike (key_of key row)) seen) (s (key_of key row) ∙ any_keys key row old ∙ sym (twins_push key old row d))
-    (λ t. found_twins key (n + 1) index (seen ++ key_of key row ∷ []) (old ++ row ∷ []) new (seen_more key index seen old row s) t)
+found_twins : (key : List ℕ) (n : ℕ) (gone : List ℕ) (index : Keyed) (seen old new : List (List Atom)) → AreSeen key gone index seen old → has_twins key old ≡ false → is_some (first_known n gone index seen (map (key_of key) new)) ≡ has_twins key (old ++ new)
+found_twins key n gone index seen old [] s d = sym (ap (has_twins key) (append-nil old) ∙ d)
+found_twins key n gone index seen old (row ∷ new) s d =
+    by_test (is_known gone index (key_of key row) || list_any (are_alike (key_of key row)) seen) (s (key_of key row) ∙ any_keys key row old ∙ sym (twins_push key old row d))
+    (λ t. found_twins key (n + 1) gone index (seen ++ key_of key row ∷ []) (old ++ row ∷ []) new (seen_more key gone index seen old row s) t)
     ∙ ap (has_twins key) (append_assoc old (row ∷ []) new)
   where
-    by_test : (b : Bool) → b ≡ has_twins key (old ++ row ∷ []) → (has_twins key (old ++ row ∷ []) ≡ false → is_some (first_known (n + 1) index (seen ++ key_of key row ∷ []) (map (key_of key) new)) ≡ has_twins key ((old ++ row ∷ []) ++ new))
-        → is_some (cond b (Some n) (first_known (n + 1) index (seen ++ key_of key row ∷ []) (map (key_of key) new))) ≡ has_twins key ((old ++ row ∷ []) ++ new)
+    by_test : (b : Bool) → b ≡ has_twins key (old ++ row ∷ []) → (has_twins key (old ++ row ∷ []) ≡ false → is_some (first_known (n + 1) gone index (seen ++ key_of key row ∷ []) (map (key_of key) new)) ≡ has_twins key ((old ++ row ∷ []) ++ new))
+        → is_some (cond b (Some n) (first_known (n + 1) gone index (seen ++ key_of key row ∷ []) (map (key_of key) new))) ≡ has_twins key ((old ++ row ∷ []) ++ new)
     by_test true t rest = sym (twins_before key (old ++ row ∷ []) new (sym t))
     by_test false t rest = rest (sym t)
 
--- one is found exactly where two rows are alike, as long as no two of the old ones are
-pub twins_found : (key : List ℕ) (index : Keyed) (old new : List (List Atom)) → IndexesKeys (map (key_of key) old) index → has_twins key old ≡ false → is_some (first_alike index (map (key_of key) new)) ≡ has_twins key (old ++ new)
-twins_found key index old new i d = found_twins key 0 index [] old new (λ k. or_none (is_known index k) ∙ known_is (map (key_of key) old) index i k) d
+-- rows that stay of those that differ
+pub unhit_differ : (key : List ℕ) (rows : List (List Atom)) (hits : List Bool) → has_twins key rows ≡ false → has_twins key (unhit rows hits) ≡ false
+unhit_differ key [] hits d = d
+unhit_differ key (row ∷ rows) [] d = d
+unhit_differ key (row ∷ rows) (true ∷ hits) d = unhit_differ key rows hits (or_parts (list_any (alike_on key row) rows) (has_twins key rows) d).1
+unhit_differ key (row ∷ rows) (false ∷ hits) d =
+    let both = or_parts (list_any (alike_on key row) rows) (has_twins key rows) d in
+    ap (λ b. b || has_twins key (unhit rows hits)) (unhit_none (alike_on key row) rows hits both.0) ∙ unhit_differ key rows hits both.1
+
+-- the keys that an index has beside the numbers that go are those of the rows that stay
+known_left : (known gone : List ℕ) (there : List (List Atom)) (hits : List Bool) (to : ℕ) (index : Indexed) → length known ≡ length there → AreRising 0 to known → IndexesRows known there index → has_twins index.places there ≡ false → gone ≡ hit known hits
+    → (k : List Atom) → is_known gone index.keyed k ≡ list_any (are_alike k) (map (key_of index.places) (unhit there hits))
+known_left known gone there hits to index e h i d g k =
+    ap (λ ns. is_left ns (number_at index.keyed k)) g ∙ ap (is_left (hit known hits)) (i k)
+    ∙ left_unhit (has_key index.places k) 0 to known there hits e h (one_of_distinct index.places k there d)
+    ∙ sym (any-map (are_alike k) (key_of index.places) (unhit there hits))
+
+-- one is found exactly where two rows are then alike, as long as no two of the old ones are
+pub twins_found : (known gone : List ℕ) (there new : List (List Atom)) (hits : List Bool) (to : ℕ) (index : Indexed) → length known ≡ length there → AreRising 0 to known → IndexesRows known there index → has_twins index.places there ≡ false → gone ≡ hit known hits
+    → is_some (first_alike gone index.keyed (map (key_of index.places) new)) ≡ has_twins index.places (unhit there hits ++ new)
+twins_found known gone there new hits to index e h i d g =
+    found_twins index.places 0 gone index.keyed [] (unhit there hits) new (λ k. or_none (is_known gone index.keyed k) ∙ known_left known gone there hits to index e h i d g k) (unhit_differ index.places there hits d)
 
 -- ---- keys from a place on
 

@@ -1,12 +1,12 @@
 //! The index of one unique key.
 
-ghost use Rattle.std.specs.Prelude.{◌≡◌, ◌++◌, Bool, List, length, map, not, false, is_some, IfSome, IfOk, OnOk};
+ghost use Rattle.std.specs.Prelude.{◌≡◌, ◌<◌, ◌≤◌, ◌++◌, [], ℕ, Bool, List, length, map, not, false, is_some, IfSome, IfOk, OnOk};
 ghost use Rattle.ae_base.specs.Atoms.{Atom};
 ghost use Rattle.operators.specs.Alike.{key_of};
-ghost use Rattle.key_index.specs.Moves.{moves_from};
-ghost use Rattle.key_index.specs.Places.{nothing, places_at};
-ghost use Rattle.row_store.specs.Changes.{unhit};
-ghost use Rattle.unique_keys.specs.Indexes.{IndexesRows, IndexesFirst};
+ghost use Rattle.key_index.specs.Numbers.{number_at};
+ghost use Rattle.row_store.specs.Changes.{hit, unhit};
+ghost use Rattle.row_store.specs.Numbers.{AreRising};
+ghost use Rattle.unique_keys.specs.Indexes.{IndexesRows};
 ghost use Rattle.unique_keys.specs.Keys.{has_twins};
 
 use ae_base::atoms::Row;
@@ -19,7 +19,7 @@ use key_index::lookups::first_uncounted;
 use std::alloc::{AllocError, Global};
 use std::marker::Model;
 
-/// The index of a unique key: the places of rows, found by what they have in its columns.
+/// The index of a unique key: the numbers of rows, found by what they have in its columns.
 pub struct UniqueIndex<K: Same> {
     places: UniqueKey,
     index: KeyIndex<K>,
@@ -43,9 +43,10 @@ impl<K: Same> Model for UniqueIndex<K> {
 }
 
 impl<K: Same> UniqueIndex<K> {
-    /// The index of no rows.
+    /// The index of no rows. It takes no memory.
     pub fn new(alloc: Global, places: UniqueKey) -> UniqueIndex<K>
-        ensures { result ≡ record { places = places; keyed = nothing } }
+        ensures places { result.places ≡ places }
+        ensures rows { IndexesRows [] [] result }
     {
         UniqueIndex {
             places,
@@ -60,87 +61,94 @@ impl<K: Same> UniqueIndex<K> {
         self.places.as_slice()
     }
 
-    /// The places of the rows with a key, in order.
-    pub fn places_of(&self, key: &Key<K>) -> &[usize]
-        ensures { result.now ≡ places_at self.now.keyed key.now }
+    /// The number of the row with a key.
+    pub fn number_of(&self, key: &Key<K>) -> Option<usize>
+        ensures { result ≡ number_at self.now.keyed key.now }
     {
-        self.index.places_of(key)
+        self.index.number_of(key)
     }
 
-    /// The index of no rows for the same key.
-    pub fn emptied(&self, alloc: Global) -> Result<UniqueIndex<K>, AllocError>
-        ensures { IfOk result
-            (λ index. index ≡ record { places = self.now.places; keyed = nothing }) }
-    {
-        Ok(UniqueIndex::new(alloc, self.places.copy()?))
-    }
-
-    /// Forgets the rows from a place on. It takes no memory.
-    pub fn forget_from(&mut self, place: usize)
-        ensures places { self.new.places ≡ self.old.places }
-        ensures front { (rows : List (List Atom)) → IndexesFirst rows self.old → length rows ≡ place
-            → IndexesRows rows self.new }
-    {
-        self.index.forget_from(place);
-    }
-
-    /// Follows the rows to where they stand once those that are hit are dropped. It takes no memory.
-    pub(crate) fn follow(&mut self, moves: &[Option<usize>])
-        ensures places { self.new.places ≡ self.old.places }
-        ensures rows { (rows : List (List Atom)) (hits : List Bool) → IndexesRows rows self.old
-            → length hits ≡ length rows → moves.now ≡ moves_from 0 hits
-            → IndexesRows (unhit rows hits) self.new }
-    {
-        self.index.follow(moves);
-    }
-
-    /// Puts in rows at one place after another from this one on. Without memory some of them may be
-    /// there, behind those that were there.
-    pub fn put(&mut self, alloc: Global, from: usize, rows: &[&Row<K>]) -> Result<(), AllocError>
-        ensures places { self.new.places ≡ self.old.places }
-        ensures ok { (old : List (List Atom)) → IndexesRows old self.old → length old ≡ from
-            → OnOk result (IndexesRows (old ++ map (λ row. row.now) rows.now) self.new) }
-        ensures front { (old : List (List Atom)) → IndexesRows old self.old → length old ≡ from
-            → IndexesFirst old self.new }
-    {
-        let keys = keys_of(alloc, self.places.as_slice(), rows)?;
-        self.put_keys(alloc, from, keys)
-    }
-
-    /// Puts in the keys of rows at one place after another from this one on. Without memory some of
-    /// them may be there, behind those that were there.
-    pub(crate) fn put_keys(
-        &mut self,
+    /// The index of these rows with these numbers for the same key.
+    pub(crate) fn filled(
+        &self,
         alloc: Global,
-        from: usize,
-        keys: Seq<Key<K>>,
-    ) -> Result<(), AllocError>
-        ensures places { self.new.places ≡ self.old.places }
-        ensures ok { (old new : List (List Atom)) → IndexesRows old self.old → length old ≡ from
-            → keys ≡ map (key_of self.old.places) new
-            → OnOk result (IndexesRows (old ++ new) self.new) }
-        ensures front { (old : List (List Atom)) → IndexesRows old self.old → length old ≡ from
-            → IndexesFirst old self.new }
+        numbers: &[usize],
+        rows: &[&Row<K>],
+    ) -> Result<UniqueIndex<K>, AllocError>
+        requires { length numbers.now ≡ length rows.now }
+        ensures places { IfOk result (λ index. index.places ≡ self.now.places) }
+        ensures rows { has_twins self.now.places (map (λ row. row.now) rows.now) ≡ false
+            → IfOk result (IndexesRows numbers.now (map (λ row. row.now) rows.now)) }
     {
-        self.index.put_all(alloc, from, keys)
+        let mut index = UniqueIndex::new(alloc, self.places.copy()?);
+        index.fill(alloc, numbers, rows)?;
+        Ok(index)
     }
 
-    /// The keys of new rows, if none is alike to another of them or to one that is there.
+    /// Puts rows into the index of none, each with its number.
+    fn fill(&mut self, alloc: Global, numbers: &[usize], rows: &[&Row<K>]) -> Result<(), AllocError>
+        requires each { length numbers.now ≡ length rows.now }
+        requires none { IndexesRows [] [] self.old }
+        ensures places { self.new.places ≡ self.old.places }
+        ensures rows { has_twins self.old.places (map (λ row. row.now) rows.now) ≡ false
+            → OnOk result (IndexesRows numbers.now (map (λ row. row.now) rows.now) self.new) }
+    {
+        self.reserve(rows.len())?;
+        let keys = keys_of(alloc, self.places(), rows)?;
+        let none: Seq<Key<K>> = Seq::new(alloc);
+        self.exchange(none.as_slice(), numbers, keys);
+        Ok(())
+    }
+
+    /// Makes room for so many more rows, if there is memory for it.
+    pub(crate) fn reserve(&mut self, count: usize) -> Result<(), AllocError>
+        ensures places { self.new.places ≡ self.old.places }
+        ensures rows { (numbers : List ℕ) (rows : List (List Atom)) → IndexesRows numbers rows self.old
+            → IndexesRows numbers rows self.new }
+        ensures room { OnOk result (count ≤ self.new.keyed.spare) }
+    {
+        self.index.reserve(count)
+    }
+
+    /// Takes out the keys of rows that go, and puts in those of new rows, each with its number. It
+    /// takes no memory.
+    pub(crate) fn exchange(&mut self, old: &[Key<K>], numbers: &[usize], new: Seq<Key<K>>)
+        requires each { length numbers.now ≡ length new }
+        requires room { length new ≤ self.old.keyed.spare }
+        ensures places { self.new.places ≡ self.old.places }
+        ensures rows { (known : List ℕ) (there : List (List Atom)) (hits : List Bool)
+            (rows : List (List Atom)) → length known ≡ length there
+            → IndexesRows known there self.old → has_twins self.old.places there ≡ false
+            → old.now ≡ map (key_of self.old.places) (hit there hits)
+            → new ≡ map (key_of self.old.places) rows
+            → has_twins self.old.places (unhit there hits ++ rows) ≡ false
+            → IndexesRows (unhit known hits ++ numbers.now) (unhit there hits ++ rows) self.new }
+    {
+        self.index.remove_all(old);
+        self.index.put_all(numbers, new);
+    }
+
+    /// The keys of new rows, if none is alike to another of them, or to one that is there and
+    /// hasn't one of the numbers that go.
     pub(crate) fn new_keys(
         &self,
         alloc: Global,
+        gone: &[usize],
         rows: &[&Row<K>],
     ) -> Result<Option<Seq<Key<K>>>, AllocError>
+        requires { (to : ℕ) × AreRising 0 to gone.now }
         ensures keys { IfOk result (λ found. IfSome found (λ keys.
             keys ≡ map (key_of self.now.places) (map (λ row. row.now) rows.now))) }
-        ensures new { (old : List (List Atom)) → IndexesRows old self.now
-            → has_twins self.now.places old ≡ false
+        ensures new { (known : List ℕ) (there : List (List Atom)) (hits : List Bool) (to : ℕ)
+            → length known ≡ length there → AreRising 0 to known
+            → IndexesRows known there self.now → has_twins self.now.places there ≡ false
+            → gone.now ≡ hit known hits
             → IfOk result (λ found.
-            has_twins self.now.places (old ++ map (λ row. row.now) rows.now)
+            has_twins self.now.places (unhit there hits ++ map (λ row. row.now) rows.now)
             ≡ not (is_some found)) }
     {
         let keys = keys_of(alloc, self.places.as_slice(), rows)?;
-        if first_uncounted(alloc, &self.index, keys.as_slice())?.is_some() {
+        if first_uncounted(alloc, &self.index, gone, keys.as_slice())?.is_some() {
             drop(keys);
             return Ok(None);
         }
@@ -149,7 +157,7 @@ impl<K: Same> UniqueIndex<K> {
 }
 
 /// What rows have in the columns of these places.
-fn keys_of<K: Same>(
+pub(crate) fn keys_of<K: Same>(
     alloc: Global,
     places: &[usize],
     rows: &[&Row<K>],

@@ -7,5 +7,5 @@ use Rattle.indexed_tables.proofs.tables.indexes_on.Given as goal
 abbrev pub invariant-loop-key : goal.invariant-loop-key
 invariant-loop-key g l = record {
   keys : keys_of l.indexes.items ≡ take l.key-index l.keys;
-  indexed : All (IndexesRows []) l.indexes.items;
+  indexed : All (IndexesRows [] []) l.indexes.items;
 }

@@ -1,9 +1,8 @@
--- The keys stay.
-use Rattle.std.proofs.Common.{ap, sym, ◌∙◌, length}
+-- There is room, the rows are those that were there, and then the new ones stand behind them.
 use Rattle.indexed_tables.proofs.tables.insert_into.Goals as goal
 
-pub returns-in-Ok-admit_rows-clause-keys : goal.returns-in-Ok-admit_rows-clause-keys
-returns-in-Ok-admit_rows-clause-keys g c = (c.admit_rows.ensures c.args.stored.now.rows c.requires.indexed (sym (c.len-2.ensures ∙ ap length c.in-Ok.ensures.rows)) c.requires.distinct).keys
+pub put_in-requires-clause-distinct : goal.put_in-requires-clause-distinct
+put_in-requires-clause-distinct g c = rw c.in-Ok.ensures.rows c.requires.distinct
 
-pub returns-in-Err-admit_rows-clause-keys : goal.returns-in-Err-admit_rows-clause-keys
-returns-in-Err-admit_rows-clause-keys g c = (c.admit_rows.ensures c.args.stored.now.rows c.requires.indexed (sym (c.len-2.ensures ∙ ap length c.in-Ok.ensures.rows)) c.requires.distinct).keys
+pub put_in-requires-clause-indexed : goal.put_in-requires-clause-indexed
+put_in-requires-clause-indexed g c = rw (c.in-Ok.ensures.rows, c.in-Ok.ensures.numbers.0) c.requires.indexed

@@ -1,30 +1,28 @@
 -- A key is in the index, or before it in the list, or new.
-use Rattle.std.proofs.Common.{◌≡◌, ◌+◌, List, ℕ, true, false, not, length, sym, ap, subst, ◌∙◌}
-use Rattle.std.specs.Prelude.{◌==◌}
+use Rattle.std.proofs.Common.{◌≡◌, ◌+◌, List, true, false, sym, subst, ◌∙◌}
 use Rattle.std.specs.List.{list_any}
 use Rattle.ae_base.specs.Atoms.{Atom}
 use Rattle.operators.specs.Alike.{are_alike}
 use Rattle.key_index.specs.Lookups.{is_known}
-use Rattle.key_index.proofs.Counting.{AreLookedUp, found_known, found_seen, looked_more}
-use Rattle.key_index.proofs.Looking.{was_there, was_new}
+use Rattle.key_index.proofs.Seeking.{AreLookedUp, found_known, found_seen, looked_more, was_there, was_new}
 use Rattle.key_index.proofs.lookups.first_among.Goals as goal
 
-pub returns-then-not-is_empty-clause-place : goal.returns-then-not-is_empty-clause-place
-returns-then-not-is_empty-clause-place g c =
+pub returns-then-is_known-clause-place : goal.returns-then-is_known-clause-place
+returns-then-is_known-clause-place g c =
     let key = c.index-keys-i.result in
-    let t : is_known c.args.index.now key ≡ true = ap (λ (l : List ℕ). not (length l == 0)) (sym c.places_of.ensures) ∙ ap not (sym c.is_empty.ensures ∙ c.if-not-is_empty.true) in
-    found_known c.args.index.now c.args.keys.now c.loop-i.i key c.loop-i.seen c.args.lookups.now c.loop-i.lookups c.loop-i-test.true c.index-keys-i.is c.loop-i.invariant t
+    let t : is_known c.args.gone.now c.args.index.now key ≡ true = sym c.is_known.ensures ∙ c.if-is_known.true in
+    found_known c.args.gone.now c.args.index.now c.args.keys.now c.loop-i.i key c.loop-i.seen c.args.lookups.now c.loop-i.lookups c.loop-i-test.true c.index-keys-i.is c.loop-i.invariant t
 
 pub returns-then-not-branch-clause-place : goal.returns-then-not-branch-clause-place
 returns-then-not-branch-clause-place g c =
     let key = c.index-keys-i.result in
-    found_seen c.args.index.now c.args.keys.now c.loop-i.i key c.loop-i.seen c.args.lookups.now c.loop-i.lookups c.loop-i-test.true c.index-keys-i.is c.loop-i.invariant
+    found_seen c.args.gone.now c.args.index.now c.args.keys.now c.loop-i.i key c.loop-i.seen c.args.lookups.now c.loop-i.lookups c.loop-i-test.true c.index-keys-i.is c.loop-i.invariant
     (was_there c.in_ok-note.field-0 (list_any (are_alike key) c.loop-i.seen) c.in_ok-note.ensures.fresh c.if-not-branch.true)
 
 pub loop-i-preserved : goal.loop-i-preserved
 loop-i-preserved g c =
     let key = c.index-keys-i.result in
-    let t : is_known c.args.index.now key ≡ false = ap (λ (l : List ℕ). not (length l == 0)) (sym c.places_of.ensures) ∙ ap not (sym c.is_empty.ensures ∙ c.if-not-is_empty.false) in
+    let t : is_known c.args.gone.now c.args.index.now key ≡ false = sym c.is_known.ensures ∙ c.if-is_known.false in
     let new = was_new c.in_ok-note.field-0 (list_any (are_alike key) c.loop-i.seen) c.in_ok-note.ensures.fresh c.if-not-branch.false in
-    subst (λ (seen : List (List Atom)). AreLookedUp c.args.index.now c.args.keys.now (c.loop-i.i + 1) seen c.args.lookups.now c.tick.new.self) (sym (c.in_ok-note.ensures.noted c.if-not-branch.false))
-    (looked_more c.args.index.now c.args.keys.now c.loop-i.i key c.loop-i.seen c.args.lookups.now c.loop-i.lookups c.loop-i-test.true c.index-keys-i.is c.loop-i.invariant c.tick.new.self c.tick.ensures t new)
+    subst (λ (seen : List (List Atom)). AreLookedUp c.args.gone.now c.args.index.now c.args.keys.now (c.loop-i.i + 1) seen c.args.lookups.now c.tick.new.self) (sym (c.in_ok-note.ensures.noted c.if-not-branch.false))
+    (looked_more c.args.gone.now c.args.index.now c.args.keys.now c.loop-i.i key c.loop-i.seen c.args.lookups.now c.loop-i.lookups c.loop-i-test.true c.index-keys-i.is c.loop-i.invariant c.tick.new.self c.tick.ensures t new)

@@ -10,11 +10,11 @@ use Rattle.row_lookups.proofs.Finding.{each_found}
 use Rattle.row_lookups.proofs.places.places_found.Goals as goal
 
 pub returns : goal.returns
-returns g c = λ rows h.
-    let made = c.in_ok-places.ensures rows h in
+returns g c =
+    let made = c.in_ok-places.ensures in
     let is = dedup_is _ _ _ c.dedup.ensures.filtered in
     let moved = c.sort_unstable.ensures.permutation in
-    each_found c.args.params.now c.args.row.now (record { places = c.args.index.now.places; keys = operands_listed c.args.keys.now }) rows _
+    each_found c.args.params.now c.args.row.now (record { places = c.args.columns.now; keys = operands_listed c.args.keys.now }) c.args.table.now.rows _
     (AllPairs-from_increasing _ (rw is (IsStrictlyIncreasing-dedup _ c.sort_unstable.ensures.sorted)))
     (λ x k. rw is (Contains-dedup_nat _ x (Contains-permutation _ _ x moved (subst (λ l. Contains l x) (sym made) k))))
     (λ x k. subst (λ l. Contains l x) made (Contains-permutation _ _ x (IsPermutation-sym _ _ moved) (Contains-from_dedup _ _ x (rw is at k))))

@@ -1,5 +1,5 @@
 -- The next key.
-use Rattle.std.proofs.Common.{◌≤◌, length, ap, ◌∙◌, arith}
+use Rattle.std.proofs.Common.{◌≤◌, length, ap, arith}
 use Rattle.std.specs.List.{All}
 use Rattle.sql_tree.specs.Placed.{IsPlaced}
 use Rattle.operators.proofs.Interface.{All_there}
@@ -11,18 +11,17 @@ use Rattle.row_lookups.proofs.places.places_of_each.Goals as goal
 pub key_at-requires : goal.key_at-requires
 key_at-requires g c =
     rw c.as_slice.ensures
-    (All_there (λ values. All (IsPlaced (length c.args.row.now) (length c.args.params.now)) values) operands_lent c.args.keys.now c.loop-values.values-index c.values-item.result c.loop-values-test.true c.values-item.is c.requires)
+    (All_there (λ values. All (IsPlaced (length c.args.row.now) (length c.args.params.now)) values) operands_lent c.args.keys.now c.loop-values.values-index c.values-item.result c.loop-values-test.true c.values-item.is c.requires.placed)
 
 pub loop-values-preserved : goal.loop-values-preserved
-loop-values-preserved g c = λ rows h.
-    let params = c.args.params.now in
-    let row = c.args.row.now in
-    let places = c.args.index.now.places in
+loop-values-preserved g c =
+    let columns = c.args.columns.now in
+    let rows = c.args.table.now.rows in
     let key = rw c.as_slice.ensures at c.in_ok-key.ensures in
-    each_more operands_lent params row places rows c.args.keys.now c.loop-values.values-index c.values-item.result c.loop-values.places.items c.extend_from_slice.new.self.items c.in_ok-found.found.now _ c.loop-values-test.true c.values-item.is
-    (c.in_ok-found.ensures rows h ∙ ap (λ k. places_with places k rows) key) c.in_ok-extend_from_slice.ensures.items (c.loop-values.invariant rows h)
+    each_more operands_lent c.args.params.now c.args.row.now columns rows c.args.keys.now c.loop-values.values-index c.values-item.result c.loop-values.places.items c.places_with.new.places.items (places_with columns c.in_ok-key.key rows) _
+    c.loop-values-test.true c.values-item.is (ap (λ k. places_with columns k rows) key) c.in_ok-places_with.ensures c.loop-values.invariant
 
 pub returns : goal.returns
-returns g c = λ rows h.
+returns g c =
     let le : length c.args.keys.now ≤ c.loop-values.values-index = omega (arith, c.loop-values-test.false) in
-    each_over operands_lent c.args.params.now c.args.row.now c.args.index.now.places rows c.args.keys.now c.loop-values.values-index c.loop-values.places.items _ le (c.loop-values.invariant rows h)
+    each_over operands_lent c.args.params.now c.args.row.now c.args.columns.now c.args.table.now.rows c.args.keys.now c.loop-values.values-index c.loop-values.places.items _ le c.loop-values.invariant

@@ -1,42 +1,55 @@
 -- The next row is dropped, or moves up.
-use Rattle.std.proofs.Common.{◌<◌, ◌≤◌, length, arith, sym, ◌∙◌}
-use Rattle.row_store.specs.Changes.{unhit}
+use Rattle.std.proofs.Common.{◌≡◌, ◌+◌, ◌<◌, ◌≤◌, List, Bool, length, refl, arith, sym, ◌∙◌}
+use Rattle.row_store.specs.Changes.{unhit, marked}
+use Rattle.row_store.proofs.Marking.{marked_at, marked_long, past_start, past_used, past_kept}
 use Rattle.row_store.proofs.Thinning.{dropped_hit, dropped_kept, dropped_all}
 use Rattle.row_store.proofs.pages.drop_rows.Goals as goal
-use Rattle.row_store.proofs.pages.drop_rows.Goals.{then-not-hit, else-not-hit}
+use Rattle.row_store.proofs.pages.drop_rows.Goals.{then-is_at, else-is_at}
 
-pub loop-place-preserved : goal.loop-place-preserved
-loop-place-preserved g c =
-    let rows = c.loop-place.rows.items in
-    let whole = unhit c.args.rows.now.items c.args.hits.now in
-    let h = c.loop-place.invariant in
-    let long = h.long in
-    let behind = h.behind in
-    let lt : c.loop-place.place < length rows = omega arith in
-    elim c.if-not-hit.branch [
-      | then-not-hit w ↦
-          rw (w.rows-is, w.kept-is)
+pub loop-at-init : goal.loop-at-init
+loop-at-init g c = record { so_far = refl; behind = omega arith; long = refl; past = past_start c.args.first c.args.places.now; few = omega arith; capacity = refl }
+
+pub loop-at-preserved : goal.loop-at-preserved
+loop-at-preserved g c =
+    let rows = c.loop-at.rows.items in
+    let count = length c.args.rows.now.items in
+    let places = c.args.places.now in
+    let first = c.args.first in
+    let at = c.loop-at.at in
+    let used = c.loop-at.used in
+    let hits = marked first count places in
+    let whole = unhit c.args.rows.now.items hits in
+    let h = c.loop-at.invariant in
+    let inside : at < count = omega (arith, c.loop-at-test.true, c.len-at-end.ensures, c.args.rows.now.ok.0) in
+    let lt : at < length rows = omega (arith, inside, h.long) in
+    let lh : at < length hits = omega (arith, inside, marked_long first count places) in
+    let is = marked_at first at count places used inside h.past ∙ sym c.is_at.ensures.at in
+    elim c.if-is_at.branch [
+      | then-is_at w ↦
+          rw (w.rows-is, w.kept-is, w.used-is)
           (record {
-            so_far = dropped_kept rows w.swap.new.self.items whole c.args.hits.now c.loop-place.kept c.loop-place.place lt c.loop-place-test.true behind w.if-not-hit.true w.swap.ensures.by_index h.so_far;
-            behind = omega arith;
-            long = omega (arith, w.swap.ensures.len);
-            capacity = w.swap.ensures.capacity ∙ h.capacity;
-          })
-      | else-not-hit w ↦
-          rw (w.rows-is, w.kept-is)
-          (record {
-            so_far = dropped_hit rows whole c.args.hits.now c.loop-place.kept c.loop-place.place lt c.loop-place-test.true w.if-not-hit.false h.so_far;
-            behind = omega arith;
-            long = long;
+            so_far = dropped_hit rows whole hits c.loop-at.kept at lt lh (is ∙ w.if-is_at.true) h.so_far;
+            behind = omega (arith, h.behind);
+            long = h.long;
+            past = past_used first at places used h.past (sym w.if-is_at.true ∙ c.is_at.ensures.at);
+            few = omega (arith, c.is_at.ensures.there w.if-is_at.true);
             capacity = h.capacity;
+          })
+      | else-is_at w ↦
+          rw (w.rows-is, w.kept-is, w.used-is)
+          (record {
+            so_far = dropped_kept rows w.swap.new.self.items whole hits c.loop-at.kept at lt lh h.behind (is ∙ w.if-is_at.false) w.swap.ensures.by_index h.so_far;
+            behind = omega (arith, h.behind);
+            long = omega (arith, w.swap.ensures.len, h.long);
+            past = past_kept first at places used h.past (sym w.if-is_at.false ∙ c.is_at.ensures.at);
+            few = h.few;
+            capacity = w.swap.ensures.capacity ∙ h.capacity;
           })
     ]
 
 pub returns-clause-rows : goal.returns-clause-rows
 returns-clause-rows g c =
-    let h = c.loop-place.invariant in
-    let le : length c.loop-place.rows.items ≤ c.loop-place.place = omega (arith, h.long, c.loop-place-test.false) in
-    c.truncate.ensures.items ∙ sym (dropped_all c.loop-place.rows.items (unhit c.args.rows.now.items c.args.hits.now) c.args.hits.now c.loop-place.kept c.loop-place.place le h.so_far)
-
-pub returns-clause-capacity : goal.returns-clause-capacity
-returns-clause-capacity g c = c.truncate.ensures.capacity ∙ c.loop-place.invariant.capacity
+    let h = c.loop-at.invariant in
+    let hits = marked c.args.first (length c.args.rows.now.items) c.args.places.now in
+    let le : length c.loop-at.rows.items ≤ c.loop-at.at = omega (arith, h.long, c.loop-at-test.false, c.len-at-end.ensures, c.args.rows.now.ok.0) in
+    c.truncate.ensures.items ∙ sym (dropped_all c.loop-at.rows.items (unhit c.args.rows.now.items hits) hits c.loop-at.kept c.loop-at.at le h.so_far)

@@ -1,13 +1,16 @@
 -- Those that stay so far stand in front, and the rest is as it was.
 use Rattle.std.proofs.Common.{◌≡◌, ◌≤◌, ◌++◌, drop, length, take}
 use Rattle.std.specs.Vec.{vec_capacity}
-use Rattle.row_store.specs.Changes.{unhit}
+use Rattle.row_store.specs.Changes.{unhit, marked, IsPast}
 use Rattle.row_store.proofs.pages.drop_rows.Given as goal
 
-abbrev pub invariant-loop-place : goal.invariant-loop-place
-invariant-loop-place g l = record {
-  so_far : unhit l.fn.rows.items l.hits ≡ take l.kept l.rows.items ++ unhit (drop l.place l.rows.items) (drop l.place l.hits);
-  behind : l.kept ≤ l.place;
-  long : length l.rows.items ≡ length l.hits;
+abbrev pub invariant-loop-at : goal.invariant-loop-at
+invariant-loop-at g l = record {
+  so_far : unhit l.fn.rows.items (marked l.first (length l.fn.rows.items) l.places)
+      ≡ take l.kept l.rows.items ++ unhit (drop l.at l.rows.items) (drop l.at (marked l.first (length l.fn.rows.items) l.places));
+  behind : l.kept ≤ l.at;
+  long : length l.rows.items ≡ length l.fn.rows.items;
+  past : IsPast l.first l.at l.places l.used;
+  few : l.used ≤ length l.places;
   capacity : vec_capacity l.rows ≡ vec_capacity l.fn.rows;
 }

@@ -1,0 +1,19 @@
+-- Numbers of rows, which rise in the order of the rows and stay while a row is there.
+use Rattle.std.specs.Prelude.{ℕ, zero, suc, ◌+◌, ◌<◌, ◌≤◌, List, [], ◌∷◌}
+
+-- rows, the number of each, the number of the next one, and how many more there is room for
+pub record Numbers (T : Type 0) : Type 0 where
+  pub rows : List T
+  pub numbers : List ℕ
+  pub next : ℕ
+  pub spare : ℕ
+
+-- numbers rise, from one on, and stay below another
+abbrev pub AreRising : (from to : ℕ) → List ℕ → Type 0
+AreRising from to [] = from ≤ to
+AreRising from to (n ∷ ns) = (from ≤ n) × (n < to) × AreRising (n + 1) to ns
+
+-- so many numbers, counted on from one
+abbrev pub counted : (from count : ℕ) → List ℕ
+counted from zero = []
+counted from (suc count) = from ∷ counted (from + 1) count

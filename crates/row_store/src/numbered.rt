@@ -1,0 +1,243 @@
+//! Rows with numbers that stay.
+
+ghost use Rattle.std.specs.Prelude.{◌≡◌, ◌<◌, ◌≤◌, ◌+◌, ◌++◌, ◌∷◌, [], length, map, slice_index_or, IfOk, OnOk};
+ghost use Rattle.std.specs.List.{All, Contains};
+ghost use Rattle.row_store.specs.Changes.{written, hit, unhit, marked};
+ghost use Rattle.row_store.specs.Numbers.{AreRising, counted};
+ghost use Rattle.row_store.specs.Paged.{flat};
+
+use crate::changes::Change;
+use crate::pages::Page;
+use crate::tables::Paged;
+use ae_base::lists::{Duplicate, Seq};
+use std::alloc::{AllocError, Global};
+use std::marker::Model;
+
+/// Rows in pages. Each has a number, which stays while the row is there; a later row has a greater
+/// one.
+pub struct Numbered<T> {
+    rows: Paged<T>,
+    numbers: Paged<usize>,
+    next: usize,
+    spare: usize,
+}
+
+impl<T: Drop> Drop for Numbered<T> {
+    fn drop(self) {
+        let Numbered {
+            rows: _,
+            numbers: _,
+            next: _,
+            spare: _,
+        } = self;
+    }
+}
+
+impl<T> Model for Numbered<T> {
+    ghost use Rattle.std.specs.Prelude.{◌≡◌, ◌<◌, ◌≤◌, ◌+◌, ◌^◌, length};
+    ghost use Rattle.row_store.specs.Numbers.{Numbers, AreRising};
+
+    ghost Value = { Numbers T };
+
+    ghost view = { λ t. record {
+      rows = t.rows.rows;
+      numbers = t.numbers.rows;
+      next = t.next;
+      spare = t.spare;
+    } };
+
+    ghost invariant = { λ t. record {
+      each : length t.numbers.rows ≡ length t.rows.rows;
+      rising : AreRising 0 t.next t.numbers.rows;
+      room : (t.spare ≤ t.rows.spare) × (t.spare ≤ t.numbers.spare);
+      fits : t.next + t.spare < 2 ^ 64;
+    } };
+}
+
+impl<T: Drop> Numbered<T> {
+    /// No rows yet. It takes no memory.
+    pub fn new(alloc: Global) -> Numbered<T>
+        ensures { result ≡ record { rows = []; numbers = []; next = 0; spare = 0 } }
+    {
+        Numbered {
+            rows: Paged::new(alloc),
+            numbers: Paged::new(alloc),
+            next: 0,
+            spare: 0,
+        }
+    }
+
+    /// How many rows there are.
+    pub fn len(&self) -> usize
+        ensures len { result ≡ length self.now.rows }
+        ensures each { length self.now.numbers ≡ length self.now.rows }
+        ensures rising { AreRising 0 self.now.next self.now.numbers }
+    {
+        self.rows.len()
+    }
+
+    /// The rows, page by page.
+    pub fn rows(&self) -> &[Page<T>]
+        ensures { flat result.now ≡ self.now.rows }
+    {
+        self.rows.rows()
+    }
+
+    /// The row at a place, from 0.
+    pub fn get(&self, place: usize) -> &T
+        requires { place < length self.now.rows }
+        ensures { (default : T) → result.now ≡ slice_index_or self.now.rows place default }
+    {
+        self.rows.get(place)
+    }
+
+    /// The place of the row with a number.
+    pub fn place_of(&self, number: usize) -> usize
+        requires { Contains self.now.numbers number }
+        ensures within { result < length self.now.rows }
+        ensures number { slice_index_or self.now.numbers result 0 ≡ number }
+    {
+        self.numbers.place_of(number)
+    }
+
+    /// Makes room for so many more rows, if there is memory for it; the rows stay.
+    pub fn reserve(&mut self, alloc: Global, n: usize) -> Result<(), AllocError>
+        ensures rows { self.new.rows ≡ self.old.rows }
+        ensures numbers { (self.new.numbers ≡ self.old.numbers) × (self.new.next ≡ self.old.next) }
+        ensures spare { OnOk result (n ≤ self.new.spare) }
+    {
+        self.spare = 0;
+        if n > usize::MAX - self.next {
+            return Err(AllocError);
+        }
+        self.rows.reserve(alloc, n)?;
+        self.numbers.reserve(alloc, n)?;
+        self.spare = n;
+        Ok(())
+    }
+
+    /// Puts a row at the end. It takes no memory.
+    pub fn append(&mut self, row: T)
+        requires { 0 < self.old.spare }
+        ensures rows { self.new.rows ≡ self.old.rows ++ row ∷ [] }
+        ensures numbers { self.new.numbers ≡ self.old.numbers ++ self.old.next ∷ [] }
+        ensures next { self.new.next ≡ self.old.next + 1 }
+        ensures spare { self.new.spare + 1 ≡ self.old.spare }
+    {
+        self.rows.append(row);
+        self.numbers.append(self.next);
+        self.next += 1;
+        self.spare -= 1;
+    }
+
+    /// Puts rows in the places of others, one after another; their numbers stay. It takes no
+    /// memory, and where their places rise it goes over the pages once.
+    pub fn replace_all(&mut self, changes: Seq<Change<T>>)
+        requires { All (λ change. change.place < length self.old.rows) changes }
+        ensures rows { self.new.rows ≡ written self.old.rows changes }
+        ensures numbers { (self.new.numbers ≡ self.old.numbers) × (self.new.next ≡ self.old.next) }
+    {
+        self.rows.replace_all(changes);
+    }
+
+    /// Drops the rows at some places, which rise; those behind them move up, and keep their
+    /// numbers. It takes no memory, and goes over the rows of those pages alone.
+    pub fn drop_at(&mut self, places: &[usize])
+        requires { AreRising 0 (length self.old.rows) places.now }
+        ensures rows { self.new.rows
+            ≡ unhit self.old.rows (marked 0 (length self.old.rows) places.now) }
+        ensures numbers { self.new.numbers
+            ≡ unhit self.old.numbers (marked 0 (length self.old.rows) places.now) }
+        ensures next { self.new.next ≡ self.old.next }
+    {
+        self.spare = 0;
+        self.rows.drop_at(places);
+        self.numbers.drop_at(places);
+    }
+
+    /// The rows at some places, which rise, lent. It goes over the pages once.
+    pub fn rows_at(&self, alloc: Global, places: &[usize]) -> Result<Vec<&T>, AllocError>
+        requires { AreRising 0 (length self.now.rows) places.now }
+        ensures rows { IfOk result (λ rows. map (λ row. row.now) rows.items
+            ≡ hit self.now.rows (marked 0 (length self.now.rows) places.now)) }
+        ensures each { length self.now.numbers ≡ length self.now.rows }
+        ensures rising { AreRising 0 self.now.next self.now.numbers }
+    {
+        self.rows.rows_at(alloc, places)
+    }
+
+    /// The numbers of the rows at some places, which rise. It goes over the pages once.
+    pub fn numbers_at(&self, alloc: Global, places: &[usize]) -> Result<Vec<usize>, AllocError>
+        requires { AreRising 0 (length self.now.rows) places.now }
+        ensures { IfOk result (λ numbers. numbers.items
+            ≡ hit self.now.numbers (marked 0 (length self.now.rows) places.now)) }
+    {
+        let lent = self.numbers.rows_at(alloc, places)?;
+        copied(alloc, lent.as_slice())
+    }
+
+    /// The numbers of all rows.
+    pub fn numbers(&self, alloc: Global) -> Result<Vec<usize>, AllocError>
+        ensures numbers { IfOk result (λ numbers. numbers.items ≡ self.now.numbers) }
+        ensures each { length self.now.numbers ≡ length self.now.rows }
+        ensures rising { AreRising 0 self.now.next self.now.numbers }
+    {
+        let mut numbers = Vec::with_capacity(alloc, self.len())?;
+        for page in self.numbers.rows() {
+            push_each(&mut numbers, page.rows())?;
+        }
+        Ok(numbers)
+    }
+
+    /// The numbers that so many more rows will have.
+    pub fn next_numbers(&self, alloc: Global, count: usize) -> Result<Vec<usize>, AllocError>
+        requires { count ≤ self.now.spare }
+        ensures numbers { IfOk result (λ numbers. numbers.items ≡ counted self.now.next count) }
+        ensures each { length self.now.numbers ≡ length self.now.rows }
+        ensures rising { AreRising 0 self.now.next self.now.numbers }
+    {
+        let _ = self.len();
+        let mut numbers = Vec::with_capacity(alloc, count)?;
+        for i in 0..count {
+            numbers.push(self.next + i)?;
+        }
+        Ok(numbers)
+    }
+}
+
+impl<T: Duplicate> Numbered<T> {
+    /// A table with equal rows, of the same numbers.
+    pub fn copy(&self, alloc: Global) -> Result<Numbered<T>, AllocError>
+        ensures rows { IfOk result (λ copy. copy.rows ≡ self.now.rows) }
+        ensures numbers { IfOk result (λ copy. copy.numbers ≡ self.now.numbers) }
+        ensures next { IfOk result (λ copy. copy.next ≡ self.now.next) }
+    {
+        Ok(Numbered {
+            numbers: self.numbers.copied(alloc)?,
+            rows: self.rows.copy()?,
+            next: self.next,
+            spare: 0,
+        })
+    }
+}
+
+/// Copies of some numbers.
+fn copied(alloc: Global, numbers: &[&usize]) -> Result<Vec<usize>, AllocError>
+    ensures { IfOk result (λ copy. copy.items ≡ map (λ number. number.now) numbers.now) }
+{
+    let mut copy = Vec::with_capacity(alloc, numbers.len())?;
+    for number in numbers {
+        copy.push(**number)?;
+    }
+    Ok(copy)
+}
+
+/// Puts some numbers at the end.
+fn push_each(numbers: &mut Vec<usize>, more: &[usize]) -> Result<(), AllocError>
+    ensures { OnOk result (numbers.new.items ≡ numbers.old.items ++ more.now) }
+{
+    for number in more {
+        numbers.push(*number)?;
+    }
+    Ok(())
+}
