@@ -5,6 +5,7 @@ mod Holding
 pub mod Interface
 mod Pieces
 mod Recording
+mod Rereading
 mod Restarting
 mod Servable
 mod Serving

@@ -2,7 +2,7 @@
 use Rattle.std.proofs.Common.{◌≡◌, ◌+◌, ◌<◌, ℕ, List, [], ◌∷◌, ◌++◌, length, get_or, take, drop, Bool, true, false, refl, sym, ap, subst, ◌∙◌, append-nil, append_assoc, length-append, take-append-drop, arith}
 use Rattle.std.specs.List.{All}
 use Rattle.std.proofs.lemmas.List.{append_cancel_left, drop_more, flat_map_more, take_more}
-use Rattle.std.proofs.lemmas.List.Elements.{All-push, All-head, All-tail}
+use Rattle.std.proofs.lemmas.List.Elements.{All-nil, All-push, All-head, All-tail}
 use Rattle.journal_core.specs.Journals.{place_behind}
 use Rattle.recording.specs.Laws.{AreDone, AreServedAgain, IsIdle}
 use Rattle.recording.specs.Recorded.{is_done}
@@ -118,6 +118,9 @@ pub record AreSoFar (state : State) (entries : List (List ℕ)) (now : State) : 
   pub records : List (List Asked)
   pub served : AreServedRecords state records entries
   pub after : now ≡ state_behind state records
+
+pub none_so_far : (state : State) → AreSoFar state [] state
+none_so_far state = record { records = []; served = record { proper = All-nil (All IsProper); whole = refl; served = tt }; after = refl }
 
 records_more : (state : State) (records : List (List Asked)) (requests : List Asked) → state_behind state (records ++ requests ∷ []) ≡ state_after (state_behind state records) requests
 records_more state [] requests = refl

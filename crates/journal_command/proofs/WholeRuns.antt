@@ -1,21 +1,23 @@
 -- A whole run: the journal is found, its records are served again, and then the input.
 use Rattle.std.proofs.Common.{◌≡◌, ◌⊎◌, inl, inr, ℕ, List, [], ◌∷◌, ◌++◌, take, Option, Bool, true, false, refl, sym, ap, subst, ◌∙◌, arith}
 use Rattle.ae_edge.specs.Devices.{WhereTold}
-use Rattle.ae_edge.proofs.Interface.{told_map, told_then}
+use Rattle.ae_edge.proofs.Interface.{told_then}
 use Rattle.disk.specs.Crashes.{IsImage, Stand, kept}
+use Rattle.disk.specs.Durable.{StaysKept}
 use Rattle.disk.specs.Moments.{Moments, LeavesNow, Leaves}
 use Rattle.disk.proofs.Interface.{leaves_then, leaves_weaker}
 use Rattle.journal_core.specs.Appends.{EndsAt}
-use Rattle.journal_core.specs.Journals.{Records, ReadsAs, place_behind}
+use Rattle.journal_core.specs.Journals.{Reading, Records, ReadsAs, place_behind}
 use Rattle.journal_core.specs.Mounts.{Finds, IsSomeImage, Mounts}
 use Rattle.journal_core.specs.States.{JournalState}
 use Rattle.journal_core.specs.declared.mounting.Mounted.TheVariants as mounted
+use Rattle.journal_core.proofs.Interface.{end_reads, ends_still, one_reading}
 use Rattle.recording.specs.Recorded.{nothing_held}
 use Rattle.recording.proofs.Interface.{none_behind, store_behind}
 use Rattle.server_core.specs.Laws.{RequestsMayBeAsked}
 use Rattle.serve_command.specs.Serving.{most_stream_bytes}
 use Rattle.server_core.specs.Serve.{State, empty_state}
-use Rattle.journal_command.specs.Journaling.{IsBad, IsDurable, IsFull, IsntFull, IsRefused, IsUnserved, KeepsAll, KeepsRecords, Runs, ServesFound, ServesFrom, ServesJournal}
+use Rattle.journal_command.specs.Journaling.{IsBad, IsDurable, IsFull, IsntFull, IsUnserved, KeepsAll, KeepsRecords, Runs, ServesFound, ServesFrom, ServesJournal, ServesRestarted, StandsStill}
 use Rattle.journal_command.specs.Keeping.{Asked, entries_of, messages_in, records_of}
 use Rattle.journal_command.specs.Records.{AreTried, HasFront, HasLeast, HaveRoom, IsOfRun}
 use Rattle.journal_command.specs.Restarts.{AreServedRecords, RefusesAt, state_behind}
@@ -25,35 +27,66 @@ use Rattle.journal_command.specs.declared.endings.Ended.{Ended}
 use Rattle.journal_command.specs.declared.endings.Ended.TheVariants as ended
 use Rattle.journal_command.proofs.Adding.{place_append}
 use Rattle.journal_command.proofs.Recording.{entries_append}
+use Rattle.journal_command.proofs.Rereading.{still_of}
 
--- ---- they were
+-- ---- the disk was mounted, and stands as it stood then
 
-module _ (may : RequestsMayBeAsked) (journal : JournalState) (entries : List (List ℕ)) (a b : Option Moments) (w : WhereTold (Mounts (mounted.Ready journal entries)) a b) (sound : journal.gate ≡ place_behind entries) where
-  -- and refused, or there was no memory to serve them
-  found_unserved : (source left out out_after : Option (List ℕ)) (c : Option Moments) → left ≡ source → c ≡ b → out_after ≡ out → IsUnserved source left a c out out_after
-  found_unserved source left out out_after c l d o = record {
-    untaken = l;
-    unput = o;
-    crashed = subst (λ (x : Option Moments). WhereTold (λ old new. Leaves (IsSomeImage old.now) old new) a x) (sym d)
-        (told_map (Mounts (mounted.Ready journal entries)) (λ old new. Leaves (IsSomeImage old.now) old new) (λ old new m. m.0) a b w);
-  }
+-- these entries were found, and they are still there
+record HasMounted (journal : JournalState) (entries : List (List ℕ)) (old new : Moments) : Type 0 where
+  moments : Leaves (IsSomeImage old.now) old new
+  finds : Finds entries journal old new
 
-  found_refused : (place : ℕ) (source left out out_after : Option (List ℕ)) (c : Option Moments) → left ≡ source → c ≡ b → out_after ≡ out → RefusesAt empty_state entries place
-      → ServesJournal (ended.Damaged place) source left a c out out_after
-  found_refused place source left out out_after c l d o refuses =
-      let refused_at : (old new : Moments) → Finds entries journal old new → IsRefused place old new = λ old new f.
-      record {
-        entries = entries;
+-- what the file of a mounted journal stands for is what its image stood for
+still_image : (journal : JournalState) (entries : List (List ℕ)) (x y : Moments) → Finds entries journal x y → (image : List ℕ) → image ≡ y.now.seen → IsSomeImage x.now image
+still_image journal entries x y f image is =
+    let there : image ≡ f.ends.front ++ 0 ∷ [] = is ∙ ap (λ (s : Stand). s.seen) f.ends.now in
+    let reads : ReadsAs (Records entries) image = subst (ReadsAs (Records entries)) (sym there) (end_reads entries f.ends.front f.ends.opens) in
+    record { of = x.now.seen; was = f.was_image; alike = λ reading r. subst (λ (o : Reading). ReadsAs o image) (one_reading (Records entries) reading x.now.seen f.read r) reads }
+
+pub still_moments : (journal : JournalState) (x y z : Moments) → Mounts (mounted.Ready journal) x y → StaysKept y z → Leaves (IsSomeImage x.now) x z
+still_moments journal x y z m s =
+    leaves_then (IsSomeImage x.now) x y z m.0 (leaves_weaker (λ image. image ≡ y.now.seen) (IsSomeImage x.now) y z (still_image journal m.1 x y m.2) s.moments)
+
+still_mounted : (journal : JournalState) (entries : List (List ℕ)) (x y z : Moments) → Mounts (mounted.Ready journal) x y → ((es : List (List ℕ)) → EndsAt journal.gate es y → es ≡ entries) × StaysKept y z
+    → HasMounted journal entries x z
+still_mounted journal entries x y z m all =
+    let f = m.2 in
+    let s = all.1 in
+    let found : Finds m.1 journal x z = record {
+      gate = f.gate;
+      was_image = f.was_image;
+      read = f.read;
+      ends = ends_still journal.gate m.1 y z f.ends s;
+      from_now = subst (LeavesNow (ReadsAs (Records m.1))) (sym s.now) f.from_now;
+      file = ap (λ (w : Stand). w.seen) s.now ∙ f.file;
+    } in
+    record { moments = still_moments journal x y z m s; finds = subst (λ (es : List (List ℕ)). Finds es journal x z) (all.0 m.1 f.ends) found }
+
+-- ---- nothing was served
+
+still_unserved : (journal : JournalState) (source left out out_after : Option (List ℕ)) (a b c : Option Moments) → WhereTold (Mounts (mounted.Ready journal)) a b → StandsStill source left b c out out_after → IsUnserved source left a c out out_after
+still_unserved journal source left out out_after a b c w s = record {
+  untaken = s.untaken;
+  unput = s.unput;
+  crashed = told_then (Mounts (mounted.Ready journal)) StaysKept (λ old new. Leaves (IsSomeImage old.now) old new) (still_moments journal) a b c w s.stays;
+}
+
+pub refused_at : (journal : JournalState) (place : ℕ) (x y z : Moments) → Mounts (mounted.Ready journal) x y → ((es : List (List ℕ)) → EndsAt journal.gate es y → RefusesAt empty_state es place) × StaysKept y z
+    → IsImage x.now x.now.seen × IsBad place x z
+refused_at journal place x y z m r =
+    let f = m.2 in (
+      f.was_image,
+      inr (record {
+        entries = m.1;
         read = f.read;
-        refuses = refuses;
-        now = f.ends.now ∙ ap kept (sym (ap (λ (s : Stand). s.seen) f.ends.now)) ∙ ap kept (f.file ∙ ap (λ (n : ℕ). take n old.now.seen ++ 0 ∷ []) sound);
-      } in (
-        found_unserved source left out out_after c l d o,
-        subst (λ (x : Option Moments). WhereTold (λ old new. IsImage old.now old.now.seen × IsBad place old new) a x) (sym d)
-            (told_map (Mounts (mounted.Ready journal entries)) (λ old new. IsImage old.now old.now.seen × IsBad place old new) (λ old new m. (m.1.was_image, inr (refused_at old new m.1))) a b w),
-      )
+        refuses = r.0 m.1 f.ends;
+        now = r.1.now ∙ f.ends.now ∙ ap kept (sym (ap (λ (s : Stand). s.seen) f.ends.now)) ∙ ap kept (f.file ∙ ap (λ (n : ℕ). take n x.now.seen ++ 0 ∷ []) f.gate);
+      }),
+    )
 
-  -- and served again
+-- ---- or the input was
+
+module _ (may : RequestsMayBeAsked) (journal : JournalState) (entries : List (List ℕ)) (a b : Option Moments) (w : WhereTold (HasMounted journal entries) a b) (sound : journal.gate ≡ place_behind entries) where
   module _ (records : List (List Asked)) (served : AreServedRecords empty_state records entries) (source left out out_after : Option (List ℕ)) (c : Option Moments) (gate : ℕ) where
     abbrev start : State
     start = state_behind empty_state records
@@ -61,30 +94,30 @@ module _ (may : RequestsMayBeAsked) (journal : JournalState) (entries : List (Li
     abbrev Tried : List Asked → List Asked → Moments → Moments → Type 0
     Tried answered all old new = (es : List (List ℕ)) → EndsAt journal.gate es old → AreTried es (entries_of (records_of start nothing_held answered)) (entries_of (records_of start nothing_held all)) old new
 
-    moments : (answered all : List Asked) (x y z : Moments) → Mounts (mounted.Ready journal entries) x y → Tried answered all y z → Leaves (IsOfRun (entries_of records) (entries_of (records_of start nothing_held all)) x.now) x z
+    moments : (answered all : List Asked) (x y z : Moments) → HasMounted journal entries x y → Tried answered all y z → Leaves (IsOfRun (entries_of records) (entries_of (records_of start nothing_held all)) x.now) x z
     moments answered all x y z m q =
         let more = entries_of (records_of start nothing_held all) in
-        let t = q entries m.1.ends in
+        let t = q entries m.finds.ends in
         subst (λ (es : List (List ℕ)). Leaves (IsOfRun es more x.now) x z) served.whole
-        (leaves_then (IsOfRun entries more x.now) x y z (leaves_weaker (IsSomeImage x.now) (IsOfRun entries more x.now) x y (λ image i. inl i) m.0)
+        (leaves_then (IsOfRun entries more x.now) x y z (leaves_weaker (IsSomeImage x.now) (IsOfRun entries more x.now) x y (λ image i. inl i) m.moments)
         (leaves_weaker (HasFront entries more) (IsOfRun entries more x.now) y z (λ image h. inr h) t.moments))
 
     crashed : (answered all : List Asked) → WhereTold (Tried answered all) b c → WhereTold (λ old new. Leaves (IsOfRun (entries_of records) (entries_of (records_of start nothing_held all)) old.now) old new) a c
     crashed answered all q =
-        told_then (Mounts (mounted.Ready journal entries)) (Tried answered all) (λ old new. Leaves (IsOfRun (entries_of records) (entries_of (records_of start nothing_held all)) old.now) old new) (moments answered all) a b c w q
+        told_then (HasMounted journal entries) (Tried answered all) (λ old new. Leaves (IsOfRun (entries_of records) (entries_of (records_of start nothing_held all)) old.now) old new) (moments answered all) a b c w q
 
     least : (answered all : List Asked) → WhereTold (Tried answered all) b c
         → WhereTold (λ old new. LeavesNow (HasLeast (entries_of records) (entries_of (records_of start nothing_held answered)) (entries_of (records_of start nothing_held all))) new.now) a c
     least answered all q =
         let least = entries_of (records_of start nothing_held answered) in
         let more = entries_of (records_of start nothing_held all) in
-        told_then (Mounts (mounted.Ready journal entries)) (Tried answered all) (λ old new. LeavesNow (HasLeast (entries_of records) least more) new.now)
-        (λ x y z m t. subst (λ (es : List (List ℕ)). LeavesNow (HasLeast es least more) z.now) served.whole (t entries m.1.ends).now) a b c w q
+        told_then (HasMounted journal entries) (Tried answered all) (λ old new. LeavesNow (HasLeast (entries_of records) least more) new.now)
+        (λ x y z m t. subst (λ (es : List (List ℕ)). LeavesNow (HasLeast es least more) z.now) served.whole (t entries m.finds.ends).now) a b c w q
 
     found : (answered all : List Asked) → WhereTold (Tried answered all) b c → WhereTold (λ old new. IsImage old.now old.now.seen × ReadsAs (Records (entries_of records)) old.now.seen) a c
     found answered all q =
-        told_then (Mounts (mounted.Ready journal entries)) (Tried answered all) (λ old new. IsImage old.now old.now.seen × ReadsAs (Records (entries_of records)) old.now.seen)
-        (λ x y z m t. (m.1.was_image, subst (λ (es : List (List ℕ)). ReadsAs (Records es) x.now.seen) served.whole m.1.read)) a b c w q
+        told_then (HasMounted journal entries) (Tried answered all) (λ old new. IsImage old.now old.now.seen × ReadsAs (Records (entries_of records)) old.now.seen)
+        (λ x y z m t. (m.finds.was_image, subst (λ (es : List (List ℕ)). ReadsAs (Records es) x.now.seen) served.whole m.finds.read)) a b c w q
 
     room : (requests : List Asked) → HaveRoom journal.gate (entries_of (records_of start nothing_held requests)) → HaveRoom (place_behind (entries_of records)) (entries_of (records_of start nothing_held requests))
     room requests h = subst (λ (n : ℕ). HaveRoom n (entries_of (records_of start nothing_held requests))) (sound ∙ ap place_behind served.whole) h
@@ -157,51 +190,60 @@ module _ (may : RequestsMayBeAsked) (journal : JournalState) (entries : List (Li
           serial = s.serial (store_behind may (messages_in records) empty_state may.0) (none_behind may (messages_in records) empty_state may.0 (record { counts = refl; none = refl }) served.served);
         }
 
-  -- a run, or no memory for one
-  pub data Came (how : Ended) (source left out out_after : Option (List ℕ)) (c : Option Moments) : Type 0 where
-    Ran : Runs how source left a c out out_after → Came how source left out out_after c
-    Stood : how ≡ ended.OutOfMemory → IsUnserved source left a c out out_after → Came how source left out out_after c
+-- ---- by how it ended
 
-  came : (how : Ended) (source left out out_after : Option (List ℕ)) (c : Option Moments)
-      → ((records : List (List Asked)) × AreServedRecords empty_state records entries × ServesFrom how (state_behind empty_state records) journal.gate source left b c out out_after)
-      ⊎ ((how ≡ ended.OutOfMemory) × (left ≡ source) × (c ≡ b) × (out_after ≡ out)) → Came how source left out out_after c
-  came how source left out out_after c s =
-      elim s [
-        | inl f ↦
-            elim f.2 [
-              | inl from ↦ Ran (runs f.0 f.1 source left out out_after c from.0 how from.1)
-              | inr e ↦ Stood e.0 (found_unserved source left out out_after c e.1 e.2 e.3)
-            ]
-        | inr e ↦ Stood e.0 (found_unserved source left out out_after c e.1 e.2 e.3)
+is_memory : Ended → Bool
+is_memory ended.OutOfMemory = true
+is_memory other = false
+
+false_true : false ≡ true → ⊥
+false_true e = cc
+
+not_so : (how : Ended) → is_memory how ≡ false → how ≡ ended.OutOfMemory → ⊥
+unfolding is_memory
+not_so how f e = false_true (sym f ∙ ap is_memory e)
+
+module _ (may : RequestsMayBeAsked) (journal : JournalState) (a b : Option Moments) (w : WhereTold (Mounts (mounted.Ready journal)) a b) (source left out out_after : Option (List ℕ)) (c : Option Moments) where
+  -- a run, or no memory for one
+  data Came (how : Ended) : Type 0 where
+    Ran : Runs how source left a c out out_after → Came how
+    Stood : how ≡ ended.OutOfMemory → IsUnserved source left a c out out_after → Came how
+
+  came : (how : Ended) → ServesRestarted how journal.gate source left b c out out_after → Came how
+  came how r =
+      let q = r.restarted in
+      let entries = entries_of q.records in
+      let there : WhereTold (HasMounted journal entries) a r.between =
+      told_then (Mounts (mounted.Ready journal)) (λ old new. ((es : List (List ℕ)) → EndsAt journal.gate es old → es ≡ entries) × StaysKept old new) (HasMounted journal entries) (still_mounted journal entries) a b r.between w q.all in
+      let stays = still_of (λ es. es ≡ entries) journal.gate b r.between q.all in
+      let from = subst (λ (st : State). ServesFrom how st journal.gate source left r.between c out out_after) q.after r.serves in
+      elim from [
+        | inl s ↦ Ran (runs may journal entries a r.between there q.place q.records q.served source left out out_after c s.0 how s.1)
+        | inr e ↦ Stood e.0
+            (still_unserved journal source left out out_after a b c w (record { untaken = e.1; unput = e.3; stays = subst (λ (x : Option Moments). WhereTold StaysKept b x) (sym e.2) stays }))
       ]
 
-  is_memory : Ended → Bool
-  is_memory ended.OutOfMemory = true
-  is_memory other = false
+  ran : (how : Ended) → is_memory how ≡ false → ServesRestarted how journal.gate source left b c out out_after → Runs how source left a c out out_after
+  ran how f r = elim (came how r) [ Ran runs_so ↦ runs_so | Stood e u ↦ absurd (not_so how f e) ]
 
-  false_true : false ≡ true → ⊥
-  false_true e = cc
+  ran_or : (how : Ended) → ServesRestarted how journal.gate source left b c out out_after ⊎ StandsStill source left b c out out_after → IsUnserved source left a c out out_after ⊎ Runs how source left a c out out_after
+  ran_or how s = elim s [
+    | inl r ↦ elim (came how r) [ Ran runs_so ↦ inr runs_so | Stood e u ↦ inl u ]
+    | inr still ↦ inl (still_unserved journal source left out out_after a b c w still)
+  ]
 
-  not_so : (how : Ended) → is_memory how ≡ false → how ≡ ended.OutOfMemory → ⊥
+  pub serves_journal : (how : Ended) → ServesFound how journal.gate source left b c out out_after → ServesJournal how source left a c out out_after
   unfolding is_memory
-  not_so how f e = false_true (sym f ∙ ap is_memory e)
-
-  ran : (how : Ended) (source left out out_after : Option (List ℕ)) (c : Option Moments) → is_memory how ≡ false → Came how source left out out_after c → Runs how source left a c out out_after
-  ran how source left out out_after c f (Ran r) = r
-  ran how source left out out_after c f (Stood e u) = absurd (not_so how f e)
-
-  ran_or : (how : Ended) (source left out out_after : Option (List ℕ)) (c : Option Moments) → Came how source left out out_after c → IsUnserved source left a c out out_after ⊎ Runs how source left a c out out_after
-  ran_or how source left out out_after c (Ran r) = inr r
-  ran_or how source left out out_after c (Stood e u) = inl u
-
-  pub serves_journal : (how : Ended) (source left out out_after : Option (List ℕ)) (c : Option Moments) → ServesFound how entries journal.gate source left b c out out_after → ServesJournal how source left a c out out_after
-  unfolding is_memory
-  serves_journal (ended.Damaged place) source left out out_after c s = found_refused place source left out out_after c s.1 s.2 s.3 s.0
-  serves_journal ended.Done source left out out_after c s = ran ended.Done source left out out_after c refl (came ended.Done source left out out_after c s)
-  serves_journal ended.ReadFault source left out out_after c s = ran ended.ReadFault source left out out_after c refl (came ended.ReadFault source left out out_after c s)
-  serves_journal ended.WriteFault source left out out_after c s = ran ended.WriteFault source left out out_after c refl (came ended.WriteFault source left out out_after c s)
-  serves_journal ended.TooLong source left out out_after c s = ran ended.TooLong source left out out_after c refl (came ended.TooLong source left out out_after c s)
-  serves_journal (ended.BadFrame place) source left out out_after c s = ran (ended.BadFrame place) source left out out_after c refl (came (ended.BadFrame place) source left out out_after c s)
-  serves_journal ended.JournalFull source left out out_after c s = ran ended.JournalFull source left out out_after c refl (came ended.JournalFull source left out out_after c s)
-  serves_journal ended.DiskFault source left out out_after c s = ran_or ended.DiskFault source left out out_after c (came ended.DiskFault source left out out_after c s)
-  serves_journal ended.OutOfMemory source left out out_after c s = ran_or ended.OutOfMemory source left out out_after c (came ended.OutOfMemory source left out out_after c s)
+  serves_journal (ended.Damaged place) s = (
+    still_unserved journal source left out out_after a b c w s.0,
+    told_then (Mounts (mounted.Ready journal)) (λ old new. ((es : List (List ℕ)) → EndsAt journal.gate es old → RefusesAt empty_state es place) × StaysKept old new)
+        (λ old new. IsImage old.now old.now.seen × IsBad place old new) (refused_at journal place) a b c w s.1,
+  )
+  serves_journal ended.Done s = ran ended.Done refl s
+  serves_journal ended.ReadFault s = ran ended.ReadFault refl s
+  serves_journal ended.WriteFault s = ran ended.WriteFault refl s
+  serves_journal ended.TooLong s = ran ended.TooLong refl s
+  serves_journal (ended.BadFrame place) s = ran (ended.BadFrame place) refl s
+  serves_journal ended.JournalFull s = ran ended.JournalFull refl s
+  serves_journal ended.DiskFault s = ran_or ended.DiskFault s
+  serves_journal ended.OutOfMemory s = ran_or ended.OutOfMemory s

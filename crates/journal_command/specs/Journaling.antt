@@ -2,6 +2,7 @@
 use Rattle.std.specs.Prelude.{◌≡◌, ◌⊎◌, ℕ, ◌+◌, ◌<◌, ◌≤◌, List, [], ◌∷◌, ◌++◌, length, take, Option}
 use Rattle.ae_edge.specs.Devices.{WhereTold, AddsFront, Removes}
 use Rattle.disk.specs.Crashes.{IsImage, kept}
+use Rattle.disk.specs.Durable.{StaysKept}
 use Rattle.disk.specs.Moments.{Moments, LeavesNow, Leaves}
 use Rattle.journal_core.specs.Appends.{most_bytes}
 use Rattle.journal_core.specs.Journals.{Records, Damaged, ReadsAs, place_behind}
@@ -13,7 +14,7 @@ use Rattle.serve_command.specs.ServeAll.{messages_of, reply_frames}
 use Rattle.serve_command.specs.Serving.{Begins, most_stream_bytes}
 use Rattle.journal_command.specs.Keeping.{Asked, entries_of, frames_in, records_of}
 use Rattle.journal_command.specs.Records.{HasLeast, HaveRoom, IsOfRun}
-use Rattle.journal_command.specs.Restarts.{AreServedRecords, RefusesAt, state_behind}
+use Rattle.journal_command.specs.Restarts.{AreRestarted, AreServedRecords, OfEntries, RefusesAt, state_behind}
 use Rattle.journal_command.specs.Running.{AreAllOf, PutsSo, ServesPieces}
 use Rattle.journal_command.specs.Stopping.{outside}
 use Rattle.journal_command.specs.declared.endings.Ended.{Ended}
@@ -116,10 +117,24 @@ ServesFrom how start gate source left disk disk_after out out_after =
     ((after : ℕ) × ServesPieces how start source left (outside gate disk out) (outside after disk_after out_after))
     ⊎ ((how ≡ ended.OutOfMemory) × (left ≡ source) × (disk_after ≡ disk) × (out_after ≡ out))
 
--- the entries that were found are served again
-abbrev pub ServesFound : Ended → List (List ℕ) → ℕ → Option (List ℕ) → Option (List ℕ) → Option Moments → Option Moments → Option (List ℕ) → Option (List ℕ) → Type 0
-ServesFound (ended.Damaged place) entries gate source left disk disk_after out out_after =
-    RefusesAt empty_state entries place × (left ≡ source) × (disk_after ≡ disk) × (out_after ≡ out)
-ServesFound how entries gate source left disk disk_after out out_after =
-    ((records : List (List Asked)) × AreServedRecords empty_state records entries × ServesFrom how (state_behind empty_state records) gate source left disk disk_after out out_after)
-    ⊎ ((how ≡ ended.OutOfMemory) × (left ≡ source) × (disk_after ≡ disk) × (out_after ≡ out))
+-- the records of the journal were served again, and the input from there
+pub record ServesRestarted (how : Ended) (gate : ℕ) (source left : Option (List ℕ)) (disk disk_after : Option Moments) (out out_after : Option (List ℕ)) : Type 0 where
+  pub state : State
+  pub between : Option Moments
+  pub restarted : AreRestarted gate empty_state state disk between
+  pub serves : ServesFrom how state gate source left between disk_after out out_after
+
+-- nothing was taken, and nothing put; the disk stands as it stood
+pub record StandsStill (source left : Option (List ℕ)) (disk disk_after : Option Moments) (out out_after : Option (List ℕ)) : Type 0 where
+  pub untaken : left ≡ source
+  pub unput : out_after ≡ out
+  pub stays : WhereTold StaysKept disk disk_after
+
+abbrev pub ServesFound : Ended → ℕ → Option (List ℕ) → Option (List ℕ) → Option Moments → Option Moments → Option (List ℕ) → Option (List ℕ) → Type 0
+ServesFound (ended.Damaged place) gate source left disk disk_after out out_after =
+    StandsStill source left disk disk_after out out_after × OfEntries (λ entries. RefusesAt empty_state entries place) gate disk disk_after
+ServesFound ended.DiskFault gate source left disk disk_after out out_after =
+    ServesRestarted ended.DiskFault gate source left disk disk_after out out_after ⊎ StandsStill source left disk disk_after out out_after
+ServesFound ended.OutOfMemory gate source left disk disk_after out out_after =
+    ServesRestarted ended.OutOfMemory gate source left disk disk_after out out_after ⊎ StandsStill source left disk disk_after out out_after
+ServesFound how gate source left disk disk_after out out_after = ServesRestarted how gate source left disk disk_after out out_after

@@ -1,6 +1,10 @@
 -- Records that are found are served again.
-use Rattle.std.specs.Prelude.{true, ◌≡◌, ◌≤◌, ℕ, List, ◌∷◌, ◌++◌, length, take}
+use Rattle.std.specs.Prelude.{true, ◌≡◌, ◌≤◌, ℕ, List, ◌∷◌, ◌++◌, length, take, Option}
 use Rattle.std.specs.List.{All}
+use Rattle.ae_edge.specs.Devices.{Rose, WhereTold}
+use Rattle.disk.specs.Durable.{StaysKept}
+use Rattle.disk.specs.Moments.{Moments}
+use Rattle.journal_core.specs.Appends.{EndsAt}
 use Rattle.journal_core.specs.Journals.{place_behind}
 use Rattle.serve_command.specs.ServeAll.{messages_of, state_after}
 use Rattle.serve_command.specs.Serving.{IsProper}
@@ -13,6 +17,8 @@ use Rattle.journal_command.specs.declared.restarts.Front.{Front}
 use Rattle.journal_command.specs.declared.restarts.Front.TheVariants as front
 use Rattle.journal_command.specs.declared.restarts.Again.{Again}
 use Rattle.journal_command.specs.declared.restarts.Again.TheVariants as again
+use Rattle.journal_command.specs.declared.restarts.Restarted.{Restarted}
+use Rattle.journal_command.specs.declared.restarts.Restarted.TheVariants as restarted
 
 -- the state that records lead to
 abbrev pub state_behind : State → List (List Asked) → State
@@ -66,3 +72,30 @@ abbrev pub ServesAgain : Again → List (List ℕ) → State → State → Type 
 ServesAgain again.Served entries old new = (records : List (List Asked)) × AreServedRecords old records entries × (new ≡ state_behind old records)
 ServesAgain (again.Refused place) entries old new = RefusesAt old entries place
 ServesAgain again.OutOfMemory entries old new = Unit {0}
+
+-- ---- the records of a journal, each as it is read
+
+-- where the disk is told, the entries behind which the last gate stands have P; the disk stands as it stood
+abbrev pub OfEntries : (List (List ℕ) → Type 0) → ℕ → Option Moments → Option Moments → Type 0
+OfEntries P gate = WhereTold (λ old new. ((entries : List (List ℕ)) → EndsAt gate entries old → P entries) × StaysKept old new)
+
+-- all entries were read and served again, and the last gate stands behind them
+pub record AreRestarted (gate : ℕ) (old new : State) (disk disk_after : Option Moments) : Type 0 where
+  pub records : List (List Asked)
+  pub served : AreServedRecords old records (entries_of records)
+  pub after : new ≡ state_behind old records
+  pub place : gate ≡ place_behind (entries_of records)
+  pub all : OfEntries (λ entries. entries ≡ entries_of records) gate disk disk_after
+
+abbrev pub Restarts : Restarted → ℕ → State → State → Option Moments → Option Moments → Type 0
+Restarts restarted.Served gate old new disk disk_after = AreRestarted gate old new disk disk_after
+Restarts (restarted.Refused place) gate old new disk disk_after = OfEntries (λ entries. RefusesAt old entries place) gate disk disk_after
+Restarts restarted.DiskFault gate old new disk disk_after = WhereTold StaysKept disk disk_after
+Restarts restarted.OutOfMemory gate old new disk disk_after = WhereTold StaysKept disk disk_after
+
+-- the count of faults stays, but where a call failed
+abbrev pub CountsRestarted : Restarted → ℕ → ℕ → Type 0
+CountsRestarted restarted.Served old new = new ≡ old
+CountsRestarted (restarted.Refused place) old new = new ≡ old
+CountsRestarted restarted.DiskFault old new = Rose old new
+CountsRestarted restarted.OutOfMemory old new = new ≡ old

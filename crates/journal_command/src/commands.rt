@@ -3,7 +3,6 @@
 ghost use Rattle.std.specs.Prelude.{◌≡◌, ◌++◌, ◌<◌, ◌^◌, List, ℕ, length, map, IfSome, false};
 ghost use Rattle.ae_edge.specs.Devices.{Rose, WhereTold};
 ghost use Rattle.journal_core.specs.Appends.{IsMounted};
-ghost use Rattle.journal_core.specs.Journals.{place_behind};
 ghost use Rattle.recording.specs.Recorded.{nothing_held};
 ghost use Rattle.server_core.specs.Serve.{State};
 ghost use Rattle.wire_frames.specs.declared.decoding.Way.TheVariants.{ToServer};
@@ -18,11 +17,10 @@ ghost use Rattle.journal_command.specs.Turns.{Comes, CountsCame, EndsAt, IsSoFar
 
 use crate::durable::Durable;
 use crate::endings::{Ended, Stop};
-use crate::restarts::{Again, serve_again};
+use crate::restarts::{Restarted, serve_records};
 use crate::turns::{Came, answer_held};
 use ae_base::blobs::Blob;
 use ae_base::limits::MOST_STREAM_BYTES;
-use ae_base::lists::Seq;
 use ae_edge::sinks::Sink;
 use ae_edge::sources::{Source, Taken};
 use disk::disks::Disk;
@@ -146,19 +144,17 @@ fn serve_from<S: Source, W: Sink, D: Disk>(
     }
 }
 
-/// Serves the records again, drops them, and then serves the input.
+/// Serves the records again, and then the input.
 fn serve_found<S: Source, W: Sink, D: Disk>(
     alloc: Global,
     input: &mut S,
     out: &mut W,
     disk: &mut D,
     journal: Journal,
-    entries: Seq<Blob>,
 ) -> Ended
     requires ready { journal.failed ≡ false }
     requires mounted { IfSome (D.told disk.old) (IsMounted journal.gate) }
-    requires place { place_behind entries < 2 ^ 64 }
-    ensures serves { ServesFound result entries journal.gate (S.left input.old)
+    ensures serves { ServesFound result journal.gate (S.left input.old)
         (S.left input.new) (D.told disk.old) (D.told disk.new) (W.held out.old) (W.held out.new) }
     ensures same { D.names disk.new ≡ D.names disk.old }
     ensures read { result ≡ Ended.ReadFault → Rose (S.faults input.old) (S.faults input.new) }
@@ -166,12 +162,11 @@ fn serve_found<S: Source, W: Sink, D: Disk>(
     ensures stored { result ≡ Ended.DiskFault → Rose (D.faults disk.old) (D.faults disk.new) }
 {
     let mut server = Server::new(alloc);
-    let again = serve_again(alloc, entries.as_slice(), &mut server);
-    drop(entries);
-    match again {
-        Again::Served => serve_from(alloc, input, out, disk, server, journal),
-        Again::Refused(place) => Ended::Damaged(place),
-        Again::OutOfMemory => Ended::OutOfMemory,
+    match serve_records(alloc, disk, &journal, &mut server) {
+        Restarted::Served => serve_from(alloc, input, out, disk, server, journal),
+        Restarted::Refused(place) => Ended::Damaged(place),
+        Restarted::DiskFault => Ended::DiskFault,
+        Restarted::OutOfMemory => Ended::OutOfMemory,
     }
 }
 
@@ -191,7 +186,7 @@ fn serve_mounted<S: Source, W: Sink, D: Disk>(
 {
     requests_may_be_asked();
     match Journal::mount(alloc, disk) {
-        Mounted::Ready(journal, entries) => serve_found(alloc, input, out, disk, journal, entries),
+        Mounted::Ready(journal) => serve_found(alloc, input, out, disk, journal),
         Mounted::Damaged(place) => Ended::Damaged(place),
         Mounted::DiskFault => Ended::DiskFault,
         Mounted::OutOfMemory => Ended::OutOfMemory,

@@ -1,11 +1,15 @@
 //! The records that were found are served again.
 
-ghost use Rattle.std.specs.Prelude.{◌≡◌, ◌<◌, ◌^◌};
+ghost use Rattle.std.specs.Prelude.{◌≡◌, ◌<◌, ◌≤◌, ◌^◌, IfSome};
+ghost use Rattle.journal_core.specs.Appends.{IsMounted};
 ghost use Rattle.journal_core.specs.Journals.{place_behind};
-ghost use Rattle.journal_command.specs.Restarts.{AnswersFront, ServesAgain, ServesEntry};
+ghost use Rattle.journal_command.specs.Restarts.{AnswersFront, CountsRestarted, Restarts, ServesAgain, ServesEntry};
 
 use crate::replies::is_done;
 use ae_base::blobs::Blob;
+use disk::disks::Disk;
+use journal_core::entries::Entry;
+use journal_core::journal::Journal;
 use server_core::server::Server;
 use std::alloc::Global;
 use wire_frames::{Decoded, decode_request, one_reading};
@@ -85,4 +89,48 @@ pub fn serve_again(alloc: Global, entries: &[Blob], server: &mut Server) -> Agai
         }
     }
     Again::Served
+}
+
+/// What came of the records of a journal.
+#[derive(Clone, Copy)]
+pub enum Restarted {
+    /// Each was served: its requests were done, and no transaction is open behind it.
+    Served,
+    /// The first of which this isn't so stands behind the gate at this place; or the disk gives
+    /// other bytes there than it gave to `mount`.
+    Refused(u64),
+    /// A call of the disk failed.
+    DiskFault,
+    OutOfMemory,
+}
+
+/// Serves the records of a journal again, one after another, each as it is read.
+pub fn serve_records<D: Disk>(
+    alloc: Global,
+    disk: &mut D,
+    journal: &Journal,
+    server: &mut Server,
+) -> Restarted
+    requires mounted { IfSome (D.told disk.old) (IsMounted journal.now.gate) }
+    ensures content { Restarts result journal.now.gate server.old server.new
+        (D.told disk.old) (D.told disk.new) }
+    ensures mounted { IfSome (D.told disk.new) (IsMounted journal.now.gate) }
+    ensures same { D.names disk.new ≡ D.names disk.old }
+    ensures count { D.faults disk.old ≤ D.faults disk.new }
+    ensures counts { CountsRestarted result (D.faults disk.old) (D.faults disk.new) }
+{
+    let mut place = 0u64;
+    'entries: loop {
+        match journal.entry_at(alloc, disk, place) {
+            Entry::Next(entry) => match serve_entry(alloc, entry.as_slice(), server) {
+                Again::Served => place += 9 + entry.len() as u64,
+                Again::Refused(_) => return Restarted::Refused(place),
+                Again::OutOfMemory => return Restarted::OutOfMemory,
+            },
+            Entry::End => return Restarted::Served,
+            Entry::Other => return Restarted::Refused(place),
+            Entry::Failed => return Restarted::DiskFault,
+            Entry::OutOfMemory => return Restarted::OutOfMemory,
+        }
+    }
 }

@@ -1,73 +1,92 @@
--- A journal that was found, by what came of its entries.
-use Rattle.std.proofs.Common.{◌≡◌, inl, inr, ℕ, List, [], ◌∷◌, ◌++◌, Option, take, refl, sym, ap, subst, ◌∙◌}
+-- A journal that was found, by what came of its entries; and what stays when they are read once more.
+use Rattle.std.proofs.Common.{◌≡◌, ℕ, List, Option, Some, None, inl, refl, sym, subst, arith}
+use Rattle.std.specs.Prelude.{IfSome}
 use Rattle.ae_edge.specs.Devices.{WhereTold}
-use Rattle.ae_edge.proofs.Interface.{told_map}
+use Rattle.ae_edge.proofs.Interface.{told_map, told_then}
 use Rattle.disk.specs.Crashes.{Stand, IsImage, kept}
+use Rattle.disk.specs.Durable.{StaysKept}
 use Rattle.disk.specs.Moments.{Moments, Leaves}
-use Rattle.journal_core.specs.Journals.{Records, ReadsAs, place_behind}
+use Rattle.disk.proofs.Interface.{leaves_last, leaves_then, leaves_weaker}
+use Rattle.journal_core.specs.Appends.{EndsAt, IsMounted}
+use Rattle.journal_core.specs.Entries.{Continues}
+use Rattle.journal_core.specs.Journals.{Records, ReadsAs}
 use Rattle.journal_core.specs.Mounts.{IsSomeImage, Mounts}
 use Rattle.journal_core.specs.States.{JournalState}
-use Rattle.journal_core.specs.declared.mounting.Mounted.{Mounted}
+use Rattle.journal_core.specs.declared.entries.Entry.{Entry}
 use Rattle.journal_core.specs.declared.mounting.Mounted.TheVariants as mounted
+use Rattle.journal_core.proofs.Interface.{mounted_kept, stays_same, stays_then}
 use Rattle.journal_command.specs.Journaling.{IsBad}
-use Rattle.journal_command.specs.Keeping.{Asked}
-use Rattle.journal_command.specs.Restarts.{AreServedRecords, RefusesAt, state_behind}
-use Rattle.server_core.specs.Serve.{State, empty_state}
-use Rattle.journal_compaction.specs.Finding.{CountsFound, Finds, IsFoundBad, IsServed, LedTo}
+use Rattle.journal_command.specs.Keeping.{entries_of}
+use Rattle.journal_command.specs.Restarts.{RefusesAt}
+use Rattle.journal_command.proofs.Interface.{refused_at, still_moments, still_of}
+use Rattle.server_core.specs.Serve.{empty_state}
+use Rattle.journal_compaction.specs.Finding.{Finds, IsFoundBad, Serves}
 use Rattle.journal_compaction.specs.declared.finding.Found.{Found}
 use Rattle.journal_compaction.specs.declared.finding.Found.TheVariants as found
-
--- the entries that are lent, served from the state of a new server
-pub led_to : (entries lent : List (List ℕ)) (start now : State) → lent ≡ entries → start ≡ empty_state → (records : List (List Asked)) × AreServedRecords start records lent × (now ≡ state_behind start records)
-    → LedTo entries now
-led_to entries lent start now p q x = record {
-  records = x.0;
-  served = subst (λ (l : List (List ℕ)). AreServedRecords empty_state x.0 l) p (subst (λ (st : State). AreServedRecords st x.0 lent) q x.1);
-  after = x.2 ∙ ap (λ (st : State). state_behind st x.0) q;
-}
-
-pub refused_from : (entries lent : List (List ℕ)) (start : State) (place : ℕ) → lent ≡ entries → start ≡ empty_state → RefusesAt start lent place → RefusesAt empty_state entries place
-refused_from entries lent start place p q r = subst (λ (l : List (List ℕ)). RefusesAt empty_state l place) p (subst (λ (st : State). RefusesAt st lent place) q r)
 
 abbrev Stays : Moments → Moments → Type 0
 Stays old new = Leaves (IsSomeImage old.now) old new
 
--- however the mount ended, the file stands for what it stood for
-pub untouched_so : (result : Mounted) (a b : Option Moments) → WhereTold (Mounts result) a b → WhereTold (λ old new. Leaves (IsSomeImage old.now) old new) a b
-untouched_so (mounted.Ready journal entries) a b m = told_map (Mounts (mounted.Ready journal entries)) Stays (λ old new x. x.0) a b m
-untouched_so (mounted.Damaged place) a b m = told_map (Mounts (mounted.Damaged place)) Stays (λ old new x. x.0) a b m
-untouched_so mounted.DiskFault a b m = m
-untouched_so mounted.OutOfMemory a b m = m
+-- ---- the disk was mounted, and its entries were served
+
+serves_stays : (result : Found) (journal : JournalState) (b c : Option Moments) → Serves result journal b c → WhereTold StaysKept b c
+serves_stays (found.Served held server) journal b c s = still_of (λ entries. entries ≡ entries_of s.1.records) journal.gate b c s.1.all
+serves_stays (found.Damaged place) journal b c s = still_of (λ entries. RefusesAt empty_state entries place) journal.gate b c s
+serves_stays found.DiskFault journal b c s = s
+serves_stays found.OutOfMemory journal b c s = s
+
+pub served_untouched : (result : Found) (journal : JournalState) (a b c : Option Moments) → WhereTold (Mounts (mounted.Ready journal)) a b → Serves result journal b c
+    → WhereTold (λ old new. Leaves (IsSomeImage old.now) old new) a c
+served_untouched result journal a b c w s = told_then (Mounts (mounted.Ready journal)) StaysKept Stays (still_moments journal) a b c w (serves_stays result journal b c s)
+
+pub found_so : (result : Found) (journal : JournalState) (a b c : Option Moments) → WhereTold (Mounts (mounted.Ready journal)) a b → Serves result journal b c → Finds result a c
+found_so (found.Served held server) journal a b c w s =
+    let r = s.1 in (
+      entries_of r.records,
+      record { records = r.records; served = r.served; after = r.after },
+      told_then (Mounts (mounted.Ready journal)) (λ old new. ((es : List (List ℕ)) → EndsAt journal.gate es old → es ≡ entries_of r.records) × StaysKept old new)
+          (λ old new. IsImage old.now old.now.seen × ReadsAs (Records (entries_of r.records)) old.now.seen)
+          (λ x y z m q. (m.2.was_image, subst (λ (es : List (List ℕ)). ReadsAs (Records es) x.now.seen) (q.0 m.1 m.2.ends) m.2.read)) a b c w r.all,
+    )
+found_so (found.Damaged place) journal a b c w s =
+    told_then (Mounts (mounted.Ready journal)) (λ old new. ((es : List (List ℕ)) → EndsAt journal.gate es old → RefusesAt empty_state es place) × StaysKept old new)
+    (λ old new. IsImage old.now old.now.seen × IsBad place old new) (refused_at journal place) a b c w s
+found_so found.DiskFault journal a b c w s = tt
+found_so found.OutOfMemory journal a b c w s = tt
+
+-- ---- it was damaged
+
+pub damaged_untouched : (place : ℕ) (a b : Option Moments) → WhereTold (Mounts (mounted.Damaged place)) a b → WhereTold (λ old new. Leaves (IsSomeImage old.now) old new) a b
+damaged_untouched place a b m = told_map (Mounts (mounted.Damaged place)) Stays (λ old new x. x.0) a b m
 
 pub damaged_so : (place : ℕ) (a b : Option Moments) → WhereTold (Mounts (mounted.Damaged place)) a b → IsFoundBad place a b
 damaged_so place a b m =
     told_map (Mounts (mounted.Damaged place)) (λ old new. IsImage old.now old.now.seen × IsBad place old new) (λ old new x. (x.2, inl (x.1, x.3))) a b m
 
--- no call of the disk comes behind the mount
-pub counts_so : (result : Found) (entries : List (List ℕ)) (old new : ℕ) → IsServed result entries → new ≡ old → CountsFound result old new
-counts_so (found.Served held server) entries old new s e = e
-counts_so (found.Damaged place) entries old new s e = e
-counts_so found.DiskFault entries old new s e = absurd s
-counts_so found.OutOfMemory entries old new s e = e
+-- ---- its entries are read once more
 
-module _ (entries : List (List ℕ)) (journal : JournalState) (gate : journal.gate ≡ place_behind entries) where
-  -- what followed the closed gate is cut off
-  stands : (old new : Moments) → Mounts (mounted.Ready journal entries) old new → new.now ≡ kept (take (place_behind entries) old.now.seen ++ 0 ∷ [])
-  stands old new m =
-      let e = m.1.ends in
-      e.now
-      ∙ ap (λ (file : List ℕ). kept file) (sym (ap (λ (s : Stand). s.seen) e.now))
-      ∙ ap (λ (file : List ℕ). kept file) m.1.file
-      ∙ ap (λ (n : ℕ). kept (take n old.now.seen ++ 0 ∷ [])) gate
+pub still_first : (gate : ℕ) (a : Option Moments) → IfSome a (IsMounted gate) → WhereTold StaysKept a a
+still_first gate (Some a) m = stays_same a (mounted_kept gate a m)
+still_first gate None m = tt
 
-  pub found_so : (result : Found) (a b : Option Moments) → IsServed result entries → WhereTold (Mounts (mounted.Ready journal entries)) a b → Finds result a b
-  found_so (found.Served held server) a b s m = (
-    subst (λ (l : List (List ℕ)). LedTo l server) (sym s.0) s.1,
-    told_map (Mounts (mounted.Ready journal entries)) (λ old new. IsImage old.now old.now.seen × ReadsAs (Records held) old.now.seen)
-        (λ old new x. (x.1.was_image, subst (λ (l : List (List ℕ)). ReadsAs (Records l) old.now.seen) (sym s.0) x.1.read)) a b m,
-  )
-  found_so (found.Damaged place) a b s m =
-      told_map (Mounts (mounted.Ready journal entries)) (λ old new. IsImage old.now old.now.seen × IsBad place old new)
-      (λ old new x. (x.1.was_image, inr (record { entries = entries; read = x.1.read; refuses = s; now = stands old new x }))) a b m
-  found_so found.DiskFault a b s m = absurd s
-  found_so found.OutOfMemory a b s m = tt
+pub still_on : (found : Entry) (place gate : ℕ) (a b c : Option Moments) → WhereTold StaysKept a b → WhereTold (Continues found place gate) b c → WhereTold StaysKept a c
+still_on found place gate = told_then StaysKept (Continues found place gate) StaysKept (λ x y z p q. stays_then x y z p q.1)
+
+-- a crash leaves a file that is on the disk
+kept_there : (file : List ℕ) → IsImage (kept file) file
+kept_there file = record { no_shorter = omega arith; no_longer = omega arith; kept = λ i less spared. refl }
+
+untouched_on : (gate : ℕ) (x y z : Moments) → Stays x y → IsMounted gate y → StaysKept y z → Stays x z
+untouched_on gate x y z l m s =
+    let image : IsImage y.now y.now.seen = subst (λ (w : Stand). IsImage w y.now.seen) (sym (mounted_kept gate y m)) (kept_there y.now.seen) in
+    let here : IsSomeImage x.now y.now.seen = leaves_last (IsSomeImage x.now) x y l y.now.seen image in
+    leaves_then (IsSomeImage x.now) x y z l (leaves_weaker (λ file. file ≡ y.now.seen) (IsSomeImage x.now) y z (λ file e. subst (IsSomeImage x.now) (sym e) here) s.moments)
+
+pub still_untouched : (gate : ℕ) (a b c : Option Moments) → WhereTold (λ old new. Leaves (IsSomeImage old.now) old new) a b → IfSome b (IsMounted gate) → WhereTold StaysKept b c
+    → WhereTold (λ old new. Leaves (IsSomeImage old.now) old new) a c
+still_untouched gate (Some x) (Some y) (Some z) l m s = untouched_on gate x y z l m s
+still_untouched gate None None None l m s = tt
+still_untouched gate (Some x) None c l m s = absurd l
+still_untouched gate None (Some y) c l m s = absurd l
+still_untouched gate (Some x) (Some y) None l m s = absurd s
+still_untouched gate None None (Some z) l m s = absurd s

@@ -1,5 +1,5 @@
 -- The command `compact`: what stands in the new file, by how it ended.
-use Rattle.std.specs.Prelude.{◌≡◌, ◌<◌, ◌+◌, ℕ, List, length, Option}
+use Rattle.std.specs.Prelude.{◌≡◌, ◌<◌, ◌+◌, ℕ, List, length, Option, Result, Ok, Err}
 use Rattle.ae_edge.specs.Devices.{Rose, WhereTold}
 use Rattle.disk.specs.Moments.{Moments}
 use Rattle.journal_core.specs.Appends.{most_bytes}
@@ -9,6 +9,8 @@ use Rattle.journal_compaction.specs.Compactions.{IsCompaction}
 use Rattle.journal_compaction.specs.Checking.{LeadsTo}
 use Rattle.journal_compaction.specs.Finding.{IsFoundBad, IsRead, LedTo}
 use Rattle.journal_compaction.specs.Writing.{HasJournal}
+use Rattle.journal_compaction.specs.declared.records.Unmade.{Unmade}
+use Rattle.journal_compaction.specs.declared.records.Unmade.TheVariants as unmade
 use Rattle.journal_compaction.specs.declared.commands.Compacted.{Compacted}
 use Rattle.journal_compaction.specs.declared.commands.Compacted.TheVariants as ended
 
@@ -57,7 +59,7 @@ Compacts ended.OutOfMemory disk disk_after new new_after = Unit {0}
 abbrev pub Writes : Compacted → State → Option Moments → Option Moments → Type 0
 Writes ended.Done state new new_after = (fewer : List (List ℕ)) × LeadsTo fewer state × WhereTold (λ old now. HasJournal fewer now) new new_after
 Writes (ended.Damaged place) state new new_after = ⊥
-Writes ended.DiskFault state new new_after = ⊥
+Writes ended.DiskFault state new new_after = new_after ≡ new
 Writes ended.NewDiskFault state new new_after = (fewer : List (List ℕ)) × LeadsTo fewer state
 Writes ended.JournalFull state new new_after = ((made : List (List ℕ)) × (most_bytes < place_behind made + 1)) × (new_after ≡ new)
 Writes ended.Refused state new new_after = new_after ≡ new
@@ -65,13 +67,23 @@ Writes ended.OutOfMemory state new new_after = Unit {0}
 
 -- ---- faults
 
+-- while records are made, the count of the old file's disk stays, but where a call failed
+abbrev pub CountsUnmade : Unmade → ℕ → ℕ → Type 0
+CountsUnmade (unmade.Stopped stop) old new = new ≡ old
+CountsUnmade unmade.DiskFault old new = Rose old new
+
+abbrev pub CountsMade : {T : Type 0} → Result T Unmade → ℕ → ℕ → Type 0
+CountsMade (Ok made) old new = new ≡ old
+CountsMade (Err why) old new = CountsUnmade why old new
+
 -- the counts of faults of the old file's disk and of the new one's stay, but where a call failed
 abbrev pub CountsCompacted : Compacted → ℕ → ℕ → ℕ → ℕ → Type 0
 CountsCompacted ended.DiskFault disk disk_after new new_after = Rose disk disk_after × (new_after ≡ new)
 CountsCompacted ended.NewDiskFault disk disk_after new new_after = Rose new new_after × (disk_after ≡ disk)
 CountsCompacted other disk disk_after new new_after = (disk_after ≡ disk) × (new_after ≡ new)
 
--- where the old file isn't touched
+-- where the old file isn't touched, no call of it fails
 abbrev pub CountsNew : Compacted → ℕ → ℕ → Type 0
+CountsNew ended.DiskFault new new_after = ⊥
 CountsNew ended.NewDiskFault new new_after = Rose new new_after
 CountsNew other new new_after = new_after ≡ new

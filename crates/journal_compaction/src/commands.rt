@@ -1,9 +1,11 @@
 //! The command `compact`.
 
-ghost use Rattle.std.specs.Prelude.{◌≡◌, ◌<◌, ◌^◌, IfOk, IsTrue};
+ghost use Rattle.std.specs.Prelude.{◌≡◌, ◌<◌, ◌^◌, IfOk, IfSome, IsTrue};
 ghost use Rattle.std.specs.List.{All};
 ghost use Rattle.ae_edge.specs.Devices.{WhereTold};
+ghost use Rattle.disk.specs.Durable.{StaysKept};
 ghost use Rattle.disk.specs.Moments.{Leaves};
+ghost use Rattle.journal_core.specs.Appends.{IsMounted};
 ghost use Rattle.journal_core.specs.Journals.{place_behind};
 ghost use Rattle.journal_core.specs.Mounts.{IsSomeImage};
 ghost use Rattle.journal_core.specs.Records.{IsRecord};
@@ -13,11 +15,11 @@ ghost use Rattle.journal_compaction.specs.Endings.{number_of};
 
 use crate::checking::{are_records, lead_to};
 use crate::finding::{Found, find};
-use crate::records::{Stop, compacted};
+use crate::records::{Stop, Unmade, compacted};
 use crate::writing::{last_gate, write_journal};
 use ae_base::blobs::Blob;
-use ae_base::lists::Seq;
 use disk::disks::{Disk, Stored};
+use journal_core::journal::Journal;
 use server_core::server::Server;
 use std::alloc::{AllocError, Global};
 use std::fmt;
@@ -104,19 +106,28 @@ fn write_tested<E: Disk>(alloc: Global, records: &[Blob], server: &Server, new: 
     }
 }
 
-/// Makes the file of a disk a journal that leads to the world of a server, whose records are these.
-fn replace<E: Disk>(alloc: Global, entries: Seq<Blob>, server: Server, new: &mut E) -> Compacted
-    ensures writes { Writes result server (E.told new.old) (E.told new.new) }
-    ensures same { E.names new.new ≡ E.names new.old }
-    ensures counts { CountsNew result (E.faults new.old) (E.faults new.new) }
+/// Makes the file of a disk a journal that leads to the world of a server, to which the records of
+/// another disk's journal lead.
+fn replace<D: Disk, E: Disk>(
+    alloc: Global,
+    disk: &mut D,
+    journal: &Journal,
+    server: &Server,
+    new: &mut E,
+) -> Compacted
+    requires mounted { IfSome (D.told disk.old) (IsMounted journal.now.gate) }
+    ensures writes { Writes result server.now (E.told new.old) (E.told new.new) }
+    ensures stays { WhereTold StaysKept (D.told disk.old) (D.told disk.new) }
+    ensures same { D.names disk.new ≡ D.names disk.old }
+    ensures same_new { E.names new.new ≡ E.names new.old }
+    ensures counts { CountsCompacted result (D.faults disk.old) (D.faults disk.new)
+        (E.faults new.old) (E.faults new.new) }
 {
-    match compacted(alloc, entries.as_slice(), &server) {
-        Ok(records) => {
-            drop(entries);
-            write_tested(alloc, records.as_slice(), &server, new)
-        }
-        Err(Stop::Refused) => Compacted::Refused,
-        Err(Stop::OutOfMemory) => Compacted::OutOfMemory,
+    match compacted(alloc, disk, journal, server) {
+        Ok(records) => write_tested(alloc, records.as_slice(), server, new),
+        Err(Unmade::Stopped(Stop::Refused)) => Compacted::Refused,
+        Err(Unmade::Stopped(Stop::OutOfMemory)) => Compacted::OutOfMemory,
+        Err(Unmade::DiskFault) => Compacted::DiskFault,
     }
 }
 
@@ -139,7 +150,7 @@ pub fn compact<D: Disk, E: Disk>(alloc: Global, disk: &mut D, new: &mut E) -> Co
         (E.faults new.old) (E.faults new.new) }
 {
     match find(alloc, disk) {
-        Found::Served(entries, server) => replace(alloc, entries, server, new),
+        Found::Served(journal, server) => replace(alloc, disk, &journal, &server, new),
         Found::Damaged(place) => Compacted::Damaged(place),
         Found::DiskFault => Compacted::DiskFault,
         Found::OutOfMemory => Compacted::OutOfMemory,

@@ -1,9 +1,18 @@
 //! The definitions among the requests of records.
 
-use crate::records::Stop;
+ghost use Rattle.std.specs.Prelude.{◌≡◌, IfSome};
+ghost use Rattle.ae_edge.specs.Devices.{WhereTold};
+ghost use Rattle.disk.specs.Durable.{StaysKept};
+ghost use Rattle.journal_core.specs.Appends.{IsMounted};
+ghost use Rattle.journal_compaction.specs.Compacting.{CountsMade};
+
+use crate::records::{Stop, Unmade};
 use ae_base::blobs::Blob;
 use ae_base::lists::Seq;
 use ae_base::refusals::Refusal;
+use disk::disks::Disk;
+use journal_core::entries::Entry;
+use journal_core::journal::Journal;
 use sql_parse::parsing::{discard, parse};
 use sql_tree::statements::Statement;
 use std::alloc::{AllocError, Global};
@@ -54,14 +63,33 @@ fn push_defining(alloc: Global, entry: &[u8], records: &mut Seq<Blob>) -> Result
     Ok(())
 }
 
-/// Puts the definitions of all records at the end, in their order.
-pub(crate) fn push_definitions(
+/// Puts the definitions of all records of a journal at the end, in their order. Each record is read
+/// from the disk, and only its definitions are kept.
+pub(crate) fn push_definitions<D: Disk>(
     alloc: Global,
-    entries: &[Blob],
+    disk: &mut D,
+    journal: &Journal,
     records: &mut Seq<Blob>,
-) -> Result<(), Stop> {
-    for entry in entries {
-        push_defining(alloc, entry.as_slice(), records)?;
+) -> Result<(), Unmade>
+    requires mounted { IfSome (D.told disk.old) (IsMounted journal.now.gate) }
+    ensures stays { WhereTold StaysKept (D.told disk.old) (D.told disk.new) }
+    ensures same { D.names disk.new ≡ D.names disk.old }
+    ensures counts { CountsMade result (D.faults disk.old) (D.faults disk.new) }
+{
+    let mut place = 0u64;
+    'entries: loop {
+        match journal.entry_at(alloc, disk, place) {
+            Entry::Next(entry) => {
+                place += 9 + entry.len() as u64;
+                match push_defining(alloc, entry.as_slice(), records) {
+                    Ok(()) => {}
+                    Err(stop) => return Err(Unmade::Stopped(stop)),
+                }
+            }
+            Entry::End => return Ok(()),
+            Entry::Other => return Err(Unmade::Stopped(Stop::Refused)),
+            Entry::Failed => return Err(Unmade::DiskFault),
+            Entry::OutOfMemory => return Err(Unmade::Stopped(Stop::OutOfMemory)),
+        }
     }
-    Ok(())
 }

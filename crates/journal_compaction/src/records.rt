@@ -1,16 +1,24 @@
 //! The records of which a journal is made anew.
 
+ghost use Rattle.std.specs.Prelude.{◌≡◌, IfSome};
+ghost use Rattle.ae_edge.specs.Devices.{WhereTold};
+ghost use Rattle.disk.specs.Durable.{StaysKept};
+ghost use Rattle.journal_core.specs.Appends.{IsMounted};
+ghost use Rattle.journal_compaction.specs.Compacting.{CountsMade};
+
 use crate::definitions::push_definitions;
 use crate::inserts::push_inserts;
 use ae_base::blobs::Blob;
 use ae_base::cells::Cell;
 use ae_base::lists::Seq;
+use disk::disks::Disk;
 use engine::worlds::World;
 use indexed_tables::lending::lent;
+use journal_core::journal::Journal;
 use server_core::server::Server;
 use std::alloc::{AllocError, Global};
 
-/// Why no records were made.
+/// Why no records were made of what is in memory.
 #[derive(Clone, Copy, PartialEq, Eq, Debug)]
 pub(crate) enum Stop {
     /// A record can't be read, or a row not sent.
@@ -24,6 +32,14 @@ impl From<AllocError> for Stop {
     }
 }
 
+/// Why no records were made of a journal.
+#[derive(Clone, Copy, PartialEq, Eq, Debug)]
+pub(crate) enum Unmade {
+    Stopped(Stop),
+    /// A call of its disk failed.
+    DiskFault,
+}
+
 /// Puts INSERTs of the rows of all tables at the end, in the order of the catalog.
 fn push_rows(alloc: Global, world: &World<Cell>, records: &mut Seq<Blob>) -> Result<(), Stop> {
     let catalog = world.catalog();
@@ -34,15 +50,26 @@ fn push_rows(alloc: Global, world: &World<Cell>, records: &mut Seq<Blob>) -> Res
     Ok(())
 }
 
-/// The definitions of some records, and INSERTs of the rows to which they lead. That these lead
-/// there too is left to be tested.
-pub(crate) fn compacted(
+/// The definitions of a journal's records, and INSERTs of the rows to which they lead. That these
+/// lead there too is left to be tested.
+pub(crate) fn compacted<D: Disk>(
     alloc: Global,
-    entries: &[Blob],
+    disk: &mut D,
+    journal: &Journal,
     server: &Server,
-) -> Result<Seq<Blob>, Stop> {
+) -> Result<Seq<Blob>, Unmade>
+    requires mounted { IfSome (D.told disk.old) (IsMounted journal.now.gate) }
+    ensures stays { WhereTold StaysKept (D.told disk.old) (D.told disk.new) }
+    ensures same { D.names disk.new ≡ D.names disk.old }
+    ensures counts { CountsMade result (D.faults disk.old) (D.faults disk.new) }
+{
     let mut records = Seq::new(alloc);
-    push_definitions(alloc, entries, &mut records)?;
-    push_rows(alloc, server.shared_world(), &mut records)?;
-    Ok(records)
+    match push_definitions(alloc, disk, journal, &mut records) {
+        Ok(()) => {}
+        Err(why) => return Err(why),
+    }
+    match push_rows(alloc, server.shared_world(), &mut records) {
+        Ok(()) => Ok(records),
+        Err(stop) => Err(Unmade::Stopped(stop)),
+    }
 }

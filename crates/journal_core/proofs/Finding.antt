@@ -1,36 +1,37 @@
 -- A journal is found on a disk.
-use Rattle.std.proofs.Common.{◌≡◌, inl, inr, ℕ, List, [], ◌∷◌, ◌++◌, length, take, Option, Some, None, sym, ap, ◌∙◌, subst}
+use Rattle.std.proofs.Common.{◌≡◌, inl, inr, ℕ, ◌-◌, ◌≤◌, ◌<◌, List, [], ◌∷◌, ◌++◌, length, take, Option, refl, sym, ap, ◌∙◌, subst, arith, length-append}
 use Rattle.std.specs.Prelude.{IfSome}
+use Rattle.std.proofs.lemmas.List.{take_all}
 use Rattle.ae_edge.specs.Devices.{WhereTold}
+use Rattle.ae_edge.proofs.Interface.{told_map, told_then}
 use Rattle.disk.specs.Calls.{Syncs}
 use Rattle.disk.specs.Crashes.{Stand, kept}
+use Rattle.disk.specs.Durable.{IsKept, StaysKept}
 use Rattle.disk.specs.Moments.{Moments, LeavesNow, Leaves, OnlySyncs, NoCall}
-use Rattle.disk.specs.Durable.{StaysKept, ReadsWhole}
 use Rattle.disk.specs.declared.disks.Given.TheVariants as given
+use Rattle.disk.specs.declared.disks.Stored.{Stored}
 use Rattle.disk.specs.declared.disks.Stored.TheVariants as stored
-use Rattle.disk.proofs.Interface.{leaves_none, leaves_pass, leaves_then, leaves_weaker, syncs_pass, syncs_then}
-use Rattle.ae_edge.proofs.Interface.{told_then}
-use Rattle.std.proofs.Common.{arith, length-append}
-use Rattle.journal_core.proofs.Readings.{length_framed}
+use Rattle.disk.proofs.Interface.{leaves_none, leaves_pass, leaves_then, leaves_weaker, syncs_pass, syncs_then, told_after, told_from, told_from_then}
 use Rattle.journal_core.specs.Journals.{framed, place_behind, Opens, Reading, Records, Damaged, ReadsAs, ReadsAlike}
 use Rattle.journal_core.specs.Mounts.{IsLeft, IsSomeImage, Mounts}
-use Rattle.journal_core.specs.Parsing.{IsParsed}
-use Rattle.journal_core.specs.Settling.{Repairs, Settled, Settles, SettlesFile}
+use Rattle.journal_core.specs.Reading.{IsKeptTo, ReadsPart}
+use Rattle.journal_core.specs.Scanning.{IsParsed, Scans}
+use Rattle.journal_core.specs.Settling.{IsShort, Repairs, RepairsSeen, Settled, Settles, SettlesFile, mended_by}
 use Rattle.journal_core.specs.declared.mounting.Mounted.{Mounted}
 use Rattle.journal_core.specs.declared.mounting.Mounted.TheVariants as mounted
-use Rattle.journal_core.proofs.Readings.{one_reading}
+use Rattle.journal_core.specs.declared.scanning.Scanned.{Scanned}
+use Rattle.journal_core.specs.declared.scanning.Scanned.TheVariants as scanned
 use Rattle.journal_core.proofs.Appending.{kept_leaves}
 use Rattle.journal_core.proofs.Crash.{end_reads}
 use Rattle.journal_core.proofs.Mending.{none_open}
+use Rattle.journal_core.proofs.Parts.{kept_then}
+use Rattle.journal_core.proofs.Readings.{length_framed, one_reading}
 
 -- the gate behind some records
-front_place : (entries : List (List ℕ)) (front : List ℕ) → Opens entries front → length front ≡ place_behind entries
+pub front_place : (entries : List (List ℕ)) (front : List ℕ) → Opens entries front → length front ≡ place_behind entries
 front_place [] front opens = ap length opens
 front_place (e ∷ entries) front opens =
     omega (arith, ap length opens.1.whole, length-append (framed e) opens.0, length_framed e, front_place entries opens.0 opens.2)
-
-pub parsed_place : (entries : List (List ℕ)) (gate : ℕ) (file : List ℕ) → IsParsed entries gate file → gate ≡ place_behind entries
-parsed_place entries gate file p = p.gate_is ∙ front_place entries p.front p.opens
 
 -- what was parsed is what the file stands for
 pub parsed_reads : (entries : List (List ℕ)) (gate : ℕ) (file : List ℕ) → IsParsed entries gate file → ReadsAs (Records entries) file
@@ -55,35 +56,11 @@ settled entries gate file a b p w =
     let both = w entries p in
     record { moments = repaired entries gate file a b p both.moments; read = parsed_reads entries gate file p; ends = both.ends; left = both.left }
 
-unsettled : (file : List ℕ) (a : Moments) → a.now ≡ kept file → Leaves (ReadsAlike file) a a
-unsettled file a k = leaves_none (ReadsAlike file) a (kept_leaves (ReadsAlike file) file a.now k (alike_same file))
-
-module _ (entries : List (List ℕ)) (gate : ℕ) (file : List ℕ) (p : IsParsed entries gate file) where
-  pub settled_told : (a b : Option Moments) → WhereTold (Repairs stored.Done gate file) a b → WhereTold (Settled entries gate file) a b
-  settled_told (Some a) (Some b) w = settled entries gate file a b p w
-  settled_told None None w = tt
-  settled_told (Some a) None w = absurd w
-  settled_told None (Some b) w = absurd w
-
-  pub failed_told : (a b : Option Moments) → WhereTold (Repairs stored.Failed gate file) a b → WhereTold (Leaves (ReadsAlike file)) a b
-  failed_told (Some a) (Some b) w = repaired entries gate file a b p (w entries p)
-  failed_told None None w = tt
-  failed_told (Some a) None w = absurd w
-  failed_told None (Some b) w = absurd w
-
-  pub unasked_told : (a b : Option Moments) → WhereTold (Repairs stored.OutOfMemory gate file) a b → WhereTold (Leaves (ReadsAlike file)) a b
-  unasked_told (Some a) (Some b) w = repaired entries gate file a b p (w entries p)
-  unasked_told None None w = tt
-  unasked_told (Some a) None w = absurd w
-  unasked_told None (Some b) w = absurd w
-
-pub unsettled_told : (file : List ℕ) (a : Option Moments) → IfSome a (λ d. d.now ≡ kept file) → WhereTold (Leaves (ReadsAlike file)) a a
-unsettled_told file (Some a) k = unsettled file a k
-unsettled_told file None k = tt
-
-pub damaged_told : (place : ℕ) (file : List ℕ) (a : Option Moments) → ReadsAs (Damaged place) file → IfSome a (λ d. d.now ≡ kept file) → WhereTold (Settles (mounted.Damaged place) file) a a
-damaged_told place file (Some a) d k = (unsettled file a k, d, record { calls = NoCall; now = k ∙ ap (λ (s : Stand). kept s.seen) (sym k) })
-damaged_told place file None d k = tt
+-- by what the disk answered
+settled_by : (result : Stored) (gate : ℕ) (file : List ℕ) (entries : List (List ℕ)) → IsParsed entries gate file → (a b : Moments) → Repairs result gate file a b → Settles (mended_by result gate) file a b
+settled_by stored.Done gate file entries p a b w = (entries, settled entries gate file a b p w)
+settled_by stored.Failed gate file entries p a b w = repaired entries gate file a b p (w entries p)
+settled_by stored.OutOfMemory gate file entries p a b w = repaired entries gate file a b p (w entries p)
 
 -- ---- after the file was read
 
@@ -96,16 +73,82 @@ seen_alike : (file : List ℕ) (a b c : Moments) → a.now.seen ≡ file → Sta
 seen_alike file a b c is s w =
     leaves_then (ReadsAlike file) a b c (leaves_weaker (λ image. image ≡ a.now.seen) (ReadsAlike file) a b (λ image e. subst (ReadsAlike file) (sym (e ∙ is)) (alike_same file)) s.moments) w
 
-read_settled : (found : Mounted) (file : List ℕ) (a b c : Moments) → ReadsWhole (given.Bytes file) a b → Settles found file b c → Settles found a.now.seen a c
-read_settled (mounted.Ready journal entries) file a b c r w =
-    subst (λ (f : List ℕ). Settled entries journal.gate f a c) r.0 (record { moments = seen_alike file a b c (sym r.0) r.1 w.moments; read = w.read; ends = w.ends; left = w.left })
-read_settled (mounted.Damaged place) file a b c r w =
-    subst (λ (f : List ℕ). Leaves (ReadsAlike f) a c × ReadsAs (Damaged place) f × IsLeft a c) r.0 (seen_alike file a b c (sym r.0) r.1 w.0, w.1, left_then a b c r.1.calls (ap (λ (s : Stand). s.seen) r.1.now) w.2)
-read_settled mounted.DiskFault file a b c r w = subst (λ (f : List ℕ). Leaves (ReadsAlike f) a c) r.0 (seen_alike file a b c (sym r.0) r.1 w)
-read_settled mounted.OutOfMemory file a b c r w = subst (λ (f : List ℕ). Leaves (ReadsAlike f) a c) r.0 (seen_alike file a b c (sym r.0) r.1 w)
+read_settled : (found : Mounted) (a b c : Moments) → StaysKept a b → Settles found a.now.seen b c → SettlesFile found a c
+read_settled (mounted.Ready journal) a b c s w = (w.0, record { moments = seen_alike a.now.seen a b c refl s w.1.moments; read = w.1.read; ends = w.1.ends; left = w.1.left })
+read_settled (mounted.Damaged place) a b c s w = (seen_alike a.now.seen a b c refl s w.0, w.1, left_then a b c s.calls (ap (λ (x : Stand). x.seen) s.now) w.2)
+read_settled mounted.DiskFault a b c s w = seen_alike a.now.seen a b c refl s w
+read_settled mounted.OutOfMemory a b c s w = seen_alike a.now.seen a b c refl s w
 
-pub read_settled_told : (found : Mounted) (file : List ℕ) (a b c : Option Moments) → WhereTold (ReadsWhole (given.Bytes file)) a b → WhereTold (Settles found file) b c → WhereTold (SettlesFile found) a c
-read_settled_told found file = told_then (ReadsWhole (given.Bytes file)) (Settles found file) (SettlesFile found) (read_settled found file)
+-- a disk that stands as it stood, before the file was read
+stays_settled : (found : Mounted) (a b c : Moments) → StaysKept a b → SettlesFile found b c → SettlesFile found a c
+stays_settled found a b c s w = read_settled found a b c s (subst (λ (x : Stand). Settles found x.seen b c) s.now w)
+
+-- where nothing but reads was asked, each crash leaves the file
+stays_alike : (a b : Moments) → StaysKept a b → Leaves (ReadsAlike a.now.seen) a b
+stays_alike a b s = leaves_weaker (λ image. image ≡ a.now.seen) (ReadsAlike a.now.seen) a b (λ image e. subst (ReadsAlike a.now.seen) (sym e) (alike_same a.now.seen)) s.moments
+
+pub stays_alike_told : (a b : Option Moments) → WhereTold StaysKept a b → WhereTold (λ x y. Leaves (ReadsAlike x.now.seen) x y) a b
+stays_alike_told = told_map StaysKept (λ x y. Leaves (ReadsAlike x.now.seen) x y) stays_alike
+
+-- ---- a file of at most one byte
+
+short_parsed : (file : List ℕ) → length file ≤ 1 → IsParsed [] 0 file
+short_parsed file short = record { front = []; opens = refl; gate_is = refl; whole = inl (short, refl) }
+
+short_file : (file : List ℕ) (a b : Moments) → IsShort a → ReadsPart (given.Bytes file) 0 1 a b → file ≡ a.now.seen
+short_file file a b k r = r.0 ∙ take_all 1 a.now.seen k.short
+
+short_settled : (result : Stored) (file : List ℕ) (a b c : Moments) → IsShort a → ReadsPart (given.Bytes file) 0 1 a b → Repairs result 0 file b c → SettlesFile (mended_by result 0) a c
+short_settled result file a b c k r w =
+    read_settled (mended_by result 0) a b c r.1
+    (settled_by result 0 a.now.seen [] (short_parsed a.now.seen k.short) b c (subst (λ (f : List ℕ). Repairs result 0 f b c) (short_file file a b k r) w))
+
+pub short_settled_told : (result : Stored) (file : List ℕ) (a b c : Option Moments) → IfSome a IsShort → WhereTold (ReadsPart (given.Bytes file) 0 1) a b → WhereTold (Repairs result 0 file) b c → WhereTold (SettlesFile (mended_by result 0)) a c
+short_settled_told result file = told_from_then IsShort (ReadsPart (given.Bytes file) 0 1) (Repairs result 0 file) (SettlesFile (mended_by result 0)) (short_settled result file)
+
+pub short_kept_told : (file : List ℕ) (a b : Option Moments) → IfSome a IsShort → WhereTold (ReadsPart (given.Bytes file) 0 1) a b → IfSome b (λ d. d.now ≡ kept file)
+short_kept_told file =
+    told_after IsShort (ReadsPart (given.Bytes file) 0 1) (λ d. d.now ≡ kept file) (λ a b k r. r.1.now ∙ k.kept ∙ ap kept (sym (short_file file a b k r)))
+
+-- ---- a longer one
+
+whole_settled : (gate : ℕ) (result : Stored) (a b c : Moments) → Scans (scanned.Whole gate) a b → RepairsSeen result gate b c → SettlesFile (mended_by result gate) a c
+whole_settled gate result a b c s w =
+    read_settled (mended_by result gate) a b c s.1
+    (settled_by result gate a.now.seen s.0.0 s.0.1 b c (subst (λ (x : Stand). Repairs result gate x.seen b c) s.1.now w))
+
+pub whole_settled_told : (gate : ℕ) (result : Stored) (a b c : Option Moments) → WhereTold (Scans (scanned.Whole gate)) a b → WhereTold (RepairsSeen result gate) b c → WhereTold (SettlesFile (mended_by result gate)) a c
+whole_settled_told gate result = told_then (Scans (scanned.Whole gate)) (RepairsSeen result gate) (SettlesFile (mended_by result gate)) (whole_settled gate result)
+
+damaged : (last place : ℕ) (a b : Moments) → IsKeptTo last a → Scans (scanned.Broken place) a b → SettlesFile (mounted.Damaged place) a b
+damaged last place a b k s = (stays_alike a b s.1, s.0, record { calls = s.1.calls; now = s.1.now ∙ k.kept })
+
+pub damaged_told : (last place : ℕ) (a b : Option Moments) → IfSome a (IsKeptTo last) → WhereTold (Scans (scanned.Broken place)) a b → WhereTold (SettlesFile (mounted.Damaged place)) a b
+damaged_told last place = told_from (IsKeptTo last) (Scans (scanned.Broken place)) (SettlesFile (mounted.Damaged place)) (damaged last place)
+
+pub unscanned_told : (found : Scanned) (a b : Option Moments) → WhereTold (Scans found) a b → WhereTold (λ x y. Leaves (ReadsAlike x.now.seen) x y) a b
+unscanned_told found = told_map (Scans found) (λ x y. Leaves (ReadsAlike x.now.seen) x y) (λ a b s. stays_alike a b s.1)
+
+pub scanned_kept_told : (last gate : ℕ) (a b : Option Moments) → IfSome a (IsKeptTo last) → WhereTold (Scans (scanned.Whole gate)) a b → IfSome b (IsKeptTo last)
+scanned_kept_told last gate =
+    told_after (IsKeptTo last) (Scans (scanned.Whole gate)) (IsKeptTo last)
+    (λ a b k s. record { kept = kept_then a b k.kept s.1; reaches = ap (λ (x : Stand). length x.seen) s.1.now ∙ k.reaches })
+
+-- ---- by its length
+
+abbrev IsMeasured : ℕ → Moments → Moments → Type 0
+IsMeasured size a b = StaysKept a b × (size ≡ length b.now.seen)
+
+pub sized_settled_told : (size : ℕ) (found : Mounted) (a b c : Option Moments) → WhereTold (IsMeasured size) a b → WhereTold (SettlesFile found) b c → WhereTold (SettlesFile found) a c
+sized_settled_told size found = told_then (IsMeasured size) (SettlesFile found) (SettlesFile found) (λ a b c m w. stays_settled found a b c m.0 w)
+
+pub sized_short_told : (size : ℕ) → size ≤ 1 → (a b : Option Moments) → IfSome a IsKept → WhereTold (IsMeasured size) a b → IfSome b IsShort
+sized_short_told size short =
+    told_after IsKept (IsMeasured size) IsShort (λ a b k m. record { kept = kept_then a b k m.0; short = omega (arith, short, m.1) })
+
+pub sized_long_told : (size : ℕ) → 1 < size → (a b : Option Moments) → IfSome a IsKept → WhereTold (IsMeasured size) a b → IfSome b (IsKeptTo (size - 1))
+sized_long_told size long =
+    told_after IsKept (IsMeasured size) (IsKeptTo (size - 1)) (λ a b k m. record { kept = kept_then a b k m.0; reaches = omega (arith, long, m.1) })
 
 -- ---- after the first sync
 
@@ -122,15 +165,19 @@ seen_images a b c y w =
     leaves_then (IsSomeImage a.now) a b c first later
 
 mounted_read : (found : Mounted) (a b c : Moments) → Syncs stored.Done a b → Settles found b.now.seen b c → Mounts found a c
-mounted_read (mounted.Ready journal entries) a b c y w =
-    let seen : b.now.seen ≡ a.now.seen = ap (λ (s : Stand). s.seen) y.here in (
-      seen_images a b c y w.moments,
+mounted_read (mounted.Ready journal) a b c y w =
+    let seen : b.now.seen ≡ a.now.seen = ap (λ (s : Stand). s.seen) y.here in
+    let entries = w.0 in
+    let ends = w.1.ends in (
+      seen_images a b c y w.1.moments,
+      entries,
       record {
+        gate = ends.gate_is ∙ front_place entries ends.front ends.opens;
         was_image = y.was_image;
-        read = subst (ReadsAs (Records entries)) seen w.read;
-        ends = w.ends;
-        from_now = kept_leaves (ReadsAs (Records entries)) (w.ends.front ++ 0 ∷ []) c.now w.ends.now (end_reads entries w.ends.front w.ends.opens);
-        file = w.left ∙ ap (λ (f : List ℕ). take journal.gate f ++ 0 ∷ []) seen;
+        read = subst (ReadsAs (Records entries)) seen w.1.read;
+        ends = ends;
+        from_now = kept_leaves (ReadsAs (Records entries)) (ends.front ++ 0 ∷ []) c.now ends.now (end_reads entries ends.front ends.opens);
+        file = w.1.left ∙ ap (λ (f : List ℕ). take journal.gate f ++ 0 ∷ []) seen;
       },
     )
 mounted_read (mounted.Damaged place) a b c y w = (seen_images a b c y w.0, subst (ReadsAs (Damaged place)) (ap (λ (s : Stand). s.seen) y.here) w.1, y.was_image, left_then a b c (syncs_pass (λ before after. after ≡ kept before.seen) a a b NoCall y (inr y.here)) (ap (λ (s : Stand). s.seen) y.here) w.2)

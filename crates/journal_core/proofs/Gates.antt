@@ -2,10 +2,10 @@
 use Rattle.std.proofs.Common.{◌≡◌, ◌≢◌, inr, ℕ, zero, suc, ◌+◌, ◌≤◌, ◌<◌, ◌^◌, List, [], ◌∷◌, ◌++◌, length, take, drop, get_or, refl, sym, ap, ◌∙◌, subst, append_assoc, arith, length-append, take-append-drop}
 use Rattle.std.specs.Int.{w64, to_be_bytes, from_be_bytes}
 use Rattle.std.proofs.lemmas.List.{take_at, drop_more, length-take-le}
-use Rattle.std.proofs.lemmas.Nat.{be_bytes_8, from_be_bytes-to_be_bytes_8}
+use Rattle.std.proofs.lemmas.Nat.{from_be_bytes-to_be_bytes_8}
 use Rattle.journal_core.specs.Records.{IsRecord}
-use Rattle.journal_core.specs.Journals.{framed, IsEntry, Opens, HasRecord}
-use Rattle.journal_core.specs.Parsing.{IsParsed}
+use Rattle.journal_core.specs.Journals.{framed, Damaged, IsEntry, Opens, HasRecord, ReadsAs}
+use Rattle.journal_core.specs.Scanning.{IsParsed}
 use Rattle.journal_core.proofs.Readings.{length_framed}
 use Rattle.journal_core.proofs.Crash.{opens_more}
 
@@ -17,13 +17,13 @@ parts_of bytes entry more small e =
     let tail : drop 8 bytes ≡ entry ++ more = ap (λ (w : List ℕ). drop 8 w) e in
     (ap (from_be_bytes w64) head ∙ from_be_bytes-to_be_bytes_8 (length entry) small, tail)
 
-pub found : (bytes : List ℕ) (len : ℕ) → 8 ≤ length bytes → len ≡ from_be_bytes w64 (take 8 bytes) → ((i : ℕ) → get_or (take 8 bytes) i 0 < 256) → len < 2 ^ 64 → len < length (drop 8 bytes) → IsRecord (take len (drop 8 bytes))
+pub found : (bytes : List ℕ) (len : ℕ) → to_be_bytes w64 len ≡ take 8 bytes → len < 2 ^ 64 → len < length (drop 8 bytes) → IsRecord (take len (drop 8 bytes))
     → IsEntry (take len (drop 8 bytes)) × (next : ℕ) × (rest : List ℕ) × (bytes ≡ framed (take len (drop 8 bytes)) ++ next ∷ rest)
 unfolding framed
-found bytes len long is fits small room proper =
+found bytes len spelled small room proper =
     let entry = take len (drop 8 bytes) in
     let count : length entry ≡ len = length-take-le len (drop 8 bytes) (omega arith) in
-    let head : to_be_bytes w64 (length entry) ≡ take 8 bytes = ap (to_be_bytes w64) count ∙ be_bytes_8 (take 8 bytes) len (length-take-le 8 bytes long) fits is in
+    let head : to_be_bytes w64 (length entry) ≡ take 8 bytes = ap (to_be_bytes w64) count ∙ spelled in
     let tail : drop 8 bytes ≡ entry ++ get_or (drop 8 bytes) len 0 ∷ drop (len + 1) (drop 8 bytes) = sym (take-append-drop len (drop 8 bytes)) ∙ ap (λ (w : List ℕ). entry ++ w) (drop_more (drop 8 bytes) len 0 room) in
     let whole : bytes ≡ (to_be_bytes w64 (length entry) ++ entry) ++ get_or (drop 8 bytes) len 0 ∷ drop (len + 1) (drop 8 bytes) =
     sym (take-append-drop 8 bytes) ∙ (λ i. sym head i ++ tail i) ∙ sym (append_assoc (to_be_bytes w64 (length entry)) entry (get_or (drop 8 bytes) len 0 ∷ drop (len + 1) (drop 8 bytes))) in
@@ -75,6 +75,23 @@ closed_gate entries gate file r shut = record {
   gate_is = sym (length-take-le gate file (omega (arith, r.inside)));
   whole = inr (drop (gate + 1) file, front_is file gate r.inside ∙ ap (λ (g : ℕ). take gate file ++ g ∷ drop (gate + 1) file) shut);
 }
+
+-- an open gate, behind which no record stands
+pub broken_gate : (entries : List (List ℕ)) (gate : ℕ) (file : List ℕ) → 2 ≤ length file → Reads entries gate file → get_or file gate 0 ≢ 0 → ¬ HasRecord (drop (gate + 1) file) → ReadsAs (Damaged gate) file
+broken_gate entries gate file long r is_open none = (
+  long,
+  record {
+    entries = entries;
+    front = take gate file;
+    gate = get_or file gate 0;
+    rest = drop (gate + 1) file;
+    opens = r.opens;
+    place_is = sym (length-take-le gate file (omega (arith, r.inside)));
+    is_open = is_open;
+    whole = front_is file gate r.inside;
+    none = none;
+  },
+)
 
 -- a front of bytes is bytes
 pub takes_fit : (n : ℕ) (bytes : List ℕ) → ((i : ℕ) → get_or bytes i 0 < 256) → (i : ℕ) → get_or (take n bytes) i 0 < 256

@@ -13,8 +13,9 @@ use Rattle.disk.specs.declared.disks.Stored.TheVariants as stored
 use Rattle.disk.proofs.Interface.{cut_before, leaves_weaker, sync_kept, told_from}
 use Rattle.journal_core.specs.Journals.{Opens, Records, ReadsAs}
 use Rattle.journal_core.specs.Appends.{EndsAt}
-use Rattle.journal_core.specs.Parsing.{IsParsed}
-use Rattle.journal_core.specs.Settling.{Repairs}
+use Rattle.journal_core.specs.Scanning.{IsParsed}
+use Rattle.journal_core.specs.Settling.{Repairs, RepairsSeen}
+use Rattle.journal_core.specs.Reading.{IsKeptTo}
 use Rattle.journal_core.proofs.Crash.{closed_front, end_reads}
 
 -- what is left of the file
@@ -103,8 +104,9 @@ module _ (file : List ℕ) (gate : ℕ) (more : gate + 1 < length file) where
   mend_long stored.Failed a b k w = λ entries p. cut_moments entries a b k p w
   mend_long stored.OutOfMemory a b k w = λ entries p. cut_moments entries a b k p w
 
-  pub mend_long_told : (result : Stored) (a b : Option Moments) → IfSome a (λ d. d.now ≡ kept file) → WhereTold (CutsThrough result (gate + 1)) a b → WhereTold (Repairs result gate file) a b
-  mend_long_told result = told_from (λ d. d.now ≡ kept file) (CutsThrough result (gate + 1)) (Repairs result gate file) (mend_long result)
+pub mend_long_told : (last gate : ℕ) → gate < last → (result : Stored) (a b : Option Moments) → IfSome a (IsKeptTo last) → WhereTold (CutsThrough result (gate + 1)) a b → WhereTold (RepairsSeen result gate) a b
+mend_long_told last gate more result = told_from (IsKeptTo last) (CutsThrough result (gate + 1)) (RepairsSeen result gate)
+    (λ a b k w. mend_long a.now.seen gate (omega (arith, more, k.reaches)) result a b k.kept w)
 
 -- the gate is the end of the file
 not_lacking : (file : List ℕ) → length file ≤ 1 → ((length file ≤ 1) × (file ≢ 0 ∷ []) → ⊥) → file ≡ 0 ∷ []
@@ -154,3 +156,7 @@ module _ (file : List ℕ) (gate : ℕ) (has : (length file ≤ 1) × (file ≢ 
 
   pub mend_end_told : (result : Stored) (a b : Option Moments) → IfSome a (λ d. d.now ≡ kept file) → WhereTold (Syncs result) a b → WhereTold (Repairs result gate file) a b
   mend_end_told result = told_from (λ d. d.now ≡ kept file) (Syncs result) (Repairs result gate file) (mend_end result)
+
+pub mend_last_told : (last gate : ℕ) → last ≤ gate → 1 ≤ last → (result : Stored) (a b : Option Moments) → IfSome a (IsKeptTo last) → WhereTold (Syncs result) a b → WhereTold (RepairsSeen result gate) a b
+mend_last_told last gate none long result = told_from (IsKeptTo last) (Syncs result) (RepairsSeen result gate)
+    (λ a b k y. mend_end a.now.seen gate (λ has. absurd (omega (arith, has.0, long, k.reaches))) (omega (arith, none, k.reaches)) result a b k.kept y)

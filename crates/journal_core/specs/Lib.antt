@@ -1,9 +1,11 @@
 pub mod Appends
+pub mod Entries
 pub mod Journals
 pub mod JournalWorked
 pub mod Laws
 pub mod Mounts
-pub mod Parsing
+pub mod Reading
 pub mod Records
+pub mod Scanning
 pub mod Settling
 pub mod States

@@ -16,8 +16,9 @@ pub record IsSomeImage (stand : Stand) (image : List ℕ) : Type 0 where
   pub alike : ReadsAlike of image
 
 -- What reads gave is one of the images, and stands for these records; from now on each crash leaves them. The file ends
--- behind them, with a closed gate.
+-- behind them, with a closed gate, which is the journal's last one.
 pub record Finds (entries : List (List ℕ)) (journal : JournalState) (old new : Moments) : Type 0 where
+  pub gate : journal.gate ≡ place_behind entries
   pub was_image : IsImage old.now old.now.seen
   pub read : ReadsAs (Records entries) old.now.seen
   pub ends : EndsAt journal.gate entries new
@@ -31,34 +32,33 @@ pub record IsLeft (old new : Moments) : Type 0 where
 
 -- each crash since then leaves the records of an image that a crash could leave before
 abbrev pub Mounts : Mounted → Moments → Moments → Type 0
-Mounts (mounted.Ready journal entries) old new = Leaves (IsSomeImage old.now) old new × Finds entries journal old new
+Mounts (mounted.Ready journal) old new = Leaves (IsSomeImage old.now) old new × (entries : List (List ℕ)) × Finds entries journal old new
 Mounts (mounted.Damaged place) old new =
     Leaves (IsSomeImage old.now) old new × ReadsAs (Damaged place) old.now.seen × IsImage old.now old.now.seen × IsLeft old new
 Mounts mounted.DiskFault old new = Leaves (IsSomeImage old.now) old new
 Mounts mounted.OutOfMemory old new = Leaves (IsSomeImage old.now) old new
 
--- the journal that is handed out hasn't failed, and its last gate stands behind the entries
-pub record IsSound (journal : JournalState) (entries : List (List ℕ)) : Type 0 where
+-- the journal that is handed out hasn't failed
+pub record IsSound (journal : JournalState) : Type 0 where
   pub ready : journal.failed ≡ false
-  pub gate : journal.gate ≡ place_behind entries
   pub fits : journal.gate < 2 ^ 64
 
 abbrev pub IsWhole : Mounted → Type 0
-IsWhole (mounted.Ready journal entries) = IsSound journal entries
+IsWhole (mounted.Ready journal) = IsSound journal
 IsWhole (mounted.Damaged place) = Unit {0}
 IsWhole mounted.DiskFault = Unit {0}
 IsWhole mounted.OutOfMemory = Unit {0}
 
 -- records can be added to it
 abbrev pub IsReady : Mounted → Option Moments → Type 0
-IsReady (mounted.Ready journal entries) disk = IfSome disk (IsMounted journal.gate)
+IsReady (mounted.Ready journal) disk = IfSome disk (IsMounted journal.gate)
 IsReady (mounted.Damaged place) disk = Unit {0}
 IsReady mounted.DiskFault disk = Unit {0}
 IsReady mounted.OutOfMemory disk = Unit {0}
 
 -- the count of faults stays, but where a call failed
 abbrev pub CountsMounted : Mounted → ℕ → ℕ → Type 0
-CountsMounted (mounted.Ready journal entries) old new = new ≡ old
+CountsMounted (mounted.Ready journal) old new = new ≡ old
 CountsMounted (mounted.Damaged place) old new = new ≡ old
 CountsMounted mounted.DiskFault old new = Rose old new
 CountsMounted mounted.OutOfMemory old new = new ≡ old

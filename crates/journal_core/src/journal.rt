@@ -63,6 +63,13 @@ impl Journal {
         self.failed
     }
 
+    /// The place of the last gate.
+    pub fn last_gate(&self) -> u64
+        ensures { result ≡ self.now.gate }
+    {
+        self.gate
+    }
+
     /// Whether the file has no room for a record of so many bytes.
     fn is_full(&self, len: usize) -> bool
         ensures { IsTrue result ↔ (most_bytes < self.now.gate + 10 + len) }

@@ -2,10 +2,12 @@
 //! one or more frames of requests to execute a statement.
 #![tactic(auto)]
 
+pub mod entries;
 pub mod journal;
 pub mod laws;
 pub mod mounting;
-mod parsing;
+mod reading;
 pub mod records;
+mod scanning;
 #[cfg(test)]
 mod tests;

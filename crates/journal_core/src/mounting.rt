@@ -1,32 +1,44 @@
 //! A journal is found on a disk, and the end of its file put in order.
 
-ghost use Rattle.std.specs.Prelude.{◌≡◌, ◌≢◌, ◌≤◌, ◌+◌, ◌∷◌, ◌↔◌, [], List, ℕ, IfSome, IsTrue, length};
+ghost use Rattle.std.specs.Prelude.{◌≡◌, ◌≢◌, ◌≤◌, ◌+◌, ◌∷◌, ◌↔◌, [], ℕ, IfSome, IsTrue, length};
 ghost use Rattle.ae_edge.specs.Devices.{WhereTold};
 ghost use Rattle.disk.specs.Calls.{CountsStored};
 ghost use Rattle.disk.specs.Crashes.{kept};
 ghost use Rattle.disk.specs.Durable.{IsKept};
 ghost use Rattle.journal_core.specs.Mounts.{CountsMounted, IsReady, IsWhole, Mounts};
-ghost use Rattle.journal_core.specs.Parsing.{IsParsed};
-ghost use Rattle.journal_core.specs.Settling.{Repairs, Settles, SettlesFile};
+ghost use Rattle.journal_core.specs.Reading.{IsKeptTo};
+ghost use Rattle.journal_core.specs.Settling.{IsShort, Repairs, RepairsSeen, SettlesFile, mended_by};
 
 use crate::journal::Journal;
-use crate::parsing::{Parsed, parse};
-use ae_base::blobs::Blob;
-use ae_base::lists::Seq;
-use disk::disks::{Disk, Given, Stored};
-use disk::durable::{cut_through, read_whole, write_through};
+use crate::reading::read_part;
+use crate::scanning::{Scanned, scan};
+use disk::disks::{Disk, Given, Measured, Stored};
+use disk::durable::{cut_through, write_through};
 use std::alloc::Global;
 
 /// What was found on a disk.
 #[derive(Drop)]
 pub enum Mounted {
-    /// A journal, and its records.
-    Ready(Journal, Seq<Blob>),
+    /// A journal, whose records can be read.
+    Ready(Journal),
     /// Behind the open gate at this place no whole record and one more byte stand.
     Damaged(u64),
     /// A call of the disk failed.
     DiskFault,
     OutOfMemory,
+}
+
+/// What is mounted where the end of the file was put in order, by what the disk answered.
+fn mended(gate: u64, stored: Stored) -> Mounted
+    ensures is { result ≡ mended_by stored gate }
+    ensures whole { IsWhole result }
+    ensures counts { (old new : ℕ) → CountsStored stored old new → CountsMounted result old new }
+{
+    match stored {
+        Stored::Done => Mounted::Ready(Journal::at(gate)),
+        Stored::Failed => Mounted::DiskFault,
+        Stored::OutOfMemory => Mounted::OutOfMemory,
+    }
 }
 
 /// Whether a file has at most one byte, and isn't a closed gate.
@@ -40,41 +52,71 @@ fn lacks_gate(file: &[u8]) -> bool
     }
 }
 
-/// Puts the end of a file in order: its closed gate is the last byte, and all is on the disk.
-fn repair<D: Disk>(disk: &mut D, file: &[u8], gate: usize) -> Stored
+/// Makes a file of at most one byte a closed gate, and puts it on the disk.
+fn repair_short<D: Disk>(disk: &mut D, file: &[u8]) -> Stored
     requires kept { IfSome (D.told disk.old) (λ d. d.now ≡ kept file.now) }
-    requires parsed { (entries : List (List ℕ)) × IsParsed entries gate file.now }
-    ensures content { WhereTold (Repairs result gate file.now) (D.told disk.old) (D.told disk.new) }
+    requires short { length file.now ≤ 1 }
+    ensures content { WhereTold (Repairs result 0 file.now) (D.told disk.old) (D.told disk.new) }
     ensures same { D.names disk.new ≡ D.names disk.old }
     ensures count { D.faults disk.old ≤ D.faults disk.new }
     ensures counts { CountsStored result (D.faults disk.old) (D.faults disk.new) }
 {
     if lacks_gate(file) {
         write_through(disk, 0, &[0])
-    } else if gate + 1 < file.len() {
-        cut_through(disk, gate as u64 + 1)
     } else {
         disk.sync()
     }
 }
 
-/// Reads a file as a journal, and puts its end in order.
-fn settle<D: Disk>(alloc: Global, disk: &mut D, file: &[u8]) -> Mounted
-    requires kept { IfSome (D.told disk.old) (λ d. d.now ≡ kept file.now) }
-    ensures content { WhereTold (Settles result file.now) (D.told disk.old) (D.told disk.new) }
+/// Finds the journal of a file of at most one byte that is on the disk: it has no record.
+fn settle_short<D: Disk>(alloc: Global, disk: &mut D) -> Mounted
+    requires kept { IfSome (D.told disk.old) IsShort }
+    ensures content { WhereTold (SettlesFile result) (D.told disk.old) (D.told disk.new) }
     ensures whole { IsWhole result }
     ensures same { D.names disk.new ≡ D.names disk.old }
     ensures count { D.faults disk.old ≤ D.faults disk.new }
     ensures counts { CountsMounted result (D.faults disk.old) (D.faults disk.new) }
 {
-    match parse(alloc, file) {
-        Parsed::Whole(records, gate) => match repair(disk, file, gate) {
-            Stored::Done => Mounted::Ready(Journal::at(gate as u64), records),
-            Stored::Failed => Mounted::DiskFault,
-            Stored::OutOfMemory => Mounted::OutOfMemory,
-        },
-        Parsed::Broken(place) => Mounted::Damaged(place),
-        Parsed::OutOfMemory => Mounted::OutOfMemory,
+    match read_part(alloc, disk, 0, 1) {
+        Given::Bytes(file) => mended(0, repair_short(disk, file.as_slice())),
+        Given::Failed => Mounted::DiskFault,
+        Given::OutOfMemory => Mounted::OutOfMemory,
+    }
+}
+
+/// Makes the closed gate at a place the last byte of a file of two bytes or more, and puts it on the
+/// disk.
+fn repair_long<D: Disk>(disk: &mut D, gate: u64, last: u64) -> Stored
+    requires kept { IfSome (D.told disk.old) (IsKeptTo last) }
+    requires long { 1 ≤ last }
+    ensures content { WhereTold (RepairsSeen result gate) (D.told disk.old) (D.told disk.new) }
+    ensures same { D.names disk.new ≡ D.names disk.old }
+    ensures count { D.faults disk.old ≤ D.faults disk.new }
+    ensures counts { CountsStored result (D.faults disk.old) (D.faults disk.new) }
+{
+    if gate < last {
+        cut_through(disk, gate + 1)
+    } else {
+        disk.sync()
+    }
+}
+
+/// Finds the journal of a file of two bytes or more that is on the disk, whose last byte stands at
+/// `last`.
+fn settle_long<D: Disk>(alloc: Global, disk: &mut D, last: u64) -> Mounted
+    requires kept { IfSome (D.told disk.old) (IsKeptTo last) }
+    requires long { 1 ≤ last }
+    ensures content { WhereTold (SettlesFile result) (D.told disk.old) (D.told disk.new) }
+    ensures whole { IsWhole result }
+    ensures same { D.names disk.new ≡ D.names disk.old }
+    ensures count { D.faults disk.old ≤ D.faults disk.new }
+    ensures counts { CountsMounted result (D.faults disk.old) (D.faults disk.new) }
+{
+    match scan(alloc, disk, last) {
+        Scanned::Whole(gate) => mended(gate, repair_long(disk, gate, last)),
+        Scanned::Broken(place) => Mounted::Damaged(place),
+        Scanned::Failed => Mounted::DiskFault,
+        Scanned::OutOfMemory => Mounted::OutOfMemory,
     }
 }
 
@@ -87,17 +129,23 @@ fn settle_file<D: Disk>(alloc: Global, disk: &mut D) -> Mounted
     ensures count { D.faults disk.old ≤ D.faults disk.new }
     ensures counts { CountsMounted result (D.faults disk.old) (D.faults disk.new) }
 {
-    match read_whole(disk, alloc) {
-        Given::Bytes(file) => settle(alloc, disk, file.as_slice()),
-        Given::Failed => Mounted::DiskFault,
-        Given::OutOfMemory => Mounted::OutOfMemory,
+    match disk.size() {
+        Measured::Bytes(size) => {
+            if size <= 1 {
+                settle_short(alloc, disk)
+            } else {
+                settle_long(alloc, disk, size - 1)
+            }
+        }
+        Measured::Failed => Mounted::DiskFault,
+        Measured::OutOfMemory => Mounted::OutOfMemory,
     }
 }
 
 impl Journal {
-    /// Finds the journal on a disk, puts the end of its file in order, and hands out its records.
-    /// It syncs first, so that what it reads is on the disk. While the call is under way a crash
-    /// leaves the records of some image that it could leave before.
+    /// Finds the journal on a disk, and puts the end of its file in order. It syncs first, so that
+    /// what it reads is on the disk, and then reads each record; one at a time is in memory. While
+    /// the call is under way a crash leaves the records of some image that it could leave before.
     pub fn mount<D: Disk>(alloc: Global, disk: &mut D) -> Mounted
         ensures content { WhereTold (Mounts result) (D.told disk.old) (D.told disk.new) }
         ensures whole { IsWhole result }

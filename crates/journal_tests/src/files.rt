@@ -1,9 +1,9 @@
 //! A disk and a journal over a file.
 
-use crate::journals::{EXECUTE, ONE_RECORD, add, has_records};
+use crate::journals::{EXECUTE, ONE_RECORD, add, mounts};
 use disk::disks::{Disk, Given, Measured, Stored};
 use disk::file_disk::FileDisk;
-use journal_core::journal::{Appended, Journal};
+use journal_core::journal::Appended;
 use std::test::Fail;
 use std::{env, fs, process};
 
@@ -48,7 +48,7 @@ fn a_file_keeps_a_journal(rt: HostRuntime) -> Result<(), Fail> {
     let bytes = fs::read(&rt, name.as_str())?;
     assert_eq!(rt; bytes.as_slice(), ONE_RECORD);
     let mut disk = FileDisk::new(&rt, name.as_str());
-    assert!(rt; has_records(&Journal::mount(rt.alloc(), &mut disk), &[EXECUTE]));
+    assert!(rt; mounts(rt.alloc(), &mut disk, &[EXECUTE]));
     drop(disk);
     fs::remove_file(&rt, name.as_str())?;
     Ok(())

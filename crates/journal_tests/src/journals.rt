@@ -1,7 +1,11 @@
 //! Files as journals.
 
+ghost use Rattle.std.specs.Prelude.{IfSome};
+ghost use Rattle.journal_core.specs.Appends.{IsMounted};
+
 use disk::disks::Disk;
 use disk::mem_disk::MemDisk;
+use journal_core::entries::Entry;
 use journal_core::journal::{Appended, Journal};
 use journal_core::mounting::Mounted;
 use journal_core::records::is_record;
@@ -41,23 +45,31 @@ pub(crate) fn block(
     Ok(all)
 }
 
-pub(crate) fn has_records(mounted: &Mounted, want: &[&[u8]]) -> bool {
-    match mounted {
-        Mounted::Ready(_, records) => {
-            records.len() == want.len()
-                && records
-                    .as_slice()
-                    .iter()
-                    .zip(want)
-                    .all(|(found, want)| found.as_slice() == *want)
+// Whether a journal has these records.
+fn has_records<D: Disk>(alloc: Global, disk: &mut D, journal: &Journal, want: &[&[u8]]) -> bool
+    requires { IfSome (D.told disk.old) (IsMounted journal.now.gate) }
+{
+    let mut place = 0u64;
+    'records: for want in want {
+        match journal.entry_at(alloc, disk, place) {
+            Entry::Next(entry) => {
+                if entry.as_slice() != *want {
+                    return false;
+                }
+                place += 9 + entry.len() as u64;
+            }
+            Entry::End | Entry::Other | Entry::Failed | Entry::OutOfMemory => return false,
         }
-        Mounted::Damaged(_) | Mounted::DiskFault | Mounted::OutOfMemory => false,
     }
+    matches!(journal.entry_at(alloc, disk, place), Entry::End)
 }
 
 // Whether a disk is mounted with these records.
-fn mounts<D: Disk>(alloc: Global, disk: &mut D, want: &[&[u8]]) -> bool {
-    has_records(&Journal::mount(alloc, disk), want)
+pub(crate) fn mounts<D: Disk>(alloc: Global, disk: &mut D, want: &[&[u8]]) -> bool {
+    match Journal::mount(alloc, disk) {
+        Mounted::Ready(journal) => has_records(alloc, disk, &journal, want),
+        Mounted::Damaged(_) | Mounted::DiskFault | Mounted::OutOfMemory => false,
+    }
 }
 
 // Whether a file is mounted with these records, and what it is then.
@@ -71,7 +83,7 @@ fn damage(alloc: Global, file: &[u8]) -> Result<Option<u64>, AllocError> {
     let mut disk = MemDisk::new(alloc, file, Vec::new(alloc))?;
     match Journal::mount(alloc, &mut disk) {
         Mounted::Damaged(place) => Ok(Some(place)),
-        Mounted::Ready(_, _) | Mounted::DiskFault | Mounted::OutOfMemory => Ok(None),
+        Mounted::Ready(_) | Mounted::DiskFault | Mounted::OutOfMemory => Ok(None),
     }
 }
 
@@ -81,10 +93,7 @@ pub(crate) fn add<D: Disk>(alloc: Global, disk: &mut D, entry: &[u8]) -> Appende
         return Appended::JournalFull;
     };
     match Journal::mount(alloc, disk) {
-        Mounted::Ready(mut journal, records) => {
-            drop(records);
-            journal.append(alloc, disk, entry)
-        }
+        Mounted::Ready(mut journal) => journal.append(alloc, disk, entry),
         Mounted::DiskFault => Appended::DiskFault,
         Mounted::Damaged(_) | Mounted::OutOfMemory => Appended::OutOfMemory,
     }
@@ -171,8 +180,7 @@ fn fails<D: Disk>(alloc: Global, disk: &mut D, entry: &[u8]) -> bool {
         return false;
     };
     match Journal::mount(alloc, disk) {
-        Mounted::Ready(mut journal, records) => {
-            drop(records);
+        Mounted::Ready(mut journal) => {
             !journal.failed()
                 && journal.append(alloc, disk, entry) == Appended::DiskFault
                 && journal.failed()
@@ -184,7 +192,8 @@ fn fails<D: Disk>(alloc: Global, disk: &mut D, entry: &[u8]) -> bool {
 #[test]
 fn a_fault_is_told(rt: HostRuntime) -> Result<(), Fail> {
     let alloc = rt.alloc();
-    let mut disk = MemDisk::new(alloc, ONE_RECORD, Vec::from_slice(alloc, &[4u64])?)?;
+    let mut disk = MemDisk::new(alloc, ONE_RECORD, Vec::from_slice(alloc, &[6u64])?)?;
+    // The mount has six calls.
     assert!(rt; fails(alloc, &mut disk, EXECUTE));
     assert!(rt; mounts(alloc, &mut disk, &[EXECUTE]));
     Ok(())

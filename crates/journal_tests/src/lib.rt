@@ -1,6 +1,6 @@
 //! Disks and journals: what no clause says of them, each of their public calls once with ample
-//! memory, and a journal that is stopped at each call of its disk, also while it
-//! is written anew.
+//! memory, and a journal that is stopped at each call of its disk, also while a rotation is added
+//! to it and while it is written anew.
 #![tactic(auto)]
 
 #[cfg(test)]

@@ -65,7 +65,8 @@ fn a_rotation_is_there_whole_or_not_at_all(rt: HostRuntime) -> Result<(), Fail> 
             stops = stops.saturating_add(1);
         }
     }
-    // The mount has four calls, and so has the one record.
-    assert_eq!(rt; stops, 8);
+    // The mount has four calls and two for each of the three records, which are read again; the record
+    // that is added has four.
+    assert_eq!(rt; stops, 20);
     Ok(())
 }

@@ -127,8 +127,8 @@ fn what_was_answered_is_there(rt: HostRuntime) -> Result<(), Fail> {
             stops = stops.saturating_add(1);
         }
     }
-    // The mount has four calls, and so has each of the three records.
-    assert_eq!(rt; stops, 16);
+    // The mount of an empty file has five calls, each of the three records four.
+    assert_eq!(rt; stops, 17);
     Ok(())
 }
 

@@ -1,10 +1,9 @@
 -- The records were served, or the first that isn't.
 use Rattle.std.proofs.Common.{refl}
-use Rattle.journal_compaction.proofs.Mounting.{led_to, refused_from}
 use Rattle.journal_compaction.proofs.finding.serve_found.Goals as goal
 
-pub returns-in-Served : goal.returns-in-Served
-returns-in-Served c = (refl, led_to c.args.entries _ _ _ c.as_slice.ensures c.new-server.ensures c.in-Served.ensures)
+pub returns-in-Served-clause-content : goal.returns-in-Served-clause-content
+returns-in-Served-clause-content g c = (refl, rw c.new-server.ensures at c.in-Served.ensures.content)
 
-pub returns-in-Refused : goal.returns-in-Refused
-returns-in-Refused c = refused_from c.args.entries _ _ _ c.as_slice.ensures c.new-server.ensures c.in-Refused.ensures
+pub returns-in-Refused-clause-content : goal.returns-in-Refused-clause-content
+returns-in-Refused-clause-content g c = rw c.new-server.ensures at c.in-Refused.ensures.content

@@ -1,0 +1,18 @@
+-- The records before the place were served, and the journal is still mounted.
+use Rattle.std.proofs.Common.{◌≡◌, ◌≤◌, ◌-◌}
+use Rattle.std.specs.Prelude.{IfSome}
+use Rattle.journal_core.specs.Appends.{IsMounted}
+use Rattle.journal_command.proofs.Rereading.{HasServedTo}
+use Rattle.journal_command.proofs.restarts.serve_records.Given as goal
+
+abbrev pub invariant-entries : goal.invariant-entries
+invariant-entries g l = record {
+  served : HasServedTo l.journal.gate l.place l.fn.server l.server (g.D.Disk.told l.fn.disk) (g.D.Disk.told l.disk);
+  inside : l.place ≤ l.journal.gate;
+  mounted : IfSome (g.D.Disk.told l.disk) (IsMounted l.journal.gate);
+  counts : g.D.Disk.faults l.disk ≡ g.D.Disk.faults l.fn.disk;
+  same : g.D.Disk.names l.disk ≡ g.D.Disk.names l.fn.disk;
+}
+
+abbrev pub decreases-entries : goal.decreases-entries
+decreases-entries g l = l.journal.gate - l.place

@@ -1,0 +1,54 @@
+-- What stands at the gate, before the last one or there.
+use Rattle.std.proofs.Common.{◌≡◌, ◌<◌, rules}
+use Rattle.journal_core.specs.Appends.{IsMounted}
+use Rattle.journal_core.specs.Reading.{IsKeptTo}
+use Rattle.journal_core.specs.declared.reading.Stood.TheVariants as stood
+use Rattle.journal_core.proofs.Appending.{if_some_then}
+use Rattle.journal_core.proofs.Following.{broken_other_told, closed_other_told, end_told, failed_entry_told, mounted_to, next_told, stands_told, still_mounted_told, unheld_entry_told}
+use Rattle.journal_core.proofs.journal.Journal.entry_at.Goals as goal
+
+pub returns-then-place-last_gate-clause-content : goal.returns-then-place-last_gate-clause-content
+returns-then-place-last_gate-clause-content g c = end_told c.args.place c.args.self.now.gate (search rules) _ c.requires.mounted
+
+pub stood_at-requires-clause-kept : goal.stood_at-requires-clause-kept
+stood_at-requires-clause-kept g c = rw c.last_gate-2.ensures (if_some_then (IsMounted c.args.self.now.gate) (IsKeptTo c.args.self.now.gate) (mounted_to c.args.self.now.gate) _ c.requires.mounted)
+
+pub returns-in-Open-clause-content : goal.returns-in-Open-clause-content
+returns-in-Open-clause-content g c =
+    let less : c.args.place < c.args.self.now.gate = search rules in
+    next_told c.args.place c.args.self.now.gate less c.in-Open.entry _ _ c.in-Open.ensures.content
+
+pub returns-in-Open-clause-mounted : goal.returns-in-Open-clause-mounted
+returns-in-Open-clause-mounted g c = still_mounted_told c.args.self.now.gate _ _ c.requires.mounted (stands_told (stood.Open c.in-Open.entry) c.args.place _ _ c.in-Open.ensures.content)
+
+pub returns-in-Closed-clause-content : goal.returns-in-Closed-clause-content
+returns-in-Closed-clause-content g c =
+    let less : c.args.place < c.args.self.now.gate = search rules in
+    closed_other_told c.args.place c.args.self.now.gate less _ _ c.in-Closed.ensures.content
+
+pub returns-in-Closed-clause-mounted : goal.returns-in-Closed-clause-mounted
+returns-in-Closed-clause-mounted g c = still_mounted_told c.args.self.now.gate _ _ c.requires.mounted (stands_told stood.Closed c.args.place _ _ c.in-Closed.ensures.content)
+
+pub returns-in-Broken-clause-content : goal.returns-in-Broken-clause-content
+returns-in-Broken-clause-content g c =
+    let less : c.args.place < c.args.self.now.gate = search rules in
+    broken_other_told c.args.place c.args.self.now.gate less _ _ c.in-Broken.ensures.content
+
+pub returns-in-Broken-clause-mounted : goal.returns-in-Broken-clause-mounted
+returns-in-Broken-clause-mounted g c = still_mounted_told c.args.self.now.gate _ _ c.requires.mounted (stands_told stood.Broken c.args.place _ _ c.in-Broken.ensures.content)
+
+pub returns-in-Failed-clause-content : goal.returns-in-Failed-clause-content
+returns-in-Failed-clause-content g c =
+    let less : c.args.place < c.args.self.now.gate = search rules in
+    failed_entry_told c.args.place c.args.self.now.gate less _ _ c.in-Failed.ensures.content
+
+pub returns-in-Failed-clause-mounted : goal.returns-in-Failed-clause-mounted
+returns-in-Failed-clause-mounted g c = still_mounted_told c.args.self.now.gate _ _ c.requires.mounted (stands_told stood.Failed c.args.place _ _ c.in-Failed.ensures.content)
+
+pub returns-in-OutOfMemory-clause-content : goal.returns-in-OutOfMemory-clause-content
+returns-in-OutOfMemory-clause-content g c =
+    let less : c.args.place < c.args.self.now.gate = search rules in
+    unheld_entry_told c.args.place c.args.self.now.gate less _ _ c.in-OutOfMemory.ensures.content
+
+pub returns-in-OutOfMemory-clause-mounted : goal.returns-in-OutOfMemory-clause-mounted
+returns-in-OutOfMemory-clause-mounted g c = still_mounted_told c.args.self.now.gate _ _ c.requires.mounted (stands_told stood.OutOfMemory c.args.place _ _ c.in-OutOfMemory.ensures.content)

@@ -1,0 +1,31 @@
+-- What is found in a file as a journal.
+use Rattle.std.specs.Prelude.{◌≡◌, ◌⊎◌, ℕ, ◌≤◌, List, [], ◌∷◌, ◌++◌, length}
+use Rattle.ae_edge.specs.Devices.{Rose}
+use Rattle.disk.specs.Durable.{StaysKept}
+use Rattle.disk.specs.Moments.{Moments}
+use Rattle.journal_core.specs.Journals.{Damaged, Opens, ReadsAs}
+use Rattle.journal_core.specs.declared.scanning.Scanned.{Scanned}
+use Rattle.journal_core.specs.declared.scanning.Scanned.TheVariants as scanned
+
+-- the entries of a file, and the place of its last gate
+pub record IsParsed (entries : List (List ℕ)) (gate : ℕ) (file : List ℕ) : Type 0 where
+  pub front : List ℕ
+  pub opens : Opens entries front
+  pub gate_is : gate ≡ length front
+  pub whole : ((length file ≤ 1) × (front ≡ [])) ⊎ ((rest : List ℕ) × (file ≡ front ++ 0 ∷ rest))
+
+abbrev pub IsFound : Scanned → List ℕ → Type 0
+IsFound (scanned.Whole gate) file = (entries : List (List ℕ)) × IsParsed entries gate file
+IsFound (scanned.Broken place) file = ReadsAs (Damaged place) file
+IsFound scanned.Failed file = Unit {0}
+IsFound scanned.OutOfMemory file = Unit {0}
+
+abbrev pub Scans : Scanned → Moments → Moments → Type 0
+Scans found old new = IsFound found old.now.seen × StaysKept old new
+
+-- the count of faults stays, but where a call failed
+abbrev pub CountsScanned : Scanned → ℕ → ℕ → Type 0
+CountsScanned (scanned.Whole gate) old new = new ≡ old
+CountsScanned (scanned.Broken place) old new = new ≡ old
+CountsScanned scanned.Failed old new = Rose old new
+CountsScanned scanned.OutOfMemory old new = new ≡ old
