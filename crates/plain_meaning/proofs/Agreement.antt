@@ -65,6 +65,7 @@ use Rattle.plain_meaning.proofs.Between.{StandsFor, IsSendableParam, DescribedAs
 use Rattle.plain_meaning.proofs.Pairs.{stands, Standing, standing_is_one_to_one, standing_is_within}
 use Rattle.plain_meaning.proofs.Sending.{Each, told_among}
 use Rattle.plain_meaning.proofs.Rows.{rows_opened, rows_skipped}
+use Rattle.plain_meaning.proofs.Sealed.{key_of_map}
 use Rattle.plain_meaning.proofs.Suiting.{encs_alone, plain_atoms_of, suits, is_held, told_here, keys_told}
 use Rattle.plain_meaning.proofs.Understood.{transact_alone}
 use Rattle.plain_meaning.proofs.Used.{tys_in, plain_in, atoms_in, sent_typed, sent_stands}
@@ -123,7 +124,7 @@ module _ (laws : LawsBelow) (keys : KeyMap) (trusted : List (List ℕ)) (key_for
       let es = encs_alone d.meant in
       let atoms = atoms_in sent in
       let us = uses_of p in
-      let s = suits laws keys trusted (catalog_of now n) p sendable d sent sealed in
+      let s = suits laws (AnswersOf keys trusted) (key_of_map laws.seals keys trusted) (catalog_of now n) p sendable d sent sealed in
       let admitted = laws.admitted (alone b) es s.on.placed s.inferred in
       let values : AreValuesOf is_short (alone b).params es atoms =
       subst (λ tys. AreValuesOf is_short tys es atoms) s.types (subst (λ es. AreValuesOf is_short (tys_in us) es atoms) s.encs (sent_typed laws.seals keys trusted p.keys us sent s.fit sealed)) in

@@ -1,5 +1,5 @@
 -- Over the server from the empty state each reply is awaited: whatever is asked, the server's replies are of their kinds, and its rows of their columns.
--- And where the keys are a vault's, and the scripts proper, no refusal is of a parameter as it is sent: each suits what was described.
+-- And where the vault's answers are keys, and the scripts proper, no refusal is of a parameter as it is sent: each suits what was described.
 use Rattle.std.proofs.Common.{◌≡◌, ℕ, ◌+◌, ◌-◌, List, [], ◌∷◌, ◌++◌, map, length, Option, Some, None, Result, Ok, Err, Bool, true, false, cond, refl, sym, ap, ◌∙◌, subst, arith, eq-eqb}
 use Rattle.std.specs.Prelude.{IfErr, ◌==◌}
 use Rattle.std.specs.List.{All, AllZip}
@@ -16,7 +16,6 @@ use Rattle.ae_base.specs.declared.keys.KeyMeta.{KeyMeta}
 use Rattle.ae_base.specs.declared.faults.SqlFault.{SqlFault}
 use Rattle.ae_base.specs.declared.faults.SqlFault.TheVariants.{Moved}
 use Rattle.ae_base.specs.declared.values.Value.{Value}
-use Rattle.ae_edge.specs.Vaults.{KeyMap}
 use Rattle.aes_block.specs.Aes.{IsBlock}
 use Rattle.hmac_kdf.specs.Keys.{Keys}
 use Rattle.enc_types.specs.UsedAlone.{alone, is_used}
@@ -34,6 +33,7 @@ use Rattle.engine.specs.Step.{Answer, Rows, Changed, Defined}
 use Rattle.engine.specs.Typed.{param_classes}
 use Rattle.engine.specs.WellTyped.{AreValuesOf, AreResults, IsAnswerOf}
 use Rattle.engine.specs.declared.answers.ResultColumn.{ResultColumn}
+use Rattle.wire_messages.specs.Exchanges.{Served}
 use Rattle.wire_messages.specs.declared.params.SentParam.{SentParam}
 use Rattle.wire_messages.specs.declared.replies.Done.TheVariants.{Answered}
 use Rattle.wire_messages.specs.declared.replies.Done.TheVariants as done_as
@@ -42,12 +42,12 @@ use Rattle.wire_messages.specs.declared.replies.Reply.TheVariants.{Row, Ended}
 use Rattle.wire_messages.specs.declared.replies.Reply.TheVariants as reply
 use Rattle.statement_analysis.specs.Describing.{Meant, understood, description}
 use Rattle.statement_analysis.specs.Params.{declaration_of, suited}
-use Rattle.server_core.specs.Serve.{State, catalog_of, header, sent_column, described, answered, executed}
+use Rattle.server_core.specs.Serve.{State, catalog_of, header, sent_column, refused, described, answered, executed}
 use Rattle.server_core.specs.States.{any_cell}
 use Rattle.conversation.specs.Batches.{why_unfit, unless}
 use Rattle.conversation.specs.Cells.{read_atoms}
 use Rattle.conversation.specs.Pending.{Pending, uses_of}
-use Rattle.conversation.specs.Keys.{open_key, trusted_meta}
+use Rattle.conversation.specs.Keys.{trusted_meta}
 use Rattle.ae_base.specs.declared.types.Enc.{Enc}
 use Rattle.wire_messages.specs.Messages.{Description}
 use Rattle.conversation.specs.Sessions as conversation
@@ -68,6 +68,7 @@ use Rattle.plain_meaning.specs.Awaits.{IsHeardBy, IsHeard}
 use Rattle.plain_meaning.specs.Below.{LawsBelow}
 use Rattle.plain_meaning.specs.PlainOutcomes.{IsPlainFault, IsPlainRefusal}
 use Rattle.plain_meaning.specs.Batches.{declarations_of}
+use Rattle.plain_meaning.specs.Suits.{IsPlainReply, IsVaultAnswer}
 use Rattle.plain_meaning.proofs.Agreement.{whole_count}
 use Rattle.plain_meaning.proofs.Between.{HoldsBatch, HoldsIn, Goes, stays_so, goes_by, resting}
 use Rattle.plain_meaning.proofs.Causes.{understood_plain, transact_plain}
@@ -79,7 +80,7 @@ use Rattle.plain_meaning.proofs.Suiting.{encs_alone, suits, is_held}
 use Rattle.plain_meaning.proofs.Sound.{AreProperValues, AreTyped, IsProperShown, Leaves, sent_types, stays_proper}
 use Rattle.plain_meaning.proofs.Used.{atoms_in, uses_sendable}
 use Rattle.plain_meaning.proofs.Rows.{IsAt, row_awaited, count_rows}
-use Rattle.plain_meaning.proofs.Walk.{AnswersOf, AreSealed, sealed_as, types_shown, same_uses, sealing_goes, reading_goes}
+use Rattle.plain_meaning.proofs.Walk.{AreSealedBy, types_shown, same_uses, sealing_goes, reading_goes}
 
 -- ---- rows of their columns
 
@@ -105,28 +106,40 @@ module _ (columns : List ResultColumn) (total : ℕ) where
       let s : total ≡ (count + 1) + length rows = e ∙ sym (count_rows count row rows) in
       rw x (skipped P rows (All-tail (AllZip (IsAt any_cell) columns) row rows t) c.1 shown (count + 1) s h)
 
--- where the scripts are proper the keys are a vault's, and no refusal is of a parameter as it is sent
-module _ (laws : LawsBelow) (keys : KeyMap) (Proper : Type 0) where
+-- where the scripts are proper the vault's answers are keys, and no refusal is of a parameter as it is sent
+module _ (laws : LawsBelow) (Proper : Type 0) where
   abbrev pub IsAnswer : KeyMeta → Result Keys DriverFault → Type 0
-  IsAnswer m r = Proper → open_key keys m ≡ r
+  IsAnswer m r = Proper → IsVaultAnswer r
+
+  abbrev pub FineReply : Reply → Type 0
+  FineReply reply = Proper → IsPlainReply reply
 
   abbrev pub Fine : outcomes.Outcome → Type 0
   Fine comes = Proper → IsPlainRefusal comes
 
   abbrev pub Goes_on : Talk → State → List Reply → Type 0
-  Goes_on t state queue = Says IsAnswer Fine t state queue
+  Goes_on t state queue = Says IsAnswer FineReply Fine t state queue
 
-  -- by the values that are trusted
-  abbrev IsTrustedAnswer : List (List ℕ) → KeyMeta → Result Keys DriverFault → Type 0
-  IsTrustedAnswer trusted m r = Proper → AnswersOf keys trusted m r
+  -- what a request brings
+  abbrev Answers : Talk → Served State → Type 0
+  Answers t s = All FineReply s.replies × Goes_on t s.after s.replies
+
+  one_fine : (r : Reply) → FineReply r → All FineReply (r ∷ [])
+  one_fine r h = All-cons FineReply r [] h (All-nil FineReply)
+
+  rows_fine : (rows : List (List Atom)) (last : Reply) → FineReply last → All FineReply (map Row rows ++ last ∷ [])
+  rows_fine [] last h = one_fine last h
+  rows_fine (row ∷ rows) last h = All-cons FineReply (Row row) (map Row rows ++ last ∷ []) (λ is. tt) (rows_fine rows last h)
 
   module _ (now : State) (queue : List Reply) where
-    opens : (trusted : List (List ℕ)) (m : KeyMeta) (f g : Result Keys DriverFault → Talk) → ((r : Result Keys DriverFault) → IsTrustedAnswer trusted m r → Goes_on (f r) now queue) → Goes_on (opening_by trusted m f) now queue
-    opens trusted m f g h = at (trusted_meta trusted m) refl
+    -- by the values that are trusted
+    opens : (trusted : List (List ℕ)) (m : KeyMeta) (f g : Result Keys DriverFault → Talk) → ((r : Result Keys DriverFault) → IsAnswer m r → Goes_on (f r) now queue)
+        → Goes_on (opening_by trusted m f) now queue
+    opens trusted m f g h = at (trusted_meta trusted m)
       where
-        at : (t : Result KeyMeta DriverFault) → trusted_meta trusted m ≡ t → Goes_on (on_result (λ told. Opens told f) (λ e. f (Err e)) t) now queue
-        at (Ok told) e = λ r answer. h r (λ is. ap (λ t. t >>= open_key keys) e ∙ answer is)
-        at (Err fault) e = h (Err fault) (λ is. ap (λ t. t >>= open_key keys) e)
+        at : (t : Result KeyMeta DriverFault) → Goes_on (on_result (λ told. Opens told f) (λ e. f (Err e)) t) now queue
+        at (Ok told) = h
+        at (Err fault) = h (Err fault) (λ is. tt)
 
     draws : (f g : List ℕ → Talk) → ((iv vi : List ℕ) → IsBlock iv → IsBlock vi → Goes_on (f iv) now queue) → Goes_on (Draws f) now queue
     draws f g h = λ iv n b. h iv iv (n, b) (n, b)
@@ -218,8 +231,9 @@ module _ (laws : LawsBelow) (keys : KeyMap) (Proper : Type 0) where
         says state [] aloud (k comes None (resting after)) comes p (go comes None after state stands (stays_so Proper state n after h) held (told_none comes p shown))
 
     -- a refusal is heard
-    refused_awaits : (f : SqlFault) → Fine (outcome.Refused f) → Goes_on answering state (reply.Refused f ∷ [])
-    refused_awaits f p = hears state (reply.Refused f ∷ []) aloud session.Sent nothing_shown (answered_on aloud trusted k) (prints (outcome.Refused f) p tt None tt none)
+    refused_awaits : (f : SqlFault) → Fine (outcome.Refused f) → Answers answering (refused state f)
+    refused_awaits f p =
+        (one_fine (reply.Refused f) p, hears state (reply.Refused f ∷ []) aloud session.Sent nothing_shown (answered_on aloud trusted k) (prints (outcome.Refused f) p tt None tt none))
 
     -- ---- an answer
 
@@ -231,7 +245,7 @@ module _ (laws : LawsBelow) (keys : KeyMap) (Proper : Type 0) where
           let accepted : Accepted = Some (map sent_column columns) in
           let goes : (comes : outcomes.Outcome) → Fine comes → (Proper → IsProperShown comes) → Goes_on (k comes accepted session.Idle) now [] =
           λ comes p shown. onward comes accepted (record { plain = p; types = λ is. sent_types columns (proper is).types; shown = shown }) in
-          reading_goes trusted (IsTrustedAnswer trusted) (λ t u. Goes_on t now queue) (opens now queue trusted) aloud here columns k k
+          reading_goes trusted IsAnswer (λ t u. Goes_on t now queue) (opens now queue trusted) aloud here columns k k
           (λ os none_failed opened.
           hears now queue aloud (session.Reading (types_shown columns) os 0) (record { titles = titles_of (header here columns); rows = [] }) (rows_on aloud (λ comes. k comes accepted))
           (read columns (length rows) aloud now (λ comes. k comes accepted) goes os rows t c (λ is. (proper is).values) (record { titles = titles_of (header here columns); rows = [] }) (λ is. All-nil (All IsProper)) 0 (whole_count rows)))
@@ -244,13 +258,17 @@ module _ (laws : LawsBelow) (keys : KeyMap) (Proper : Type 0) where
       one_reply queue reply comes e h p shown =
           hears now queue aloud session.Sent nothing_shown (answered_on aloud trusted k) (rw (e, h) (says now [] aloud (k comes None session.Idle) comes p (onward comes None (told_none comes p shown))))
 
-      answer_awaits : (x : Result Answer SqlFault) → IfErr x IsPlainFault → IsAnswerOf any_cell x → BothAnswer (AnswersCorrespond (Related own_cell)) x x → (Proper → IsProperAnswer x)
-          → let s = answered here x now in Goes_on answering s.after s.replies
+      answer_awaits : (x : Result Answer SqlFault) → IfErr x IsPlainFault → IsAnswerOf any_cell x → BothAnswer (AnswersCorrespond (Related own_cell)) x x
+          → (Proper → IsProperAnswer x) → Answers answering (answered here x now)
       answer_awaits (Ok (Rows columns rows)) b t c proper =
-          hears now (reply.Columns (header here columns) ∷ (map Row rows ++ Ended (Answered (length rows)) ∷ [])) aloud session.Sent nothing_shown (answered_on aloud trusted k) (rows_await columns rows t c.1 proper)
-      answer_awaits (Ok (Changed count)) b t c proper = one_reply _ (Ended (done_as.Changed count)) (outcome.Changed count) refl refl (λ is. tt) tt
-      answer_awaits (Ok Defined) b t c proper = one_reply _ (Ended done_as.Defined) outcome.Defined refl refl (λ is. tt) tt
-      answer_awaits (Err f) b t c proper = one_reply _ (reply.Refused f) (outcome.Refused f) refl refl (λ is. b) tt
+          let queue : List Reply = map Row rows ++ Ended (Answered (length rows)) ∷ [] in (
+            All-cons FineReply (reply.Columns (header here columns)) queue (λ is. tt) (rows_fine rows (Ended (Answered (length rows))) (λ is. tt)),
+            hears now (reply.Columns (header here columns) ∷ queue) aloud session.Sent nothing_shown (answered_on aloud trusted k) (rows_await columns rows t c.1 proper),
+          )
+      answer_awaits (Ok (Changed count)) b t c proper =
+          (one_fine (Ended (done_as.Changed count)) (λ is. tt), one_reply _ (Ended (done_as.Changed count)) (outcome.Changed count) refl refl (λ is. tt) tt)
+      answer_awaits (Ok Defined) b t c proper = (one_fine (Ended done_as.Defined) (λ is. tt), one_reply _ (Ended done_as.Defined) outcome.Defined refl refl (λ is. tt) tt)
+      answer_awaits (Err f) b t c proper = (one_fine (reply.Refused f) (λ is. b), one_reply _ (reply.Refused f) (outcome.Refused f) refl refl (λ is. b) tt)
 
     -- ---- what is pending is executed, whatever values are sent
 
@@ -261,8 +279,7 @@ module _ (laws : LawsBelow) (keys : KeyMap) (Proper : Type 0) where
 
     step_awaits : (text : List ℕ) (sent : List SentParam) (meant : Meant) (atoms : List Atom) → understood here text (map declaration_of sent) ≡ Ok meant → suited meant.encs sent ≡ Ok atoms → (Proper → AreProperSent sent atoms)
         → let done = transact state n (ask_of (execution meant.bound meant.encs atoms)) in
-        let s = answered here done.answer done.after in
-        Goes_on answering s.after s.replies
+        Answers answering (answered here done.answer done.after)
     step_awaits text sent meant atoms u s sends =
         let b = meant.bound in
         let declarations = map declaration_of sent in
@@ -302,7 +319,7 @@ module _ (laws : LawsBelow) (keys : KeyMap) (Proper : Type 0) where
       proper : AreProperSent sent atoms
 
     suits_await : (text : List ℕ) (sent : List SentParam) (meant : Meant) → (Proper → IsSuited text sent) → understood here text (map declaration_of sent) ≡ Ok meant → (r : Result (List Atom) SqlFault) → suited meant.encs sent ≡ r
-        → let s = executed state n (r >>= λ atoms. Ok (meant, atoms)) in Goes_on answering s.after s.replies
+        → Answers answering (executed state n (r >>= λ atoms. Ok (meant, atoms)))
     suits_await text sent meant f u (Ok atoms) s = step_awaits text sent meant atoms u s (λ is. so (f is))
       where
         so : IsSuited text sent → AreProperSent sent atoms
@@ -322,21 +339,23 @@ module _ (laws : LawsBelow) (keys : KeyMap) (Proper : Type 0) where
             absurd cc
 
     means_await : (text : List ℕ) (sent : List SentParam) → (Proper → IsSuited text sent) → (r : Result Meant SqlFault) → IfErr r IsPlainFault → understood here text (map declaration_of sent) ≡ r
-        → let s = executed state n (r >>= λ meant. suited meant.encs sent >>= λ atoms. Ok (meant, atoms)) in Goes_on answering s.after s.replies
+        → Answers answering (executed state n (r >>= λ meant. suited meant.encs sent >>= λ atoms. Ok (meant, atoms)))
     means_await text sent f (Ok meant) b u = suits_await text sent meant f u (suited meant.encs sent) refl
     means_await text sent f (Err e) b u = refused_awaits e (λ is. b)
 
-    asked_awaits : (p : Pending) → HoldsBatch Proper here p → (sent : List SentParam) → (Proper → AreSealed keys trusted p.keys (uses_of p) sent) → (t : Bool) → (p.version == here.version) ≡ t
+    asked_awaits : (p : Pending) → HoldsBatch Proper here p → (sent : List SentParam) → AreSealedBy IsAnswer p.keys (uses_of p) sent → (t : Bool) → (p.version == here.version) ≡ t
         → let moved : SqlFault = Moved (record { seen = p.version; now = here.version }) in
-        let s = executed state n (cond t (understood here p.batch.text (map declaration_of sent)) (Err moved) >>= λ meant. suited meant.encs sent >>= λ atoms. Ok (meant, atoms)) in
-        Goes_on answering s.after s.replies
+        Answers answering (executed state n (cond t (understood here p.batch.text (map declaration_of sent)) (Err moved) >>= λ meant. suited meant.encs sent >>= λ atoms. Ok (meant, atoms)))
     asked_awaits p h sent sealed true e =
         means_await p.batch.text sent
         (λ is.
         let d = h.same (eqb-true p.version here.version e) in
-        let s = suits laws keys trusted here p (h.sendable is) d sent (sealed is) in
+        let s = suits laws IsAnswer (λ m ks answer. answer is) here p (h.sendable is) d sent sealed in
         let sendable = uses_sendable p.batch.params p.encs (h.sendable is) in
-        let proper : AreProperSent sent (atoms_in sent) = record { types = sent_types_proper laws.seals keys trusted p.keys (uses_of p) sent sendable (sealed is); values = sent_proper keys trusted p.keys (uses_of p) sent sendable (sealed is) } in
+        let proper : AreProperSent sent (atoms_in sent) = record {
+          types = sent_types_proper IsAnswer p.keys (uses_of p) sent sendable sealed;
+          values = sent_proper IsAnswer p.keys (uses_of p) sent sendable sealed;
+        } in
         record { meant = record { bound = alone d.meant.bound; encs = encs_alone d.meant }; means = s.understood; atoms = atoms_in sent; suits = s.suited; proper = proper })
         (understood here p.batch.text (map declaration_of sent)) (understood_plain here p.batch.text (map declaration_of sent)) refl
     asked_awaits p h sent sealed false e = refused_awaits (Moved (record { seen = p.version; now = here.version })) (λ is. tt)
@@ -346,8 +365,8 @@ module _ (laws : LawsBelow) (keys : KeyMap) (Proper : Type 0) where
         let onward : Session → Talk = λ after. hearing aloud after nothing_shown (answered_on aloud trusted k) in
         let sends : List SentParam → Talk = λ params. asked aloud onward k (Ok (request.Execute n p.version p.batch.text params)) session.Sent in
         let fails : DriverFault → Talk = λ f. asked aloud onward k (Err f) session.Idle in
-        sealing_goes trusted (IsTrustedAnswer trusted) (λ t u. Goes_on t state []) (opens state [] trusted) p.keys (draws state []) (uses_of p) (uses_of p) (same_uses (uses_of p)) sends sends fails fails
-        (λ sent other none_failed s z. asked_awaits p h sent (λ is. sealed_as (IsTrustedAnswer trusted) (AnswersOf keys trusted) (λ m r a. a is) p.keys (uses_of p) sent s) (p.version == here.version) refl)
+        sealing_goes trusted IsAnswer (λ t u. Goes_on t state []) (opens state [] trusted) p.keys (draws state []) (uses_of p) (uses_of p) (same_uses (uses_of p)) sends sends fails fails
+        (λ sent other none_failed s z. asked_awaits p h sent s (p.version == here.version) refl)
         (λ f some. prints (outcome.Failed f) (λ is. tt) tt None tt none)
 
     pub executing_awaits : (before : Option Pending) → HoldsIn Proper state.shared (transaction_at state n) before → Goes_on (executing aloud trusted n (resting before) k) state []
@@ -369,17 +388,20 @@ module _ (laws : LawsBelow) (keys : KeyMap) (Proper : Type 0) where
       awaiting = hearing aloud (session.Begun batch) nothing_shown (described_on aloud ready k)
 
       described_awaits : why_unfit batch ≡ None → (r : Result Meant SqlFault) → IfErr r IsPlainFault → understood here batch.text (declarations_of batch) ≡ r
-          → let s = described state (r >>= λ meant. Ok (description here (declarations_of batch) meant)) in
-          Goes_on awaiting s.after s.replies
+          → Answers awaiting (described state (r >>= λ meant. Ok (description here (declarations_of batch) meant)))
       described_awaits fit (Ok meant) b e =
           let h = is_held laws Proper here batch params proper fit meant e in
           let found = h.0 in
           let d = description here (declarations_of batch) meant in
-          let encs = told_among (is_used meant.bound) 0 meant.encs in
-          hears state (reply.Described d ∷ []) aloud (session.Begun batch) nothing_shown (described_on aloud ready k)
-          (rw found (readied_awaits d encs h.1 (first_open batch.forced batch.params encs)))
-      described_awaits fit (Err f) b e =
-          hears state (reply.Refused f ∷ []) aloud (session.Begun batch) nothing_shown (described_on aloud ready k) (prints (outcome.Refused f) (λ is. b) tt None tt none)
+          let encs = told_among (is_used meant.bound) 0 meant.encs in (
+            one_fine (reply.Described d) (λ is. tt),
+            hears state (reply.Described d ∷ []) aloud (session.Begun batch) nothing_shown (described_on aloud ready k)
+                (rw found (readied_awaits d encs h.1 (first_open batch.forced batch.params encs))),
+          )
+      described_awaits fit (Err f) b e = (
+        one_fine (reply.Refused f) (λ is. b),
+        hears state (reply.Refused f ∷ []) aloud (session.Begun batch) nothing_shown (described_on aloud ready k) (prints (outcome.Refused f) (λ is. b) tt None tt none),
+      )
 
       begun_awaits : (o : Option DriverFault) → why_unfit batch ≡ o
           → let t = begun n (unless o batch) in Goes_on (asked aloud (λ after. hearing aloud after nothing_shown (described_on aloud ready k)) k t.answer t.after) state []

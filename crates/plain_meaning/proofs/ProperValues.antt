@@ -15,7 +15,6 @@ use Rattle.ae_base.specs.declared.types.Ty.{Ty}
 use Rattle.ae_base.specs.declared.values.Datum.{Datum}
 use Rattle.ae_base.specs.declared.values.Value.{Value}
 use Rattle.ae_base.specs.declared.values.Value.TheVariants as value
-use Rattle.ae_edge.specs.Vaults.{KeyMap}
 use Rattle.hmac_kdf.specs.Keys.{Keys}
 use Rattle.value_norm.specs.Reading as reading
 use Rattle.value_norm.specs.Reading.{ValueIsTheOne}
@@ -30,13 +29,12 @@ use Rattle.conversation.specs.Pending.{Use}
 use Rattle.conversation.specs.declared.faults.CellFailure.{CellFailure}
 use Rattle.conversation.specs.declared.faults.DriverFault.{DriverFault}
 use Rattle.conversation.specs.declared.sessions.ColumnType.{ColumnType}
-use Rattle.plain_meaning.specs.Below.{SealLaws}
 use Rattle.plain_meaning.proofs.Between.{IsSendableParam}
-use Rattle.plain_meaning.proofs.Sealed.{IsSealed}
+use Rattle.plain_meaning.proofs.Sealed.{IsSealedBy}
 use Rattle.plain_meaning.proofs.Sending.{Each}
 use Rattle.plain_meaning.proofs.Sound.{proper_plain}
 use Rattle.plain_meaning.proofs.Used.{sent_declared}
-use Rattle.plain_meaning.proofs.Walk.{AreSealed, none_sealed, one_sealed}
+use Rattle.plain_meaning.proofs.Walk.{AreSealedBy, none_sealed, one_sealed}
 
 -- ---- reading
 
@@ -83,22 +81,23 @@ module _ (the_one : ValueIsTheOne) where
 
 -- ---- sending
 
-module _ (keys : KeyMap) (trusted : List (List ℕ)) (metas : List KeyMeta) where
-  sealed_proper : (e : Enc) (t : Ty) (v : Value) (a : Atom) → IsProper v → IsSealed keys trusted metas e t v a → IsProperAtom a
+module _ (IsAnswer : KeyMeta → Result Keys DriverFault → Type 0) (metas : List KeyMeta) where
+  sealed_proper : (e : Enc) (t : Ty) (v : Value) (a : Atom) → IsProper v → IsSealedBy IsAnswer metas e t v a → IsProperAtom a
   sealed_proper enc.Plain t v a p h = rw h (proper_plain v p)
   sealed_proper (enc.Det id) t value.Null a p h = let i = h.2 in rw i tt
   sealed_proper (enc.Det id) t (value.Is d) a p h = let i = h.2 in rw i tt
   sealed_proper (enc.Rnd id) t value.Null a p h = let i = h.2 in rw i tt
   sealed_proper (enc.Rnd id) t (value.Is d) a p h = let i = h.2.2 in rw i tt
 
-  pub sent_proper : (us : List Use) (sent : List SentParam) → Each (λ (u : Use). IsSendableParam u.param) us → AreSealed keys trusted metas us sent → All IsProperAtom (map (λ (p : SentParam). p.atom) sent)
+  pub sent_proper : (us : List Use) (sent : List SentParam) → Each (λ (u : Use). IsSendableParam u.param) us → AreSealedBy IsAnswer metas us sent
+      → All IsProperAtom (map (λ (p : SentParam). p.atom) sent)
   sent_proper _ _ f none_sealed = All-nil IsProperAtom
   sent_proper _ _ f (one_sealed u a us sent s more) = All-cons IsProperAtom a _ (sealed_proper u.enc u.param.declaration.ty u.param.value a f.0.proper s) (sent_proper us sent f.1 more)
 
-declared_proper : (us : List Use) → Each (λ (u : Use). IsSendableParam u.param) us → All (λ (d : ParamDecl). IsType d.ty) (map (λ (u : Use). u.param.declaration) us)
-declared_proper [] f = All-nil (λ (d : ParamDecl). IsType d.ty)
-declared_proper (u ∷ us) f = All-cons (λ (d : ParamDecl). IsType d.ty) u.param.declaration _ f.0.ty (declared_proper us f.1)
+  declared_proper : (us : List Use) → Each (λ (u : Use). IsSendableParam u.param) us → All (λ (d : ParamDecl). IsType d.ty) (map (λ (u : Use). u.param.declaration) us)
+  declared_proper [] f = All-nil (λ (d : ParamDecl). IsType d.ty)
+  declared_proper (u ∷ us) f = All-cons (λ (d : ParamDecl). IsType d.ty) u.param.declaration _ f.0.ty (declared_proper us f.1)
 
-pub sent_types_proper : SealLaws → (keys : KeyMap) (trusted : List (List ℕ)) (metas : List KeyMeta) (us : List Use) (sent : List SentParam) → Each (λ (u : Use). IsSendableParam u.param) us
-    → AreSealed keys trusted metas us sent → All (λ (d : ParamDecl). IsType d.ty) (map declaration_of sent)
-sent_types_proper laws keys trusted metas us sent f s = subst (All (λ (d : ParamDecl). IsType d.ty)) (sym (sent_declared laws keys trusted metas us sent s)) (declared_proper us f)
+  pub sent_types_proper : (us : List Use) (sent : List SentParam) → Each (λ (u : Use). IsSendableParam u.param) us → AreSealedBy IsAnswer metas us sent
+      → All (λ (d : ParamDecl). IsType d.ty) (map declaration_of sent)
+  sent_types_proper us sent f s = subst (All (λ (d : ParamDecl). IsType d.ty)) (sym (sent_declared IsAnswer metas us sent s)) (declared_proper us f)

@@ -1,14 +1,16 @@
 -- What is sent of a described batch is understood as it was described, over the parameters that are used alone, and suits it.
-use Rattle.std.proofs.Common.{◌≡◌, ℕ, List, map, length, Some, None, Ok, refl, sym, ap, ◌∙◌, subst, arith}
+use Rattle.std.proofs.Common.{◌≡◌, ℕ, List, map, length, Some, None, Result, Ok, refl, sym, ap, ◌∙◌, subst, arith}
 use Rattle.std.proofs.lemmas.List.{length-map}
 use Rattle.ae_base.specs.Atoms.{Atom, plain_atom}
 use Rattle.ae_base.specs.declared.batches.Batch.{Batch}
 use Rattle.ae_base.specs.declared.batches.Param.{Param}
 use Rattle.ae_base.specs.declared.batches.ParamDecl.{ParamDecl}
+use Rattle.ae_base.specs.declared.keys.KeyMeta.{KeyMeta}
 use Rattle.ae_base.specs.declared.types.Enc.{Enc}
 use Rattle.ae_base.specs.declared.types.Ty.{Ty}
 use Rattle.ae_edge.specs.Vaults.{KeyMap}
 use Rattle.catalog.specs.Catalogs.{Catalog}
+use Rattle.hmac_kdf.specs.Keys.{Keys}
 use Rattle.enc_types.specs.Least.{inferred_encs}
 use Rattle.enc_types.specs.UsedAlone.{used_among, is_used, alone}
 use Rattle.expression_binding.specs.Declarations.{type_of}
@@ -20,17 +22,19 @@ use Rattle.server_core.proofs.Interface.{parts_of}
 use Rattle.conversation.specs.Batches.{why_unfit}
 use Rattle.conversation.specs.Pending.{Pending, Use, uses_in, uses_of}
 use Rattle.conversation.specs.Sessions.{encs_of}
+use Rattle.conversation.specs.declared.faults.DriverFault.{DriverFault}
 use Rattle.conversation.proofs.Interface.{fit_fits}
 use Rattle.script_lang.specs.Limits.{HasParams, HasProperParams}
 use Rattle.plain_meaning.specs.Alike.{Fits}
 use Rattle.plain_meaning.specs.Below.{LawsBelow}
 use Rattle.plain_meaning.specs.Batches.{declarations_of}
 use Rattle.plain_meaning.proofs.Between.{IsSendableParam, DescribedAs, HoldsBatch}
+use Rattle.plain_meaning.proofs.Sealed.{GivesKeys}
 use Rattle.plain_meaning.proofs.Sending.{Each, told_among, params_used, encs_used, encs_found, all_fit}
 use Rattle.plain_meaning.proofs.Told.{OpenAs, open_told}
 use Rattle.plain_meaning.proofs.Understood.{understood_alone}
 use Rattle.plain_meaning.proofs.Used.{tys_in, plain_in, atoms_in, uses_sendable, all_sendable, sent_declared, sent_suited, sent_long, used_encs, types_declared}
-use Rattle.plain_meaning.proofs.Walk.{AreSealed, encs_in}
+use Rattle.plain_meaning.proofs.Walk.{AreSealedBy, encs_in}
 
 abbrev pub encs_alone : Meant → List Enc
 encs_alone meant = used_among (is_used meant.bound) 0 meant.encs
@@ -49,8 +53,9 @@ pub record Suits (here : Catalog) (p : Pending) (meant : Meant) (sent : List Sen
   pub values : plain_in (uses_of p) ≡ used_among (is_used meant.bound) 0 (plain_atoms_of p.batch)
 
 module _ (laws : LawsBelow) where
-  pub suits : (keys : KeyMap) (trusted : List (List ℕ)) (here : Catalog) (p : Pending) → Each IsSendableParam p.batch.params → (d : DescribedAs here p) → (sent : List SentParam) → AreSealed keys trusted p.keys (uses_of p) sent → Suits here p d.meant sent
-  suits keys trusted here p sendable d sent s =
+  pub suits : (IsAnswer : KeyMeta → Result Keys DriverFault → Type 0) → GivesKeys IsAnswer → (here : Catalog) (p : Pending) → Each IsSendableParam p.batch.params → (d : DescribedAs here p)
+      → (sent : List SentParam) → AreSealedBy IsAnswer p.keys (uses_of p) sent → Suits here p d.meant sent
+  suits IsAnswer gives here p sendable d sent s =
       let meant = d.meant in
       let b = meant.bound in
       let ps = p.batch.params in
@@ -69,17 +74,17 @@ module _ (laws : LawsBelow) where
       of_uses Ty (λ (u : Use). u.param.declaration.ty) ∙ params_used used (λ (q : Param). q.declaration.ty) 0 ps meant.encs d.long
       ∙ ap (used_among used 0) (types_declared ps ∙ sym (laws.bound here parts.statement (declarations_of p.batch) b parts.binds).params) in
       let names : map declaration_of sent ≡ used_among used 0 (declarations_of p.batch) =
-      sent_declared laws.seals keys trusted p.keys us sent s ∙ of_uses ParamDecl (λ (u : Use). u.param.declaration) ∙ params_used used (λ (q : Param). q.declaration) 0 ps meant.encs d.long in
+      sent_declared IsAnswer p.keys us sent s ∙ of_uses ParamDecl (λ (u : Use). u.param.declaration) ∙ params_used used (λ (q : Param). q.declaration) 0 ps meant.encs d.long in
       record {
         understood = ap (understood here p.batch.text) names ∙ understood_alone laws.prepared here p.batch.text (declarations_of p.batch) meant parts;
-        suited = ap (λ es. suited es sent) (sym encs_are) ∙ sent_suited laws.seals keys trusted p.keys us sent fit s;
+        suited = ap (λ es. suited es sent) (sym encs_are) ∙ sent_suited IsAnswer p.keys laws.seals gives us sent fit s;
         inferred = ready.is_inferred;
         on = record {
           placed = over_alone.placed;
           tables = over_alone.tables;
           definable = over_alone.definable;
           encs = (laws.typings (alone b) es ready.is_inferred).0;
-          values = sent_long laws.seals keys trusted p.keys us sent s ∙ sym (length-map us (λ (u : Use). u.param.declaration.ty)) ∙ ap length tys_are;
+          values = sent_long IsAnswer p.keys us sent s ∙ sym (length-map us (λ (u : Use). u.param.declaration.ty)) ∙ ap length tys_are;
         };
         fit = fit;
         encs = encs_are;
