@@ -77,6 +77,7 @@ comes_by (Ok came.EntropyFault) ended t after version between frames a b i h = (
 comes_by (Ok came.VaultFault) ended t after version between frames a b i h = (frames, subst (λ x. CameTo x t after version between frames a b) i h)
 comes_by (Ok (came.BadReply place w)) ended t after version between frames a b i h =
     subst (λ x. CameTo (Err (stop.BadReply place)) t after version between x a b) (sym i.1) (subst (λ x. CameTo x t after version between frames a b) i.0 h)
+comes_by (Ok came.OutOfMemory) ended t after version between frames a b i h = (frames, subst (λ x. CameTo x t after version between frames a b) i h)
 comes_by (Err why) ended t after version between frames a b i h = tt
 
 -- by what it answers, where there was memory for each request

@@ -2,4 +2,5 @@ mod Asked
 mod Came
 mod Others
 mod Passed
+mod Served
 mod Tapped

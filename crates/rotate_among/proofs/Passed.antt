@@ -1,16 +1,18 @@
 -- What passed over a server that others ask too, by how far a rotation's conversation was followed.
-use Rattle.std.proofs.Common.{◌≡◌, ◌≢◌, ◌≤◌, ℕ, List, [], ◌∷◌, ◌++◌, Option, Some, None, Result, Ok, Err, refl, sym, ◌∙◌, ap, subst, append-nil, length, length-append, arith}
+use Rattle.std.proofs.Common.{◌≡◌, ◌≢◌, ◌≤◌, ℕ, List, [], ◌∷◌, ◌++◌, Option, Some, None, Result, Ok, Err, ◌⊎◌, inl, inr, refl, sym, ◌∙◌, ap, subst, append-nil, length, length-append, arith}
 use Rattle.std.specs.Prelude.{IfOk, flat_map, option_map}
 use Rattle.std.specs.List.{All}
+use Rattle.std.proofs.lemmas.List.{map-append}
 use Rattle.ae_base.specs.Sessions.{IsSession}
 use Rattle.ae_base.specs.declared.frames.FrameVersion.{FrameVersion}
 use Rattle.ae_edge.specs.Vaults.{KeyMap}
 use Rattle.aes_block.specs.Bytes.{AreBytes}
 use Rattle.wire_frames.specs.Frames.{Placed}
 use Rattle.wire_messages.specs.Conditions.{IsRequest}
+use Rattle.wire_messages.specs.Exchanges.{Exchange}
 use Rattle.wire_messages.specs.declared.replies.Reply.{Reply}
 use Rattle.wire_messages.specs.declared.requests.Request.{Request}
-use Rattle.conversation.specs.Drive.{BadReply, Done, Dry, End, Passed, over}
+use Rattle.conversation.specs.Drive.{BadReply, Done, Dry, End, Passed, over, requests_in}
 use Rattle.conversation.specs.Paths.{Event, Asked, Took, Strayed, Drew, Opened, Printed, drawn_in, outcome_in}
 use Rattle.conversation.specs.Devices.{IsAtDraw}
 use Rattle.conversation.specs.Talk.{Talk, Ends, Stops, Asks, Hears, Notes, Draws, Opens, Prints}
@@ -24,20 +26,24 @@ use Rattle.driver.specs.declared.outcomes.Fault.{Fault}
 use Rattle.driver.specs.declared.outcomes.Fault.TheVariants.{OfServer, OfDriver}
 use Rattle.proper_values.specs.Proper.{IsIdentifier}
 use Rattle.run_effects.specs.Shares.{Outside, exchanges_of, frames_of, messages_of}
-use Rattle.run_effects.specs.Ways.{Proceeds, IsStuck}
-use Rattle.run_effects.proofs.Interface.{Reached, Starts, ahead, beside_serves, reached, state_there}
+use Rattle.run_effects.specs.Events.{stop_events}
+use Rattle.run_effects.specs.Ways.{Proceeds, IsStuck, StopsBy}
+use Rattle.run_effects.specs.declared.stops.Stop.{Stop}
+use Rattle.run_effects.specs.declared.stops.Stop.TheVariants as stop
+use Rattle.run_effects.proofs.Interface.{Begins, Reached, Starts, ahead, beside_serves, reached, served_so, state_there, stops_begin, stops_left}
 use Rattle.run_command.specs.Transcript.{exchange_frames}
 use Rattle.script_run.specs.Rotations.{rotated_as}
 use Rattle.server_core.specs.Beside.{Beside, serve_beside}
 use Rattle.server_core.specs.Serve.{State, empty_state}
-use Rattle.served_rotations.specs.Beside.{rotated_beside, rotation, session_of}
-use Rattle.served_rotations.specs.Laws.{FinishedIsWhole, IsFinished, RotationsTellOneOutcome, UnfinishedLeavesNoTrace, behind}
+use Rattle.served_rotations.specs.Beside.{all_asked, others_asked, rotated_beside, rotation, session_of}
+use Rattle.served_rotations.specs.Laws.{AskingLeavesNoTrace, FinishedIsWhole, IsFinished, RotationsTellOneOutcome, UnfinishedLeavesNoTrace, behind}
 use Rattle.rotate_among.specs.Beside.{beside, told_beside}
 use Rattle.rotate_among.specs.Coming.{Comes, Kept, Lent, Names, outside, untouched}
 use Rattle.rotate_among.specs.Moving as moving
-use Rattle.rotate_among.specs.Moving.{AreOthers, HasFrames, HasNoTrace, Leaves, PassedSo}
+use Rattle.rotate_among.specs.Moving.{AreOthers, HasFrames, HasNoTrace, HasNoTraceBehind, IsMovedWhole, Leaves, PassedSo, StoppedSo}
 use Rattle.rotate_among.specs.declared.rotating.Rotated.{Rotated}
 use Rattle.rotate_among.specs.declared.rotating.Rotated.TheVariants as came
+use Rattle.rotate_among.proofs.Served.{over_leaves, served_leaves}
 
 -- ---- plain lists
 
@@ -76,7 +82,7 @@ all_both session between a b i d lt j e less = (a i d lt j e less, b i d lt j e 
 
 -- ---- over a server
 
-module _ (once : RotationsTellOneOutcome) (traceless : UnfinishedLeavesNoTrace) (whole : FinishedIsWhole)
+module _ (once : RotationsTellOneOutcome) (traceless : UnfinishedLeavesNoTrace) (asking : AskingLeavesNoTrace) (whole : FinishedIsWhole)
     (keys : KeyMap) (trusted : List (List ℕ)) (session : ℕ) (old new : List ℕ) (history : List Request) (between : List (List Request))
     (numbered : IsSession session) (old_named : IsIdentifier old) (new_named : IsIdentifier new) (before : All IsRequest history)
     (others : All (All (λ request. IsRequest request × (session_of request ≢ session))) between)
@@ -151,7 +157,11 @@ module _ (once : RotationsTellOneOutcome) (traceless : UnfinishedLeavesNoTrace) 
             g.put.wire.tap ∙ framed version g.events ∙ ap (flat_map (exchange_frames version)) (sym (x ∙ append-nil (flat_map exchanges_of g.events)))
 
         unfinished : ¬ (IsFinished p) → HasNoTrace start p
-        unfinished = traceless keys trusted session old new drawn history between numbered old_named new_named bytes others
+        unfinished not_so = of (traceless keys trusted session old new drawn history between numbered old_named new_named bytes others)
+          where
+            of : IsFinished p ⊎ HasNoTrace start p → HasNoTrace start p
+            of (inl f) = absurd (not_so f)
+            of (inr h) = h
 
         so_many : length p.outcomes ≤ 1
         so_many = once keys trusted session old new drawn history between numbered old_named new_named bytes others
@@ -239,6 +249,62 @@ module _ (once : RotationsTellOneOutcome) (traceless : UnfinishedLeavesNoTrace) 
     at_reply (Opens meta f) g d = absurd d
     at_reply (Prints comes more) g d = absurd d
 
+    -- anywhere on its way
+    module _ (why : Stop) (h : StopsBy why t first last) where
+      abbrev so_far : List Event
+      so_far = stop_events why t first last h
+
+      abbrev asked : List Request
+      asked = requests_in (flat_map exchanges_of so_far)
+
+      abbrev drawn_so_far : List ℕ
+      drawn_so_far = flat_map drawn_in so_far ++ []
+
+      abbrev whole_way : Passed Beside
+      whole_way = rotated_beside keys trusted session old new drawn_so_far start
+
+      begins : Begins serve_beside keys t start so_far
+      begins = stops_begin (λ (x : Beside). x) serve_beside beside_serves keys t start first starts last why h
+
+      bytes_so_far : AreBytes drawn_so_far
+      bytes_so_far = subst AreBytes (sym (append-nil (flat_map drawn_in so_far))) begins.bytes
+
+      state_so_far : b.state ≡ Some (behind start.state (all_asked between asked))
+      state_so_far =
+          let s = served_so (λ (x : Beside). x) serve_beside beside_serves so_far first.wire.state last.wire.state start starts.state (stops_left why t first last h).state in
+          told_state kept.between b.state s.0 s.1 ∙ ap Some (served_leaves so_far start s.0 s.2)
+
+      abbrev left_of : List Request
+      left_of = requests_in (begins.rest []).exchanges
+
+      are_so : requests_in whole_way.exchanges ≡ asked ++ left_of
+      are_so = ap (λ (x : Passed Beside). requests_in x.exchanges) (begins.is []) ∙ map-append (λ (e : Exchange). e.request) (flat_map exchanges_of so_far) (begins.rest []).exchanges
+
+      abbrev Stands : Type 0
+      Stands = HasNoTraceBehind start asked ⊎ ((n : ℕ) × (b.state ≡ Some whole_way.state.state) × IsMovedWhole keys old new start whole_way n)
+
+      stands : (left : List Request) → requests_in whole_way.exchanges ≡ asked ++ left → Stands
+      stands (next ∷ left) e = inl (asking keys trusted session old new drawn_so_far history between numbered old_named new_named bytes_so_far others asked next left e)
+      stands [] e = of (traceless keys trusted session old new drawn_so_far history between numbered old_named new_named bytes_so_far others)
+        where
+          all : requests_in whole_way.exchanges ≡ asked
+          all = e ∙ append-nil asked
+
+          state_last : whole_way.state.state ≡ behind start.state (all_asked between asked)
+          state_last = over_leaves keys t 0 drawn_so_far start [] ∙ ap (λ xs. behind start.state (all_asked between xs)) all
+
+          of : IsFinished whole_way ⊎ HasNoTrace start whole_way → Stands
+          of (inl f) =
+              inr (
+                f.0,
+                state_so_far ∙ ap Some (sym state_last),
+                λ key_for fit. whole keys key_for trusted session old new drawn_so_far history between numbered old_named new_named bytes_so_far before others fit f.0 f.1,
+              )
+          of (inr n) = inl (ap (λ (s : State). s.shared) (sym state_last) ∙ n ∙ ap (λ xs. (behind start.state (others_asked between xs)).shared) all)
+
+      stopped_there : StoppedSo keys trusted session old new start b.state
+      stopped_there = record { drawn = drawn_so_far; asked = asked; left = left_of; state = state_so_far; are = are_so; is = stands left_of are_so }
+
   -- by how it ended
   leaves_so : (r : Rotated) → Comes r (rotating trusted session old new Idle) after version between a b → Leaves version keys trusted session old new start r b.state
   leaves_so (came.Ended r frames) h =
@@ -249,7 +315,8 @@ module _ (once : RotationsTellOneOutcome) (traceless : UnfinishedLeavesNoTrace) 
           → PassedSo keys trusted session old new start (λ p. moving.Ends keys old new start r p × HasFrames version kept.frames p) b.state
       of r names names_after kept g = ended names names_after kept r g
   leaves_so came.EntropyFault h = let c = h.1 in let g = (c.leads ending).0 in at_draw c.names c.names_after c.kept g.rest g.goes g.place
-  leaves_so came.VaultFault h = tt
+  leaves_so came.VaultFault h = let c = h.1 in stopped_there c.names c.names_after c.kept stop.VaultFault (c.leads ending)
+  leaves_so came.OutOfMemory h = let c = h.1 in stopped_there c.names c.names_after c.kept stop.OutOfMemory (c.leads ending)
   leaves_so (came.BadReply place frames) h =
       let g = h.leads ending in
       subst (λ w. PassedSo keys trusted session old new start (λ p. HasNoTrace start p × HasFrames version w p) b.state) h.is (at_reply h.names h.names_after h.kept g.rest g.goes g.place.0)

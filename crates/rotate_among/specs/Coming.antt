@@ -99,6 +99,7 @@ Comes (came.Ended rotated frames) t after version between old new = CameTo (Ok r
 Comes came.EntropyFault t after version between old new = Stopped stop.EntropyFault t after version between old new
 Comes came.VaultFault t after version between old new = Stopped stop.VaultFault t after version between old new
 Comes (came.BadReply place frames) t after version between old new = CameTo (Err (stop.BadReply place)) t after version between frames old new
+Comes came.OutOfMemory t after version between old new = Stopped stop.OutOfMemory t after version between old new
 
 -- it is answered so
 abbrev pub IsBy : {E : Type 0} → Result Rotated E → Result (Result ℕ Fault) Stop → List ℕ → Type 0
@@ -106,6 +107,7 @@ IsBy (Ok (came.Ended rotated w)) ended frames = (ended ≡ Ok rotated) × (w ≡
 IsBy (Ok came.EntropyFault) ended frames = ended ≡ Err stop.EntropyFault
 IsBy (Ok came.VaultFault) ended frames = ended ≡ Err stop.VaultFault
 IsBy (Ok (came.BadReply place w)) ended frames = (ended ≡ Err (stop.BadReply place)) × (w ≡ frames)
+IsBy (Ok came.OutOfMemory) ended frames = ended ≡ Err stop.OutOfMemory
 IsBy (Err why) ended frames = Unit {0}
 
 -- it ended, and so this holds
@@ -114,3 +116,4 @@ IfEnded P (came.Ended rotated frames) = P
 IfEnded P came.EntropyFault = Unit {0}
 IfEnded P came.VaultFault = Unit {0}
 IfEnded P (came.BadReply place frames) = Unit {0}
+IfEnded P came.OutOfMemory = Unit {0}

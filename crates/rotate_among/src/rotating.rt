@@ -30,7 +30,8 @@ use run_effects::stops::Stop;
 use script_run::env::Env;
 use script_run::runs::rotate_lent;
 use served_rotations::laws::{
-    finished_rotations_are_whole, rotations_tell_one_outcome, unfinished_rotations_leave_no_trace,
+    asking_rotations_leave_no_trace, finished_rotations_are_whole, rotations_tell_one_outcome,
+    unfinished_rotations_leave_no_trace,
 };
 use server_core::peers::Peer;
 use std::alloc::{AllocError, Global};
@@ -49,10 +50,12 @@ pub enum Rotated {
     /// The reply at this place among the bytes of the replies to the rotation isn't awaited; and
     /// its requests in order, each followed by the replies to it.
     BadReply(u64, Frames),
+    /// There was no memory, but there was for each request that was asked.
+    OutOfMemory,
 }
 
-/// How a rotation ended, by what it came to or why it stopped, unless a request lacked memory. It
-/// doesn't stop for a stream of replies or for a text, since it has none.
+/// How a rotation ended, by what it came to or why it stopped, unless a request that was asked
+/// lacked memory. It doesn't stop for a stream of replies or for a text, since it has none.
 fn rotated_by(
     ended: Result<Result<u64, Fault>, Stop>,
     frames: Frames,
@@ -69,9 +72,8 @@ fn rotated_by(
         Err(Stop::EntropyFault) => Ok(Rotated::EntropyFault),
         Err(Stop::VaultFault) => Ok(Rotated::VaultFault),
         Err(Stop::BadReply(place)) => Ok(Rotated::BadReply(place, frames)),
-        Err(Stop::ReadFault | Stop::TooLong | Stop::WriteFault | Stop::OutOfMemory) => Err(
-            AllocError,
-        ),
+        Err(Stop::OutOfMemory) => Ok(Rotated::OutOfMemory),
+        Err(Stop::ReadFault | Stop::TooLong | Stop::WriteFault) => Err(AllocError),
     }
 }
 
@@ -141,8 +143,8 @@ fn rotate<P: Peer, V: Vault, E: Entropy>(
 /// session of this driver, while others ask the same peer: `between` holds what they ask before
 /// each request of the rotation, none where it is shorter. Nobody here hears the replies to theirs,
 /// and none of them is of this session. The driver keeps keys of this vault alone. The frames are
-/// in this version. Want of memory is the only other answer. Unless it ended, the session may still
-/// have its transaction.
+/// in this version. Want of memory for a request that is asked is the only other answer. Unless it
+/// ended, the session may still have its transaction.
 pub fn rotate_among<P: Peer, V: Vault, E: Entropy>(
     alloc: Global,
     peer: &mut P,
@@ -186,6 +188,7 @@ pub fn rotate_among<P: Peer, V: Vault, E: Entropy>(
 {
     rotations_tell_one_outcome();
     unfinished_rotations_leave_no_trace();
+    asking_rotations_leave_no_trace();
     finished_rotations_are_whole();
     let _ = session.number();
     let _ = old.as_str();

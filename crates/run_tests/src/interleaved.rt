@@ -58,7 +58,8 @@ const ANSWERED: &[u8] = b"\x01\x84\x00\x00\x00\x09\x02\x00\x00\x00\x00\x00\x00\x
 
 const CHANGED: &[u8] = b"\x01\x84\x00\x00\x00\x09\x01\x00\x00\x00\x00\x00\x00\x00\x02";
 
-fn session(number: u16) -> SessionId
+/// The session of a number.
+pub fn session(number: u16) -> SessionId
     requires { IsSession number }
     ensures { result ≡ number }
 {

@@ -1,8 +1,10 @@
 //! Tests of the commands `run`, `serve` and `drive`: frames byte by byte, recorded runs, cells that are
 //! renamed, replies that are changed, the cells of a key that is made again, two sessions of a driver
-//! in turn, and the sorts of texts.
+//! in turn, a rotation among other sessions, and the sorts of texts.
 #![tactic(auto)]
 
+#[cfg(test)]
+mod among;
 #[cfg(test)]
 mod devices;
 #[cfg(test)]

@@ -75,8 +75,9 @@ next w request = record {
 abbrev pub StopsAt : (Walk → Passed Beside → Type 0) → Walk → Type 0
 StopsAt R w = (entropy : List ℕ) (end : End) → R w (stopped [] entropy w.beside end)
 
+-- and a request passes, before which it may break off
 abbrev pub Passes : (Walk → Passed Beside → Type 0) → Type 0
-Passes R = (w : Walk) (request : Request) (p : Passed Beside) → R (next w request) p → R w (passing (record { request = request; replies = (serve_beside w.beside request).replies }) p)
+Passes R = (w : Walk) (request : Request) (p : Passed Beside) → StopsAt R w → R (next w request) p → R w (passing (record { request = request; replies = (serve_beside w.beside request).replies }) p)
 
 -- ---- what is opened, read and sealed
 
@@ -292,10 +293,10 @@ module _ (keys : KeyMap) (R : Walk → Passed Beside → Type 0) where
     abbrev pub execute_of : ℕ → List ℕ → List SentParam → Request
     execute_of version text sent = Execute number version text sent
 
-    executed_goes : (w : Walk) (version : ℕ) (text : List ℕ) (sent : List SentParam)
+    executed_goes : (w : Walk) (version : ℕ) (text : List ℕ) (sent : List SentParam) → StopsAt R w
         → OnServed (next w (execute_of version text sent)) (now w) (prepared (catalog_of (now w) number) version text sent) → Goes w [] (Asks (execute_of version text sent) hears)
-    executed_goes w version text sent h taken entropy bytes =
-        passes w (execute_of version text sent) _ (served_heard (next w (execute_of version text sent)) (now w) (prepared (catalog_of (now w) number) version text sent) h taken entropy bytes)
+    executed_goes w version text sent stops h taken entropy bytes =
+        passes w (execute_of version text sent) _ stops (served_heard (next w (execute_of version text sent)) (now w) (prepared (catalog_of (now w) number) version text sent) h taken entropy bytes)
 
     -- ---- a whole batch
 
@@ -310,6 +311,7 @@ module _ (keys : KeyMap) (R : Walk → Passed Beside → Type 0) where
       pending_of d encs = record { batch = batch; version = d.version; keys = d.keys; encs = encs }
 
       pub record BatchGoes (w : Walk) : Type 0 where
+        pub here : StopsAt R w
         pub unsent : (f : DriverFault) → Goes w [] (k (outcome.Failed f) None session.Idle)
         pub stops : StopsAt R (next w describe_of)
         pub refused : (f : SqlFault) → Goes (next w describe_of) [] (k (outcome.Refused f) None session.Idle)
@@ -327,7 +329,7 @@ module _ (keys : KeyMap) (R : Walk → Passed Beside → Type 0) where
         pending_goes d encs e n =
             sealed trusted d.keys (next w describe_of) [] h.stops (uses_of (pending_of d encs))
             (λ sent. Asks (execute_of d.version batch.text sent) hears) (λ f. k (outcome.Failed f) None session.Idle)
-            (λ sent all. executed_goes (next w describe_of) d.version batch.text sent (h.executes d encs sent e n all)) h.failed
+            (λ sent all. executed_goes (next w describe_of) d.version batch.text sent h.stops (h.executes d encs sent e n all)) h.failed
 
         readied_goes : (d : Description) (encs : List (Option Enc)) → describe (catalog_of (now w) number) batch.text declared ≡ Ok d → sessions.encs_of batch.params d.params ≡ Some encs → (o : Option (List ℕ))
             → let t = sessions.readied batch d encs o in Goes (next w describe_of) [] (described_on false ready k (Said (described_outcome t.answer) t.after))
@@ -351,7 +353,7 @@ module _ (keys : KeyMap) (R : Walk → Passed Beside → Type 0) where
         begun_goes : (o : Option DriverFault) → why_unfit batch ≡ o
             → let t = sessions.begun number (unless o batch) in Goes w [] (asked false (λ after. Notes after nothing_shown (described_on false ready k)) k t.answer t.after)
         begun_goes (Some f) e taken entropy bytes = h.unsent f taken entropy bytes
-        begun_goes None e taken entropy bytes = passes w describe_of _ (described_goes (describe (catalog_of (now w) number) batch.text declared) refl taken entropy bytes)
+        begun_goes None e taken entropy bytes = passes w describe_of _ h.here (described_goes (describe (catalog_of (now w) number) batch.text declared) refl taken entropy bytes)
 
         pub batch_goes : Goes w [] (running false trusted number batch session.Idle k)
         batch_goes = begun_goes (why_unfit batch) refl

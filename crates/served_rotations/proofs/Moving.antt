@@ -78,7 +78,7 @@ module _ (history : List Request) (old new : List ℕ) (keys : KeyMap) (key_for 
   Moves w p = (n : ℕ) → p.outcomes ≡ outcome.Rotated n ∷ [] → IsEnded (w.so_far ++ all_asked w.beside.between (requests_in p.exchanges)) p.state.state n
 
   pub moves_pass : Passes Moves
-  moves_pass w request p h n e =
+  moves_pass w request p stops h n e =
       let rest = all_asked (rest_of w.beside.between) (requests_in p.exchanges) in
       subst (λ asked. IsEnded asked p.state.state n)
       (append_assoc (w.so_far ++ first_of w.beside.between) (request ∷ []) rest ∙ append_assoc w.so_far (first_of w.beside.between) (request ∷ rest)) (h n e)
@@ -101,6 +101,7 @@ module _ (history : List Request) (old new : List ℕ) (keys : KeyMap) (key_for 
 
     pub rolls : (w : Walk) (f : Fault) → Ready w (rolling_back trusted number old new ending f session.Idle)
     rolls w f = batch_goes keys Moves moves_pass trusted number k rolls_back w (record {
+      here = stops_moves w;
       unsent = λ g. fails w f;
       stops = stops_moves (next w asks_it);
       refused = λ g. fails (next w asks_it) f;
@@ -290,6 +291,7 @@ module _ (history : List Request) (old new : List ℕ) (keys : KeyMap) (key_for 
 
             pub statement_goes : Ready w (running false trusted number batch session.Idle k)
             statement_goes = batch_goes keys Moves moves_pass trusted number k batch w (record {
+              here = stops_moves w;
               unsent = λ f. fails (outcome.Failed f) _ w tt;
               stops = stops_moves wd;
               refused = λ f. fails (outcome.Refused f) _ wd tt;
@@ -329,6 +331,7 @@ module _ (history : List Request) (old new : List ℕ) (keys : KeyMap) (key_for 
 
             pub begin_goes : Ready w (running false trusted number batch session.Idle k)
             begin_goes = batch_goes keys Moves moves_pass trusted number k batch w (record {
+              here = stops_moves w;
               unsent = λ f. fails (outcome.Failed f) _ w tt;
               stops = stops_moves wb;
               refused = λ f. fails (outcome.Refused f) _ wb tt;
@@ -369,6 +372,7 @@ module _ (history : List Request) (old new : List ℕ) (keys : KeyMap) (key_for 
 
             pub commit_goes : Ready w (running false trusted number batch session.Idle k)
             commit_goes = batch_goes keys Moves moves_pass trusted number k batch w (record {
+              here = stops_moves w;
               unsent = λ f. fails (outcome.Failed f) _ w tt;
               stops = stops_moves wc;
               refused = λ f. fails (outcome.Refused f) _ wc tt;

@@ -1,5 +1,5 @@
 -- A rotation that isn't finished leaves the shared world to the other sessions.
-use Rattle.std.proofs.Common.{◌≡◌, ◌⊎◌, inl, inr, ℕ, ◌-◌, ◌≤◌, ◌<◌, List, [], ◌∷◌, length, map, Option, Some, None, Result, Ok, Err, Bool, true, false, not, IsSome, refl, sym, ap, subst, ◌∙◌, arith, encode_utf8_all}
+use Rattle.std.proofs.Common.{◌≡◌, ◌⊎◌, inl, inr, ℕ, ◌-◌, ◌≤◌, ◌<◌, List, [], ◌∷◌, ◌++◌, length, map, Option, Some, None, Result, Ok, Err, Bool, true, false, not, IsSome, refl, sym, ap, subst, ◌∙◌, arith, encode_utf8_all}
 use Rattle.std.specs.List.{All}
 use Rattle.std.proofs.lemmas.List.Elements.{All-head, All-tail, All-nil}
 use Rattle.ae_base.specs.Atoms.{Atom}
@@ -18,7 +18,7 @@ use Rattle.wire_messages.specs.declared.columns.SentColumn.{SentColumn}
 use Rattle.wire_messages.specs.declared.params.SentParam.{SentParam}
 use Rattle.wire_messages.specs.declared.requests.Request.{Request}
 use Rattle.server_core.specs.Serve.{State, ask_of, catalog_of, prepared, sent_column, serve, serve_all}
-use Rattle.conversation.specs.Drive.{Passed, requests_in}
+use Rattle.conversation.specs.Drive.{Dry, Passed, requests_in, stopped}
 use Rattle.conversation.specs.Talk.{Talk, Ends, Prints}
 use Rattle.conversation.specs.Turns.{Accepted, Onward, running}
 use Rattle.conversation.specs.declared.faults.DriverFault.TheVariants.{NotAlike, NotEmpty}
@@ -35,7 +35,7 @@ use Rattle.column_rotate.specs.Moves.{is_empty, rows_told}
 use Rattle.column_rotate.specs.Rotating.{committing, comparing, fails_with, fault_as, putting_each, reading_new, reading_old, replacing, rolling_back, told_of, unless_refused}
 use Rattle.column_rotate.specs.Texts.{begins, commits, puts, reads_all, replaces, rolls_back}
 use Rattle.server_core.specs.Beside.{Beside, first_of, rest_of}
-use Rattle.served_rotations.specs.Beside.{others_asked, rotation}
+use Rattle.served_rotations.specs.Beside.{all_asked, others_asked, rotation}
 use Rattle.served_rotations.specs.Laws.{IsFinished}
 use Rattle.ae_base.specs.declared.keys.KeyMeta.{KeyMeta}
 use Rattle.ae_base.specs.declared.tables.ColumnDef.{ColumnDef}
@@ -56,26 +56,47 @@ use Rattle.served_rotations.proofs.Requests.{behind_more}
 
 -- ---- the result
 
+none_asked : (asked : List Request) (next : Request) (left : List Request) → [] ≡ asked ++ next ∷ left → ⊥
+none_asked [] next left e = cc
+none_asked (x ∷ asked) next left e = cc
+
 module _ (stay : ProperTablesStay) (keys : KeyMap) (trusted : List (List ℕ)) (number : ℕ) (some : 1 ≤ number) where
   abbrev others_behind : State → List (List Request) → List Request → State
   others_behind s between requests = (serve_all s (others_asked between requests)).1
 
-  -- one outcome at most; it is finished, or the shared world is the others'
+  -- one outcome at most; it is finished, or the shared world is the others', as it is before each further request
   pub record IsFine (w : Walk) (p : Passed Beside) : Type 0 where
     pub one : length p.outcomes ≤ 1
     pub fine : IsFinished p ⊎ AlikeBut number p.state.state (others_behind w.alone w.beside.between (requests_in p.exchanges))
+    pub before : (asked : List Request) (next : Request) (left : List Request) → requests_in p.exchanges ≡ asked ++ next ∷ left
+        → AlikeBut number (serve_all w.beside.state (all_asked w.beside.between asked)).1 (others_behind w.alone w.beside.between asked)
 
-  -- where it isn't finished
-  pub shared_of : (w : Walk) (p : Passed Beside) → IsFine w p → ¬ (IsFinished p) → p.state.state.shared ≡ (others_behind w.alone w.beside.between (requests_in p.exchanges)).shared
-  shared_of w p h not_so = of h.fine
+  pub shared_of : (w : Walk) (p : Passed Beside) → IsFine w p → IsFinished p ⊎ (p.state.state.shared ≡ (others_behind w.alone w.beside.between (requests_in p.exchanges)).shared)
+  shared_of w p h = of h.fine
     where
-      of : IsFinished p ⊎ AlikeBut number p.state.state (others_behind w.alone w.beside.between (requests_in p.exchanges)) → p.state.state.shared ≡ (others_behind w.alone w.beside.between (requests_in p.exchanges)).shared
-      of (inl f) = absurd (not_so f)
-      of (inr a) = a.shared
+      of : IsFinished p ⊎ AlikeBut number p.state.state (others_behind w.alone w.beside.between (requests_in p.exchanges)) → IsFinished p ⊎ (p.state.state.shared ≡ (others_behind w.alone w.beside.between (requests_in p.exchanges)).shared)
+      of (inl f) = inl f
+      of (inr a) = inr a.shared
 
   fine_passes : Passes IsFine
-  fine_passes w request p h = record { one = h.one; fine = of h.fine }
+  fine_passes w request p stops h = record { one = h.one; fine = of h.fine; before = at }
     where
+      here : IsFinished (stopped [] [] w.beside Dry) ⊎ AlikeBut number w.beside.state w.alone → AlikeBut number w.beside.state w.alone
+      here (inl f) = let none : [] ≡ outcome.Rotated f.0 ∷ [] = f.1 in absurd cc
+      here (inr a) = a
+
+      at : (asked : List Request) (after : Request) (left : List Request) → request ∷ requests_in p.exchanges ≡ asked ++ after ∷ left
+          → AlikeBut number (serve_all w.beside.state (all_asked w.beside.between asked)).1 (others_behind w.alone w.beside.between asked)
+      at [] after left e = here (stops [] Dry).fine
+      at (first ∷ asked) after left e =
+          let same : request ≡ first = cc in
+          let rest : requests_in p.exchanges ≡ asked ++ after ∷ left = cc in
+          let all = behind_more w.beside.state (first_of w.beside.between) (request ∷ all_asked (rest_of w.beside.between) asked) in
+          let others = behind_more w.alone (first_of w.beside.between) (others_asked (rest_of w.beside.between) asked) in
+          subst (λ x. AlikeBut number (serve_all w.beside.state (all_asked w.beside.between (x ∷ asked))).1 (others_behind w.alone w.beside.between (x ∷ asked))) same
+          (subst (λ (s : State). AlikeBut number s (others_behind w.alone w.beside.between (request ∷ asked))) (sym all)
+          (subst (AlikeBut number (serve_all (next w request).beside.state (all_asked (rest_of w.beside.between) asked)).1) (sym others) (h.before asked after left rest)))
+
       of : IsFinished p ⊎ AlikeBut number p.state.state (others_behind (next w request).alone (rest_of w.beside.between) (requests_in p.exchanges))
           → IsFinished p ⊎ AlikeBut number p.state.state (others_behind w.alone w.beside.between (request ∷ requests_in p.exchanges))
       of (inl f) = inl f
@@ -105,7 +126,7 @@ module _ (stay : ProperTablesStay) (keys : KeyMap) (trusted : List (List ℕ)) (
     pub others : All (All (IsOther number)) w.beside.between
 
   stops_fine : (w : Walk) → Stands w → StopsAt IsFine w
-  stops_fine w s entropy end = record { one = omega arith; fine = inr s.alike }
+  stops_fine w s entropy end = record { one = omega arith; fine = inr s.alike; before = λ asked next left e. absurd (none_asked asked next left e) }
 
   first_others : (between : List (List Request)) → All (All (IsOther number)) between → All (IsOther number) (first_of between)
   first_others [] h = All-nil (IsOther number)
@@ -241,6 +262,7 @@ module _ (stay : ProperTablesStay) (keys : KeyMap) (trusted : List (List ℕ)) (
 
         pub statement_goes : Goes keys IsFine w [] (running false trusted number batch session.Idle k)
         statement_goes = batch_goes keys IsFine fine_passes trusted number k batch w (record {
+          here = stops_fine w s;
           unsent = λ f. h _ _ w none s b;
           stops = stops_fine wd sd;
           refused = λ f. h _ _ wd none sd bd;
@@ -284,6 +306,7 @@ module _ (stay : ProperTablesStay) (keys : KeyMap) (trusted : List (List ℕ)) (
 
         pub begin_goes : Goes keys IsFine w [] (running false trusted number batch session.Idle k)
         begin_goes = batch_goes keys IsFine fine_passes trusted number k batch w (record {
+          here = stops_fine w s;
           unsent = λ f. fails (outcome.Failed f) _ w tt s;
           stops = stops_fine wb sb;
           refused = λ f. fails (outcome.Refused f) _ wb tt sb;
@@ -310,6 +333,7 @@ module _ (stay : ProperTablesStay) (keys : KeyMap) (trusted : List (List ℕ)) (
 
         pub roll_back_goes : Goes keys IsFine w [] (running false trusted number batch session.Idle k)
         roll_back_goes = batch_goes keys IsFine fine_passes trusted number k batch w (record {
+          here = stops_fine w s;
           unsent = λ f. h _ _ w s;
           stops = stops_fine wr sr;
           refused = λ f. h _ _ wr sr;
@@ -342,6 +366,7 @@ module _ (stay : ProperTablesStay) (keys : KeyMap) (trusted : List (List ℕ)) (
 
         pub commit_goes : Goes keys IsFine w [] (running false trusted number batch session.Idle k)
         commit_goes = batch_goes keys IsFine fine_passes trusted number k batch w (record {
+          here = stops_fine w s;
           unsent = λ f. fails (outcome.Failed f) _ w tt s;
           stops = stops_fine wc sc;
           refused = λ f. fails (outcome.Refused f) _ wc tt sc;
@@ -359,7 +384,7 @@ module _ (stay : ProperTablesStay) (keys : KeyMap) (trusted : List (List ℕ)) (
     Ready w t = Goes keys IsFine w [] t
 
     ends : (w : Walk) → Stands w → (comes : Outcome) → Ready w (ending comes session.Idle)
-    ends w s comes taken entropy bytes = record { one = omega arith; fine = inr s.alike }
+    ends w s comes taken entropy bytes = record { one = omega arith; fine = inr s.alike; before = λ asked next left e. absurd (none_asked asked next left e) }
 
     either : (w : Walk) (F : Fault → Session → Talk) (G : Told → Session → Talk) (t : Told) → ((f : Fault) → Ready w (F f session.Idle)) → ((t : Told) → Ready w (G t session.Idle)) → Ready w (unless_refused F G t session.Idle)
     either w F G (told.Refused f) a b = a f
@@ -381,7 +406,7 @@ module _ (stay : ProperTablesStay) (keys : KeyMap) (trusted : List (List ℕ)) (
         roll_back_goes rolls_back (λ comes columns after. fails_with trusted number old new ending f after) _ controls.rolled_back refl w s (λ comes columns w s. fails w s f)
 
     finishes : (w : Walk) (all : ℕ) → Ready w (ending (outcome.Rotated all) session.Idle)
-    finishes w all taken entropy bytes = record { one = omega arith; fine = inl (all, refl, refl) }
+    finishes w all taken entropy bytes = record { one = omega arith; fine = inl (all, refl, refl); before = λ asked next left e. absurd (none_asked asked next left e) }
 
     commits_so : (w : Walk) → Stands w → (all : ℕ) → Ready w (committing trusted number old new ending all session.Idle)
     commits_so w s all =

@@ -14,7 +14,7 @@ use Rattle.rotation_laws.specs.Laws.{BeginsCommitsAndRollsBack, ReadingIsWhole, 
 use Rattle.server_core.specs.Serve.{catalog_of, empty_state}
 use Rattle.transactions.specs.Stores.{Transaction, seen_by}
 use Rattle.served_rotations.specs.Beside.{rotated_beside, session_of}
-use Rattle.served_rotations.specs.Laws.{RotationsTellOneOutcome, UnfinishedLeavesNoTrace, behind}
+use Rattle.served_rotations.specs.Laws.{AskingLeavesNoTrace, RotationsTellOneOutcome, UnfinishedLeavesNoTrace, behind}
 use Rattle.served_rotations.proofs.Apart.{alike_itself, all_long}
 use Rattle.served_rotations.proofs.Batches.{Walk}
 use Rattle.served_rotations.proofs.Nothing.{IsFine, rotation_fine, shared_of, tidy_all}
@@ -52,7 +52,11 @@ module _ (stay : ProperTablesStay) (parse : TextsParse) (controls : BeginsCommit
       (fine_so keys trusted number old new entropy history between session old_named new_named bytes others).one
 
   pub traceless : UnfinishedLeavesNoTrace
-  traceless keys trusted number old new entropy history between session old_named new_named bytes others unfinished =
+  traceless keys trusted number old new entropy history between session old_named new_named bytes others =
       let w = first_walk history between in
       shared_of stay keys trusted number session.0 w (rotated_beside keys trusted number old new entropy w.beside)
-      (fine_so keys trusted number old new entropy history between session old_named new_named bytes others) unfinished
+      (fine_so keys trusted number old new entropy history between session old_named new_named bytes others)
+
+  pub asking : AskingLeavesNoTrace
+  asking keys trusted number old new entropy history between session old_named new_named bytes others asked next left e =
+      ((fine_so keys trusted number old new entropy history between session old_named new_named bytes others).before asked next left e).shared

@@ -1,5 +1,5 @@
 -- The laws of rotations over a server: a table is moved whole or not at all, whatever other sessions ask meanwhile.
-use Rattle.std.specs.Prelude.{◌≡◌, ◌≢◌, ◌≤◌, ℕ, List, [], ◌∷◌, ◌++◌, length}
+use Rattle.std.specs.Prelude.{◌≡◌, ◌≢◌, ◌≤◌, ◌⊎◌, ℕ, List, [], ◌∷◌, ◌++◌, length}
 use Rattle.std.specs.List.{All, AllZip}
 use Rattle.ae_base.specs.Atoms.{Atom}
 use Rattle.ae_base.specs.Sessions.{IsSession}
@@ -36,8 +36,8 @@ RotationsTellOneOutcome = (keys : KeyMap) (trusted : List (List ℕ)) (number : 
     → let start : Beside = record { state = behind empty_state history; between = between } in
     length (rotated_beside keys trusted number old new entropy start).outcomes ≤ 1
 
--- and where it isn't finished, because it failed, or because it was stopped for want of random bytes or by a reply that wasn't awaited, the shared
--- world is what the others' requests alone give
+-- and it is finished; or, because it failed, or because it was stopped for want of random bytes or by a reply that wasn't awaited, the shared world
+-- is what the others' requests alone give
 abbrev pub UnfinishedLeavesNoTrace : Type 0
 UnfinishedLeavesNoTrace = (keys : KeyMap) (trusted : List (List ℕ)) (number : ℕ) (old new : List ℕ) (entropy : List ℕ)
     (history : List Request) (between : List (List Request))
@@ -45,7 +45,18 @@ UnfinishedLeavesNoTrace = (keys : KeyMap) (trusted : List (List ℕ)) (number : 
     → All (All (λ request. IsRequest request × (session_of request ≢ number))) between
     → let start : Beside = record { state = behind empty_state history; between = between } in
     let p = rotated_beside keys trusted number old new entropy start in
-    ¬ (IsFinished p) → p.state.state.shared ≡ (behind start.state (others_asked between (requests_in p.exchanges))).shared
+    IsFinished p ⊎ (p.state.state.shared ≡ (behind start.state (others_asked between (requests_in p.exchanges))).shared)
+
+-- and as long as one more of its requests is to come, the shared world is what the others' requests so far alone give
+abbrev pub AskingLeavesNoTrace : Type 0
+AskingLeavesNoTrace = (keys : KeyMap) (trusted : List (List ℕ)) (number : ℕ) (old new : List ℕ) (entropy : List ℕ)
+    (history : List Request) (between : List (List Request))
+    → IsSession number → IsIdentifier old → IsIdentifier new → AreBytes entropy
+    → All (All (λ request. IsRequest request × (session_of request ≢ number))) between
+    → let start : Beside = record { state = behind empty_state history; between = between } in
+    let p = rotated_beside keys trusted number old new entropy start in
+    (asked : List Request) (next : Request) (left : List Request) → requests_in p.exchanges ≡ asked ++ next ∷ left
+    → (behind start.state (all_asked between asked)).shared ≡ (behind start.state (others_asked between asked)).shared
 
 -- ---- one that is finished
 

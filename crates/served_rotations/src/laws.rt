@@ -1,6 +1,6 @@
 //! The laws of rotations over a server: functions that do nothing, whose contracts are the laws.
 
-ghost use Rattle.served_rotations.specs.Laws.{FinishedIsWhole, RotationsTellOneOutcome, UnfinishedLeavesNoTrace};
+ghost use Rattle.served_rotations.specs.Laws.{AskingLeavesNoTrace, FinishedIsWhole, RotationsTellOneOutcome, UnfinishedLeavesNoTrace};
 
 use cell_codec::{derived_keys_are_keys, sealing_is_read_back};
 use key_store::opened_are_keys;
@@ -25,10 +25,22 @@ pub fn rotations_tell_one_outcome()
 }
 
 /// Whatever was requested of a server before, and whatever other sessions request between any two
-/// requests of a rotation: where the rotation isn't finished, because it failed or was stopped on its
-/// way, the shared world is what the other sessions' requests alone give.
+/// requests of a rotation: the rotation is finished; or, because it failed or was stopped on its way,
+/// the shared world is what the other sessions' requests alone give.
 pub fn unfinished_rotations_leave_no_trace()
     ensures { UnfinishedLeavesNoTrace }
+{
+    proper_tables_stay();
+    begins_commits_and_rolls_back();
+    reading_is_whole();
+    texts_parse();
+}
+
+/// Whatever was requested of a server before, and whatever other sessions request between any two
+/// requests of a rotation: as long as one more of the rotation's requests is to come, the shared
+/// world is what the other sessions' requests alone give.
+pub fn asking_rotations_leave_no_trace()
+    ensures { AskingLeavesNoTrace }
 {
     proper_tables_stay();
     begins_commits_and_rolls_back();

@@ -6,7 +6,7 @@ use Rattle.rotate_among.proofs.rotating.rotate_among.Goals as goal
 
 pub returns-clause-rotated : goal.returns-clause-rotated
 returns-clause-rotated g c = λ keys history told from idle before requests.
-    leaves_if c.rotations_tell_one_outcome.ensures c.unfinished_rotations_leave_no_trace.ensures c.finished_rotations_are_whole.ensures keys _ _ _ _ history _
+    leaves_if c.rotations_tell_one_outcome.ensures c.unfinished_rotations_leave_no_trace.ensures c.asking_rotations_leave_no_trace.ensures c.finished_rotations_are_whole.ensures keys _ _ _ _ history _
     (subst IsSession c.number.ensures.value c.number.ensures.within)
     (record { named = c.as_str.ensures.condition; scalars = c.as_str.ensures.scalars })
     (record { named = c.as_str-2.ensures.condition; scalars = c.as_str-2.ensures.scalars })
