@@ -1,16 +1,12 @@
--- Where no row changes, or none is dropped, all stay; and places that rise are those of rows.
+-- Where no row is dropped, all stay; and places that rise are those of rows.
 use Rattle.std.proofs.Common.{◌≡◌, ℕ, ◌+◌, ◌<◌, List, [], ◌∷◌, length, map, refl, ap, arith, true}
 use Rattle.std.specs.Prelude.{◌==◌}
 use Rattle.std.specs.List.{All}
 use Rattle.std.proofs.lemmas.Bool.{eqb-true}
 use Rattle.std.proofs.lemmas.List.Elements.{All-cons, All-nil}
 use Rattle.row_store.specs.declared.changes.Change.{Change}
-use Rattle.row_store.specs.Changes.{marked, unhit, written}
+use Rattle.row_store.specs.Changes.{marked, unhit}
 use Rattle.row_store.specs.Numbers.{AreRising}
-
-pub none_written : {T : Type 0} (rows : List T) (changes : List (Change T)) → (length changes == 0) ≡ true → rows ≡ written rows changes
-none_written rows [] e = refl
-none_written rows (change ∷ changes) e = let none = eqb-true (length (change ∷ changes)) 0 e in absurd (omega arith)
 
 none_marked : {T : Type 0} (rows : List T) (place : ℕ) → rows ≡ unhit rows (marked place (length rows) [])
 none_marked [] place = refl

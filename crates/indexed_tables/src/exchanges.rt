@@ -78,9 +78,11 @@ pub(crate) fn exchange_changed<K: Same>(
     alloc: Global,
     indexes: &mut Vec<UniqueIndex<K>>,
     stored: &Numbered<Row<K>>,
+    places: &[usize],
     changes: &[Change<Row<K>>],
 ) -> Result<(), Refusal>
     requires few { length indexes.old.items ≤ 8 }
+    requires places { places.now ≡ map (λ change. change.place) changes.now }
     requires placed { AreRising 0 (length stored.now.rows)
         (map (λ change. change.place) changes.now) }
     requires distinct { AreDistinct (keys_of indexes.old.items) stored.now.rows }
@@ -95,9 +97,8 @@ pub(crate) fn exchange_changed<K: Same>(
     ensures err { OnErr result
         (All (IndexesRows stored.now.numbers stored.now.rows) indexes.new.items) }
 {
-    let places = places_of(alloc, changes)?;
-    let numbers = stored.numbers_at(alloc, places.as_slice())?;
-    let old = stored.rows_at(alloc, places.as_slice())?;
+    let numbers = stored.numbers_at(alloc, places)?;
+    let old = stored.rows_at(alloc, places)?;
     let new = rows_of(alloc, changes)?;
     exchange(
         alloc,
@@ -110,7 +111,10 @@ pub(crate) fn exchange_changed<K: Same>(
 }
 
 /// The places of changes.
-fn places_of<K: Same>(alloc: Global, changes: &[Change<Row<K>>]) -> Result<Vec<usize>, AllocError>
+pub(crate) fn places_of<K: Same>(
+    alloc: Global,
+    changes: &[Change<Row<K>>],
+) -> Result<Vec<usize>, AllocError>
     ensures { IfOk result (λ places. places.items ≡ map (λ change. change.place) changes.now) }
 {
     let mut places = Vec::with_capacity(alloc, changes.len())?;

@@ -10,11 +10,11 @@ ghost use Rattle.indexed_tables.specs.Updates.{AreKept, changed_rows};
 ghost use Rattle.row_store.specs.Changes.{marked, written, unhit};
 ghost use Rattle.row_store.specs.Numbers.{AreRising, counted};
 ghost use Rattle.operators.specs.Alike.{key_of};
-ghost use Rattle.row_store.specs.Paged.{flat};
+ghost use Rattle.row_store.specs.Paged.{IsWritable, flat};
 ghost use Rattle.unique_keys.specs.Indexes.{AreDistinct, IndexesRows, keys_of, standing_rows};
 ghost use Rattle.unique_keys.specs.Keys.{first_twins, unless_twins};
 
-use crate::exchanges::{exchange_changed, indexes_of, put_in, take_out_at};
+use crate::exchanges::{exchange_changed, indexes_of, places_of, put_in, take_out_at};
 use crate::keys_set::sets_a_key;
 use ae_base::atoms::{Row, Rows};
 use ae_base::lists::{Duplicate, Seq};
@@ -156,14 +156,13 @@ impl<K: Same> Table<K> {
         ensures keys { self.new.keys ≡ self.old.keys }
         ensures rows { self.new.rows ≡ changed_rows result self.old.rows changes }
     {
-        if !sets_a_key(self.indexes.as_slice(), assignments) {
-            self.rows.replace_all(changes);
-            return Ok(());
-        }
-        if changes.is_empty() {
-            return Ok(());
-        }
-        match exchange_changed(alloc, &mut self.indexes, &self.rows, changes.as_slice()) {
+        match admit(
+            alloc,
+            &mut self.rows,
+            &mut self.indexes,
+            assignments,
+            changes.as_slice(),
+        ) {
             Ok(()) => {
                 self.rows.replace_all(changes);
                 Ok(())
@@ -188,9 +187,18 @@ impl<K: Same> Table<K> {
         if places.is_empty() {
             return Ok(());
         }
+        self.rows.make_removable(alloc, places)?;
         take_out_at(alloc, &mut self.indexes, &self.rows, places)?;
         self.rows.drop_at(places);
         Ok(())
+    }
+
+    /// Lets copies have the pages of rows as well, if there is memory for it: from then on a copy
+    /// copies no row. Nothing that is seen changes.
+    pub fn seal(&mut self, alloc: Global)
+        ensures { self.new ≡ self.old }
+    {
+        self.rows.seal(alloc);
     }
 }
 
@@ -229,6 +237,44 @@ fn indexes_on<K: Same>(alloc: Global, keys: &[UniqueKey]) -> Result<Vec<UniqueIn
         indexes.push(UniqueIndex::new(alloc, key.copy()?))?;
     }
     Ok(indexes)
+}
+
+/// Has the pages of changes ready for them, and has the indexes follow where a key is set; or
+/// leaves the indexes. All memory is taken before the pages have the new rows.
+fn admit<K: Same>(
+    alloc: Global,
+    stored: &mut Numbered<Row<K>>,
+    indexes: &mut Vec<UniqueIndex<K>>,
+    assignments: &[BoundAssignment],
+    changes: &[Change<Row<K>>],
+) -> Result<(), Refusal>
+    requires few { length indexes.old.items ≤ 8 }
+    requires placed { AreRising 0 (length stored.old.rows)
+        (map (λ change. change.place) changes.now) }
+    requires kept { AreKept (map assignment_of assignments.now) stored.old.rows
+        (written stored.old.rows changes.now) }
+    requires distinct { AreDistinct (keys_of indexes.old.items) stored.old.rows }
+    requires indexed { All (IndexesRows stored.old.numbers stored.old.rows) indexes.old.items }
+    ensures keys { keys_of indexes.new.items ≡ keys_of indexes.old.items }
+    ensures rows { stored.new.rows ≡ stored.old.rows }
+    ensures numbers { stored.new.numbers ≡ stored.old.numbers }
+    ensures own { OnOk result (All (IsWritable stored.new.pages)
+        (map (λ change. change.place) changes.now)) }
+    ensures answer { Answers result
+        (unless_twins (first_twins 1 (keys_of indexes.old.items)
+        (written stored.old.rows changes.now)) tt) }
+    ensures ok { OnOk result
+        (All (IndexesRows stored.old.numbers (written stored.old.rows changes.now))
+        indexes.new.items) }
+    ensures err { OnErr result
+        (All (IndexesRows stored.old.numbers stored.old.rows) indexes.new.items) }
+{
+    let places = places_of(alloc, changes)?;
+    stored.make_writable(alloc, places.as_slice())?;
+    if !sets_a_key(indexes.as_slice(), assignments) {
+        return Ok(());
+    }
+    exchange_changed(alloc, indexes, stored, places.as_slice(), changes)
 }
 
 /// Puts rows into a table's pages and indexes. All memory is taken before the pages have them.

@@ -8,7 +8,7 @@ use Rattle.std.proofs.lemmas.List.{drop_more, take-append-drop}
 use Rattle.std.proofs.lemmas.List.Elements.{All-head, All-tail, All-cons, All-nil}
 use Rattle.std.proofs.lemmas.Option.{slice_get_read}
 use Rattle.std.proofs.Math.Seq.{take-suc}
-use Rattle.row_store.specs.Paged.{flat}
+use Rattle.row_store.specs.Paged.{Owned, flat}
 use Rattle.row_store.proofs.Interface.{flat-append, flat_taken, flat_left}
 use Rattle.ae_base.specs.Atoms.{Atom, alike}
 use Rattle.ae_base.specs.declared.atoms.AtomOf.TheVariants.{Null}
@@ -175,27 +175,27 @@ grouped_few places groups (row ∷ rows) most h =
     subst (λ n. All (λ (group : Group). group.count ≤ n) (grouping_of places (grouped_row places groups row) rows)) e (grouped_few places (grouped_row places groups row) rows (most + 1) (counted_few places groups row most h))
 
 -- the same over pages: the groups so far count some of the rows of the pages so far
-pub record AreByPages (places : List ℕ) (pages : List (List (List Atom))) (i : ℕ) (keys : List (List Atom)) (groups : List Group) : Type 0 where
+pub record AreByPages (places : List ℕ) (pages : List (Owned (List (List Atom)))) (i : ℕ) (keys : List (List Atom)) (groups : List Group) : Type 0 where
   pub keyed : keys ≡ keys_on places groups
   pub whole : grouping_of places [] (flat pages) ≡ grouping_of places groups (flat (drop i pages))
   pub few : All (λ (group : Group). group.count ≤ length (flat (take i pages))) groups
 
-pub pages_more : (places : List ℕ) (pages : List (List (List Atom))) (i : ℕ) (page : List (List Atom)) (keys more : List (List Atom)) (groups others : List Group) → AreByPages places pages i keys groups → i < length pages
-    → page ≡ get_or pages i page → more ≡ keys_on places others → others ≡ grouping_of places groups page → AreByPages places pages (i + 1) more others
+pub pages_more : (places : List ℕ) (pages : List (Owned (List (List Atom)))) (i : ℕ) (page : Owned (List (List Atom))) (keys more : List (List Atom)) (groups others : List Group) → AreByPages places pages i keys groups → i < length pages
+    → page ≡ get_or pages i page → more ≡ keys_on places others → others ≡ grouping_of places groups page.value → AreByPages places pages (i + 1) more others
 pages_more places pages i page keys more groups others s lt e k g = record {
   keyed = k;
-  whole = s.whole ∙ ap (grouping_of places groups) (flat_left pages i page lt e) ∙ grouped-append places groups page (flat (drop (i + 1) pages)) ∙ ap (λ gs. grouping_of places gs (flat (drop (i + 1) pages))) (sym g);
+  whole = s.whole ∙ ap (grouping_of places groups) (flat_left pages i page lt e) ∙ grouped-append places groups page.value (flat (drop (i + 1) pages)) ∙ ap (λ gs. grouping_of places gs (flat (drop (i + 1) pages))) (sym g);
   few =
-      let n : length (flat (take i pages)) + length page ≡ length (flat (take (i + 1) pages)) = sym (ap length (flat_taken pages i page lt e) ∙ length-append (flat (take i pages)) page) in
+      let n : length (flat (take i pages)) + length page.value ≡ length (flat (take (i + 1) pages)) = sym (ap length (flat_taken pages i page lt e) ∙ length-append (flat (take i pages)) page.value) in
       subst (All (λ (group : Group). group.count ≤ length (flat (take (i + 1) pages)))) (sym g)
-      (subst (λ n. All (λ (group : Group). group.count ≤ n) (grouping_of places groups page)) n (grouped_few places groups page (length (flat (take i pages))) s.few));
+      (subst (λ n. All (λ (group : Group). group.count ≤ n) (grouping_of places groups page.value)) n (grouped_few places groups page.value (length (flat (take i pages))) s.few));
 }
 
 -- a page has room left in the counts
-pub page_few : (pages : List (List (List Atom))) (i : ℕ) (page : List (List Atom)) → i < length pages → page ≡ get_or pages i page → length (flat pages) < 2 ^ 32 → length (flat (take i pages)) + length page < 2 ^ 32
+pub page_few : (pages : List (Owned (List (List Atom)))) (i : ℕ) (page : Owned (List (List Atom))) → i < length pages → page ≡ get_or pages i page → length (flat pages) < 2 ^ 32 → length (flat (take i pages)) + length page.value < 2 ^ 32
 page_few pages i page lt e few =
     let whole : length (flat pages) ≡ length (flat (take i pages)) + length (flat (drop i pages)) = ap length (sym (ap flat (take-append-drop i pages)) ∙ flat-append (take i pages) (drop i pages)) ∙ length-append (flat (take i pages)) (flat (drop i pages)) in
-    let left : length (flat (drop i pages)) ≡ length page + length (flat (drop (i + 1) pages)) = ap length (flat_left pages i page lt e) ∙ length-append page (flat (drop (i + 1) pages)) in
+    let left : length (flat (drop i pages)) ≡ length page.value + length (flat (drop (i + 1) pages)) = ap length (flat_left pages i page lt e) ∙ length-append page.value (flat (drop (i + 1) pages)) in
     omega (arith, whole, left, few)
 
 -- ---- keys of the code

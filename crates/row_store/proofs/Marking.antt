@@ -1,9 +1,10 @@
 -- Places that are marked, one row after another.
-use Rattle.std.proofs.Common.{◌≡◌, ℕ, zero, suc, ◌+◌, ◌-◌, ◌<◌, ◌≤◌, List, [], ◌∷◌, ◌++◌, length, get_or, take, drop, map, slice_set, refl, ap, sym, ◌∙◌, subst, append_assoc, arith, Bool, true, false, cond}
-use Rattle.std.specs.Prelude.{◌==◌}
+use Rattle.std.proofs.Common.{◌≡◌, ℕ, zero, suc, ◌+◌, ◌-◌, ◌<◌, ◌≤◌, List, [], ◌∷◌, ◌++◌, length, get_or, take, drop, map, slice_set, refl, ap, sym, ◌∙◌, subst, append_assoc, arith, Bool, true, false, cond, inl, inr, ◌⊎◌}
+use Rattle.std.specs.Prelude.{◌==◌, ◌&&◌, nat_le, nat_lt}
+use Rattle.std.proofs.lemmas.Bool.{leb-true, leb-false, ltb-true, ltb-false}
 use Rattle.std.proofs.lemmas.Bool.Decides.{nat_tests}
 use Rattle.std.proofs.lemmas.List.{append-nil, drop_all, drop_more, length-drop, length-set}
-use Rattle.row_store.specs.Changes.{unhit, hit, marked, passed, is_at, IsPast, StartsAt, written}
+use Rattle.row_store.specs.Changes.{unhit, hit, marked, passed, is_at, is_inside, IsPast, written}
 use Rattle.row_store.specs.declared.changes.Change.{Change}
 use Rattle.row_store.specs.Numbers.{AreRising}
 use Rattle.row_store.proofs.Rising.{rising_least}
@@ -13,7 +14,7 @@ drop_drop n zero xs = let e : n ≡ zero + n = omega arith in ap (λ k. drop k x
 drop_drop n (suc m) [] = drop_all n [] (omega arith) ∙ sym (drop_all (suc m + n) [] (omega arith))
 drop_drop n (suc m) (x ∷ xs) = let e : suc (m + n) ≡ suc m + n = omega arith in drop_drop n m xs ∙ ap (λ k. drop k (x ∷ xs)) e
 
-first_left : {A : Type 0} (xs : List A) (i : ℕ) (d : A) → get_or xs i d ≡ get_or (drop i xs) 0 d
+pub first_left : {A : Type 0} (xs : List A) (i : ℕ) (d : A) → get_or xs i d ≡ get_or (drop i xs) 0 d
 first_left xs zero d = refl
 first_left [] (suc i) d = refl
 first_left (x ∷ xs) (suc i) d = first_left xs i d
@@ -56,32 +57,74 @@ marked_front place (suc count) more places =
     let n : suc count + more ≡ suc (count + more) = omega arith in
     ap (λ k. take (suc count) (marked place k places)) n ∙ ap (λ hits. is_at place places ∷ hits) (marked_front (place + 1) count more (passed place places))
 
--- ---- no row before the first place is hit
+-- ---- no row is hit, if the first place is none of theirs
 
-not_at : (place end : ℕ) (places : List ℕ) → place < end → StartsAt end places → is_at place places ≡ false
-not_at place end [] lt s = refl
-not_at place end (p ∷ places) lt s = differ
+abbrev IsOutside : (first end : ℕ) → List ℕ → Type 0
+IsOutside first end [] = Unit {0}
+IsOutside first end (p ∷ places) = (p < first) ⊎ (end ≤ p)
+
+outside : (first end : ℕ) (places : List ℕ) → is_inside first end places ≡ false → IsOutside first end places
+outside first end [] e = tt
+outside first end (p ∷ places) e = by_tests (nat_le first p) refl (nat_lt p end) refl e
   where
-    differ : (p == place) ≡ false
-    differ = grind (arith, nat_tests)
+    by_tests : (a : Bool) → nat_le first p ≡ a → (b : Bool) → nat_lt p end ≡ b → (a && b) ≡ false → (p < first) ⊎ (end ≤ p)
+    by_tests false ea b eb h = inl (leb-false first p ea)
+    by_tests true ea false eb h = inr (ltb-false p end eb)
+    by_tests true ea true eb h = absurd cc
 
-pub none_unhit : {T : Type 0} (rows : List T) (place count : ℕ) (places : List ℕ) → length rows ≡ count → StartsAt (place + count) places → unhit rows (marked place count places) ≡ rows
+-- and if it is, it lies among them
+pub record IsFirst (first end : ℕ) (places : List ℕ) : Type 0 where
+  pub some : 0 < length places
+  pub above : first ≤ get_or places 0 0
+  pub below : get_or places 0 0 < end
+
+pub inside : (first end : ℕ) (places : List ℕ) → is_inside first end places ≡ true → IsFirst first end places
+inside first end [] e = absurd cc
+inside first end (p ∷ places) e = by_tests (nat_le first p) refl (nat_lt p end) refl e
+  where
+    by_tests : (a : Bool) → nat_le first p ≡ a → (b : Bool) → nat_lt p end ≡ b → (a && b) ≡ true → IsFirst first end (p ∷ places)
+    by_tests false ea b eb h = absurd cc
+    by_tests true ea false eb h = absurd cc
+    by_tests true ea true eb h = record { some = omega arith; above = leb-true first p ea; below = ltb-true p end eb }
+
+not_at : (place end : ℕ) (places : List ℕ) → place < end → IsOutside place end places → is_at place places ≡ false
+not_at place end [] lt s = refl
+not_at place end (p ∷ places) lt s = elim s [ inl less ↦ below less | inr more ↦ above more ]
+  where
+    below : p < place → (p == place) ≡ false
+    below less = grind (arith, nat_tests)
+
+    above : end ≤ p → (p == place) ≡ false
+    above more = grind (arith, nat_tests)
+
+outside_next : (place end next last : ℕ) (places : List ℕ) → place ≤ next → end ≡ last → IsOutside place end places → IsOutside next last places
+outside_next place end next last [] le e s = tt
+outside_next place end next last (p ∷ places) le e s = elim s [ inl less ↦ inl (omega (arith, le, less)) | inr more ↦ inr (omega (arith, e, more)) ]
+
+none_unhit : {T : Type 0} (rows : List T) (place count : ℕ) (places : List ℕ) → length rows ≡ count → IsOutside place (place + count) places → unhit rows (marked place count places) ≡ rows
 none_unhit [] place count places n s = refl
 none_unhit (row ∷ rows) place zero places n s = absurd (omega (arith, n))
 none_unhit (row ∷ rows) place (suc count) places n s =
     let none = not_at place (place + suc count) places (omega arith) s in
     let end : place + suc count ≡ place + 1 + count = omega arith in
     ap (λ b. unhit (row ∷ rows) (b ∷ marked (place + 1) count (cond b (drop 1 places) places))) none
-    ∙ ap (λ l. row ∷ l) (none_unhit rows (place + 1) count places (omega (arith, n)) (subst (λ k. StartsAt k places) end s))
+    ∙ ap (λ l. row ∷ l) (none_unhit rows (place + 1) count places (omega (arith, n)) (outside_next place (place + suc count) (place + 1) (place + 1 + count) places (omega arith) end s))
 
-pub none_past : (place count : ℕ) (places : List ℕ) → StartsAt (place + count) places → IsPast place count places 0
+none_past : (place count : ℕ) (places : List ℕ) → IsOutside place (place + count) places → IsPast place count places 0
 none_past place count places s = up_to count (omega arith)
   where
     up_to : (at : ℕ) → at ≤ count → IsPast place at places 0
     up_to zero le = past_start place places
     up_to (suc at) le =
         let one : at + 1 ≡ suc at = omega arith in
-        subst (λ k. IsPast place k places 0) one (past_kept place at places 0 (up_to at (omega (arith, le))) (sym (not_at (place + at) (place + count) places (omega (arith, le)) s)))
+        let here = outside_next place (place + count) (place + at) (place + count) places (omega arith) refl s in
+        subst (λ k. IsPast place k places 0) one (past_kept place at places 0 (up_to at (omega (arith, le))) (sym (not_at (place + at) (place + count) places (omega (arith, le)) here)))
+
+pub outside_unhit : {T : Type 0} (rows : List T) (place : ℕ) (places : List ℕ) → is_inside place (place + length rows) places ≡ false → unhit rows (marked place (length rows) places) ≡ rows
+outside_unhit rows place places e = none_unhit rows place (length rows) places refl (outside place (place + length rows) places e)
+
+pub outside_past : (place count : ℕ) (places : List ℕ) → is_inside place (place + count) places ≡ false → IsPast place count places 0
+outside_past place count places e = none_past place count places (outside place (place + count) places e)
 
 -- ---- how many rows are hit
 

@@ -4,7 +4,7 @@ use Rattle.std.specs.List.{All, Contains}
 use Rattle.std.proofs.lemmas.Bool.{cases_lt}
 use Rattle.std.proofs.lemmas.List.Elements.{All-head, All-tail}
 use Rattle.row_store.specs.Numbers.{AreRising}
-use Rattle.row_store.specs.Paged.{IsPaged, IsDense, flat, lengths, rows_before}
+use Rattle.row_store.specs.Paged.{IsPaged, IsDense, joined, sizes, rows_before}
 use Rattle.row_store.proofs.Rising.{rising_least, rising_front, rising_rest, rising_behind}
 
 -- ---- a page has the number
@@ -24,9 +24,9 @@ pub record IsInside (pages : List (List ℕ)) (number low high : ℕ) : Type 0 w
   pub to : page < high
   pub there : Contains (get_or pages page []) number
 
-pub inside_one : (pages : List (List ℕ)) (number : ℕ) → Contains (flat pages) number → IsInside pages number 0 (length pages)
+pub inside_one : (pages : List (List ℕ)) (number : ℕ) → Contains (joined pages) number → IsInside pages number 0 (length pages)
 inside_one [] number c = absurd (omega (arith, c.1))
-inside_one (page ∷ pages) number c = elim (in_either page (flat pages) number c.0 c.1 c.2) [
+inside_one (page ∷ pages) number c = elim (in_either page (joined pages) number c.0 c.1 c.2) [
   | inl here ↦ record { page = 0; from = omega arith; to = omega arith; there = here }
   | inr behind ↦ let rest = inside_one pages number behind in record { page = suc rest.page; from = omega arith; to = omega (arith, rest.to); there = rest.there }
 ]
@@ -34,60 +34,60 @@ inside_one (page ∷ pages) number c = elim (in_either page (flat pages) number 
 -- ---- the order of pages
 
 -- a page isn't empty, unless it is the only one
-filled : (pages : List (List ℕ)) (q : ℕ) → All (λ n. n ≤ 256) (lengths pages) → IsDense (lengths pages) → 1 ≤ q → q < length pages → 0 < length (get_or pages q [])
+filled : (pages : List (List ℕ)) (q : ℕ) → All (λ n. n ≤ 256) (sizes pages) → IsDense (sizes pages) → 1 ≤ q → q < length pages → 0 < length (get_or pages q [])
 filled [] q s d le lt = absurd (omega (arith, lt))
 filled (r ∷ []) q s d le lt = absurd (omega (arith, le, lt))
 filled (r ∷ page ∷ pages) zero s d le lt = absurd (omega (arith, le))
 filled (r ∷ page ∷ pages) (suc zero) s d le lt =
-    let few : length r ≤ 256 = All-head (λ n. n ≤ 256) (length r) (lengths (page ∷ pages)) s in
+    let few : length r ≤ 256 = All-head (λ n. n ≤ 256) (length r) (sizes (page ∷ pages)) s in
     omega (arith, d.0, few)
 filled (r ∷ page ∷ pages) (suc (suc q)) s d le lt =
-    filled (page ∷ pages) (suc q) (All-tail (λ n. n ≤ 256) (length r) (lengths (page ∷ pages)) s) d.1 (omega arith) (omega (arith, lt))
+    filled (page ∷ pages) (suc q) (All-tail (λ n. n ≤ 256) (length r) (sizes (page ∷ pages)) s) d.1 (omega arith) (omega (arith, lt))
 
-first_least : (from to : ℕ) (pages : List (List ℕ)) (q : ℕ) → AreRising from to (flat pages) → q < length pages → 0 < length (get_or pages q []) → from ≤ get_or (get_or pages q []) 0 0
+first_least : (from to : ℕ) (pages : List (List ℕ)) (q : ℕ) → AreRising from to (joined pages) → q < length pages → 0 < length (get_or pages q []) → from ≤ get_or (get_or pages q []) 0 0
 first_least from to [] q h lt some = absurd (omega (arith, lt))
-first_least from to (page ∷ pages) zero h lt some = rising_least from to page 0 0 (rising_front from to page (flat pages) h) some
-first_least from to (page ∷ pages) (suc q) h lt some = first_least from to pages q (rising_rest from to page (flat pages) h) (omega (arith, lt)) some
+first_least from to (page ∷ pages) zero h lt some = rising_least from to page 0 0 (rising_front from to page (joined pages) h) some
+first_least from to (page ∷ pages) (suc q) h lt some = first_least from to pages q (rising_rest from to page (joined pages) h) (omega (arith, lt)) some
 
-all_least : (from to : ℕ) (pages : List (List ℕ)) (number p : ℕ) → AreRising from to (flat pages) → p < length pages → Contains (get_or pages p []) number → from ≤ number
+all_least : (from to : ℕ) (pages : List (List ℕ)) (number p : ℕ) → AreRising from to (joined pages) → p < length pages → Contains (get_or pages p []) number → from ≤ number
 all_least from to [] number p h lt c = absurd (omega (arith, lt))
 all_least from to (page ∷ pages) number zero h lt c =
-    let least = rising_least from to page c.0 number (rising_front from to page (flat pages) h) c.1 in
+    let least = rising_least from to page c.0 number (rising_front from to page (joined pages) h) c.1 in
     omega (arith, least, c.2)
-all_least from to (page ∷ pages) number (suc p) h lt c = all_least from to pages number p (rising_rest from to page (flat pages) h) (omega (arith, lt)) c
+all_least from to (page ∷ pages) number (suc p) h lt c = all_least from to pages number p (rising_rest from to page (joined pages) h) (omega (arith, lt)) c
 
-before_first : (from to : ℕ) (pages : List (List ℕ)) (number p q : ℕ) → AreRising from to (flat pages) → p < q → q < length pages → 0 < length (get_or pages q []) → Contains (get_or pages p []) number → number < get_or (get_or pages q []) 0 0
+before_first : (from to : ℕ) (pages : List (List ℕ)) (number p q : ℕ) → AreRising from to (joined pages) → p < q → q < length pages → 0 < length (get_or pages q []) → Contains (get_or pages p []) number → number < get_or (get_or pages q []) 0 0
 before_first from to [] number p q h less lt some c = absurd (omega (arith, lt))
 before_first from to (page ∷ pages) number zero zero h less lt some c = absurd (omega (arith, less))
 before_first from to (page ∷ pages) number zero (suc q) h less lt some c =
-    let rest = first_least (get_or page c.0 number + 1) to pages q (rising_behind from to page (flat pages) c.0 number h c.1) (omega (arith, lt)) some in
+    let rest = first_least (get_or page c.0 number + 1) to pages q (rising_behind from to page (joined pages) c.0 number h c.1) (omega (arith, lt)) some in
     omega (arith, rest, c.2)
 before_first from to (page ∷ pages) number (suc p) zero h less lt some c = absurd (omega (arith, less))
 before_first from to (page ∷ pages) number (suc p) (suc q) h less lt some c =
-    before_first from to pages number p q (rising_rest from to page (flat pages) h) (omega (arith, less)) (omega (arith, lt)) some c
+    before_first from to pages number p q (rising_rest from to page (joined pages) h) (omega (arith, less)) (omega (arith, lt)) some c
 
-behind_first : (from to : ℕ) (pages : List (List ℕ)) (number p q : ℕ) → AreRising from to (flat pages) → q ≤ p → p < length pages → 0 < length (get_or pages q []) → Contains (get_or pages p []) number → get_or (get_or pages q []) 0 0 ≤ number
+behind_first : (from to : ℕ) (pages : List (List ℕ)) (number p q : ℕ) → AreRising from to (joined pages) → q ≤ p → p < length pages → 0 < length (get_or pages q []) → Contains (get_or pages p []) number → get_or (get_or pages q []) 0 0 ≤ number
 behind_first from to [] number p q h le lt some c = absurd (omega (arith, lt))
 behind_first from to ([] ∷ pages) number p zero h le lt some c = absurd (omega (arith, some))
 behind_first from to ((n ∷ page) ∷ pages) number p zero h le lt some c =
     all_least n to ((n ∷ page) ∷ pages) number p (omega arith, h.1, h.2) lt c
 behind_first from to (page ∷ pages) number zero (suc q) h le lt some c = absurd (omega (arith, le))
 behind_first from to (page ∷ pages) number (suc p) (suc q) h le lt some c =
-    behind_first from to pages number p q (rising_rest from to page (flat pages) h) (omega (arith, le)) (omega (arith, lt)) some c
+    behind_first from to pages number p q (rising_rest from to page (joined pages) h) (omega (arith, le)) (omega (arith, lt)) some c
 
 page_there : (pages : List (List ℕ)) (i : ℕ) (page : List ℕ) → i < length pages → page ≡ get_or pages i page → get_or pages i [] ≡ page
 page_there [] i page lt e = absurd (omega (arith, lt))
 page_there (p ∷ pages) zero page lt e = sym e
 page_there (p ∷ pages) (suc i) page lt e = page_there pages i page (omega (arith, lt)) e
 
-pub page_rising : (from to : ℕ) (pages : List (List ℕ)) (i : ℕ) (page : List ℕ) → AreRising from to (flat pages) → i < length pages → page ≡ get_or pages i page → AreRising from to page
+pub page_rising : (from to : ℕ) (pages : List (List ℕ)) (i : ℕ) (page : List ℕ) → AreRising from to (joined pages) → i < length pages → page ≡ get_or pages i page → AreRising from to page
 page_rising from to [] i page h lt e = absurd (omega (arith, lt))
-page_rising from to (p ∷ pages) zero page h lt e = subst (AreRising from to) (sym e) (rising_front from to p (flat pages) h)
-page_rising from to (p ∷ pages) (suc i) page h lt e = page_rising from to pages i page (rising_rest from to p (flat pages) h) (omega (arith, lt)) e
+page_rising from to (p ∷ pages) zero page h lt e = subst (AreRising from to) (sym e) (rising_front from to p (joined pages) h)
+page_rising from to (p ∷ pages) (suc i) page h lt e = page_rising from to pages i page (rising_rest from to p (joined pages) h) (omega (arith, lt)) e
 
 -- ---- half of the pages at a time
 
-module _ (pages : List (List ℕ)) (number low high middle to : ℕ) (paged : IsPaged (lengths pages)) (h : AreRising 0 to (flat pages)) (above : low < middle) (below : middle < high) (within : high ≤ length pages) (s : IsInside pages number low high) where
+module _ (pages : List (List ℕ)) (number low high middle to : ℕ) (paged : IsPaged (sizes pages)) (h : AreRising 0 to (joined pages)) (above : low < middle) (below : middle < high) (within : high ≤ length pages) (s : IsInside pages number low high) where
   middle_filled : 0 < length (get_or pages middle [])
   middle_filled = filled pages middle paged.small paged.dense (omega (arith, above)) (omega (arith, below, within))
 
@@ -142,12 +142,12 @@ inside_some pages number low high s = omega (arith, s.from, s.to)
 
 -- ---- how many rows lie before
 
-pub before_less : {T : Type 0} (n : ℕ) (pages : List (List T)) → rows_before n pages ≤ length (flat pages)
+pub before_less : {T : Type 0} (n : ℕ) (pages : List (List T)) → rows_before n pages ≤ length (joined pages)
 before_less zero pages = omega arith
 before_less (suc n) [] = omega arith
 before_less (suc n) (page ∷ pages) =
     let rest = before_less n pages in
-    omega (arith, rest, length-append page (flat (take n pages)), length-append page (flat pages))
+    omega (arith, rest, length-append page (joined (take n pages)), length-append page (joined pages))
 
 -- ---- in one page
 

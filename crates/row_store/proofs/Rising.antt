@@ -1,7 +1,13 @@
 -- Numbers that rise.
 use Rattle.std.proofs.Common.{◌≡◌, ℕ, zero, suc, ◌+◌, ◌<◌, ◌≤◌, List, [], ◌∷◌, ◌++◌, length, get_or, refl, ap, ◌∙◌, arith, Bool, true, false}
+use Rattle.std.specs.List.{All}
+use Rattle.std.proofs.lemmas.List.Elements.{All-cons, All-nil}
 use Rattle.row_store.specs.Changes.{unhit, hit}
 use Rattle.row_store.specs.Numbers.{AreRising, counted}
+
+pub rising_all : (from to : ℕ) (ns : List ℕ) → AreRising from to ns → All (λ n. n < to) ns
+rising_all from to [] h = All-nil (λ n. n < to)
+rising_all from to (n ∷ ns) h = All-cons (λ n. n < to) n ns h.1 (rising_all (n + 1) to ns h.2)
 
 -- ---- what is done to them
 

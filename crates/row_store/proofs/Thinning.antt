@@ -4,7 +4,7 @@ use Rattle.std.specs.List.{All, SwappedAt}
 use Rattle.std.proofs.lemmas.Bool.{cases_lt}
 use Rattle.std.proofs.lemmas.List.{append-nil, take_all, drop_all, take_more, drop_more, take_more_set, take-set, take-set-le, drop-set-lt, length-set, length-take, length-drop}
 use Rattle.std.proofs.lemmas.List.Elements.{All-head, All-tail}
-use Rattle.row_store.specs.Paged.{flat, lengths, IsDense, IsPaged, merged_next, merged_at, compaction}
+use Rattle.row_store.specs.Paged.{joined, sizes, IsDense, IsPaged, merged_next, merged_at, compaction}
 use Rattle.row_store.specs.Changes.{unhit, marked, IsPast}
 use Rattle.row_store.proofs.Marking.{drop_drop, marked_front, marked_long}
 use Rattle.row_store.proofs.Packing.{next_flat, next_dense, next_small, lengths_of_set, small_set}
@@ -68,20 +68,20 @@ unhit_append (row ∷ rows) rest (true ∷ hits) le = unhit_append rows rest hit
 unhit_append (row ∷ rows) rest (false ∷ hits) le = ap (λ l. row ∷ l) (unhit_append rows rest hits (omega (arith, le)))
 
 pub record AreThinning {T : Type 0} (old now : List (List T)) (hits : List Bool) (i before : ℕ) : Type 0 where
-  pub so_far : unhit (flat old) hits ≡ flat (take i now) ++ unhit (flat (drop i now)) (drop before hits)
-  pub left : length hits ≡ before + length (flat (drop i now))
-  pub small : All (λ n. n ≤ 256) (lengths now)
+  pub so_far : unhit (joined old) hits ≡ joined (take i now) ++ unhit (joined (drop i now)) (drop before hits)
+  pub left : length hits ≡ before + length (joined (drop i now))
+  pub small : All (λ n. n ≤ 256) (sizes now)
   pub count : length now ≡ length old
 
-pub thinning_start : {T : Type 0} (old : List (List T)) (hits : List Bool) → length hits ≡ length (flat old) → All (λ n. n ≤ 256) (lengths old) → AreThinning old old hits 0 0
+pub thinning_start : {T : Type 0} (old : List (List T)) (hits : List Bool) → length hits ≡ length (joined old) → All (λ n. n ≤ 256) (sizes old) → AreThinning old old hits 0 0
 thinning_start old hits n small = record { so_far = refl; left = omega (arith, n); small = small; count = refl }
 
 drop_next : {A : Type 0} (xs : List A) (i : ℕ) (x : A) → i < length xs → x ≡ get_or xs i x → drop i xs ≡ x ∷ drop (i + 1) xs
 drop_next xs i x lt e = drop_more xs i x lt ∙ ap (λ z. z ∷ drop (i + 1) xs) (sym e)
 
 module _ {T : Type 0} (old now : List (List T)) (hits : List Bool) (i before : ℕ) (rows new : List T) (lt : i < length now) (is : rows ≡ get_or now i rows) (s : AreThinning old now hits i before) where
-  left_here : length (flat (drop i now)) ≡ length rows + length (flat (drop (i + 1) now))
-  left_here = ap (λ ps. length (flat ps)) (drop_next now i rows lt is) ∙ length-append rows (flat (drop (i + 1) now))
+  left_here : length (joined (drop i now)) ≡ length rows + length (joined (drop (i + 1) now))
+  left_here = ap (λ ps. length (joined ps)) (drop_next now i rows lt is) ∙ length-append rows (joined (drop (i + 1) now))
 
   pub thin_within : before + length rows ≤ length hits
   thin_within = omega (arith, s.left, left_here)
@@ -92,49 +92,49 @@ module _ {T : Type 0} (old now : List (List T)) (hits : List Bool) (i before : �
       let long : length rows ≤ length (drop before hits) = omega (arith, length-drop before hits, thin_within) in
       record {
         so_far =
-            s.so_far ∙ ap (λ ps. flat (take i now) ++ unhit (flat ps) (drop before hits)) (drop_next now i rows lt is)
-            ∙ ap (λ l. flat (take i now) ++ l) (unhit_append rows (flat (drop (i + 1) now)) (drop before hits) long)
-            ∙ ap (λ r. flat (take i now) ++ (r ++ unhit (flat (drop (i + 1) now)) (drop (length rows) (drop before hits)))) (sym w)
-            ∙ sym (append_assoc (flat (take i now)) new (unhit (flat (drop (i + 1) now)) (drop (length rows) (drop before hits))))
-            ∙ ap (λ l. l ++ unhit (flat (drop (i + 1) now)) (drop (length rows) (drop before hits))) (sym (ap flat (take_more_set now i new lt) ∙ flat_behind (take i now) new))
-            ∙ ap (λ hs. flat (take (i + 1) (slice_set now i new)) ++ unhit (flat (drop (i + 1) now)) hs) (drop_drop (length rows) before hits)
-            ∙ ap (λ ps. flat (take (i + 1) (slice_set now i new)) ++ unhit (flat ps) (drop (before + length rows) hits)) (sym rest);
-        left = omega (arith, s.left, left_here, ap (λ ps. length (flat ps)) rest);
-        small = subst (All (λ n. n ≤ 256)) (sym (lengths_of_set now i new)) (small_set (lengths now) i (length new) (omega (arith, few, unhit_less rows (take (length rows) (drop before hits)), ap length w)) s.small);
+            s.so_far ∙ ap (λ ps. joined (take i now) ++ unhit (joined ps) (drop before hits)) (drop_next now i rows lt is)
+            ∙ ap (λ l. joined (take i now) ++ l) (unhit_append rows (joined (drop (i + 1) now)) (drop before hits) long)
+            ∙ ap (λ r. joined (take i now) ++ (r ++ unhit (joined (drop (i + 1) now)) (drop (length rows) (drop before hits)))) (sym w)
+            ∙ sym (append_assoc (joined (take i now)) new (unhit (joined (drop (i + 1) now)) (drop (length rows) (drop before hits))))
+            ∙ ap (λ l. l ++ unhit (joined (drop (i + 1) now)) (drop (length rows) (drop before hits))) (sym (ap joined (take_more_set now i new lt) ∙ flat_behind (take i now) new))
+            ∙ ap (λ hs. joined (take (i + 1) (slice_set now i new)) ++ unhit (joined (drop (i + 1) now)) hs) (drop_drop (length rows) before hits)
+            ∙ ap (λ ps. joined (take (i + 1) (slice_set now i new)) ++ unhit (joined ps) (drop (before + length rows) hits)) (sym rest);
+        left = omega (arith, s.left, left_here, ap (λ ps. length (joined ps)) rest);
+        small = subst (All (λ n. n ≤ 256)) (sym (lengths_of_set now i new)) (small_set (sizes now) i (length new) (omega (arith, few, unhit_less rows (take (length rows) (drop before hits)), ap length w)) s.small);
         count = length-set now i new ∙ s.count;
       }
     where
-      flat_behind : (pages : List (List T)) (page : List T) → flat (pages ++ page ∷ []) ≡ flat pages ++ page
+      flat_behind : (pages : List (List T)) (page : List T) → joined (pages ++ page ∷ []) ≡ joined pages ++ page
       flat_behind [] page = append-nil page
-      flat_behind (p ∷ pages) page = ap (λ l. p ++ l) (flat_behind pages page) ∙ sym (append_assoc p (flat pages) page)
+      flat_behind (p ∷ pages) page = ap (λ l. p ++ l) (flat_behind pages page) ∙ sym (append_assoc p (joined pages) page)
 
 -- ---- the places that are left
 
 -- behind so many rows the places that are left mark the rest
 pub record AreLeft {T : Type 0} (old now : List (List T)) (places : List ℕ) (i before used : ℕ) : Type 0 where
-  pub thinning : AreThinning old now (marked 0 (length (flat old)) places) i before
-  pub left : drop before (marked 0 (length (flat old)) places) ≡ marked before (length (flat (drop i now))) (drop used places)
+  pub thinning : AreThinning old now (marked 0 (length (joined old)) places) i before
+  pub left : drop before (marked 0 (length (joined old)) places) ≡ marked before (length (joined (drop i now))) (drop used places)
   pub few : used ≤ length places
 
-pub left_start : {T : Type 0} (old : List (List T)) (places : List ℕ) → All (λ n. n ≤ 256) (lengths old) → AreLeft old old places 0 0 0
+pub left_start : {T : Type 0} (old : List (List T)) (places : List ℕ) → All (λ n. n ≤ 256) (sizes old) → AreLeft old old places 0 0 0
 left_start old places small = record {
-  thinning = thinning_start old (marked 0 (length (flat old)) places) (marked_long 0 (length (flat old)) places) small;
+  thinning = thinning_start old (marked 0 (length (joined old)) places) (marked_long 0 (length (joined old)) places) small;
   left = refl;
   few = omega arith;
 }
 
 module _ {T : Type 0} (old now : List (List T)) (places : List ℕ) (i before used : ℕ) (rows new : List T) (lt : i < length now) (is : rows ≡ get_or now i rows) (s : AreLeft old now places i before used) where
   abbrev hits : List Bool
-  hits = marked 0 (length (flat old)) places
+  hits = marked 0 (length (joined old)) places
 
   abbrev rest : ℕ
-  rest = length (flat (drop (i + 1) now))
+  rest = length (joined (drop (i + 1) now))
 
   all_left : drop before hits ≡ marked before (length rows + rest) (drop used places)
   all_left = s.left ∙ ap (λ n. marked before n (drop used places)) (left_here old now hits i before rows new lt is s.thinning)
 
-  pub left_within : before + length rows ≤ length (flat old)
-  left_within = omega (arith, thin_within old now hits i before rows new lt is s.thinning, marked_long 0 (length (flat old)) places)
+  pub left_within : before + length rows ≤ length (joined old)
+  left_within = omega (arith, thin_within old now hits i before rows new lt is s.thinning, marked_long 0 (length (joined old)) places)
 
   pub left_more : (more : ℕ) → length rows ≤ 256 → more ≤ length (drop used places) → new ≡ unhit rows (marked before (length rows) (drop used places)) → IsPast before (length rows) (drop used places) more
       → AreLeft old (slice_set now i new) places (i + 1) (before + length rows) (used + more)
@@ -144,30 +144,30 @@ module _ {T : Type 0} (old now : List (List T)) (places : List ℕ) (i before us
       record {
         thinning = thinning_more old now hits i before rows new lt is s.thinning small (w ∙ ap (unhit rows) (sym front));
         left = sym (drop_drop (length rows) before hits) ∙ ap (drop (length rows)) all_left ∙ past rest ∙ ap (marked (before + length rows) rest) (drop_drop more used places)
-            ∙ ap (λ ps. marked (before + length rows) (length (flat ps)) (drop (used + more) places)) (sym same);
+            ∙ ap (λ ps. marked (before + length rows) (length (joined ps)) (drop (used + more) places)) (sym same);
         few = omega (arith, few, s.few, length-drop used places);
       }
 
-pub thinned : {T : Type 0} (old now : List (List T)) (hits : List Bool) (i before : ℕ) → length now ≤ i → AreThinning old now hits i before → flat now ≡ unhit (flat old) hits
+pub thinned : {T : Type 0} (old now : List (List T)) (hits : List Bool) (i before : ℕ) → length now ≤ i → AreThinning old now hits i before → joined now ≡ unhit (joined old) hits
 thinned old now hits i before le s =
-    sym (s.so_far ∙ ap (λ ps. flat (take i now) ++ unhit (flat ps) (drop before hits)) (drop_all i now le) ∙ append-nil (flat (take i now)) ∙ ap flat (take_all i now le))
+    sym (s.so_far ∙ ap (λ ps. joined (take i now) ++ unhit (joined ps) (drop before hits)) (drop_all i now le) ∙ append-nil (joined (take i now)) ∙ ap joined (take_all i now le))
 
 -- ---- pages that share one
 
-pub packed_flat : {T : Type 0} (pages : List (List T)) → flat (compaction pages) ≡ flat pages
+pub packed_flat : {T : Type 0} (pages : List (List T)) → joined (compaction pages) ≡ joined pages
 packed_flat [] = refl
 packed_flat (rows ∷ pages) = next_flat rows (compaction pages) ∙ ap (λ l. rows ++ l) (packed_flat pages)
 
-packed_dense : {T : Type 0} (pages : List (List T)) → IsDense (lengths (compaction pages))
+packed_dense : {T : Type 0} (pages : List (List T)) → IsDense (sizes (compaction pages))
 packed_dense [] = tt
 packed_dense (rows ∷ pages) = next_dense rows (compaction pages) (packed_dense pages)
 
-packed_small : {T : Type 0} (pages : List (List T)) → All (λ n. n ≤ 256) (lengths pages) → All (λ n. n ≤ 256) (lengths (compaction pages))
+packed_small : {T : Type 0} (pages : List (List T)) → All (λ n. n ≤ 256) (sizes pages) → All (λ n. n ≤ 256) (sizes (compaction pages))
 packed_small [] h = h
 packed_small (rows ∷ pages) h =
-    next_small rows (compaction pages) (All-head (λ n. n ≤ 256) (length rows) (lengths pages) h) (packed_small pages (All-tail (λ n. n ≤ 256) (length rows) (lengths pages) h))
+    next_small rows (compaction pages) (All-head (λ n. n ≤ 256) (length rows) (sizes pages) h) (packed_small pages (All-tail (λ n. n ≤ 256) (length rows) (sizes pages) h))
 
-pub packed_paged : {T : Type 0} (pages : List (List T)) → All (λ n. n ≤ 256) (lengths pages) → IsPaged (lengths (compaction pages))
+pub packed_paged : {T : Type 0} (pages : List (List T)) → All (λ n. n ≤ 256) (sizes pages) → IsPaged (sizes (compaction pages))
 packed_paged pages h = record { small = packed_small pages h; dense = packed_dense pages }
 
 next_length : {T : Type 0} (rows : List T) (pages : List (List T)) → length (merged_next rows pages) ≤ suc (length pages)

@@ -1,5 +1,5 @@
 -- What is made of rows: some are replaced, or dropped.
-use Rattle.std.specs.Prelude.{◌≡◌, ◌≤◌, ℕ, zero, suc, ◌+◌, List, [], ◌∷◌, drop, slice_set, Bool, true, false, ◌==◌, if◌then◌else◌}
+use Rattle.std.specs.Prelude.{◌≡◌, ◌≤◌, ℕ, zero, suc, ◌+◌, List, [], ◌∷◌, drop, slice_set, Bool, true, false, ◌==◌, ◌&&◌, nat_le, nat_lt, if◌then◌else◌}
 use Rattle.row_store.specs.declared.changes.Change.{Change}
 
 -- rows are put in the places of others, one after another
@@ -39,7 +39,7 @@ marked place (suc count) places = is_at place places ∷ marked (place + 1) coun
 abbrev pub IsPast : (place count : ℕ) → List ℕ → ℕ → Type 0
 IsPast place count places used = (more : ℕ) → drop count (marked place (count + more) places) ≡ marked (place + count) more (drop used places)
 
--- the first of some places, if there is one, doesn't lie before this one
-abbrev pub StartsAt : ℕ → List ℕ → Type 0
-StartsAt end [] = Unit {0}
-StartsAt end (p ∷ places) = end ≤ p
+-- the first of some places is one of the rows from a place on to another
+abbrev pub is_inside : (first end : ℕ) → List ℕ → Bool
+is_inside first end [] = false
+is_inside first end (p ∷ places) = nat_le first p && nat_lt p end

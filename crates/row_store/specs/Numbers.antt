@@ -1,12 +1,16 @@
 -- Numbers of rows, which rise in the order of the rows and stay while a row is there.
 use Rattle.std.specs.Prelude.{ℕ, zero, suc, ◌+◌, ◌<◌, ◌≤◌, List, [], ◌∷◌}
+use Rattle.row_store.specs.Paged.{Owned}
 
--- rows, the number of each, the number of the next one, and how many more there is room for
+-- rows, the number of each, the number of the next one, how many more there is room for, and how rows and
+-- numbers lie in pages
 pub record Numbers (T : Type 0) : Type 0 where
   pub rows : List T
   pub numbers : List ℕ
   pub next : ℕ
   pub spare : ℕ
+  pub pages : List (Owned (List T))
+  pub number_pages : List (Owned (List ℕ))
 
 -- numbers rise, from one on, and stay below another
 abbrev pub AreRising : (from to : ℕ) → List ℕ → Type 0

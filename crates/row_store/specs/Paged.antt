@@ -1,18 +1,41 @@
 -- Rows that lie in pages, one page after another.
-use Rattle.std.specs.Prelude.{◌≡◌, ℕ, zero, suc, ◌+◌, ◌-◌, ◌<◌, ◌≤◌, List, [], ◌∷◌, ◌++◌, length, map, take, nat_le, Bool, false, if◌then◌else◌}
+use Rattle.std.specs.Prelude.{◌≡◌, ℕ, zero, suc, ◌+◌, ◌-◌, ◌<◌, ◌≤◌, ◌⊎◌, List, [], ◌∷◌, ◌++◌, length, map, take, nat_le, Bool, true, false, if◌then◌else◌}
 use Rattle.std.specs.List.{All, flat_map}
 
--- what a table holds, and how many more rows it has room for
-pub record Stored (T : Type 0) : Type 0 where
-  pub rows : List T
-  pub spare : ℕ
+-- a value, and whether a table has it to itself
+pub record Owned (A : Type 0) : Type 0 where
+  pub value : A
+  pub own : Bool
+
+-- the values, whoever has them
+abbrev pub values : {A : Type 0} → List (Owned A) → List A
+values pages = map (λ page. page.value) pages
+
+-- whether the one at a place is one's own; where there is none, nothing isn't
+abbrev pub own_at : {A : Type 0} → ℕ → List (Owned A) → Bool
+own_at page [] = true
+own_at zero (p ∷ pages) = p.own
+own_at (suc page) (p ∷ pages) = own_at page pages
+
+-- lists, one after another, and how long each is
+abbrev pub joined : {T : Type 0} → List (List T) → List T
+joined lists = flat_map (λ list. list) lists
+
+abbrev pub sizes : {T : Type 0} → List (List T) → List ℕ
+sizes lists = map length lists
 
 -- the rows of all pages
-abbrev pub flat : {T : Type 0} → List (List T) → List T
-flat pages = flat_map (λ page. page) pages
+abbrev pub flat : {T : Type 0} → List (Owned (List T)) → List T
+flat pages = joined (values pages)
 
-abbrev pub lengths : {T : Type 0} → List (List T) → List ℕ
-lengths pages = map length pages
+abbrev pub lengths : {T : Type 0} → List (Owned (List T)) → List ℕ
+lengths pages = sizes (values pages)
+
+-- what a table holds: its rows, how they lie in pages, and how many more it has room for
+pub record Stored (T : Type 0) : Type 0 where
+  pub rows : List T
+  pub pages : List (Owned (List T))
+  pub spare : ℕ
 
 -- two neighbours have more than 256 rows together
 abbrev pub IsDense : List ℕ → Type 0
@@ -39,7 +62,7 @@ IsPlace (rows ∷ pages) i (suc page) at = (j : ℕ) × (i ≡ length rows + j) 
 
 -- how many rows lie before a page
 abbrev pub rows_before : {T : Type 0} → ℕ → List (List T) → ℕ
-rows_before page pages = length (flat (take page pages))
+rows_before page pages = length (joined (take page pages))
 
 -- ---- a page that takes the next one's rows, where it has room for them
 
@@ -59,18 +82,34 @@ can_merge zero (rows ∷ []) = false
 can_merge zero (rows ∷ next ∷ pages) = nat_le (length rows + length next) 256
 can_merge (suc page) (rows ∷ pages) = can_merge page pages
 
--- first the page and the next one, and then the one before and the page
-abbrev pub compaction_at : {T : Type 0} → ℕ → List (List T) → List (List T)
-compaction_at zero pages = merged_at zero pages
-compaction_at (suc page) pages = merged_at page (merged_at (suc page) pages)
-
 -- from the last page to the first
 abbrev pub compaction : {T : Type 0} → List (List T) → List (List T)
 compaction [] = []
 compaction (rows ∷ pages) = merged_next rows (compaction pages)
 
+-- ---- changes that take no memory
+
+-- the row at a place can be replaced: its page is the table's own
+abbrev pub IsWritable : {T : Type 0} → List (Owned (List T)) → ℕ → Type 0
+IsWritable pages i = (page at : ℕ) → IsPlace (values pages) i page at → own_at page pages ≡ true
+
+-- it can be taken out: so are the pages beside it, which may take the rows that are left
+abbrev pub IsRemovable : {T : Type 0} → List (Owned (List T)) → ℕ → Type 0
+IsRemovable pages i = (page at : ℕ) → IsPlace (values pages) i page at
+    → (own_at (page - 1) pages ≡ true) × (own_at page pages ≡ true) × (own_at (page + 1) pages ≡ true)
+
+-- two neighbours that fit into one page are both the table's own
+abbrev pub AreReady : {T : Type 0} → List (Owned (List T)) → Type 0
+AreReady [] = Unit {0}
+AreReady (p ∷ []) = Unit {0}
+AreReady (p ∷ q ∷ pages) = (((p.own ≡ true) × (q.own ≡ true)) ⊎ (256 < length p.value + length q.value)) × AreReady (q ∷ pages)
+
+-- a page that is ready for rows
+abbrev pub IsEmpty : {T : Type 0} → Owned (List T) → Type 0
+IsEmpty page = page ≡ record { value = []; own = true }
+
 -- what a table keeps: its pages, and empty ones for which its list of pages has room
-pub record IsKept {T : Type 0} (pages empty : List (List T)) (capacity : ℕ) : Type 0 where
+pub record IsKept {T : Type 0} (pages empty : List (Owned (List T))) (capacity : ℕ) : Type 0 where
   pub paged : IsPaged (lengths pages)
-  pub ready : All (λ page. page ≡ []) empty
+  pub ready : All IsEmpty empty
   pub room : length pages + length empty ≤ capacity

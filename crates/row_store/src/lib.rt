@@ -4,6 +4,7 @@
 pub mod changes;
 pub mod numbered;
 mod numbers;
+mod owning;
 pub mod pages;
 mod places;
 pub mod tables;

@@ -4,7 +4,7 @@ ghost use Rattle.std.specs.Prelude.{◌≡◌, ◌<◌, ◌≤◌, ◌+◌, ◌+
 ghost use Rattle.std.specs.List.{All, Contains};
 ghost use Rattle.row_store.specs.Changes.{written, hit, unhit, marked};
 ghost use Rattle.row_store.specs.Numbers.{AreRising, counted};
-ghost use Rattle.row_store.specs.Paged.{flat};
+ghost use Rattle.row_store.specs.Paged.{IsRemovable, IsWritable, flat};
 
 use crate::changes::Change;
 use crate::pages::Page;
@@ -44,6 +44,8 @@ impl<T> Model for Numbered<T> {
       numbers = t.numbers.rows;
       next = t.next;
       spare = t.spare;
+      pages = t.rows.pages;
+      number_pages = t.numbers.pages;
     } };
 
     ghost invariant = { λ t. record {
@@ -57,7 +59,14 @@ impl<T> Model for Numbered<T> {
 impl<T: Drop> Numbered<T> {
     /// No rows yet. It takes no memory.
     pub fn new(alloc: Global) -> Numbered<T>
-        ensures { result ≡ record { rows = []; numbers = []; next = 0; spare = 0 } }
+        ensures { result ≡ record {
+          rows = [];
+          numbers = [];
+          next = 0;
+          spare = 0;
+          pages = [];
+          number_pages = [];
+        } }
     {
         Numbered {
             rows: Paged::new(alloc),
@@ -100,22 +109,6 @@ impl<T: Drop> Numbered<T> {
         self.numbers.place_of(number)
     }
 
-    /// Makes room for so many more rows, if there is memory for it; the rows stay.
-    pub fn reserve(&mut self, alloc: Global, n: usize) -> Result<(), AllocError>
-        ensures rows { self.new.rows ≡ self.old.rows }
-        ensures numbers { (self.new.numbers ≡ self.old.numbers) × (self.new.next ≡ self.old.next) }
-        ensures spare { OnOk result (n ≤ self.new.spare) }
-    {
-        self.spare = 0;
-        if n > usize::MAX - self.next {
-            return Err(AllocError);
-        }
-        self.rows.reserve(alloc, n)?;
-        self.numbers.reserve(alloc, n)?;
-        self.spare = n;
-        Ok(())
-    }
-
     /// Puts a row at the end. It takes no memory.
     pub fn append(&mut self, row: T)
         requires { 0 < self.old.spare }
@@ -133,7 +126,8 @@ impl<T: Drop> Numbered<T> {
     /// Puts rows in the places of others, one after another; their numbers stay. It takes no
     /// memory, and where their places rise it goes over the pages once.
     pub fn replace_all(&mut self, changes: Seq<Change<T>>)
-        requires { All (λ change. change.place < length self.old.rows) changes }
+        requires placed { All (λ change. change.place < length self.old.rows) changes }
+        requires own { All (IsWritable self.old.pages) (map (λ change. change.place) changes) }
         ensures rows { self.new.rows ≡ written self.old.rows changes }
         ensures numbers { (self.new.numbers ≡ self.old.numbers) × (self.new.next ≡ self.old.next) }
     {
@@ -143,7 +137,9 @@ impl<T: Drop> Numbered<T> {
     /// Drops the rows at some places, which rise; those behind them move up, and keep their
     /// numbers. It takes no memory, and goes over the rows of those pages alone.
     pub fn drop_at(&mut self, places: &[usize])
-        requires { AreRising 0 (length self.old.rows) places.now }
+        requires rising { AreRising 0 (length self.old.rows) places.now }
+        requires own { All (IsRemovable self.old.pages) places.now }
+        requires own_numbers { All (IsRemovable self.old.number_pages) places.now }
         ensures rows { self.new.rows
             ≡ unhit self.old.rows (marked 0 (length self.old.rows) places.now) }
         ensures numbers { self.new.numbers
@@ -206,15 +202,68 @@ impl<T: Drop> Numbered<T> {
 }
 
 impl<T: Duplicate> Numbered<T> {
-    /// A table with equal rows, of the same numbers.
+    /// Makes room for so many more rows, if there is memory for it; the rows stay.
+    pub fn reserve(&mut self, alloc: Global, n: usize) -> Result<(), AllocError>
+        ensures rows { self.new.rows ≡ self.old.rows }
+        ensures numbers { (self.new.numbers ≡ self.old.numbers) × (self.new.next ≡ self.old.next) }
+        ensures spare { OnOk result (n ≤ self.new.spare) }
+    {
+        self.spare = 0;
+        if n > usize::MAX - self.next {
+            return Err(AllocError);
+        }
+        self.rows.reserve(alloc, n)?;
+        self.numbers.reserve(alloc, n)?;
+        self.spare = n;
+        Ok(())
+    }
+
+    /// Has the pages of some places to itself, so that rows can be put there; or without memory
+    /// some of them. The rows stay.
+    pub fn make_writable(&mut self, alloc: Global, places: &[usize]) -> Result<(), AllocError>
+        requires { AreRising 0 (length self.old.rows) places.now }
+        ensures rows { self.new.rows ≡ self.old.rows }
+        ensures numbers { (self.new.numbers ≡ self.old.numbers) × (self.new.next ≡ self.old.next) }
+        ensures spare { self.new.spare ≡ self.old.spare }
+        ensures own { OnOk result (All (IsWritable self.new.pages) places.now) }
+    {
+        self.rows.make_writable(alloc, places)
+    }
+
+    /// Has the pages of some places to itself and those beside them, so that the rows there can be
+    /// dropped; or without memory some of them. The rows stay.
+    pub fn make_removable(&mut self, alloc: Global, places: &[usize]) -> Result<(), AllocError>
+        requires { AreRising 0 (length self.old.rows) places.now }
+        ensures rows { self.new.rows ≡ self.old.rows }
+        ensures numbers { (self.new.numbers ≡ self.old.numbers) × (self.new.next ≡ self.old.next) }
+        ensures spare { self.new.spare ≡ self.old.spare }
+        ensures own { OnOk result (All (IsRemovable self.new.pages) places.now) }
+        ensures own_numbers { OnOk result (All (IsRemovable self.new.number_pages) places.now) }
+    {
+        self.rows.make_removable(alloc, places)?;
+        self.numbers.make_removable(alloc, places)
+    }
+
+    /// Lets others have the pages as well, if there is memory for it: from then on a copy copies
+    /// no row. The rows stay.
+    pub fn seal(&mut self, alloc: Global)
+        ensures rows { self.new.rows ≡ self.old.rows }
+        ensures numbers { (self.new.numbers ≡ self.old.numbers) × (self.new.next ≡ self.old.next) }
+    {
+        self.spare = 0;
+        self.rows.seal(alloc);
+        self.numbers.seal(alloc);
+    }
+
+    /// A table with the same rows, of the same numbers. It copies no page that others have as well.
     pub fn copy(&self, alloc: Global) -> Result<Numbered<T>, AllocError>
         ensures rows { IfOk result (λ copy. copy.rows ≡ self.now.rows) }
         ensures numbers { IfOk result (λ copy. copy.numbers ≡ self.now.numbers) }
         ensures next { IfOk result (λ copy. copy.next ≡ self.now.next) }
     {
         Ok(Numbered {
-            numbers: self.numbers.copied(alloc)?,
-            rows: self.rows.copy()?,
+            rows: self.rows.copy(alloc)?,
+            numbers: self.numbers.copy(alloc)?,
             next: self.next,
             spare: 0,
         })

@@ -3,7 +3,7 @@
 ghost use Rattle.std.specs.Prelude.{◌≡◌, ◌<◌, ◌^◌, [], ℕ, length, nat_lt, slice_index_or};
 ghost use Rattle.std.specs.List.{Contains};
 ghost use Rattle.row_store.specs.Numbers.{AreRising};
-ghost use Rattle.row_store.specs.Paged.{IsPaged, flat, lengths, rows_before};
+ghost use Rattle.row_store.specs.Paged.{IsPaged, flat, lengths, values, rows_before};
 
 use crate::pages::Page;
 
@@ -26,7 +26,7 @@ fn page_of(pages: &[Page<usize>], number: usize) -> usize
     requires rising { (to : ℕ) × AreRising 0 to (flat pages.now) }
     requires there { Contains (flat pages.now) number }
     ensures within { result < length pages.now }
-    ensures there { Contains (slice_index_or pages.now result []) number }
+    ensures there { Contains (slice_index_or (values pages.now) result []) number }
 {
     let mut low = 0;
     let mut high = pages.len();
@@ -53,7 +53,7 @@ fn starts_behind(numbers: &[usize], number: usize) -> bool
 fn rows_before(pages: &[Page<usize>], page: usize) -> usize
     requires few { length (flat pages.now) < 2 ^ 64 }
     requires page { page < length pages.now }
-    ensures { result ≡ rows_before page pages.now }
+    ensures { result ≡ rows_before page (values pages.now) }
 {
     let mut before = 0;
     for i in 0..page {

@@ -1,16 +1,17 @@
 //! Tables: lists of rows in pages.
 
-ghost use Rattle.std.specs.Prelude.{◌≡◌, ◌<◌, ◌≤◌, ◌+◌, ◌*◌, ◌/◌, ◌^◌, ◌++◌, ◌∷◌, [], ℕ, length, map, slice_index_or, slice_set, remove, IfOk, OnOk};
+ghost use Rattle.std.specs.Prelude.{◌≡◌, ◌<◌, ◌≤◌, ◌+◌, ◌-◌, ◌*◌, ◌/◌, ◌^◌, ◌++◌, ◌∷◌, [], ℕ, true, length, map, slice_index_or, IfOk, OnOk};
 ghost use Rattle.std.specs.List.{All, Contains};
 ghost use Rattle.row_store.specs.Changes.{written, unhit, hit, marked};
 ghost use Rattle.row_store.specs.Numbers.{AreRising};
 ghost use Rattle.std.specs.Vec.{vec_capacity};
-ghost use Rattle.row_store.specs.Paged.{IsPaged, IsKept, IsPlace, flat, lengths, last_room, compaction_at, compaction, merged_at, can_merge};
+ghost use Rattle.row_store.specs.Paged.{AreReady, IsKept, IsPaged, IsRemovable, IsWritable, flat, lengths, values, own_at, last_room, compaction, merged_at, can_merge};
 
 use crate::changes::Change;
 use crate::numbers::place_of;
+use crate::owning::{own_around, own_at, own_last};
 use crate::pages::Page;
-use crate::places::{Place, Start, find, seek};
+use crate::places::{Start, find, seek};
 use ae_base::atoms::Row;
 use ae_base::lists::{Duplicate, Seq};
 use std::alloc::{AllocError, Global};
@@ -20,6 +21,7 @@ use std::marker::Model;
 pub type Table<K> = Paged<Row<K>>;
 
 /// Rows in pages of at most 256, of which two neighbours always have more than 256 together.
+/// Several tables may have the same pages; before one changes a page, it has it to itself.
 pub struct Paged<T> {
     pages: Vec<Page<T>>,
     ready: Vec<Page<T>>,
@@ -39,18 +41,23 @@ impl<T: Drop> Drop for Paged<T> {
 }
 
 impl<T> Model for Paged<T> {
-    ghost use Rattle.std.specs.Prelude.{◌≡◌, ◌<◌, ◌≤◌, ◌+◌, ◌*◌, ◌^◌, length};
+    ghost use Rattle.std.specs.Prelude.{◌≡◌, ◌<◌, ◌≤◌, ◌+◌, ◌-◌, ◌*◌, ◌^◌, true, length};
     ghost use Rattle.std.specs.Vec.{vec_capacity};
-    ghost use Rattle.row_store.specs.Paged.{Stored, IsKept, flat, lengths, last_room};
+    ghost use Rattle.row_store.specs.Paged.{Stored, IsKept, flat, lengths, own_at, last_room};
 
     ghost Value = { Stored T };
 
-    ghost view = { λ t. record { rows = flat t.pages.items; spare = t.spare } };
+    ghost view = { λ t. record {
+      rows = flat t.pages.items;
+      pages = t.pages.items;
+      spare = t.spare;
+    } };
 
     ghost invariant = { λ t. record {
       kept : IsKept t.pages.items t.ready.items (vec_capacity t.pages);
       count : t.count ≡ length (flat t.pages.items);
       spare : t.spare ≤ last_room (lengths t.pages.items) + 256 * length t.ready.items;
+      own : 0 < t.spare → own_at (length t.pages.items - 1) t.pages.items ≡ true;
       fits : t.count + t.spare < 2 ^ 64;
     } };
 }
@@ -58,7 +65,7 @@ impl<T> Model for Paged<T> {
 impl<T: Drop> Paged<T> {
     /// No rows yet. It takes no memory.
     pub fn new(alloc: Global) -> Paged<T>
-        ensures { result ≡ record { rows = []; spare = 0 } }
+        ensures { result ≡ record { rows = []; pages = []; spare = 0 } }
     {
         Paged {
             pages: Vec::new(alloc),
@@ -99,26 +106,62 @@ impl<T: Drop> Paged<T> {
         self.pages[place.page].get(place.at)
     }
 
-    /// Puts a row in the place of another. It takes no memory.
-    pub fn replace(&mut self, i: usize, row: T)
-        requires { i < length self.old.rows }
-        ensures rows { self.new.rows ≡ slice_set self.old.rows i row }
-        ensures spare { self.new.spare ≡ self.old.spare }
-    {
-        let place = find(self.pages.as_slice(), i);
-        self.pages[place.page].set(place.at, row);
-    }
-
     /// Puts rows in the places of others, one after another. It takes no memory, and where their
     /// places rise it goes over the pages once.
     pub fn replace_all(&mut self, changes: Seq<Change<T>>)
-        requires { All (λ change. change.place < length self.old.rows) changes }
+        requires placed { All (λ change. change.place < length self.old.rows) changes }
+        requires own { All (IsWritable self.old.pages) (map (λ change. change.place) changes) }
         ensures rows { self.new.rows ≡ written self.old.rows changes }
         ensures spare { self.new.spare ≡ self.old.spare }
     {
         replace_each(&mut self.pages, changes);
     }
 
+    /// Puts a row at the end. It takes no memory.
+    pub fn append(&mut self, row: T)
+        requires { 0 < self.old.spare }
+        ensures rows { self.new.rows ≡ self.old.rows ++ row ∷ [] }
+        ensures spare { self.new.spare + 1 ≡ self.old.spare }
+    {
+        push(&mut self.pages, &mut self.ready, row);
+        self.count += 1;
+        self.spare -= 1;
+    }
+
+    /// Drops the rows at some places, which rise; those behind them move up. It takes no memory,
+    /// and goes over the rows of those pages alone.
+    pub fn drop_at(&mut self, places: &[usize])
+        requires rising { AreRising 0 (length self.old.rows) places.now }
+        requires own { All (IsRemovable self.old.pages) places.now }
+        ensures { self.new.rows
+            ≡ unhit self.old.rows (marked 0 (length self.old.rows) places.now) }
+    {
+        thin(&mut self.pages, places);
+        pack(&mut self.pages);
+        self.count -= places.len();
+        self.spare = 0;
+    }
+
+    /// The rows at some places, which rise, lent. It goes over the pages once.
+    pub fn rows_at(&self, alloc: Global, places: &[usize]) -> Result<Vec<&T>, AllocError>
+        requires { AreRising 0 (length self.now.rows) places.now }
+        ensures { IfOk result (λ rows. map (λ row. row.now) rows.items
+            ≡ hit self.now.rows (marked 0 (length self.now.rows) places.now)) }
+    {
+        lent_at(alloc, self.pages.as_slice(), places)
+    }
+
+    /// Lets others have the pages as well, if there is memory for it: from then on a copy copies
+    /// no row. The rows stay.
+    pub fn seal(&mut self, alloc: Global)
+        ensures { self.new.rows ≡ self.old.rows }
+    {
+        seal_each(alloc, &mut self.pages);
+        self.spare = 0;
+    }
+}
+
+impl<T: Duplicate> Paged<T> {
     /// Makes room for so many more rows, if there is memory for it; the rows stay.
     pub fn reserve(&mut self, alloc: Global, n: usize) -> Result<(), AllocError>
         ensures rows { self.new.rows ≡ self.old.rows }
@@ -137,87 +180,44 @@ impl<T: Drop> Paged<T> {
         if n > usize::MAX - self.count {
             return Err(AllocError);
         }
-        let room = last_room(self.pages.as_slice());
-        if n > room {
-            fill(
-                alloc,
-                &mut self.pages,
-                &mut self.ready,
-                (n - room) / 256 + 1,
-            )?;
-        }
+        make_room(alloc, &mut self.pages, &mut self.ready, n)?;
         self.spare = n;
         Ok(())
     }
 
-    /// Puts a row at the end. It takes no memory.
-    pub fn append(&mut self, row: T)
-        requires { 0 < self.old.spare }
-        ensures rows { self.new.rows ≡ self.old.rows ++ row ∷ [] }
-        ensures spare { self.new.spare + 1 ≡ self.old.spare }
-    {
-        push(&mut self.pages, &mut self.ready, row);
-        self.count += 1;
-        self.spare -= 1;
-    }
-
-    /// Takes out the row at a place; those behind it move up. It takes no memory.
-    pub fn remove(&mut self, i: usize)
-        requires { i < length self.old.rows }
-        ensures { self.new.rows ≡ remove self.old.rows i }
-    {
-        let place = find(self.pages.as_slice(), i);
-        take_out(&mut self.pages, i, place);
-        self.count -= 1;
-        self.spare = 0;
-    }
-
-    /// Drops the rows at some places, which rise; those behind them move up. It takes no memory,
-    /// and goes over the rows of those pages alone.
-    pub fn drop_at(&mut self, places: &[usize])
+    /// Has the pages of some places to itself, so that rows can be put there; or without memory
+    /// some of them. The rows stay.
+    pub fn make_writable(&mut self, alloc: Global, places: &[usize]) -> Result<(), AllocError>
         requires { AreRising 0 (length self.old.rows) places.now }
-        ensures { self.new.rows
-            ≡ unhit self.old.rows (marked 0 (length self.old.rows) places.now) }
+        ensures rows { self.new.rows ≡ self.old.rows }
+        ensures spare { self.new.spare ≡ self.old.spare }
+        ensures own { OnOk result (All (IsWritable self.new.pages) places.now) }
     {
-        thin(&mut self.pages, places);
-        pack(&mut self.pages);
-        self.count -= places.len();
-        self.spare = 0;
+        own_at(alloc, &mut self.pages, places)
     }
 
-    /// The rows at some places, which rise, lent. It goes over the pages once.
-    pub fn rows_at(&self, alloc: Global, places: &[usize]) -> Result<Vec<&T>, AllocError>
-        requires { AreRising 0 (length self.now.rows) places.now }
-        ensures { IfOk result (λ rows. map (λ row. row.now) rows.items
-            ≡ hit self.now.rows (marked 0 (length self.now.rows) places.now)) }
+    /// Has the pages of some places to itself and those beside them, so that the rows there can be
+    /// dropped; or without memory some of them. The rows stay.
+    pub fn make_removable(&mut self, alloc: Global, places: &[usize]) -> Result<(), AllocError>
+        requires { AreRising 0 (length self.old.rows) places.now }
+        ensures rows { self.new.rows ≡ self.old.rows }
+        ensures spare { self.new.spare ≡ self.old.spare }
+        ensures own { OnOk result (All (IsRemovable self.new.pages) places.now) }
     {
-        lent_at(alloc, self.pages.as_slice(), places)
+        own_around(alloc, &mut self.pages, places)
     }
-}
 
-impl<T: Duplicate> Paged<T> {
-    /// A table with equal rows.
-    pub fn copy(&self) -> Result<Paged<T>, AllocError>
+    /// A table with the same rows. It copies no page that others have as well.
+    pub fn copy(&self, alloc: Global) -> Result<Paged<T>, AllocError>
         ensures { IfOk result (λ copy. copy.rows ≡ self.now.rows) }
     {
-        let alloc = *self.pages.allocator();
-        let mut copy = Paged::new(alloc);
-        for page in &self.pages {
-            copy.append_copies(alloc, page.rows())?;
-        }
-        Ok(copy)
-    }
-
-    /// Puts copies of some rows at the end.
-    fn append_copies(&mut self, alloc: Global, rows: &[T]) -> Result<(), AllocError>
-        ensures { OnOk result (self.new.rows ≡ self.old.rows ++ rows.now) }
-    {
-        for row in rows {
-            let copy = row.copy()?;
-            self.reserve(alloc, 1)?;
-            self.append(copy);
-        }
-        Ok(())
+        let pages = copies(alloc, self.pages.as_slice())?;
+        Ok(Paged {
+            pages,
+            ready: Vec::new(alloc),
+            count: self.count,
+            spare: 0,
+        })
     }
 }
 
@@ -231,27 +231,27 @@ impl Paged<usize> {
     {
         place_of(self.pages.as_slice(), number)
     }
+}
 
-    /// Equal numbers.
-    pub(crate) fn copied(&self, alloc: Global) -> Result<Paged<usize>, AllocError>
-        ensures { IfOk result (λ copy. copy.rows ≡ self.now.rows) }
-    {
-        let mut copy = Paged::new(alloc);
-        for page in &self.pages {
-            copy.append_numbers(alloc, page.rows())?;
-        }
-        Ok(copy)
+/// Pages with the same rows.
+fn copies<T: Duplicate>(alloc: Global, pages: &[Page<T>]) -> Result<Vec<Page<T>>, AllocError>
+    ensures pages { IfOk result (λ copies. copies.items ≡ pages.now) }
+    ensures room { IfOk result (λ copies. length pages.now ≤ vec_capacity copies) }
+{
+    let mut copies = Vec::with_capacity(alloc, pages.len())?;
+    for page in pages {
+        copies.push_reserved(page.copy()?);
     }
+    Ok(copies)
+}
 
-    /// Puts some numbers at the end.
-    fn append_numbers(&mut self, alloc: Global, numbers: &[usize]) -> Result<(), AllocError>
-        ensures { OnOk result (self.new.rows ≡ self.old.rows ++ numbers.now) }
-    {
-        for number in numbers {
-            self.reserve(alloc, 1)?;
-            self.append(*number);
-        }
-        Ok(())
+/// Lets others have each page as well, if there is memory for it.
+fn seal_each<T: Drop>(alloc: Global, pages: &mut Vec<Page<T>>)
+    ensures values { values pages.new.items ≡ values pages.old.items }
+    ensures capacity { vec_capacity pages.new ≡ vec_capacity pages.old }
+{
+    for page in 0..pages.len() {
+        pages[page].seal(alloc);
     }
 }
 
@@ -272,6 +272,31 @@ fn lent_at<'a, T: Drop>(
         rows.push(pages[near.page].get(*place - near.before))?;
     }
     Ok(rows)
+}
+
+/// Has the last page to itself, and pages ready for so many rows in all.
+fn make_room<T: Duplicate>(
+    alloc: Global,
+    pages: &mut Vec<Page<T>>,
+    ready: &mut Vec<Page<T>>,
+    n: usize,
+) -> Result<(), AllocError>
+    requires { IsKept pages.old.items ready.old.items (vec_capacity pages.old) }
+    ensures values { values pages.new.items ≡ values pages.old.items }
+    ensures owned { (page : ℕ) → own_at page pages.old.items ≡ true
+        → own_at page pages.new.items ≡ true }
+    ensures kept { IsKept pages.new.items ready.new.items (vec_capacity pages.new) }
+    ensures more { length ready.old.items ≤ length ready.new.items }
+    ensures room { OnOk result
+        (n ≤ last_room (lengths pages.new.items) + 256 * length ready.new.items) }
+    ensures own { OnOk result (own_at (length pages.new.items - 1) pages.new.items ≡ true) }
+{
+    own_last(alloc, pages)?;
+    let room = last_room(pages.as_slice());
+    if n > room {
+        return fill(alloc, pages, ready, (n - room) / 256 + 1);
+    }
+    Ok(())
 }
 
 /// Has at least so many empty pages ready.
@@ -324,10 +349,12 @@ fn add_ready<T: Drop>(
 fn push<T: Drop>(pages: &mut Vec<Page<T>>, ready: &mut Vec<Page<T>>, row: T)
     requires kept { IsKept pages.old.items ready.old.items (vec_capacity pages.old) }
     requires room { 0 < last_room (lengths pages.old.items) + 256 * length ready.old.items }
+    requires own { own_at (length pages.old.items - 1) pages.old.items ≡ true }
     ensures rows { flat pages.new.items ≡ flat pages.old.items ++ row ∷ [] }
     ensures kept { IsKept pages.new.items ready.new.items (vec_capacity pages.new) }
     ensures room { last_room (lengths pages.new.items) + 256 * length ready.new.items + 1
         ≡ last_room (lengths pages.old.items) + 256 * length ready.old.items }
+    ensures own { own_at (length pages.new.items - 1) pages.new.items ≡ true }
 {
     if 0 < last_room(pages.as_slice()) {
         let last = pages.len() - 1;
@@ -350,36 +377,14 @@ fn last_room<T: Drop>(pages: &[Page<T>]) -> usize
     256 - pages[count - 1].len()
 }
 
-/// Takes out a row, and has its page share one with a neighbour where they fit.
-fn take_out<T: Drop>(pages: &mut Vec<Page<T>>, i: usize, place: Place)
-    requires paged { IsPaged (lengths pages.old.items) }
-    requires place { IsPlace pages.old.items i place.page place.at }
-    ensures rows { flat pages.new.items ≡ remove (flat pages.old.items) i }
-    ensures paged { IsPaged (lengths pages.new.items) }
-    ensures length { length pages.new.items ≤ length pages.old.items }
-    ensures capacity { vec_capacity pages.new ≡ vec_capacity pages.old }
-{
-    pages[place.page].remove(place.at);
-    settle(pages, place.page);
-}
-
-fn settle<T: Drop>(pages: &mut Vec<Page<T>>, page: usize)
-    requires { page < length pages.old.items }
-    ensures pages { pages.new.items ≡ compaction_at page pages.old.items }
-    ensures capacity { vec_capacity pages.new ≡ vec_capacity pages.old }
-{
-    merge(pages, page);
-    if page == 0 {
-        return;
-    }
-    merge(pages, page - 1);
-}
-
 /// Puts rows in the places of others, one after another.
 fn replace_each<T: Drop>(pages: &mut Vec<Page<T>>, changes: Seq<Change<T>>)
-    requires { All (λ change. change.place < length (flat pages.old.items)) changes }
+    requires placed { All (λ change. change.place < length (flat pages.old.items)) changes }
+    requires own { All (λ change. IsWritable pages.old.items change.place) changes }
     ensures rows { flat pages.new.items ≡ written (flat pages.old.items) changes }
     ensures lengths { lengths pages.new.items ≡ lengths pages.old.items }
+    ensures own { (page : ℕ) → own_at page pages.old.items ≡ true
+        → own_at page pages.new.items ≡ true }
     ensures capacity { vec_capacity pages.new ≡ vec_capacity pages.old }
 {
     let mut near = Start::first();
@@ -393,10 +398,12 @@ fn replace_each<T: Drop>(pages: &mut Vec<Page<T>>, changes: Seq<Change<T>>)
 /// Drops the rows at some places from their pages.
 fn thin<T: Drop>(pages: &mut Vec<Page<T>>, places: &[usize])
     requires few { length (flat pages.old.items) < 2 ^ 64 }
-    requires small { All (λ n. n ≤ 256) (lengths pages.old.items) }
+    requires paged { IsPaged (lengths pages.old.items) }
+    requires own { All (IsRemovable pages.old.items) places.now }
     ensures rows { flat pages.new.items
         ≡ unhit (flat pages.old.items) (marked 0 (length (flat pages.old.items)) places.now) }
     ensures small { All (λ n. n ≤ 256) (lengths pages.new.items) }
+    ensures ready { AreReady pages.new.items }
     ensures length { length pages.new.items ≡ length pages.old.items }
     ensures capacity { vec_capacity pages.new ≡ vec_capacity pages.old }
 {
@@ -411,7 +418,8 @@ fn thin<T: Drop>(pages: &mut Vec<Page<T>>, places: &[usize])
 
 /// Has pages share one where they fit, from the last to the first.
 fn pack<T: Drop>(pages: &mut Vec<Page<T>>)
-    ensures pages { pages.new.items ≡ compaction pages.old.items }
+    requires { AreReady pages.old.items }
+    ensures pages { values pages.new.items ≡ compaction (values pages.old.items) }
     ensures capacity { vec_capacity pages.new ≡ vec_capacity pages.old }
 {
     for page in (0..pages.len()).rev() {
@@ -421,8 +429,10 @@ fn pack<T: Drop>(pages: &mut Vec<Page<T>>)
 
 /// Puts the rows of the next page into a page, where they fit.
 fn merge<T: Drop>(pages: &mut Vec<Page<T>>, page: usize)
-    requires { page < length pages.old.items }
-    ensures pages { pages.new.items ≡ merged_at page pages.old.items }
+    requires page { page < length pages.old.items }
+    requires ready { AreReady pages.old.items }
+    ensures pages { values pages.new.items ≡ merged_at page (values pages.old.items) }
+    ensures ready { AreReady pages.new.items }
     ensures capacity { vec_capacity pages.new ≡ vec_capacity pages.old }
 {
     if !can_merge(pages.as_slice(), page) {
@@ -435,7 +445,7 @@ fn merge<T: Drop>(pages: &mut Vec<Page<T>>, page: usize)
 /// Whether a page and the next one fit into one.
 fn can_merge<T: Drop>(pages: &[Page<T>], page: usize) -> bool
     requires { page < length pages.now }
-    ensures { result ≡ can_merge page pages.now }
+    ensures { result ≡ can_merge page (values pages.now) }
 {
     if page + 1 >= pages.len() {
         return false;

@@ -104,6 +104,11 @@ impl Column {
         self.table.drop_at(alloc, &[0, 300, 599])
     }
 
+    // From then on a copy has the pages, too.
+    fn seal(&mut self, alloc: Global) {
+        self.table.seal(alloc);
+    }
+
     fn copy(&self) -> Result<Column, AllocError> {
         Ok(Column {
             table: self.table.copy()?,
@@ -158,6 +163,33 @@ fn some_set(alloc: Global) -> Result<[bool; 5], Refusal> {
 fn numbers_that_are_raised(rt: HostRuntime) -> Result<(), AllocError> {
     match some_set(rt.alloc()) {
         Ok(found) => assert!(rt; found == [true; 5]),
+        Err(_) => assert!(rt; false),
+    }
+    Ok(())
+}
+
+fn some_shared(alloc: Global) -> Result<[bool; 6], Refusal> {
+    let mut column = Column::filled(alloc, 600)?;
+    column.seal(alloc);
+    let mut copy = column.copy()?;
+    copy.set_two(alloc, 598, [599, 600])?;
+    copy.drop_three(alloc)?;
+    copy.insert(alloc, 700)?;
+    let raised = copy.stands(alloc, 599, &[596])?;
+    let gone = copy.stands(alloc, 300, &[])?;
+    let new = copy.stands(alloc, 700, &[597])?;
+    let stays = column.stands(alloc, 300, &[300])?;
+    let old = column.stands(alloc, 599, &[599])?;
+    column.drop_three(alloc)?;
+    let first = column.stands(alloc, 1, &[0])?;
+    Ok([raised, gone, new, stays, old, first])
+}
+
+/// A table and its copy, which have their pages in common, change each by itself.
+#[test]
+fn tables_that_share_pages(rt: HostRuntime) -> Result<(), AllocError> {
+    match some_shared(rt.alloc()) {
+        Ok(found) => assert!(rt; found == [true; 6]),
         Err(_) => assert!(rt; false),
     }
     Ok(())

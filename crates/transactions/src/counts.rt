@@ -55,6 +55,14 @@ impl<K: Same> Model for Counted<K> {
 }
 
 impl<K: Same> Counted<K> {
+    /// Lets copies have the pages of all rows as well, if there is memory for it: from then on a
+    /// copy copies no row. Nothing that is seen changes.
+    pub(crate) fn seal(&mut self, alloc: Global)
+        ensures { self.new ≡ self.old }
+    {
+        self.world.seal(alloc);
+    }
+
     /// The world in which nothing is defined. It takes no memory.
     pub(crate) fn new(alloc: Global) -> Counted<K>
         ensures { result ≡ spec.nothing_counted }

@@ -164,6 +164,7 @@ impl<K: Same> Store<K> {
             return Err(Refusal::Fault(SqlFault::InTransaction));
         }
         self.slots.reach(session)?;
+        self.shared.seal(alloc);
         let own = self.shared.copy()?;
         self.slots.put(session, Transaction::begin(alloc, own));
         Ok(Answer::Defined)

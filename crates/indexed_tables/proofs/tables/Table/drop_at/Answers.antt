@@ -14,14 +14,21 @@ returns-then-is_empty-clause-ok g c =
 
 pub invariant_of-self : goal.invariant_of-self
 invariant_of-self g c =
+    let m = c.make_removable.ensures in
+    record { indexed = rw (m.rows, m.numbers.0) c.self.invariant.indexed; distinct = rw m.rows c.self.invariant.distinct }
+
+pub invariant_of-self-in_err-take_out_at : goal.invariant_of-self-in_err-take_out_at
+invariant_of-self-in_err-take_out_at g c =
+    let m = c.make_removable.ensures in
     let e = c.in_err-take_out_at.ensures in
-    record { indexed = rw e.err c.self.invariant.indexed; distinct = rw e.keys c.self.invariant.distinct }
+    record { indexed = rw (e.err, m.rows, m.numbers.0) c.self.invariant.indexed; distinct = rw (e.err, m.rows) c.self.invariant.distinct }
 
 pub invariant_of-self-2 : goal.invariant_of-self-2
 invariant_of-self-2 g c =
     let rows = c.self.inside.rows.rows in
+    let m = c.make_removable.ensures in
     let e = c.in_ok-take_out_at.ensures in
     record {
       indexed = rw (c.drop_at.ensures.rows, c.drop_at.ensures.numbers) e.ok;
-      distinct = rw (e.keys, c.drop_at.ensures.rows) (distinct_left (keys_of c.self.inside.indexes.items) rows (marked 0 (length rows) c.args.places.now) c.self.invariant.distinct);
+      distinct = rw (e.keys, c.drop_at.ensures.rows, m.rows) (distinct_left (keys_of c.self.inside.indexes.items) rows (marked 0 (length rows) c.args.places.now) c.self.invariant.distinct);
     }

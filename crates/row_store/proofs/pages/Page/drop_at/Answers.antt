@@ -1,24 +1,37 @@
 -- The page has its room, and no more rows than it had.
-use Rattle.std.proofs.Common.{◌≡◌, ◌+◌, arith, length, ap, refl, sym, subst}
-use Rattle.row_store.specs.Changes.{marked, StartsAt}
-use Rattle.row_store.proofs.Marking.{none_unhit, none_past}
+use Rattle.std.proofs.Common.{◌≡◌, ◌+◌, List, arith, length, ap, sym, subst, false, true, ◌∙◌}
+use Rattle.row_store.specs.Changes.{marked, is_inside}
+use Rattle.row_store.specs.Holding.{owned_of}
+use Rattle.row_store.specs.Paged.{Owned}
+use Rattle.row_store.proofs.Marking.{outside_unhit, outside_past}
 use Rattle.row_store.proofs.Thinning.{unhit_less}
 use Rattle.row_store.proofs.pages.Page.drop_at.Goals as goal
 
 pub invariant_of-self : goal.invariant_of-self
 invariant_of-self g c =
-    let less = unhit_less c.self.inside.rows.items (marked c.args.first (length c.self.inside.rows.items) c.args.places.now) in
-    (omega (arith, c.self.invariant.0, c.drop_rows.ensures.capacity), omega (arith, c.self.invariant.1, less, ap length c.drop_rows.ensures.rows))
+    let rows = (owned_of c.self.inside.holding).value in
+    let less = unhit_less rows (marked c.args.first (length rows) c.args.places.now) in
+    (omega (arith, c.self.invariant.0, c.drop_at.ensures.capacity), omega (arith, c.self.invariant.1, less, ap length c.drop_at.ensures.rows))
 
-pub returns-then-not-starts_before-clause-rows : goal.returns-then-not-starts_before-clause-rows
-returns-then-not-starts_before-clause-rows g c =
-    let now = c.args.self.now in
-    let end : c.args.first + c.len.result ≡ c.args.first + length now = omega (arith, c.len.ensures, c.self.inside.rows.ok.0, ap length c.self.view_is) in
-    let starts = subst (λ n. StartsAt n c.args.places.now) end (c.starts_before.ensures c.if-not-starts_before.true) in
-    sym (none_unhit now c.args.first (length now) c.args.places.now refl starts)
+pub drop_at-requires-clause-own : goal.drop_at-requires-clause-own
+drop_at-requires-clause-own g c =
+    let same : length c.rows.result.now ≡ length c.args.self.now.value = ap length (c.rows.ensures ∙ ap (λ (p : Owned (List _)). p.value) c.self.view_is) in
+    ap (λ (p : Owned (List _)). p.own) c.self.view_is
+    ∙ c.requires.own (subst (λ n. is_inside c.args.first (c.args.first + n) c.args.places.now ≡ true) same (sym c.is_inside.ensures ∙ c.if-not-is_inside.false))
 
-pub returns-then-not-starts_before-clause-used : goal.returns-then-not-starts_before-clause-used
-returns-then-not-starts_before-clause-used g c =
-    let now = c.args.self.now in
-    let end : c.args.first + c.len.result ≡ c.args.first + length now = omega (arith, c.len.ensures, c.self.inside.rows.ok.0, ap length c.self.view_is) in
-    none_past c.args.first (length now) c.args.places.now (subst (λ n. StartsAt n c.args.places.now) end (c.starts_before.ensures c.if-not-starts_before.true))
+pub returns-then-not-is_inside-clause-rows : goal.returns-then-not-is_inside-clause-rows
+returns-then-not-is_inside-clause-rows g c =
+    let now = c.args.self.now.value in
+    let same : length c.rows.result.now ≡ length now = ap length (c.rows.ensures ∙ ap (λ (p : Owned (List _)). p.value) c.self.view_is) in
+    sym (outside_unhit now c.args.first c.args.places.now (subst (λ n. is_inside c.args.first (c.args.first + n) c.args.places.now ≡ false) same (sym c.is_inside.ensures ∙ c.if-not-is_inside.true)))
+
+pub returns-then-not-is_inside-clause-used : goal.returns-then-not-is_inside-clause-used
+returns-then-not-is_inside-clause-used g c =
+    let now = c.args.self.now.value in
+    let same : length c.rows.result.now ≡ length now = ap length (c.rows.ensures ∙ ap (λ (p : Owned (List _)). p.value) c.self.view_is) in
+    outside_past c.args.first (length now) c.args.places.now (subst (λ n. is_inside c.args.first (c.args.first + n) c.args.places.now ≡ false) same (sym c.is_inside.ensures ∙ c.if-not-is_inside.true))
+
+pub returns-clause-own : goal.returns-clause-own
+returns-clause-own g c =
+    let same : length c.rows.result.now ≡ length c.args.self.now.value = ap length (c.rows.ensures ∙ ap (λ (p : Owned (List _)). p.value) c.self.view_is) in
+    c.drop_at.ensures.own ∙ sym (c.requires.own (subst (λ n. is_inside c.args.first (c.args.first + n) c.args.places.now ≡ true) same (sym c.is_inside.ensures ∙ c.if-not-is_inside.false)))

@@ -16,5 +16,5 @@ pub invariant_of-self-2 : goal.invariant_of-self-2
 invariant_of-self-2 g c =
     let old : Store = store_of c.self.inside.shared c.self.inside.slots.transactions in
     let done = begins old c.args.session c.put.new.self.transactions c.begin.result (sym c.get.ensures ∙ none_copied c.get.result (sym c.is_some.ensures ∙ c.if-is_some.false))
-    (c.put.ensures ∙ ap (λ xs. set xs (c.args.session - 1) (Some c.begin.result)) c.in_ok-reach.ensures.same) (c.begin.ensures ∙ ap begun_over c.in_ok-own.ensures) in
-    subst IsHeld (ap (λ (t : Transacted). t.after) done) (transact_held old c.args.session Begins c.self.invariant tt)
+    (c.put.ensures ∙ ap (λ xs. set xs (c.args.session - 1) (Some c.begin.result)) c.in_ok-reach.ensures.same) (c.begin.ensures ∙ ap begun_over (c.in_ok-own.ensures ∙ c.seal.ensures)) in
+    rw c.seal.ensures (subst IsHeld (ap (λ (t : Transacted). t.after) done) (transact_held old c.args.session Begins c.self.invariant tt))
