@@ -1,7 +1,7 @@
 //! Writes and cuts that are synced at once, and a file that is read whole.
 
-ghost use Rattle.std.specs.Prelude.{◌≡◌, ◌<◌, ◌≤◌, ◌+◌, ◌^◌, IfSome, length};
-ghost use Rattle.ae_edge.specs.Devices.{WhereTold};
+ghost use Rattle.std.specs.Prelude.{◌<◌, ◌≤◌, ◌+◌, ◌^◌, IfSome, length};
+ghost use Rattle.ae_edge.specs.Devices.{Calls, WhereTold};
 ghost use Rattle.disk.specs.Calls.{CountsGiven, CountsStored};
 ghost use Rattle.disk.specs.Durable.{CutsThrough, IsKept, ReadsWhole, WritesThrough};
 
@@ -14,14 +14,11 @@ const MOST_PIECE_BYTES: usize = 65_536;
 
 /// Puts bytes at a place of a file that is on the disk, and syncs.
 pub fn write_through<D: Disk>(disk: &mut D, at: u64, bytes: &[u8]) -> Stored
-    requires kept { IfSome (D.told disk.old) IsKept }
-    requires inside { IfSome (D.told disk.old) (λ d. at ≤ length d.now.seen) }
+    requires kept { IfSome (D.seen disk.old).content IsKept }
+    requires inside { IfSome (D.seen disk.old).content (λ d. at ≤ length d.now.seen) }
     requires end { at + length bytes.now < 2 ^ 64 }
-    ensures same { D.names disk.new ≡ D.names disk.old }
-    ensures content { WhereTold (WritesThrough result at bytes.now)
-        (D.told disk.old) (D.told disk.new) }
-    ensures count { D.faults disk.old ≤ D.faults disk.new }
-    ensures counts { CountsStored result (D.faults disk.old) (D.faults disk.new) }
+    ensures { Calls (WhereTold (WritesThrough result at bytes.now)) (CountsStored result)
+        (D.seen disk.old) (D.seen disk.new) }
 {
     match disk.write(at, bytes) {
         Stored::Done => disk.sync(),
@@ -32,12 +29,10 @@ pub fn write_through<D: Disk>(disk: &mut D, at: u64, bytes: &[u8]) -> Stored
 
 /// Cuts a file that is on the disk to a length, and syncs.
 pub fn cut_through<D: Disk>(disk: &mut D, len: u64) -> Stored
-    requires kept { IfSome (D.told disk.old) IsKept }
-    requires inside { IfSome (D.told disk.old) (λ d. len ≤ length d.now.seen) }
-    ensures same { D.names disk.new ≡ D.names disk.old }
-    ensures content { WhereTold (CutsThrough result len) (D.told disk.old) (D.told disk.new) }
-    ensures count { D.faults disk.old ≤ D.faults disk.new }
-    ensures counts { CountsStored result (D.faults disk.old) (D.faults disk.new) }
+    requires kept { IfSome (D.seen disk.old).content IsKept }
+    requires inside { IfSome (D.seen disk.old).content (λ d. len ≤ length d.now.seen) }
+    ensures { Calls (WhereTold (CutsThrough result len)) (CountsStored result)
+        (D.seen disk.old) (D.seen disk.new) }
 {
     match disk.cut(len) {
         Stored::Done => disk.sync(),
@@ -48,11 +43,9 @@ pub fn cut_through<D: Disk>(disk: &mut D, len: u64) -> Stored
 
 /// Reads a file that is on the disk, to its end.
 pub fn read_whole<D: Disk>(disk: &mut D, alloc: Global) -> Given
-    requires kept { IfSome (D.told disk.old) IsKept }
-    ensures same { D.names disk.new ≡ D.names disk.old }
-    ensures content { WhereTold (ReadsWhole result) (D.told disk.old) (D.told disk.new) }
-    ensures count { D.faults disk.old ≤ D.faults disk.new }
-    ensures counts { CountsGiven result (D.faults disk.old) (D.faults disk.new) }
+    requires kept { IfSome (D.seen disk.old).content IsKept }
+    ensures { Calls (WhereTold (ReadsWhole result)) (CountsGiven result)
+        (D.seen disk.old) (D.seen disk.new) }
 {
     let mut bytes = Vec::new(alloc);
     'pieces: while bytes.len() < usize::MAX {

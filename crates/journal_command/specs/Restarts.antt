@@ -95,7 +95,7 @@ Restarts restarted.OutOfMemory gate old new disk disk_after = WhereTold StaysKep
 
 -- the count of faults stays, but where a call failed
 abbrev pub CountsRestarted : Restarted → ℕ → ℕ → Type 0
-CountsRestarted restarted.Served old new = new ≡ old
-CountsRestarted (restarted.Refused place) old new = new ≡ old
-CountsRestarted restarted.DiskFault old new = Rose old new
-CountsRestarted restarted.OutOfMemory old new = new ≡ old
+CountsRestarted restarted.Served = Stays
+CountsRestarted (restarted.Refused place) = Stays
+CountsRestarted restarted.DiskFault = Rose
+CountsRestarted restarted.OutOfMemory = Stays

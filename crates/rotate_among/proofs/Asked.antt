@@ -1,8 +1,10 @@
 -- A request that is asked behind those of others, whole or in part; and what is heard of the replies to it.
-use Rattle.std.proofs.Common.{◌≡◌, ℕ, List, [], ◌∷◌, ◌++◌, Option, None, refl, sym, ◌∙◌, ap, subst, append-nil, arith, inr}
+use Rattle.std.proofs.Common.{◌≡◌, ℕ, List, [], ◌∷◌, ◌++◌, Option, None, Result, Ok, Err, refl, sym, ap, subst, append-nil, arith, inr}
 use Rattle.std.specs.Borrow.{GName}
-use Rattle.ae_edge.specs.Devices.{WhereTold, Adds, AddsFront}
-use Rattle.ae_edge.proofs.Interface.{adds_front_none}
+use Rattle.ae_edge.specs.Devices.{Adds, AddsFront, Calls, Device, Stays, WhereTold}
+use Rattle.ae_edge.specs.Streams.{CountsWrite}
+use Rattle.ae_edge.specs.declared.streams.WriteError.{WriteError}
+use Rattle.ae_edge.proofs.Interface.{adds_front_none, calls_none}
 use Rattle.wire_frames.specs.Frames.{Placed}
 use Rattle.wire_messages.specs.Exchanges.{Exchange}
 use Rattle.wire_messages.specs.declared.replies.Reply.{Reply}
@@ -14,8 +16,6 @@ use Rattle.run_effects.specs.Shares.{Queue, Wire, AreServed, queue_of}
 use Rattle.run_effects.specs.Ways.{AsksInPart, IsSilent}
 use Rattle.run_effects.proofs.Interface.{queued}
 use Rattle.script_run.specs.Connections.{Sends}
-use Rattle.script_run.specs.declared.connection.Sent.{Sent}
-use Rattle.script_run.specs.declared.connection.Sent.TheVariants as sent
 use Rattle.server_core.specs.Beside.{Beside}
 use Rattle.rotate_among.specs.Passing.{Passes}
 
@@ -36,46 +36,33 @@ module _ (request : Request) (replies : List Reply) (old : Wire) (unlogged : old
   silent : IsSilent old.stream (Asked request replies ∷ [])
   silent = subst (λ s. IsSilent s (Asked request replies ∷ [])) (sym unread) tt
 
-  -- of its frames nothing was put
-  pub lacked : AsksInPart request old (record old { names = names; state = state })
-  lacked = (
+  -- of its frames a front was put
+  in_part : (C : ℕ → ℕ → Type 0) (tap : Device (List ℕ)) (waiting : List (Placed Reply)) (behind : ℕ) → Calls (AddsFront Passed) C old.tap tap
+      → AsksInPart C request old (record old { names = names; tap = tap; state = state; waiting = waiting; behind = behind })
+  in_part C tap waiting behind h = (
     refl,
     inr (
       replies,
       silent,
-      record { names = same; version = refl; tap = adds_front_none (Passed ++ []) old.tap; log = logged; state = served; count = omega arith; closed = refl },
+      record { tap = subst (λ w. Calls (AddsFront w) C old.tap tap) (sym (append-nil Passed)) h; closed = refl; log = logged; state = served; names = same; version = refl },
     ),
   )
+
+  -- or nothing
+  pub lacked : AsksInPart Stays request old (record old { names = names; state = state })
+  lacked = in_part Stays old.tap old.waiting old.behind (calls_none (AddsFront Passed) old.tap (adds_front_none Passed old.tap.content))
 
   -- it was asked, whole or in part
-  pub sends_so : (result : Sent) (tap : Option (List ℕ)) (faults : ℕ) (waiting : List (Placed Reply)) (behind : ℕ)
-      → Passes result old.version request replies old.tap tap old.faults faults (queue_of old) (queue waiting behind)
-      → Sends result request old (record old { names = names; tap = tap; state = state; waiting = waiting; behind = behind; faults = faults })
-  sends_so sent.Whole tap faults waiting behind h = (
+  pub sends_so : (result : Result (Unit {0}) WriteError) (tap : Device (List ℕ)) (waiting : List (Placed Reply)) (behind : ℕ)
+      → Passes result old.version request replies old.tap tap (queue_of old) (queue waiting behind)
+      → Sends result request old (record old { names = names; tap = tap; state = state; waiting = waiting; behind = behind })
+  sends_so (Ok o) tap waiting behind h = (
     replies,
-    record { names = same; version = refl; tap = subst (λ w. Adds w old.tap tap) (sym (append-nil Passed)) h.0; log = logged; state = served; count = h.1; closed = refl },
-    record { comes = queued old.version (Asked request replies ∷ []) old.stream (queue_of old) (queue waiting behind) unread h.2; taken = omega arith },
+    record { tap = subst (λ w. Calls (Adds w) Stays old.tap tap) (sym (append-nil Passed)) h.0; closed = refl; log = logged; state = served; names = same; version = refl },
+    record { comes = queued Stays old.version (Asked request replies ∷ []) old.stream (queue_of old) (queue waiting behind) unread h.1; taken = omega arith },
     λ h. h,
   )
-  sends_so sent.WriteFault tap faults waiting behind h = (
-    (
-      refl,
-      inr (
-        replies,
-        silent,
-        record { names = same; version = refl; tap = subst (λ w. AddsFront w old.tap tap) (sym (append-nil Passed)) h.0; log = logged; state = served; count = h.1; closed = refl },
-      ),
-    ),
-    h.2,
-  )
-  sends_so sent.OutOfMemory tap faults waiting behind h = (
-    refl,
-    inr (
-      replies,
-      silent,
-      record { names = same; version = refl; tap = subst (λ w. AddsFront w old.tap tap) (sym (append-nil Passed)) h.0; log = logged; state = served; count = h.1; closed = refl },
-    ),
-  )
+  sends_so (Err e) tap waiting behind h = in_part (CountsWrite e) tap waiting behind h
 
-pub three_same : {A : Type 0} (a b c d e : A) → a ≡ b → c ≡ d → a ∷ c ∷ e ∷ [] ≡ b ∷ d ∷ e ∷ []
-three_same a b c d e f g = ap (λ x. x ∷ c ∷ e ∷ []) f ∙ ap (λ x. b ∷ x ∷ e ∷ []) g
+pub both_same : {A : Type 0} (a b c : A) → a ≡ b → a ∷ c ∷ [] ≡ b ∷ c ∷ []
+both_same a b c e = ap (λ x. x ∷ c ∷ []) e

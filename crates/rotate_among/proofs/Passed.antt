@@ -25,9 +25,9 @@ use Rattle.column_rotate.specs.Rotating.{fault_as, rotating}
 use Rattle.driver.specs.declared.outcomes.Fault.{Fault}
 use Rattle.driver.specs.declared.outcomes.Fault.TheVariants.{OfServer, OfDriver}
 use Rattle.proper_values.specs.Proper.{IsIdentifier}
-use Rattle.run_effects.specs.Shares.{Outside, exchanges_of, frames_of, messages_of}
+use Rattle.run_effects.specs.Shares.{Counts, Outside, all_stay, exchanges_of, frames_of, messages_of}
 use Rattle.run_effects.specs.Events.{stop_events}
-use Rattle.run_effects.specs.Ways.{Proceeds, IsStuck, StopsBy}
+use Rattle.run_effects.specs.Ways.{Proceeds, ProceedsBy, IsStuck, StopsBy}
 use Rattle.run_effects.specs.declared.stops.Stop.{Stop}
 use Rattle.run_effects.specs.declared.stops.Stop.TheVariants as stop
 use Rattle.run_effects.proofs.Interface.{Begins, Reached, Starts, ahead, beside_serves, reached, served_so, state_there, stops_begin, stops_left}
@@ -86,7 +86,7 @@ module _ (once : RotationsTellOneOutcome) (traceless : UnfinishedLeavesNoTrace) 
     (keys : KeyMap) (trusted : List (List ℕ)) (session : ℕ) (old new : List ℕ) (history : List Request) (between : List (List Request))
     (numbered : IsSession session) (old_named : IsIdentifier old) (new_named : IsIdentifier new) (before : All IsRequest history)
     (others : All (All (λ request. IsRequest request × (session_of request ≢ session))) between)
-    (after : Session) (version : FrameVersion) (a b : Lent) (told : a.keys ≡ Some keys) (from : a.state ≡ Some (behind empty_state history)) where
+    (after : Session) (version : FrameVersion) (a b : Lent) (told : a.vault.content ≡ Some keys) (from : a.state ≡ Some (behind empty_state history)) where
   abbrev start : Beside
   start = beside between (behind empty_state history)
 
@@ -106,9 +106,9 @@ module _ (once : RotationsTellOneOutcome) (traceless : UnfinishedLeavesNoTrace) 
     starts : Starts keys start first
     starts = record { state = ap (option_map (beside between)) from; keys = told; waiting = refl; queue = refl }
 
-    module _ (u : Talk) (g : Proceeds t u first last) where
+    module _ (C : Counts) (u : Talk) (g : ProceedsBy C t u first last) where
       abbrev there : Beside
-      there = (state_there (λ (x : Beside). x) serve_beside beside_serves keys t start first starts u last g).0
+      there = (state_there (λ (x : Beside). x) serve_beside beside_serves keys t start first starts C u last g).0
 
       abbrev left : List Reply
       left = messages_of kept.waiting
@@ -120,7 +120,7 @@ module _ (once : RotationsTellOneOutcome) (traceless : UnfinishedLeavesNoTrace) 
       p = rotated_beside keys trusted session old new drawn start
 
       way : Reached serve_beside keys t start u g.events there left
-      way = reached (λ (x : Beside). x) serve_beside beside_serves keys t start first starts u last g
+      way = reached (λ (x : Beside). x) serve_beside beside_serves keys t start first starts C u last g
 
       bytes : AreBytes drawn
       bytes = subst AreBytes (sym (append-nil (flat_map drawn_in g.events))) way.bytes
@@ -132,7 +132,7 @@ module _ (once : RotationsTellOneOutcome) (traceless : UnfinishedLeavesNoTrace) 
       passed = way.is []
 
       stays : b.state ≡ Some there.state
-      stays = told_state kept.between b.state there (state_there (λ (x : Beside). x) serve_beside beside_serves keys t start first starts u last g).1
+      stays = told_state kept.between b.state there (state_there (λ (x : Beside). x) serve_beside beside_serves keys t start first starts C u last g).1
 
       -- nothing passes from there on
       record Halts (state : Beside) (outcomes : List Outcome) (end : End) : Type 0 where
@@ -154,7 +154,7 @@ module _ (once : RotationsTellOneOutcome) (traceless : UnfinishedLeavesNoTrace) 
         frames_so : HasFrames version kept.frames p
         frames_so =
             let x : p.exchanges ≡ flat_map exchanges_of g.events ++ [] = ap (λ (x : Passed Beside). x.exchanges) is_so in
-            g.put.wire.tap ∙ framed version g.events ∙ ap (flat_map (exchange_frames version)) (sym (x ∙ append-nil (flat_map exchanges_of g.events)))
+            g.put.wire.tap.content ∙ framed version g.events ∙ ap (flat_map (exchange_frames version)) (sym (x ∙ append-nil (flat_map exchanges_of g.events)))
 
         unfinished : ¬ (IsFinished p) → HasNoTrace start p
         unfinished not_so = of (traceless keys trusted session old new drawn history between numbered old_named new_named bytes others)
@@ -175,13 +175,13 @@ module _ (once : RotationsTellOneOutcome) (traceless : UnfinishedLeavesNoTrace) 
         → PassedSo keys trusted session old new start (λ p. moving.Ends keys old new start r p × HasFrames version kept.frames p) b.state
     ended r g = by r g refl
       where
-        one : (x : Outcome) (g : Proceeds t (ending x after) first last) (end : End) (h : Halts (ending x after) g (there (ending x after) g) (x ∷ []) end) → (p (ending x after) g).outcomes ≡ x ∷ []
+        one : (x : Outcome) (g : Proceeds t (ending x after) first last) (end : End) (h : Halts all_stay (ending x after) g (there all_stay (ending x after) g) (x ∷ []) end) → (p all_stay (ending x after) g).outcomes ≡ x ∷ []
         one x g end h =
-            let o = outcomes_so (ending x after) g (x ∷ []) end h in
-            let n : length (flat_map outcome_in g.events ++ x ∷ []) ≤ 1 = subst (λ w. length w ≤ 1) o (so_many (ending x after) g (x ∷ []) end h) in
+            let o = outcomes_so all_stay (ending x after) g (x ∷ []) end h in
+            let n : length (flat_map outcome_in g.events ++ x ∷ []) ≤ 1 = subst (λ w. length w ≤ 1) o (so_many all_stay (ending x after) g (x ∷ []) end h) in
             o ∙ only_one (flat_map outcome_in g.events) x n
 
-        halts : (x : Outcome) (g : Proceeds t (ending x after) first last) → (end : End) × Halts (ending x after) g (there (ending x after) g) (x ∷ []) end
+        halts : (x : Outcome) (g : Proceeds t (ending x after) first last) → (end : End) × Halts all_stay (ending x after) g (there all_stay (ending x after) g) (x ∷ []) end
         halts x g = (_, record { nothing = refl })
 
         by : (r : Result ℕ Fault) (g : Proceeds t (ending (rotated_as r) after) first last) → r ≡ r
@@ -189,17 +189,17 @@ module _ (once : RotationsTellOneOutcome) (traceless : UnfinishedLeavesNoTrace) 
         by (Ok n) g e =
             let u = ending (outcome.Rotated n) after in
             let h = halts (outcome.Rotated n) g in
-            passed_so u g (outcome.Rotated n ∷ []) h.0 h.1 _ (
-              (λ key_for fit. whole keys key_for trusted session old new (drawn u g) history between numbered old_named new_named (bytes u g) before others fit n (one (outcome.Rotated n) g h.0 h.1)),
-              frames_so u g (outcome.Rotated n ∷ []) h.0 h.1,
+            passed_so all_stay u g (outcome.Rotated n ∷ []) h.0 h.1 _ (
+              (λ key_for fit. whole keys key_for trusted session old new (drawn all_stay u g) history between numbered old_named new_named (bytes all_stay u g) before others fit n (one (outcome.Rotated n) g h.0 h.1)),
+              frames_so all_stay u g (outcome.Rotated n ∷ []) h.0 h.1,
             )
         by (Err f) g e =
             let u = ending (fault_as f) after in
             let h = halts (fault_as f) g in
             let o = one (fault_as f) g h.0 h.1 in
-            passed_so u g (fault_as f ∷ []) h.0 h.1 _ (
-              unfinished u g (fault_as f ∷ []) h.0 h.1 (λ w. not_rotated f w.0 (same_head (fault_as f) (outcome.Rotated w.0) (sym o ∙ w.1))),
-              frames_so u g (fault_as f ∷ []) h.0 h.1,
+            passed_so all_stay u g (fault_as f ∷ []) h.0 h.1 _ (
+              unfinished all_stay u g (fault_as f ∷ []) h.0 h.1 (λ w. not_rotated f w.0 (same_head (fault_as f) (outcome.Rotated w.0) (sym o ∙ w.1))),
+              frames_so all_stay u g (fault_as f ∷ []) h.0 h.1,
             )
 
     -- ---- it stopped
@@ -211,43 +211,43 @@ module _ (once : RotationsTellOneOutcome) (traceless : UnfinishedLeavesNoTrace) 
     bad_not_done n sessions e h i = cc
 
     -- for want of random bytes
-    at_draw : (u : Talk) (g : Proceeds t u first last) → IsAtDraw u → PassedSo keys trusted session old new start (HasNoTrace start) b.state
-    at_draw (Draws f) g d =
-        let h : Halts (Draws f) g (there (Draws f) g) [] Dry = record { nothing = refl } in
-        passed_so (Draws f) g [] Dry h (HasNoTrace start)
-        (unfinished (Draws f) g [] Dry h (λ w. dry_not_done _ (p (Draws f) g).end (end_so (Draws f) g [] Dry h) w.2))
-    at_draw (Ends sessions) g d = absurd d
-    at_draw (Stops comes) g d = absurd d
-    at_draw (Asks request more) g d = absurd d
-    at_draw (Hears after shown f) g d = absurd d
-    at_draw (Notes after shown f) g d = absurd d
-    at_draw (Opens meta f) g d = absurd d
-    at_draw (Prints comes more) g d = absurd d
+    at_draw : (C : Counts) (u : Talk) (g : ProceedsBy C t u first last) → IsAtDraw u → PassedSo keys trusted session old new start (HasNoTrace start) b.state
+    at_draw C (Draws f) g d =
+        let h : Halts C (Draws f) g (there C (Draws f) g) [] Dry = record { nothing = refl } in
+        passed_so C (Draws f) g [] Dry h (HasNoTrace start)
+        (unfinished C (Draws f) g [] Dry h (λ w. dry_not_done _ (p C (Draws f) g).end (end_so C (Draws f) g [] Dry h) w.2))
+    at_draw C (Ends sessions) g d = absurd d
+    at_draw C (Stops comes) g d = absurd d
+    at_draw C (Asks request more) g d = absurd d
+    at_draw C (Hears after shown f) g d = absurd d
+    at_draw C (Notes after shown f) g d = absurd d
+    at_draw C (Opens meta f) g d = absurd d
+    at_draw C (Prints comes more) g d = absurd d
 
-    stopped_so : (u : Talk) (g : Proceeds t u first last) (n : ℕ) → Halts u g (there u g) [] (BadReply n)
+    stopped_so : (C : Counts) (u : Talk) (g : ProceedsBy C t u first last) (n : ℕ) → Halts C u g (there C u g) [] (BadReply n)
         → PassedSo keys trusted session old new start (λ p. HasNoTrace start p × HasFrames version kept.frames p) b.state
-    stopped_so u g n h =
-        passed_so u g [] (BadReply n) h _
-        (unfinished u g [] (BadReply n) h (λ w. bad_not_done n _ (p u g).end (end_so u g [] (BadReply n) h) w.2), frames_so u g [] (BadReply n) h)
+    stopped_so C u g n h =
+        passed_so C u g [] (BadReply n) h _
+        (unfinished C u g [] (BadReply n) h (λ w. bad_not_done n _ (p C u g).end (end_so C u g [] (BadReply n) h) w.2), frames_so C u g [] (BadReply n) h)
 
     -- at a reply that isn't awaited
-    at_reply : (u : Talk) (g : Proceeds t u first last) → IsStuck u kept.waiting → PassedSo keys trusted session old new start (λ p. HasNoTrace start p × HasFrames version kept.frames p) b.state
-    at_reply (Stops None) g d = stopped_so (Stops None) g _ (record { nothing = refl })
-    at_reply (Ends sessions) g d = by kept.waiting d refl
+    at_reply : (C : Counts) (u : Talk) (g : ProceedsBy C t u first last) → IsStuck u kept.waiting → PassedSo keys trusted session old new start (λ p. HasNoTrace start p × HasFrames version kept.frames p) b.state
+    at_reply C (Stops None) g d = stopped_so C (Stops None) g _ (record { nothing = refl })
+    at_reply C (Ends sessions) g d = by kept.waiting d refl
       where
         by : (waiting : List (Placed Reply)) → IsStuck (Ends sessions) waiting → kept.waiting ≡ waiting
             → PassedSo keys trusted session old new start (λ p. HasNoTrace start p × HasFrames version kept.frames p) b.state
         by [] d e = absurd d
         by (x ∷ waiting) d e =
-            stopped_so (Ends sessions) g _
-            (record { nothing = ap (λ w. over serve_beside keys (Ends sessions) (way (Ends sessions) g).taken [] (there (Ends sessions) g) (messages_of w)) e })
-    at_reply (Stops (Some comes)) g d = absurd d
-    at_reply (Asks request more) g d = absurd d
-    at_reply (Hears after shown f) g d = absurd d
-    at_reply (Notes after shown f) g d = absurd d
-    at_reply (Draws f) g d = absurd d
-    at_reply (Opens meta f) g d = absurd d
-    at_reply (Prints comes more) g d = absurd d
+            stopped_so C (Ends sessions) g _
+            (record { nothing = ap (λ w. over serve_beside keys (Ends sessions) (way C (Ends sessions) g).taken [] (there C (Ends sessions) g) (messages_of w)) e })
+    at_reply C (Stops (Some comes)) g d = absurd d
+    at_reply C (Asks request more) g d = absurd d
+    at_reply C (Hears after shown f) g d = absurd d
+    at_reply C (Notes after shown f) g d = absurd d
+    at_reply C (Draws f) g d = absurd d
+    at_reply C (Opens meta f) g d = absurd d
+    at_reply C (Prints comes more) g d = absurd d
 
     -- anywhere on its way
     module _ (why : Stop) (h : StopsBy why t first last) where
@@ -314,12 +314,12 @@ module _ (once : RotationsTellOneOutcome) (traceless : UnfinishedLeavesNoTrace) 
       of : (r : Result ℕ Fault) (names names_after : Names) (kept : Kept) → Proceeds t (ending (rotated_as r) after) (first names names_after kept) (last names names_after kept)
           → PassedSo keys trusted session old new start (λ p. moving.Ends keys old new start r p × HasFrames version kept.frames p) b.state
       of r names names_after kept g = ended names names_after kept r g
-  leaves_so came.EntropyFault h = let c = h.1 in let g = (c.leads ending).0 in at_draw c.names c.names_after c.kept g.rest g.goes g.place
+  leaves_so came.EntropyFault h = let c = h.1 in let g = c.leads ending in at_draw c.names c.names_after c.kept _ g.rest g.goes g.place
   leaves_so came.VaultFault h = let c = h.1 in stopped_there c.names c.names_after c.kept stop.VaultFault (c.leads ending)
   leaves_so came.OutOfMemory h = let c = h.1 in stopped_there c.names c.names_after c.kept stop.OutOfMemory (c.leads ending)
   leaves_so (came.BadReply place frames) h =
       let g = h.leads ending in
-      subst (λ w. PassedSo keys trusted session old new start (λ p. HasNoTrace start p × HasFrames version w p) b.state) h.is (at_reply h.names h.names_after h.kept g.rest g.goes g.place.0)
+      subst (λ w. PassedSo keys trusted session old new start (λ p. HasNoTrace start p × HasFrames version w p) b.state) h.is (at_reply h.names h.names_after h.kept _ g.rest g.goes g.place.0)
 
   pub leaves_if : {E : Type 0} (result : Result Rotated E) (first_session : Session) → first_session ≡ Idle
       → IfOk result (λ r. Comes r (rotating trusted session old new first_session) after version between a b)

@@ -1,7 +1,8 @@
 -- What a rotation comes to, over any peer.
-use Rattle.std.specs.Prelude.{◌≡◌, ℕ, List, [], Option, Some, None, Result, Ok, Err, false}
+use Rattle.std.specs.Prelude.{◌≡◌, ℕ, List, [], Option, None, Result, Ok, Err, false}
 use Rattle.std.specs.Borrow.{GName}
 use Rattle.ae_base.specs.declared.frames.FrameVersion.{FrameVersion}
+use Rattle.ae_edge.specs.Devices.{Device, telling}
 use Rattle.ae_edge.specs.Vaults.{KeyMap}
 use Rattle.wire_frames.specs.Frames.{Placed}
 use Rattle.wire_messages.specs.declared.replies.Reply.{Reply}
@@ -22,17 +23,16 @@ use Rattle.rotate_among.specs.Beside.{told_beside}
 use Rattle.rotate_among.specs.declared.rotating.Rotated.{Rotated}
 use Rattle.rotate_among.specs.declared.rotating.Rotated.TheVariants as came
 
--- what is told of all that a rotation is lent: the random bytes to come, the keys, the state from which the peer serves, and the counts of faults
+-- what is seen of all that a rotation is lent: the source of random bytes, the vault, and the state from which the peer serves, where it is told
 pub record Lent : Type 0 where
-  pub entropy : Option (List ℕ)
-  pub keys : Option KeyMap
+  pub entropy : Device (List ℕ)
+  pub vault : Device KeyMap
   pub state : Option State
-  pub entropy_faults : ℕ
-  pub vault_faults : ℕ
 
 -- the names of what is lent
 pub record Names : Type 0 where
   pub out : List GName
+  pub tap : List GName
   pub entropy : List GName
   pub vault : List GName
   pub wire : List (List GName)
@@ -55,29 +55,22 @@ untouched between = record { text = []; frames = []; waiting = []; behind = 0; t
 abbrev pub outside : FrameVersion → Names → Kept → Lent → Outside
 outside version names k l = record {
   client = record {
-    out_names = names.out;
-    entropy_names = names.entropy;
-    vault_names = names.vault;
-    out = Some k.text;
-    entropy = l.entropy;
-    keys = l.keys;
+    out = record (telling k.text 0) { names = names.out };
+    entropy = record l.entropy { names = names.entropy };
+    vault = record l.vault { names = names.vault };
     tally = k.tally;
-    out_faults = 0;
-    entropy_faults = l.entropy_faults;
-    vault_faults = l.vault_faults;
   };
   wire = record {
-    names = names.wire;
-    tap = Some k.frames;
+    tap = record (telling k.frames 0) { names = names.tap };
+    closed = false;
     log = None;
     state = told_beside k.between None l.state;
+    names = names.wire;
     version = version;
     waiting = k.waiting;
     behind = k.behind;
     stream = None;
     taken = k.taken;
-    faults = 0;
-    closed = false;
   };
 }
 

@@ -11,9 +11,9 @@ ghost use Rattle.rotate_among.specs.Beside.{lacking, told_beside};
 use ae_base::frames::FrameVersion;
 use ae_base::lists::Seq;
 use ae_edge::sinks::Sink;
-use ae_edge::streams::PutAll;
+use ae_edge::streams::WriteError;
 use run_command::peer_connection::{Places, Waiting, join, put_exchange};
-use script_run::connection::{Connection, EndFault, Front, LentReply, ReplyFault, Sent};
+use script_run::connection::{Connection, EndFault, Front, LentReply, ReplyFault};
 use server_core::peers::Peer;
 use std::alloc::{AllocError, Global};
 use wire_messages::replies::Reply;
@@ -124,28 +124,27 @@ fn ask_behind<P: Peer>(
 
 impl<T: Sink, P: Peer> Connection for AmongConnection<'_, '_, '_, '_, T, P> {
     ghost wire = { λ l. record {
-      names = T.names l.tap ∷ P.names l.peer ∷ (l.lacks.ghost_name ∷ []) ∷ [];
-      tap = T.held l.tap;
+      tap = T.seen l.tap;
+      closed = false;
       log = None;
       state = told_beside (drop l.at l.between.now)
           (lacking l.lacks.now l.lack.now.unasked) (P.state l.peer);
+      names = P.names l.peer ∷ (l.lacks.ghost_name ∷ []) ∷ [];
       version = l.version;
       waiting = all_placed l.waiting.now.replies.items;
       behind = l.behind;
       stream = None;
       taken = l.taken;
-      faults = T.faults l.tap;
-      closed = false;
     } };
 
     ghost is_ended = { λ l. Unit {0} };
 
-    fn ask(&mut self, alloc: Global, request: &Request<'_>) -> Sent {
+    fn ask(&mut self, alloc: Global, request: &Request<'_>) -> Result<(), WriteError> {
         if *self.lacks {
-            return Sent::OutOfMemory;
+            return Err(WriteError::OutOfMemory);
         }
         let Ok(own) = request.to_own(alloc) else {
-            return Sent::OutOfMemory;
+            return Err(WriteError::OutOfMemory);
         };
         let others = others_at(self.between, self.at);
         let replies = match ask_behind(alloc, &mut self.peer, others, request) {
@@ -156,7 +155,7 @@ impl<T: Sink, P: Peer> Connection for AmongConnection<'_, '_, '_, '_, T, P> {
                     request: own,
                     others: asked,
                 });
-                return Sent::OutOfMemory;
+                return Err(WriteError::OutOfMemory);
             }
         };
         self.at = next_at(self.between, self.at);
@@ -165,22 +164,18 @@ impl<T: Sink, P: Peer> Connection for AmongConnection<'_, '_, '_, '_, T, P> {
             behind: self.behind,
         };
         let answer = replies.as_slice();
-        match put_exchange(
+        put_exchange(
             alloc,
             &mut self.tap,
             self.version,
             request,
             answer,
             &mut places,
-        ) {
-            PutAll::Whole => {}
-            PutAll::WriteFault => return Sent::WriteFault,
-            PutAll::OutOfMemory => return Sent::OutOfMemory,
-        }
+        )?;
         self.behind = places.behind;
         match join(&mut self.waiting.replies, replies, places.noted.as_slice()) {
-            Ok(()) => Sent::Whole,
-            Err(_) => Sent::OutOfMemory,
+            Ok(()) => Ok(()),
+            Err(_) => Err(WriteError::OutOfMemory),
         }
     }
 

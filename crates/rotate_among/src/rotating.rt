@@ -90,26 +90,22 @@ fn rotate<P: Peer, V: Vault, E: Entropy>(
     new: &Name,
     between: &[Seq<Request<'static>>],
 ) -> Result<Rotated, AllocError>
-    requires { IsOfVault (V.keys vault.old) driver.old }
+    requires { IsOfVault (V.seen vault.old).content driver.old }
     ensures leaves { IfOk result
-        (IfEnded (onward.Leaves session driver.old driver.new (V.keys vault.new))) }
+        (IfEnded (onward.Leaves session driver.old driver.new (V.seen vault.new).content)) }
     ensures comes { IfOk result (λ rotated. Comes rotated
         (rotating_as.rotating driver.old.trusted session old.now new.now
         (session_of driver.old session))
         (session_of driver.new session) version between.now
         (record {
-          entropy = E.to_come entropy.old;
-          keys = V.keys vault.old;
+          entropy = E.seen entropy.old;
+          vault = V.seen vault.old;
           state = P.state peer.old;
-          entropy_faults = E.faults entropy.old;
-          vault_faults = V.faults vault.old;
         })
         (record {
-          entropy = E.to_come entropy.new;
-          keys = V.keys vault.new;
+          entropy = E.seen entropy.new;
+          vault = V.seen vault.new;
           state = P.state peer.new;
-          entropy_faults = E.faults entropy.new;
-          vault_faults = V.faults vault.new;
         })) }
 {
     let mut frames = Frames::new(alloc);
@@ -157,29 +153,26 @@ pub fn rotate_among<P: Peer, V: Vault, E: Entropy>(
     new: &Name,
     between: &[Seq<Request<'static>>],
 ) -> Result<Rotated, AllocError>
-    requires of_vault { IsOfVault (V.keys vault.old) driver.old }
+    requires of_vault { IsOfVault (V.seen vault.old).content driver.old }
     requires others { AreOthers session between.now }
     ensures leaves { IfOk result
-        (IfEnded (onward.Leaves session driver.old driver.new (V.keys vault.new))) }
+        (IfEnded (onward.Leaves session driver.old driver.new (V.seen vault.new).content)) }
     ensures comes { IfOk result (λ rotated. Comes rotated
         (rotating_as.rotating driver.old.trusted session old.now new.now
         (session_of driver.old session))
         (session_of driver.new session) version between.now
         (record {
-          entropy = E.to_come entropy.old;
-          keys = V.keys vault.old;
+          entropy = E.seen entropy.old;
+          vault = V.seen vault.old;
           state = P.state peer.old;
-          entropy_faults = E.faults entropy.old;
-          vault_faults = V.faults vault.old;
         })
         (record {
-          entropy = E.to_come entropy.new;
-          keys = V.keys vault.new;
+          entropy = E.seen entropy.new;
+          vault = V.seen vault.new;
           state = P.state peer.new;
-          entropy_faults = E.faults entropy.new;
-          vault_faults = V.faults vault.new;
         })) }
-    ensures rotated { (keys : KeyMap) (history : List Request) → V.keys vault.old ≡ Some keys
+    ensures rotated { (keys : KeyMap) (history : List Request)
+        → (V.seen vault.old).content ≡ Some keys
         → P.state peer.old ≡ Some (behind empty_state history)
         → session_of driver.old session ≡ Idle → All IsRequest history
         → All (All IsRequest) between.now → IfOk result (λ rotated.

@@ -12,28 +12,43 @@ pieces-init g c = record {
   same = search rules;
 }
 
-pub returns-then-len-eq0-clause-content : goal.returns-then-len-eq0-clause-content
-returns-then-len-eq0-clause-content g c =
+pub returns-then-len-eq0 : goal.returns-then-len-eq0
+returns-then-len-eq0 g c =
     let n : c.len-in-pieces.result ≡ length c.pieces.bytes.items = search rules in
     let none : c.in-Bytes.part ≡ [] = grind (arith, common_steps, c.len-in-Bytes.ensures, c.if-len-eq0.true) in
-    rw c.from_vec.ensures (read_end_told c.in-Bytes.part c.pieces.bytes.items _ _ _ c.pieces.invariant.read (rw n at c.in-Bytes.ensures.content) none)
+    record {
+      content = rw c.from_vec.ensures (read_end_told c.in-Bytes.part c.pieces.bytes.items _ _ _ c.pieces.invariant.read (rw n at c.in-Bytes.ensures.call.content) none);
+      count = search rules;
+      counts = search rules;
+      same = search rules;
+    }
 
-pub returns-then-is_err-clause-content : goal.returns-then-is_err-clause-content
-returns-then-is_err-clause-content g c =
+pub returns-then-is_err : goal.returns-then-is_err
+returns-then-is_err g c =
     let n : c.len-in-pieces.result ≡ length c.pieces.bytes.items = search rules in
-    read_stopped_told c.in-Bytes.part c.pieces.bytes.items _ _ _ c.pieces.invariant.read (rw n at c.in-Bytes.ensures.content)
+    record {
+      content = read_stopped_told c.in-Bytes.part c.pieces.bytes.items _ _ _ c.pieces.invariant.read (rw n at c.in-Bytes.ensures.call.content);
+      count = search rules;
+      counts = search rules;
+      same = search rules;
+    }
 
 pub pieces-preserved : goal.pieces-preserved
 pieces-preserved g c =
     let n : c.len-in-pieces.result ≡ length c.pieces.bytes.items = search rules in
     let more : c.extend_from_slice.new.self.items ≡ c.pieces.bytes.items ++ c.in-Bytes.part = search rules in
     record {
-      read = rw more (read_on_told c.in-Bytes.part c.pieces.bytes.items _ _ _ c.pieces.invariant.read (rw n at c.in-Bytes.ensures.content));
-      count = c.in-Bytes.ensures.counts ∙ c.pieces.invariant.count;
-      same = c.read.ensures.same ∙ c.pieces.invariant.same;
+      read = rw more (read_on_told c.in-Bytes.part c.pieces.bytes.items _ _ _ c.pieces.invariant.read (rw n at c.in-Bytes.ensures.call.content));
+      count = c.in-Bytes.ensures.call.counts ∙ c.pieces.invariant.count;
+      same = c.read.ensures.call.same ∙ c.pieces.invariant.same;
     }
 
-pub returns-in-Failed-clause-content : goal.returns-in-Failed-clause-content
-returns-in-Failed-clause-content g c =
+pub returns-in-Failed : goal.returns-in-Failed
+returns-in-Failed g c =
     let n : c.len-in-pieces.result ≡ length c.pieces.bytes.items = search rules in
-    read_failed_told c.pieces.bytes.items _ _ _ c.pieces.invariant.read (rw n at c.in-Failed.ensures.content)
+    record {
+      content = read_failed_told c.pieces.bytes.items _ _ _ c.pieces.invariant.read (rw n at c.in-Failed.ensures.call.content);
+      count = search rules;
+      counts = search rules;
+      same = search rules;
+    }

@@ -6,9 +6,9 @@ use Rattle.disk.proofs.durable.read_whole.Given as goal
 
 abbrev pub invariant-pieces : goal.invariant-pieces
 invariant-pieces g l = record {
-  read : WhereTold (HasRead l.bytes.items) (g.D.Disk.told l.fn.disk) (g.D.Disk.told l.disk);
-  count : g.D.Disk.faults l.disk ≡ g.D.Disk.faults l.fn.disk;
-  same : g.D.Disk.names l.disk ≡ g.D.Disk.names l.fn.disk;
+  read : WhereTold (HasRead l.bytes.items) (g.D.Disk.seen l.fn.disk).content (g.D.Disk.seen l.disk).content;
+  count : (g.D.Disk.seen l.disk).faults ≡ (g.D.Disk.seen l.fn.disk).faults;
+  same : (g.D.Disk.seen l.disk).names ≡ (g.D.Disk.seen l.fn.disk).names;
 }
 
 abbrev pub decreases-pieces : goal.decreases-pieces

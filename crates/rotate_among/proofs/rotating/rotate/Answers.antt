@@ -18,18 +18,14 @@ returns-clause-comes g c =
     let first = session_of c.args.driver.now number in
     let last = session_of after.driver number in
     let a : Lent = record {
-      entropy = g.E.Entropy.to_come c.args.entropy.now;
-      keys = g.V.Vault.keys c.args.vault.now;
+      entropy = g.E.Entropy.seen c.args.entropy.now;
+      vault = g.V.Vault.seen c.args.vault.now;
       state = g.P.Peer.state c.args.peer.now;
-      entropy_faults = g.E.Entropy.faults c.args.entropy.now;
-      vault_faults = g.V.Vault.faults c.args.vault.now;
     } in
     let b : Lent = record {
-      entropy = g.E.Entropy.to_come env.entropy.now;
-      keys = g.V.Vault.keys env.vault.now;
+      entropy = g.E.Entropy.seen env.entropy.now;
+      vault = g.V.Vault.seen env.vault.now;
       state = g.P.Peer.state wire.peer.now;
-      entropy_faults = g.E.Entropy.faults env.entropy.now;
-      vault_faults = g.V.Vault.faults env.vault.now;
     } in
     let kept : Kept = record {
       text = env.out.now;
