@@ -70,6 +70,8 @@ assert len(new) < len(old) and stored() == want, "the compaction changed the row
 span, killed, taken, cut = 0.01, 0, 0, 0
 while killed < runs:
     write("journal.bin", old)
+    if os.path.exists("journal.new"):
+        os.remove("journal.new")  # whose bytes would be taken for those of this run
     child = begun()
     time.sleep(rng.uniform(0, span))
     try:
