@@ -19,6 +19,7 @@ STATEMENTS = {
     "UPDATE of another column": (1000, 1.5, "UPDATE t SET a = 1 WHERE k = {}"),
     "UPDATE of the key": (1000, 1.5, "UPDATE t SET k = {} WHERE k = {}"),
     "DELETE": (1000, 1.5, "DELETE FROM t WHERE k = {}"),
+    "BEGIN, INSERT, COMMIT": (1000, 1.5, "INSERT INTO t (k, a) VALUES ({}, 1)"),
 }
 
 
@@ -28,6 +29,12 @@ def batch(keys, protected, text):
         return text.format(*keys) + "\nGO\n"
     lines = [f"DECLARE @k{i} BIGINT = {key}" for i, key in enumerate(keys)]
     return "\n".join(lines + [text.format(*(f"@k{i}" for i in range(len(keys)))), "GO\n"])
+
+
+def statement(keys, protected, text):
+    """A statement of the table above with its keys; an INSERT stands in a transaction of its own."""
+    made_of = batch(keys, protected, text)
+    return f"BEGIN TRANSACTION\nGO\n{made_of}COMMIT TRANSACTION\nGO\n" if text.startswith("INSERT") else made_of
 
 
 def made(count, protected):
@@ -42,10 +49,11 @@ def made(count, protected):
 
 
 def keys_of(text, count, often):
-    """The keys of each run of a statement, all over the table; the first of an UPDATE of the key is new."""
+    """The keys of each run of a statement, all over the table; the first of an UPDATE of the key, or INSERT, is new."""
     wanted = text.count("{}")
     keys = [[(i * wanted + j) * 7919 % count for j in range(wanted)] for i in range(often)]
-    return [[count + i, *known[1:]] for i, known in enumerate(keys)] if "SET k" in text else keys
+    is_new = "SET k" in text or text.startswith("INSERT")
+    return [[count + i, *known[1:]] for i, known in enumerate(keys)] if is_new else keys
 
 
 def processor_seconds(program, text):
@@ -58,7 +66,7 @@ def processor_seconds(program, text):
 
 def ours(program, count, protected, text, often, base):
     """The time of one statement, and how many rows they answered or changed in all."""
-    runs = "".join(batch(keys, protected, text) for keys in keys_of(text, count, often))
+    runs = "".join(statement(keys, protected, text) for keys in keys_of(text, count, often))
     took, printed = processor_seconds(program, base[1] + runs)
     ended = [line for line in printed.splitlines() if line.endswith((" rows)", " affected)"))][-often:]
     return (took - base[0]) / often, sum(int(line.strip("(").split()[0]) for line in ended)
@@ -73,8 +81,12 @@ def theirs(count, protected, text, often):
     runs = [[cell(key) for key in keys] for keys in keys_of(text, count, often)]
     begin, rows = time.process_time(), 0
     for keys in runs:
+        if text.startswith("INSERT"):
+            base.execute("BEGIN")
         done = base.execute(text.replace("{}", "?"), keys)
         rows += len(done.fetchall()) if text.startswith("SELECT") else done.rowcount
+        if base.in_transaction:
+            base.execute("COMMIT")
     return (time.process_time() - begin) / often, rows
 
 

@@ -8,7 +8,7 @@ ghost use Rattle.row_store.specs.Numbers.{AreRising, counted};
 ghost use Rattle.unique_keys.specs.Indexes.{AreDistinct, IndexesRows, keys_of, standing_rows};
 ghost use Rattle.unique_keys.specs.Keys.{first_twins, unless_twins};
 
-use crate::lending::{lend_each, lent};
+use crate::lending::lend_each;
 use ae_base::atoms::Row;
 use ae_base::lists::Seq;
 use ae_base::refusals::Refusal;
@@ -17,7 +17,7 @@ use row_store::changes::Change;
 use row_store::numbered::Numbered;
 use std::alloc::{AllocError, Global};
 use unique_keys::index::UniqueIndex;
-use unique_keys::keys::{exchange, fresh, take_out};
+use unique_keys::keys::{exchange, take_out};
 
 /// Puts new rows into indexes, with the numbers that they will have; or leaves the indexes.
 pub(crate) fn put_in<K: Same>(
@@ -66,7 +66,8 @@ pub(crate) fn take_out_at<K: Same>(
     ensures ok { OnOk result (All
         (IndexesRows (unhit stored.now.numbers (marked 0 (length stored.now.rows) places.now))
         (unhit stored.now.rows (marked 0 (length stored.now.rows) places.now))) indexes.new.items) }
-    ensures err { OnErr result (indexes.new.items ≡ indexes.old.items) }
+    ensures err { OnErr result
+        (All (IndexesRows stored.now.numbers stored.now.rows) indexes.new.items) }
 {
     let rows = stored.rows_at(alloc, places)?;
     take_out(alloc, indexes, rows.as_slice())
@@ -137,20 +138,4 @@ fn rows_of<'a, K: Same>(
         rows.push(&change.row)?;
     }
     Ok(rows)
-}
-
-/// Indexes of all rows, for the same keys.
-pub(crate) fn indexes_of<K: Same>(
-    alloc: Global,
-    indexes: &[UniqueIndex<K>],
-    stored: &Numbered<Row<K>>,
-) -> Result<Vec<UniqueIndex<K>>, AllocError>
-    requires { AreDistinct (keys_of indexes.now) stored.now.rows }
-    ensures keys { IfOk result (λ new. keys_of new.items ≡ keys_of indexes.now) }
-    ensures indexed { IfOk result
-        (λ new. All (IndexesRows stored.now.numbers stored.now.rows) new.items) }
-{
-    let numbers = stored.numbers(alloc)?;
-    let rows = lent(alloc, stored.rows())?;
-    fresh(alloc, indexes, numbers.as_slice(), rows.as_slice())
 }

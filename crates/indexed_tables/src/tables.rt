@@ -14,7 +14,7 @@ ghost use Rattle.row_store.specs.Paged.{IsWritable, flat};
 ghost use Rattle.unique_keys.specs.Indexes.{AreDistinct, IndexesRows, keys_of, standing_rows};
 ghost use Rattle.unique_keys.specs.Keys.{first_twins, unless_twins};
 
-use crate::exchanges::{exchange_changed, indexes_of, places_of, put_in, take_out_at};
+use crate::exchanges::{exchange_changed, places_of, put_in, take_out_at};
 use crate::keys_set::sets_a_key;
 use ae_base::atoms::{Row, Rows};
 use ae_base::lists::{Duplicate, Seq};
@@ -29,6 +29,7 @@ use sql_tree::bound::BoundAssignment;
 use std::alloc::{AllocError, Global};
 use std::marker::Model;
 use unique_keys::index::UniqueIndex;
+use unique_keys::keys::{copied, seal_each};
 
 /// Copies of some values, in their order.
 pub fn copies<T: Duplicate>(alloc: Global, values: &[T]) -> Result<Vec<T>, AllocError>
@@ -193,12 +194,13 @@ impl<K: Same> Table<K> {
         Ok(())
     }
 
-    /// Lets copies have the pages of rows as well, if there is memory for it: from then on a copy
-    /// copies no row. Nothing that is seen changes.
+    /// Lets copies have the pages of rows and the indexes as well, if there is memory for it: from
+    /// then on a copy copies no row and no key. Nothing that is seen changes.
     pub fn seal(&mut self, alloc: Global)
         ensures { self.new ≡ self.old }
     {
         self.rows.seal(alloc);
+        seal_each(alloc, &mut self.indexes);
     }
 }
 
@@ -206,8 +208,8 @@ impl<K: Same> Duplicate for Table<K> {
     fn copy(&self) -> Result<Table<K>, AllocError> {
         let alloc = *self.indexes.allocator();
         Ok(Table {
-            indexes: indexes_of(alloc, &self.indexes, &self.rows)?,
             rows: self.rows.copy(alloc)?,
+            indexes: copied(alloc, &self.indexes)?,
         })
     }
 }

@@ -1,5 +1,5 @@
--- The numbers that a map in memory has for keys.
-use Rattle.std.proofs.Common.{◌≡◌, ℕ, zero, suc, ◌+◌, ◌<◌, List, [], ◌∷◌, ◌++◌, length, get_or, take, drop, map, refl, ap, sym, ◌∙◌, arith, Bool, true, false, cond, Option, Some, None}
+-- The numbers that levels of maps have for keys.
+use Rattle.std.proofs.Common.{◌≡◌, ℕ, zero, suc, ◌+◌, ◌<◌, List, [], ◌∷◌, ◌++◌, length, get_or, slice_get, take, drop, map, refl, ap, sym, ◌∙◌, arith, Bool, true, false, cond, Option, Some, None, is_some}
 use Rattle.std.specs.Prelude.{◌||◌}
 use Rattle.std.specs.List.{list_any}
 use Rattle.std.specs.Map.{KeepsOthers, lookup}
@@ -8,31 +8,145 @@ use Rattle.std.proofs.lemmas.List.{take_more, drop_more}
 use Rattle.std.proofs.lemmas.List.Folds.{list_any-append}
 use Rattle.ae_base.specs.Atoms.{Atom}
 use Rattle.operators.specs.Alike.{are_alike}
-use Rattle.operators.proofs.Interface.{alike_same, drop_there}
-use Rattle.key_index.specs.Numbers.{number_in, put_in, taken_out}
+use Rattle.operators.proofs.Interface.{alike_same, drop_there, map-push}
+use Rattle.key_index.specs.Levels.{Level, number_through, number_over, number_under}
+use Rattle.key_index.specs.Numbers.{put_in, taken_out}
+
+abbrev Found : Type 0
+Found = List Atom → Option ℕ
+
+-- ---- levels
+
+-- what was found before counts at a key alone
+pub through_same : (level : Level) (before other : Found) (key : List Atom) → before key ≡ other key → number_through level before key ≡ number_through level other key
+through_same [] before other key e = e
+through_same (l ∷ level) before other key e = ap (λ o. cond (are_alike key l.0) l.1 o) (through_same level before other key e)
+
+pub over_last : (before : Found) (levels : List Level) (last : Level) (key : List Atom) → number_over before (levels ++ last ∷ []) key ≡ number_through last (number_over before levels) key
+over_last before [] last key = refl
+over_last before (level ∷ levels) last key = over_last (number_through level before) levels last key
+
+-- one level more
+pub under_more : {L : Type 0} (level_of : L → Level) (levels : List L) (i : ℕ) (level : L) (key : List Atom) (found now : Option ℕ) → i < length levels → level ≡ get_or levels i level → found ≡ number_over (λ k. None) (map level_of (take i levels)) key
+    → (((before : Found) → found ≡ before key → now ≡ number_through (level_of level) before key)) → now ≡ number_over (λ k. None) (map level_of (take (i + 1) levels)) key
+under_more level_of levels i level key found now lt is f says =
+    says (number_over (λ k. None) (map level_of (take i levels))) f
+    ∙ sym (ap (λ ls. number_over (λ k. None) ls key) (ap (map level_of) (take_more levels i level lt ∙ ap (λ x. take i levels ++ x ∷ []) (sym is)) ∙ map-push level_of (take i levels) level) ∙ over_last (λ k. None) (map level_of (take i levels)) (level_of level) key)
+
+-- lists, one more
+pub map_more : {L X : Type 0} (f : L → X) (levels done new : List L) (i : ℕ) (copy level : L) → new ≡ done ++ copy ∷ [] → f copy ≡ f level → map f done ≡ map f (take i levels) → i < length levels → level ≡ get_or levels i level → map f new ≡ map f (take (i + 1) levels)
+map_more f levels done new i copy level n c d lt is =
+    ap (map f) n ∙ map-push f done copy ∙ ap (λ l. l ++ f copy ∷ []) d ∙ ap (λ x. map f (take i levels) ++ x ∷ []) c
+    ∙ sym (ap (map f) (take_more levels i level lt ∙ ap (λ x. take i levels ++ x ∷ []) (sym is)) ∙ map-push f (take i levels) level)
+
+drop_got : {X : Type 0} (xs : List X) (i : ℕ) (x : X) → Some x ≡ slice_get xs i → drop i xs ≡ x ∷ drop (i + 1) xs
+drop_got [] i x e = absurd (cc e)
+drop_got (y ∷ xs) zero x e = ap (λ z. z ∷ xs) (cc e)
+drop_got (y ∷ xs) (suc i) x e = drop_got xs i x e ∙ ap (λ n. x ∷ drop n (y ∷ xs)) (next i)
+  where
+    next : (i : ℕ) → suc (i + 1) ≡ suc i + 1
+    next i = omega arith
+
+pub nothing : (o : Option ℕ) → is_some o ≡ false → o ≡ None
+nothing None e = refl
+nothing (Some n) e = absurd (cc e)
 
 -- ---- as they lie in memory
 
 module _ {V : Type 0} (items : V → List Atom) where
-  abbrev pub seen : List (V × ℕ) → List (List Atom × ℕ)
+  abbrev pub seen : List (V × Option ℕ) → Level
   seen es = map (λ e. (items e.0, e.1)) es
 
-  pub looked_seen : (es : List (V × ℕ)) (key : List Atom) → lookup (λ v. are_alike key (items v)) es ≡ number_in (seen es) key
-  looked_seen [] key = refl
-  looked_seen (e ∷ es) key = ap (λ o. cond (are_alike key (items e.0)) (Some e.1) o) (looked_seen es key)
-
-  -- one key has another number or none
-  pub one_changed : (old new : List (V × ℕ)) (k : V) (number : Option ℕ) → lookup (λ v. are_alike (items k) (items v)) new ≡ number → KeepsOthers (λ a b. are_alike (items a) (items b)) (λ v. are_alike (items k) (items v)) old new
-      → (key : List Atom) → number_in (seen new) key ≡ cond (are_alike key (items k)) number (number_in (seen old) key)
-  unfolding KeepsOthers
-  one_changed old new k number there others key = by_test (are_alike key (items k)) refl
+  -- what a key is looked up as
+  pub through_some : (es : List (V × Option ℕ)) (before : Found) (key : List Atom) (said : Option ℕ) → lookup (λ v. are_alike key (items v)) es ≡ Some said → number_through (seen es) before key ≡ said
+  through_some [] before key said l = absurd (cc l)
+  through_some (e ∷ es) before key said l = by_test (are_alike key (items e.0)) (through_some es before key said) l
     where
-      by_test : (b : Bool) → are_alike key (items k) ≡ b → number_in (seen new) key ≡ cond b number (number_in (seen old) key)
-      by_test true e = sym (looked_seen new key) ∙ ap (λ x. lookup (λ v. are_alike x (items v)) new) (alike_same key (items k) e) ∙ there
-      by_test false e =
-          sym (looked_seen new key)
-          ∙ others (λ v. are_alike key (items v)) (λ x y t. ap (λ x. are_alike x (items y)) (alike_same key (items x) t)) (λ v t. sym (ap (are_alike key) (alike_same (items k) (items v) t)) ∙ e)
-          ∙ looked_seen old key
+      said_of : Option (Option ℕ) → Option ℕ
+      said_of None = None
+      said_of (Some s) = s
+
+      by_test : (b : Bool) → (lookup (λ v. are_alike key (items v)) es ≡ Some said → number_through (seen es) before key ≡ said) → cond b (Some e.1) (lookup (λ v. are_alike key (items v)) es) ≡ Some said → cond b e.1 (number_through (seen es) before key) ≡ said
+      by_test true rest l = ap said_of l
+      by_test false rest l = rest l
+
+  pub through_none : (es : List (V × Option ℕ)) (before : Found) (key : List Atom) → lookup (λ v. are_alike key (items v)) es ≡ None → number_through (seen es) before key ≡ before key
+  through_none [] before key l = refl
+  through_none (e ∷ es) before key l = by_test (are_alike key (items e.0)) (through_none es before key) l
+    where
+      by_test : (b : Bool) → (lookup (λ v. are_alike key (items v)) es ≡ None → number_through (seen es) before key ≡ before key) → cond b (Some e.1) (lookup (λ v. are_alike key (items v)) es) ≡ None → cond b e.1 (number_through (seen es) before key) ≡ before key
+      by_test true rest l = absurd (cc l)
+      by_test false rest l = rest l
+
+  -- other keys are said the same of
+  module _ (old new : List (V × Option ℕ)) (k : V) (others : KeepsOthers (λ a b. are_alike (items a) (items b)) (λ v. are_alike (items k) (items v)) old new) where
+    looked_same : (key : List Atom) → are_alike key (items k) ≡ false → lookup (λ v. are_alike key (items v)) new ≡ lookup (λ v. are_alike key (items v)) old
+    unfolding KeepsOthers
+    looked_same key e =
+        others (λ v. are_alike key (items v)) (λ x y t. ap (λ x. are_alike x (items y)) (alike_same key (items x) t)) (λ v t. sym (ap (are_alike key) (alike_same (items k) (items v) t)) ∙ e)
+
+    other_same : (before : Found) (key : List Atom) → are_alike key (items k) ≡ false → number_through (seen new) before key ≡ number_through (seen old) before key
+    other_same before key e = by_found (lookup (λ v. are_alike key (items v)) old) refl
+      where
+        by_found : (o : Option (Option ℕ)) → lookup (λ v. are_alike key (items v)) old ≡ o → number_through (seen new) before key ≡ number_through (seen old) before key
+        by_found None l = through_none new before key (looked_same key e ∙ l) ∙ sym (through_none old before key l)
+        by_found (Some said) l = through_some new before key said (looked_same key e ∙ l) ∙ sym (through_some old before key said l)
+
+    -- one key is said something of
+    pub one_said : (said : Option ℕ) → lookup (λ v. are_alike (items k) (items v)) new ≡ Some said → (before : Found) (key : List Atom) → number_through (seen new) before key ≡ cond (are_alike key (items k)) said (number_through (seen old) before key)
+    one_said said there before key = by_test (are_alike key (items k)) refl
+      where
+        by_test : (b : Bool) → are_alike key (items k) ≡ b → number_through (seen new) before key ≡ cond b said (number_through (seen old) before key)
+        by_test true e = through_some new before key said (ap (λ x. lookup (λ v. are_alike x (items v)) new) (alike_same key (items k) e) ∙ there)
+        by_test false e = other_same before key e
+
+    -- or nothing more, where it had no number before
+    pub one_unsaid : lookup (λ v. are_alike (items k) (items v)) new ≡ None → (before : Found) → before (items k) ≡ None → (key : List Atom) → number_through (seen new) before key ≡ cond (are_alike key (items k)) None (number_through (seen old) before key)
+    one_unsaid gone before none key = by_test (are_alike key (items k)) refl
+      where
+        by_test : (b : Bool) → are_alike key (items k) ≡ b → number_through (seen new) before key ≡ cond b None (number_through (seen old) before key)
+        by_test true e =
+            let same = alike_same key (items k) e in
+            through_none new before key (ap (λ x. lookup (λ v. are_alike x (items v)) new) same ∙ gone) ∙ ap before same ∙ none
+        by_test false e = other_same before key e
+
+  -- the last entry of a level, said before the others
+  pub said_last : (es : List (V × Option ℕ)) (k : V) (said : Option ℕ) (before after : Found) → ((key : List Atom) → after key ≡ cond (are_alike key (items k)) said (before key))
+      → (key : List Atom) → number_through (seen (es ++ (k, said) ∷ [])) before key ≡ number_through (seen es) after key
+  said_last [] k said before after says key = sym (says key)
+  said_last (e ∷ es) k said before after says key = ap (λ o. cond (are_alike key (items e.0)) e.1 o) (said_last es k said before after says key)
+
+  -- a place is said again over what was said of those behind it
+  pub said_again : (old new level : List (V × Option ℕ)) (place : ℕ) (k atoms : V) (said : Option ℕ) → Some (atoms, said) ≡ slice_get level place → items k ≡ items atoms
+      → KeepsOthers (λ a b. are_alike (items a) (items b)) (λ v. are_alike (items k) (items v)) old new → lookup (λ v. are_alike (items k) (items v)) new ≡ Some said
+      → (before : Found) (key : List Atom) → number_through (seen old) before key ≡ number_through (seen (drop (place + 1) level)) before key → number_through (seen new) before key ≡ number_through (seen (drop place level)) before key
+  said_again old new level place k atoms said got same others there before key is =
+      one_said old new k others said there before key
+      ∙ ap (λ o. cond (are_alike key (items k)) said o) is
+      ∙ ap (λ x. cond (are_alike key x) said (number_through (seen (drop (place + 1) level)) before key)) same
+      ∙ sym (ap (λ es. number_through (seen es) before key) (drop_got level place (atoms, said) got))
+
+  module _ {L : Type 0} (level_of : L → List (V × Option ℕ)) where
+    abbrev levels_of : List L → List Level
+    levels_of ls = map (λ l. seen (level_of l)) ls
+
+    last_under : (below : List L) (level : L) (key : List Atom) → number_under (levels_of (below ++ level ∷ [])) key ≡ number_through (seen (level_of level)) (number_under (levels_of below)) key
+    last_under below level key = ap (λ ls. number_under ls key) (map-push (λ l. seen (level_of l)) below level) ∙ over_last (λ k. None) (levels_of below) (seen (level_of level)) key
+
+    -- the top becomes the newest of the levels below
+    pub sealed : (top top' : List (V × Option ℕ)) (below below' : List L) (level : L) → top' ≡ [] → below' ≡ below ++ level ∷ [] → level_of level ≡ top
+        → (key : List Atom) → number_through (seen top') (number_under (levels_of below')) key ≡ number_through (seen top) (number_under (levels_of below)) key
+    sealed top top' below below' level e n is key =
+        ap (λ t. number_through (seen t) (number_under (levels_of below')) key) e ∙ ap (λ ls. number_under (levels_of ls) key) n ∙ last_under below level key
+        ∙ ap (λ t. number_through (seen t) (number_under (levels_of below)) key) is
+
+    -- the newest of them becomes the top, under what stood on it
+    pub taken_up : (top said top' : List (V × Option ℕ)) (below below' : List L) (level : L) → said ≡ top → top' ≡ level_of level → below ≡ below' ++ level ∷ []
+        → (key : List Atom) → number_through (seen said) (number_through (seen top') (number_under (levels_of below'))) key ≡ number_through (seen top) (number_under (levels_of below)) key
+    taken_up top said top' below below' level s t b key =
+        ap (λ es. number_through (seen es) (number_through (seen top') (number_under (levels_of below'))) key) s
+        ∙ through_same (seen top) (number_through (seen top') (number_under (levels_of below'))) (number_under (levels_of below)) key
+        (ap (λ es. number_through (seen es) (number_under (levels_of below')) key) t ∙ sym (ap (λ ls. number_under (levels_of ls) key) b ∙ last_under below' level key))
 
 -- ---- one key after another
 
@@ -47,16 +161,19 @@ pub put_over : (key : List Atom) (found : Option ℕ) (numbers : List ℕ) (left
 put_over key found numbers [] n = refl
 put_over key found numbers (k ∷ left) n = absurd (omega (arith, n))
 
-pub taken_more : (key k : List Atom) (found before now : Option ℕ) (keys : List (List Atom)) (i : ℕ) → i < length keys → k ≡ get_or keys i k → before ≡ taken_out key found (take i keys) → now ≡ cond (are_alike key k) None before → now ≡ taken_out key found (take (i + 1) keys)
-taken_more key k found before now keys i lt is b w =
-    w ∙ ap (λ o. cond (are_alike key k) None o) b ∙ both (list_any (are_alike key) (take i keys)) (are_alike key k)
-    ∙ ap (λ t. cond t None found) (sym (ap (list_any (are_alike key)) (take_more keys i k lt ∙ ap (λ x. take i keys ++ x ∷ []) (sym is)) ∙ list_any-append (are_alike key) (take i keys) (k ∷ [])))
+pub taken_next : (key k : List Atom) (found now : Option ℕ) (left rest : List (List Atom)) → left ≡ k ∷ rest → now ≡ cond (are_alike key k) None found → taken_out key found left ≡ taken_out key now rest
+taken_next key k found now left rest e w =
+    ap (taken_out key found) e ∙ both (are_alike key k) (list_any (are_alike key) rest) ∙ ap (λ o. taken_out key o rest) (sym w)
   where
-    both : (s t : Bool) → cond t None (cond s None found) ≡ cond (s || (t || false)) None found
+    both : (s t : Bool) → cond (s || t) None found ≡ cond t None (cond s None found)
     both true true = refl
     both true false = refl
     both false true = refl
     both false false = refl
+
+pub taken_over : (key : List Atom) (found : Option ℕ) (left : List (List Atom)) → length left ≡ 0 → taken_out key found left ≡ found
+taken_over key found [] n = refl
+taken_over key found (k ∷ left) n = absurd (omega (arith, n))
 
 -- where no key is alike to another, what is found of it stays
 pub put_none : (key : List Atom) (found : Option ℕ) (numbers : List ℕ) (keys : List (List Atom)) → list_any (are_alike key) keys ≡ false → put_in key found numbers keys ≡ found

@@ -3,19 +3,17 @@ use Rattle.std.specs.Prelude.{◌≡◌, ℕ, List, [], ◌∷◌, Option, Some,
 use Rattle.std.specs.List.{list_any}
 use Rattle.ae_base.specs.Atoms.{Atom}
 use Rattle.operators.specs.Alike.{are_alike}
+use Rattle.key_index.specs.Levels.{Level, number_through, number_under}
 
--- keys, each with a number, and how many more there is room for
+-- what was said of keys last, over the levels below, the oldest first, and how many keys more there is room for
 pub record Keyed : Type 0 where
-  pub entries : List (List Atom × ℕ)
+  pub top : Level
+  pub below : List Level
   pub spare : ℕ
-
-abbrev pub number_in : List (List Atom × ℕ) → List Atom → Option ℕ
-number_in [] key = None
-number_in (e ∷ entries) key = if are_alike key e.0 then Some e.1 else number_in entries key
 
 -- the number of a key
 abbrev pub number_at : Keyed → List Atom → Option ℕ
-number_at index key = number_in index.entries key
+number_at index key = number_through index.top (number_under index.below) key
 
 -- no key has a number
 abbrev pub HasNone : Keyed → Type 0

@@ -117,3 +117,19 @@ fn copied_at<K: Same>(row: &Row<K>, place: usize) -> Result<Atom<K>, AllocError>
         None => Ok(Atom::new(AtomOf::Null)),
     }
 }
+
+/// A copy of the atoms of a key.
+pub(crate) fn copied_atoms<K: Same>(
+    alloc: Global,
+    atoms: &Vec<Kept<K>>,
+) -> Result<Vec<Kept<K>>, AllocError>
+    ensures { IfOk result (λ copy. copy.items ≡ atoms.now.items) }
+{
+    let mut copy = Vec::with_capacity(alloc, atoms.len())?;
+    for kept in atoms.as_slice() {
+        copy.push(Kept {
+            atom: kept.atom.copy()?,
+        })?;
+    }
+    Ok(copy)
+}

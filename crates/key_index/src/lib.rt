@@ -3,4 +3,5 @@
 
 pub mod index;
 pub mod keys;
+mod levels;
 pub mod lookups;

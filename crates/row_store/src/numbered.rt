@@ -172,19 +172,6 @@ impl<T: Drop> Numbered<T> {
         copied(alloc, lent.as_slice())
     }
 
-    /// The numbers of all rows.
-    pub fn numbers(&self, alloc: Global) -> Result<Vec<usize>, AllocError>
-        ensures numbers { IfOk result (λ numbers. numbers.items ≡ self.now.numbers) }
-        ensures each { length self.now.numbers ≡ length self.now.rows }
-        ensures rising { AreRising 0 self.now.next self.now.numbers }
-    {
-        let mut numbers = Vec::with_capacity(alloc, self.len())?;
-        for page in self.numbers.rows() {
-            push_each(&mut numbers, page.rows())?;
-        }
-        Ok(numbers)
-    }
-
     /// The numbers that so many more rows will have.
     pub fn next_numbers(&self, alloc: Global, count: usize) -> Result<Vec<usize>, AllocError>
         requires { count ≤ self.now.spare }
@@ -279,14 +266,4 @@ fn copied(alloc: Global, numbers: &[&usize]) -> Result<Vec<usize>, AllocError>
         copy.push(**number)?;
     }
     Ok(copy)
-}
-
-/// Puts some numbers at the end.
-fn push_each(numbers: &mut Vec<usize>, more: &[usize]) -> Result<(), AllocError>
-    ensures { OnOk result (numbers.new.items ≡ numbers.old.items ++ more.now) }
-{
-    for number in more {
-        numbers.push(*number)?;
-    }
-    Ok(())
 }

@@ -39,7 +39,9 @@ fn keeps_numbers(alloc: Global, index: &mut KeyIndex<Cell>) -> Result<[bool; 5],
     fill(alloc, index, &[Some(7), None, Some(8)])?;
     let first = index.number_of(&key(alloc, Some(7))?) == Some(10);
     let null = index.number_of(&key(alloc, None)?) == Some(11);
-    index.remove(&key(alloc, Some(7))?);
+    let seven = key(alloc, Some(7))?;
+    index.reserve(1)?;
+    index.remove(seven);
     let gone = index.number_of(&key(alloc, Some(7))?).is_none();
     let stays = index.number_of(&key(alloc, Some(8))?) == Some(12);
     fill(alloc, index, &[Some(8)])?;
@@ -53,6 +55,35 @@ fn keeps_numbers(alloc: Global, index: &mut KeyIndex<Cell>) -> Result<[bool; 5],
 fn numbers_of_keys(rt: HostRuntime) -> Result<(), AllocError> {
     let mut index = KeyIndex::new(rt.alloc());
     let kept = keeps_numbers(rt.alloc(), &mut index);
+    drop(index);
+    assert!(rt; kept? == [true; 5]);
+    Ok(())
+}
+
+fn differs_from_its_copy(
+    alloc: Global,
+    index: &mut KeyIndex<Cell>,
+) -> Result<[bool; 5], AllocError> {
+    fill(alloc, index, &[Some(7), Some(8)])?;
+    index.seal(alloc);
+    let mut copy = index.copy(alloc)?;
+    let seven = key(alloc, Some(7))?;
+    copy.reserve(1)?;
+    copy.remove(seven);
+    fill(alloc, &mut copy, &[Some(9)])?;
+    let gone = copy.number_of(&key(alloc, Some(7))?).is_none();
+    let put = copy.number_of(&key(alloc, Some(9))?) == Some(10);
+    let both = copy.number_of(&key(alloc, Some(8))?) == Some(11);
+    let stays = index.number_of(&key(alloc, Some(7))?) == Some(10);
+    let lacks = index.number_of(&key(alloc, Some(9))?).is_none();
+    Ok([gone, put, both, stays, lacks])
+}
+
+/// What is put into a copy, or taken out of it, isn't seen in the index that it was made of.
+#[test]
+fn copies_of_a_sealed_index(rt: HostRuntime) -> Result<(), AllocError> {
+    let mut index = KeyIndex::new(rt.alloc());
+    let kept = differs_from_its_copy(rt.alloc(), &mut index);
     drop(index);
     assert!(rt; kept? == [true; 5]);
     Ok(())

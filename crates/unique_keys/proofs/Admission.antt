@@ -1,7 +1,7 @@
 -- Rows that go and come in the indexes of unique keys, one index after another.
-use Rattle.std.proofs.Common.{◌≡◌, ℕ, zero, suc, ◌+◌, ◌<◌, ◌≤◌, List, [], ◌∷◌, ◌++◌, length, get_or, take, drop, map, slice_set, refl, ap, sym, ◌∙◌, subst, arith, length-drop, true, false, Bool, Option, Some, None, Result, Ok, Err}
+use Rattle.std.proofs.Common.{◌≡◌, ℕ, zero, suc, ◌+◌, ◌<◌, ◌≤◌, List, [], ◌∷◌, ◌++◌, length, get_or, take, drop, map, slice_set, refl, ap, sym, ◌∙◌, subst, arith, length-drop, true, false, Bool, Option, Some, None, Ok, Err}
 use Rattle.std.specs.List.{All}
-use Rattle.std.proofs.lemmas.List.{append-nil, take_all, take_more, drop_all, drop-map, drop-set-lt, length-map, map-append}
+use Rattle.std.proofs.lemmas.List.{take_all, take_more, drop_all, drop-map, drop-set-lt, length-map, map-append}
 use Rattle.std.proofs.lemmas.List.Elements.{All-cons, All-nil, All-head, All-tail}
 use Rattle.ae_base.specs.Atoms.{Atom}
 use Rattle.ae_base.specs.declared.faults.SqlFault.{SqlFault}
@@ -15,7 +15,7 @@ use Rattle.row_store.specs.Changes.{unhit, hit}
 use Rattle.unique_keys.specs.Keys.{has_twins, first_twins, unless_twins}
 use Rattle.unique_keys.specs.Indexes.{Indexed, IndexesRows, AreDistinct, AreExchanged, keys_of}
 use Rattle.unique_keys.specs.Admitting.{keys_for}
-use Rattle.unique_keys.proofs.Twins.{first_next, first_found, unhit_differ}
+use Rattle.unique_keys.proofs.Twins.{first_next, first_found}
 
 -- ---- lists of indexes
 
@@ -93,74 +93,76 @@ module _ (numbers : List ℕ) (there rows : List (List Atom)) (indexes : List In
       ap (λ l. l ++ keys ∷ []) a ∙ ap (λ k. keys_for (take i ks) new ++ k ∷ []) e ∙ sym (map-append (λ key. map (key_of key) new) (take i ks) (index.places ∷ []))
       ∙ ap (λ ps. keys_for ps new) (sym (take_more ks i index.places key_within ∙ ap (λ p. take i ks ++ p ∷ []) (sym key_is)))
 
--- ---- room for more rows
+-- ---- indexes that stay of the rows that they were of
 
--- the first so many have room, and all are of the rows that they were of
-pub record AreReserved (count i : ℕ) (before now : List Indexed) : Type 0 where
+pub record AreKept (before now : List Indexed) : Type 0 where
   pub keys : keys_of now ≡ keys_of before
   pub same : (numbers : List ℕ) (there : List (List Atom)) → All (IndexesRows numbers there) before → All (IndexesRows numbers there) now
+
+pub kept_start : (before : List Indexed) → AreKept before before
+kept_start before = record { keys = refl; same = λ numbers there h. h }
+
+pub kept_more : (before now : List Indexed) (i : ℕ) (index after : Indexed) → i < length now → index ≡ get_or now i index → AreKept before now → after.places ≡ index.places
+    → ((numbers : List ℕ) (there : List (List Atom)) → IndexesRows numbers there index → IndexesRows numbers there after) → AreKept before (slice_set now i after)
+kept_more before now i index after lt is s p r = record {
+  keys = keys_set now i index after is p ∙ s.keys;
+  same = λ numbers there h.
+      let all = s.same numbers there h in
+      all_set (IndexesRows numbers there) now i after all (r numbers there (all_read (IndexesRows numbers there) now i index all lt is));
+}
+
+-- the first so many have room as well
+pub record AreReserved (count i : ℕ) (before now : List Indexed) : Type 0 where
+  pub kept : AreKept before now
   pub room : All (λ (index : Indexed). count ≤ index.keyed.spare) (take i now)
 
 pub reserved_start : (count : ℕ) (before : List Indexed) → AreReserved count 0 before before
-reserved_start count before = record { keys = refl; same = λ numbers there h. h; room = All-nil (λ (index : Indexed). count ≤ index.keyed.spare) }
+reserved_start count before = record { kept = kept_start before; room = All-nil (λ (index : Indexed). count ≤ index.keyed.spare) }
 
-module _ (count i : ℕ) (before now : List Indexed) (index after : Indexed) (lt : i < length now) (is : index ≡ get_or now i index) (s : AreReserved count i before now) (p : after.places ≡ index.places)
-    (r : (numbers : List ℕ) (there : List (List Atom)) → IndexesRows numbers there index → IndexesRows numbers there after) where
-  pub reserved_keys : keys_of (slice_set now i after) ≡ keys_of before
-  reserved_keys = keys_set now i index after is p ∙ s.keys
-
-  pub reserved_same : (numbers : List ℕ) (there : List (List Atom)) → All (IndexesRows numbers there) before → All (IndexesRows numbers there) (slice_set now i after)
-  reserved_same numbers there h =
-      let all = s.same numbers there h in
-      all_set (IndexesRows numbers there) now i after all (r numbers there (all_read (IndexesRows numbers there) now i index all lt is))
-
-  pub reserved_more : count ≤ after.keyed.spare → AreReserved count (i + 1) before (slice_set now i after)
-  reserved_more room = record {
-    keys = reserved_keys;
-    same = reserved_same;
-    room = all_taken (λ (index : Indexed). count ≤ index.keyed.spare) now i after lt s.room room;
-  }
+pub reserved_more : (count i : ℕ) (before now : List Indexed) (after : Indexed) → i < length now → AreReserved count i before now → AreKept before (slice_set now i after) → count ≤ after.keyed.spare → AreReserved count (i + 1) before (slice_set now i after)
+reserved_more count i before now after lt s kept room = record {
+  kept = kept;
+  room = all_taken (λ (index : Indexed). count ≤ index.keyed.spare) now i after lt s.room room;
+}
 
 pub reserved_all : (count i : ℕ) (before now : List Indexed) → length now ≤ i → AreReserved count i before now → All (λ (index : Indexed). count ≤ index.keyed.spare) now
 reserved_all count i before now le s = subst (All (λ (index : Indexed). count ≤ index.keyed.spare)) (take_all i now le) s.room
 
--- ---- rows that go, and others that come
+-- more room than is asked for
+pub room_less : (less more : ℕ) (indexes : List Indexed) → less ≤ more → All (λ (index : Indexed). more ≤ index.keyed.spare) indexes → All (λ (index : Indexed). less ≤ index.keyed.spare) indexes
+room_less less more [] le h = All-nil (λ (index : Indexed). less ≤ index.keyed.spare)
+room_less less more (index ∷ indexes) le h =
+    let here = All-head (λ (index : Indexed). more ≤ index.keyed.spare) index indexes h in
+    let rest = All-tail (λ (index : Indexed). more ≤ index.keyed.spare) index indexes h in
+    All-cons (λ (index : Indexed). less ≤ index.keyed.spare) index indexes (omega (arith, le, here)) (room_less less more indexes le rest)
 
--- what is known of the rows before and after
-pub record AreLed (known : List ℕ) (there : List (List Atom)) (hits : List Bool) (rows : List (List Atom)) (old new : List (List (List Atom))) (before : List Indexed) : Type 0 where
-  pub long : length known ≡ length there
-  pub indexed : All (IndexesRows known there) before
-  pub distinct : AreDistinct (keys_of before) there
-  pub old_keys : old ≡ keys_for (keys_of before) (hit there hits)
-  pub new_keys : new ≡ keys_for (keys_of before) rows
-  pub stay_distinct : AreDistinct (keys_of before) (unhit there hits ++ rows)
+-- ---- keys that go or come, those of one index after another
 
--- the first so many have them
-pub record AreSwapped (numbers : List ℕ) (old new : List (List (List Atom))) (i : ℕ) (before now : List Indexed) : Type 0 where
+-- the indexes from there on are as they were
+pub record AreVisited (i : ℕ) (before now : List Indexed) : Type 0 where
   pub keys : keys_of now ≡ keys_of before
   pub rest : drop i now ≡ drop i before
-  pub done : (known : List ℕ) (there : List (List Atom)) (hits : List Bool) (rows : List (List Atom)) → AreLed known there hits rows old new before → All (IndexesRows (unhit known hits ++ numbers) (unhit there hits ++ rows)) (take i now)
 
-pub swapped_start : (numbers : List ℕ) (old new : List (List (List Atom))) (before : List Indexed) → AreSwapped numbers old new 0 before before
-swapped_start numbers old new before = record { keys = refl; rest = refl; done = λ known there hits rows l. All-nil (IndexesRows (unhit known hits ++ numbers) (unhit there hits ++ rows)) }
+pub visited_start : (before : List Indexed) → AreVisited 0 before before
+visited_start before = record { keys = refl; rest = refl }
 
-module _ (numbers : List ℕ) (old new left : List (List (List Atom))) (i : ℕ) (before now : List Indexed) (keys : List (List Atom)) (long : length new ≡ length before) (first : keys ∷ left ≡ drop i new) (s : AreSwapped numbers old new i before now) where
+module _ (all left : List (List (List Atom))) (i : ℕ) (before now : List Indexed) (keys : List (List Atom)) (long : length all ≡ length before) (first : keys ∷ left ≡ drop i all) (s : AreVisited i before now) where
   before_within : i < length before
-  before_within = omega (arith, long, ap length first, length-drop i new)
+  before_within = omega (arith, long, ap length first, length-drop i all)
 
   pub now_within : i < length now
   now_within = omega (arith, before_within, keys_long now, ap length s.keys, keys_long before)
 
-  pub left_over : left ≡ drop (i + 1) new
-  left_over = ap (drop 1) first ∙ drop_one new i
+  pub left_over : left ≡ drop (i + 1) all
+  left_over = ap (drop 1) first ∙ drop_one all i
 
-  pub swap_each : All (λ (ks : List (List Atom)). length numbers ≡ length ks) new → length numbers ≡ length keys
-  swap_each h = All-head (λ (ks : List (List Atom)). length numbers ≡ length ks) keys left (subst (All (λ (ks : List (List Atom)). length numbers ≡ length ks)) (sym first) (all_drop i new h))
+  pub one_each : (P : List (List Atom) → Type 0) → All P all → P keys
+  one_each P h = All-head P keys left (subst (All P) (sym first) (all_drop i all h))
     where
-      all_drop : (n : ℕ) (xs : List (List (List Atom))) → All (λ (ks : List (List Atom)). length numbers ≡ length ks) xs → All (λ (ks : List (List Atom)). length numbers ≡ length ks) (drop n xs)
+      all_drop : (n : ℕ) (xs : List (List (List Atom))) → All P xs → All P (drop n xs)
       all_drop zero xs h = h
       all_drop (suc n) [] h = h
-      all_drop (suc n) (x ∷ xs) h = all_drop n xs (All-tail (λ (ks : List (List Atom)). length numbers ≡ length ks) x xs h)
+      all_drop (suc n) (x ∷ xs) h = all_drop n xs (All-tail P x xs h)
 
   module _ (index : Indexed) (is : index ≡ get_or now i index) where
     same_index : index ≡ get_or before i index
@@ -172,37 +174,103 @@ module _ (numbers : List ℕ) (old new left : List (List (List Atom))) (i : ℕ)
     its_key : index.places ≡ get_or (keys_of before) i index.places
     its_key = key_read before i index before_within same_index
 
-    its_keys : (all : List (List (List Atom))) (mine rows : List (List Atom)) → mine ≡ get_or (drop i all) 0 mine → all ≡ keys_for (keys_of before) rows → mine ≡ map (key_of index.places) rows
-    its_keys all mine rows m e =
+    pub its_keys : (rows : List (List Atom)) → all ≡ keys_for (keys_of before) rows → keys ≡ map (key_of index.places) rows
+    its_keys rows e =
         let of_key : List ℕ → List (List Atom) = λ key. map (key_of key) rows in
         let there = drop_there (keys_of before) i index.places within_keys its_key in
-        m ∙ ap (λ l. get_or l 0 mine) (ap (drop i) e ∙ drop-map of_key i (keys_of before) ∙ ap (map of_key) there)
+        ap (λ l. get_or l 0 keys) (first ∙ ap (drop i) e ∙ drop-map of_key i (keys_of before) ∙ ap (map of_key) there)
 
-    pub swap_room : (count : ℕ) → All (λ (x : Indexed). count ≤ x.keyed.spare) before → count ≤ index.keyed.spare
-    swap_room count h = all_read (λ (x : Indexed). count ≤ x.keyed.spare) before i index h before_within same_index
+    pub its_room : (count : ℕ) → All (λ (x : Indexed). count ≤ x.keyed.spare) before → count ≤ index.keyed.spare
+    its_room count h = all_read (λ (x : Indexed). count ≤ x.keyed.spare) before i index h before_within same_index
 
-    pub swapped_more : (after : Indexed) (old_keys : List (List Atom)) → old_keys ≡ get_or old i old_keys → after.places ≡ index.places
-        → ((known : List ℕ) (there : List (List Atom)) (hits : List Bool) (rows : List (List Atom)) → length known ≡ length there → IndexesRows known there index → has_twins index.places there ≡ false
-        → old_keys ≡ map (key_of index.places) (hit there hits) → keys ≡ map (key_of index.places) rows → has_twins index.places (unhit there hits ++ rows) ≡ false
-        → IndexesRows (unhit known hits ++ numbers) (unhit there hits ++ rows) after)
-        → AreSwapped numbers old new (i + 1) before (slice_set now i after)
-    swapped_more after old_keys o p r = record {
+    pub its_rows : (known : List ℕ) (there : List (List Atom)) → All (IndexesRows known there) before → IndexesRows known there index
+    its_rows known there h = all_read (IndexesRows known there) before i index h before_within same_index
+
+    pub its_distinct : (rows : List (List Atom)) → AreDistinct (keys_of before) rows → has_twins index.places rows ≡ false
+    its_distinct rows d = all_read (λ key. has_twins key rows ≡ false) (keys_of before) i index.places d within_keys its_key
+
+    pub visited_more : (after : Indexed) → after.places ≡ index.places → AreVisited (i + 1) before (slice_set now i after)
+    visited_more after p = record {
       keys = keys_set now i index after is p ∙ s.keys;
       rest = drop-set-lt (i + 1) now i after (omega arith) ∙ sym (drop_one now i) ∙ ap (drop 1) s.rest ∙ drop_one before i;
-      done = λ known there hits rows l.
-          all_taken (IndexesRows (unhit known hits ++ numbers) (unhit there hits ++ rows)) now i after now_within (s.done known there hits rows l)
-          (r known there hits rows l.long (all_read (IndexesRows known there) before i index l.indexed before_within same_index)
-          (all_read (λ key. has_twins key there ≡ false) (keys_of before) i index.places l.distinct within_keys its_key)
-          (its_keys old old_keys (hit there hits) (o ∙ sym (get_or-drop old i old_keys)) l.old_keys)
-          (its_keys new keys rows (ap (λ ks. get_or ks 0 keys) first) l.new_keys)
-          (all_read (λ key. has_twins key (unhit there hits ++ rows) ≡ false) (keys_of before) i index.places l.stay_distinct within_keys its_key));
     }
 
-pub swapped_all : (numbers : List ℕ) (old new left : List (List (List Atom))) (i : ℕ) (before now : List Indexed) → length new ≡ length before → left ≡ drop i new → length left ≡ 0 → AreSwapped numbers old new i before now
-    → (known : List ℕ) (there : List (List Atom)) (hits : List Bool) (rows : List (List Atom)) → AreLed known there hits rows old new before → All (IndexesRows (unhit known hits ++ numbers) (unhit there hits ++ rows)) now
-swapped_all numbers old new left i before now long e none s known there hits rows l =
-    let le : length now ≤ i = omega (arith, long, ap length e, none, length-drop i new, keys_long now, ap length s.keys, keys_long before) in
-    subst (All (IndexesRows (unhit known hits ++ numbers) (unhit there hits ++ rows))) (take_all i now le) (s.done known there hits rows l)
+pub visited_all : (all left : List (List (List Atom))) (i : ℕ) (before now : List Indexed) → length all ≡ length before → left ≡ drop i all → length left ≡ 0 → AreVisited i before now → (P : Indexed → Type 0) → All P (take i now) → All P now
+visited_all all left i before now long e none s P h =
+    let le : length now ≤ i = omega (arith, long, ap length e, none, length-drop i all, keys_long now, ap length s.keys, keys_long before) in
+    subst (All P) (take_all i now le) h
+
+-- what is known of the rows of which some go
+pub record AreLeaving (known : List ℕ) (there : List (List Atom)) (hits : List Bool) (keys : List (List (List Atom))) (before : List Indexed) : Type 0 where
+  pub long : length known ≡ length there
+  pub indexed : All (IndexesRows known there) before
+  pub distinct : AreDistinct (keys_of before) there
+  pub keys_are : keys ≡ keys_for (keys_of before) (hit there hits)
+
+-- the first so many have lost them, and have the room that was to be left
+pub record AreTaken (keys : List (List (List Atom))) (i : ℕ) (before now : List Indexed) : Type 0 where
+  pub visited : AreVisited i before now
+  pub rows : (known : List ℕ) (there : List (List Atom)) (hits : List Bool) → AreLeaving known there hits keys before → All (IndexesRows (unhit known hits) (unhit there hits)) (take i now)
+  pub room : (count more : ℕ) → All (λ (ks : List (List Atom)). count ≡ length ks) keys → All (λ (index : Indexed). count + more ≤ index.keyed.spare) before → All (λ (index : Indexed). more ≤ index.keyed.spare) (take i now)
+
+pub taken_start : (keys : List (List (List Atom))) (before : List Indexed) → AreTaken keys 0 before before
+taken_start keys before = record {
+  visited = visited_start before;
+  rows = λ known there hits l. All-nil (IndexesRows (unhit known hits) (unhit there hits));
+  room = λ count more e h. All-nil (λ (index : Indexed). more ≤ index.keyed.spare);
+}
+
+pub taken_more : (all left : List (List (List Atom))) (i : ℕ) (before now : List Indexed) (keys : List (List Atom)) → length all ≡ length before → keys ∷ left ≡ drop i all → AreTaken all i before now
+    → (index after : Indexed) → index ≡ get_or now i index → after.places ≡ index.places
+    → ((known : List ℕ) (there : List (List Atom)) (hits : List Bool) → length known ≡ length there → IndexesRows known there index → has_twins index.places there ≡ false
+    → keys ≡ map (key_of index.places) (hit there hits) → IndexesRows (unhit known hits) (unhit there hits) after)
+    → index.keyed.spare ≤ after.keyed.spare + length keys → AreTaken all (i + 1) before (slice_set now i after)
+taken_more all left i before now keys long first s index after is p r m =
+    let v = s.visited in
+    let lt = now_within all left i before now keys long first v in
+    record {
+      visited = visited_more all left i before now keys long first v index is after p;
+      rows = λ known there hits l.
+          all_taken (IndexesRows (unhit known hits) (unhit there hits)) now i after lt (s.rows known there hits l)
+          (r known there hits l.long (its_rows all left i before now keys long first v index is known there l.indexed)
+          (its_distinct all left i before now keys long first v index is there l.distinct)
+          (its_keys all left i before now keys long first v index is (hit there hits) l.keys_are));
+      room = λ count more e h.
+          let had : count + more ≤ index.keyed.spare = its_room all left i before now keys long first v index is (count + more) h in
+          let each : count ≡ length keys = one_each all left i before now keys long first v (λ (ks : List (List Atom)). count ≡ length ks) e in
+          all_taken (λ (index : Indexed). more ≤ index.keyed.spare) now i after lt (s.room count more e h) (omega (arith, had, each, m));
+    }
+
+-- what is known of the rows behind which others come
+pub record AreComing (known : List ℕ) (there rows : List (List Atom)) (keys : List (List (List Atom))) (before : List Indexed) : Type 0 where
+  pub long : length known ≡ length there
+  pub indexed : All (IndexesRows known there) before
+  pub keys_are : keys ≡ keys_for (keys_of before) rows
+  pub distinct : AreDistinct (keys_of before) (there ++ rows)
+
+-- the first so many have those
+pub record ArePut (numbers : List ℕ) (keys : List (List (List Atom))) (i : ℕ) (before now : List Indexed) : Type 0 where
+  pub visited : AreVisited i before now
+  pub rows : (known : List ℕ) (there rows : List (List Atom)) → AreComing known there rows keys before → All (IndexesRows (known ++ numbers) (there ++ rows)) (take i now)
+
+pub put_start : (numbers : List ℕ) (keys : List (List (List Atom))) (before : List Indexed) → ArePut numbers keys 0 before before
+put_start numbers keys before = record { visited = visited_start before; rows = λ known there rows l. All-nil (IndexesRows (known ++ numbers) (there ++ rows)) }
+
+pub put_more : (numbers : List ℕ) (all left : List (List (List Atom))) (i : ℕ) (before now : List Indexed) (keys : List (List Atom)) → length all ≡ length before → keys ∷ left ≡ drop i all → ArePut numbers all i before now
+    → (index after : Indexed) → index ≡ get_or now i index → after.places ≡ index.places
+    → ((known : List ℕ) (there rows : List (List Atom)) → length known ≡ length there → IndexesRows known there index → keys ≡ map (key_of index.places) rows
+    → has_twins index.places (there ++ rows) ≡ false → IndexesRows (known ++ numbers) (there ++ rows) after)
+    → ArePut numbers all (i + 1) before (slice_set now i after)
+put_more numbers all left i before now keys long first s index after is p r =
+    let v = s.visited in
+    record {
+      visited = visited_more all left i before now keys long first v index is after p;
+      rows = λ known there rows l.
+          all_taken (IndexesRows (known ++ numbers) (there ++ rows)) now i after (now_within all left i before now keys long first v) (s.rows known there rows l)
+          (r known there rows l.long (its_rows all left i before now keys long first v index is known there l.indexed)
+          (its_keys all left i before now keys long first v index is rows l.keys_are)
+          (its_distinct all left i before now keys long first v index is (there ++ rows) l.distinct));
+    }
 
 -- keys of some rows for each index
 pub keys_there : (before ready : List Indexed) (rows : List (List Atom)) (all : List (List (List Atom))) → keys_of ready ≡ keys_of before → all ≡ keys_for (keys_of before) rows → length all ≡ length ready
@@ -214,24 +282,6 @@ keys_each count keys rows all e n = subst (All (λ (ks : List (List Atom)). coun
     each : (keys : List (List ℕ)) → All (λ (ks : List (List Atom)). count ≡ length ks) (keys_for keys rows)
     each [] = All-nil (λ (ks : List (List Atom)). count ≡ length ks)
     each (key ∷ keys) = All-cons (λ (ks : List (List Atom)). count ≡ length ks) (map (key_of key) rows) (keys_for keys rows) (n ∙ sym (length-map rows (key_of key))) (each keys)
-
--- room for none is there
-pub room_for_none : (indexes : List Indexed) → All (λ (index : Indexed). 0 ≤ index.keyed.spare) indexes
-room_for_none [] = All-nil (λ (index : Indexed). 0 ≤ index.keyed.spare)
-room_for_none (index ∷ indexes) = All-cons (λ (index : Indexed). 0 ≤ index.keyed.spare) index indexes (omega arith) (room_for_none indexes)
-
--- rows that stay of those that differ, with none behind them
-pub distinct_left : (keys : List (List ℕ)) (there : List (List Atom)) (hits : List Bool) → AreDistinct keys there → AreDistinct keys (unhit there hits ++ [])
-distinct_left [] there hits d = All-nil (λ key. has_twins key (unhit there hits ++ []) ≡ false)
-distinct_left (key ∷ keys) there hits d =
-    All-cons (λ key. has_twins key (unhit there hits ++ []) ≡ false) key keys
-    (ap (has_twins key) (append-nil (unhit there hits)) ∙ unhit_differ key there hits (All-head (λ key. has_twins key there ≡ false) key keys d))
-    (distinct_left keys there hits (All-tail (λ key. has_twins key there ≡ false) key keys d))
-
-pub indexed_left : (known : List ℕ) (there : List (List Atom)) (hits : List Bool) (indexes : List Indexed) → All (IndexesRows (unhit known hits ++ []) (unhit there hits ++ [])) indexes → All (IndexesRows (unhit known hits) (unhit there hits)) indexes
-indexed_left known there hits indexes h =
-    subst (λ ns. All (IndexesRows ns (unhit there hits)) indexes) (append-nil (unhit known hits))
-    (subst (λ rows. All (IndexesRows (unhit known hits ++ []) rows) indexes) (append-nil (unhit there hits)) h)
 
 -- ---- the answer
 
@@ -259,11 +309,11 @@ pub all_exchanged : (known : List ℕ) (there : List (List Atom)) (hits : List B
     → All (IndexesRows (unhit known hits ++ their) (unhit there hits ++ new)) after → AreExchanged known there hits their new (Ok tt) before after
 all_exchanged known there hits their new before after none k h = record { keys = k; answer = ap (λ o. unless_twins o tt) none; indexed = h }
 
--- ---- indexes that are made anew
+-- ---- indexes that are copied
 
-pub fresh_keys : (indexes fresh : List Indexed) (i : ℕ) (index new : Indexed) → i < length indexes → index ≡ get_or indexes i index → keys_of fresh ≡ keys_of (take i indexes) → new.places ≡ index.places → keys_of (fresh ++ new ∷ []) ≡ keys_of (take (i + 1) indexes)
-fresh_keys indexes fresh i index new lt is k p =
-    map-append (λ (x : Indexed). x.places) fresh (new ∷ []) ∙ ap (λ ks. ks ++ new.places ∷ []) k ∙ ap (λ key. keys_of (take i indexes) ++ key ∷ []) p
+pub copied_keys : (indexes copy : List Indexed) (i : ℕ) (index new : Indexed) → i < length indexes → index ≡ get_or indexes i index → keys_of copy ≡ keys_of (take i indexes) → new.places ≡ index.places → keys_of (copy ++ new ∷ []) ≡ keys_of (take (i + 1) indexes)
+copied_keys indexes copy i index new lt is k p =
+    map-append (λ (x : Indexed). x.places) copy (new ∷ []) ∙ ap (λ ks. ks ++ new.places ∷ []) k ∙ ap (λ key. keys_of (take i indexes) ++ key ∷ []) p
     ∙ sym (ap keys_of (take_more indexes i index lt ∙ ap (λ x. take i indexes ++ x ∷ []) (sym is)) ∙ map-append (λ (x : Indexed). x.places) (take i indexes) (index ∷ []))
 
 pub all_push : {A : Type 0} (P : A → Type 0) (xs : List A) (x : A) → All P xs → P x → All P (xs ++ x ∷ [])

@@ -1,17 +1,15 @@
 -- The number of the one row with a key, as rows come and go.
-use Rattle.std.proofs.Common.{◌≡◌, ℕ, zero, suc, ◌+◌, ◌<◌, ◌≤◌, List, [], ◌∷◌, ◌++◌, length, map, refl, ap, sym, ◌∙◌, arith, Bool, true, false, cond, not, Option, Some, None}
+use Rattle.std.proofs.Common.{◌≡◌, ℕ, ◌+◌, ◌<◌, List, [], ◌∷◌, ◌++◌, length, map, refl, ap, sym, ◌∙◌, arith, Bool, true, false, cond, not, Option, Some, None}
 use Rattle.std.specs.Prelude.{◌||◌, ◌==◌}
 use Rattle.std.specs.List.{list_any}
 use Rattle.std.proofs.lemmas.Bool.{or_parts}
 use Rattle.std.proofs.lemmas.Bool.Decides.{nat_tests}
-use Rattle.std.proofs.lemmas.List.{length-map}
 use Rattle.std.proofs.lemmas.List.Folds.{list_any-append}
 use Rattle.ae_base.specs.Atoms.{Atom}
 use Rattle.operators.specs.Alike.{are_alike, alike_on, key_of}
-use Rattle.operators.proofs.Interface.{alike_back, alike_on-keys, alike_same, any-map, any_same}
+use Rattle.operators.proofs.Interface.{alike_on-keys, alike_same, any-map, any_same}
 use Rattle.row_store.specs.Changes.{unhit, hit}
 use Rattle.row_store.specs.Numbers.{AreRising}
-use Rattle.row_store.proofs.Interface.{unhit_each}
 use Rattle.key_index.specs.Lookups.{is_among, is_left}
 use Rattle.key_index.specs.Numbers.{Keyed, number_at, put_in, taken_out}
 use Rattle.key_index.proofs.Interface.{put_none}
@@ -207,31 +205,32 @@ either_first test ns ms xs ys one = by_test (list_any test xs) refl
         let none = where_none test ns xs t in
         ap (or_else (number_where test ms ys)) none ∙ nothing (number_where test ms ys) ∙ ap (λ o. or_else o (number_where test ms ys)) (sym none)
 
--- ---- keys of rows that go, and of others that come
+-- ---- the index of the rows that are then there
 
-pub exchanged : (places : List ℕ) (key : List Atom) (ns ms : List ℕ) (rows new : List (List Atom)) (hits : List Bool) → length ns ≡ length rows → length ms ≡ length new → has_twins places rows ≡ false → has_twins places (unhit rows hits ++ new) ≡ false
-    → put_in key (taken_out key (number_where (has_key places key) ns rows) (map (key_of places) (hit rows hits))) ms (map (key_of places) new) ≡ number_where (has_key places key) (unhit ns hits ++ ms) (unhit rows hits ++ new)
-exchanged places key ns ms rows new hits en em d dn =
+-- keys of rows that go
+pub taken_rows : (places : List ℕ) (before after : Keyed) (ns : List ℕ) (rows keys : List (List Atom)) (hits : List Bool) → length ns ≡ length rows
+    → ((key : List Atom) → number_at before key ≡ number_where (has_key places key) ns rows) → has_twins places rows ≡ false → keys ≡ map (key_of places) (hit rows hits)
+    → ((key : List Atom) → number_at after key ≡ taken_out key (number_at before key) keys)
+    → (key : List Atom) → number_at after key ≡ number_where (has_key places key) (unhit ns hits) (unhit rows hits)
+taken_rows places before after ns rows keys hits en i d k t key =
     let test = has_key places key in
-    let stay = unhit rows hits in
-    let all = one_of_distinct places key (stay ++ new) dn in
-    let there = taken_out key (number_where test ns rows) (map (key_of places) (hit rows hits)) in
-    let taken : there ≡ number_where test (unhit ns hits) stay =
-    ap (λ b. cond b None (number_where test ns rows)) (any-map (are_alike key) (key_of places) (hit rows hits))
-    ∙ sym (where_unhit test ns rows hits en (one_of_distinct places key rows d)) in
-    put_where key there ms (map (key_of places) new) (em ∙ sym (length-map new (key_of places))) (one_of_keys key places new (one_front test stay new all))
-    ∙ ap (λ o. or_else o there) (where_keys key places ms new) ∙ ap (or_else (number_where test ms new)) taken
-    ∙ either_first test (unhit ns hits) ms stay new all
-    ∙ sym (where_append test (unhit ns hits) ms stay new (unhit_each ns rows hits en))
+    let found = number_where test ns rows in
+    t key ∙ ap (λ o. taken_out key o keys) (i key) ∙ ap (taken_out key found) k
+    ∙ ap (λ b. cond b None found) (any-map (are_alike key) (key_of places) (hit rows hits))
+    ∙ sym (where_unhit test ns rows hits en (one_of_distinct places key rows d))
 
--- the index of the rows that are then there
-pub exchanged_rows : (places : List ℕ) (before taken after : Keyed) (ns ms : List ℕ) (rows new : List (List Atom)) (old_keys new_keys : List (List Atom)) (hits : List Bool) → length ns ≡ length rows → length ms ≡ length new_keys
-    → ((key : List Atom) → number_at before key ≡ number_where (has_key places key) ns rows) → has_twins places rows ≡ false → old_keys ≡ map (key_of places) (hit rows hits) → new_keys ≡ map (key_of places) new → has_twins places (unhit rows hits ++ new) ≡ false
-    → ((key : List Atom) → number_at taken key ≡ taken_out key (number_at before key) old_keys) → ((key : List Atom) → number_at after key ≡ put_in key (number_at taken key) ms new_keys)
-    → (key : List Atom) → number_at after key ≡ number_where (has_key places key) (unhit ns hits ++ ms) (unhit rows hits ++ new)
-exchanged_rows places before taken after ns ms rows new old_keys new_keys hits en em i d o n dn t p key =
-    let long : length ms ≡ length new = em ∙ ap length n ∙ length-map new (key_of places) in
-    let found = number_where (has_key places key) ns rows in
-    p key ∙ ap (λ ks. put_in key (number_at taken key) ms ks) n
-    ∙ ap (λ o. put_in key o ms (map (key_of places) new)) (t key ∙ ap (λ o. taken_out key o old_keys) (i key) ∙ ap (taken_out key found) o)
-    ∙ exchanged places key ns ms rows new hits en long d dn
+-- and of others that come
+pub put_rows : (places : List ℕ) (before after : Keyed) (ns ms : List ℕ) (rows new keys : List (List Atom)) → length ns ≡ length rows → length ms ≡ length keys
+    → ((key : List Atom) → number_at before key ≡ number_where (has_key places key) ns rows) → keys ≡ map (key_of places) new → has_twins places (rows ++ new) ≡ false
+    → ((key : List Atom) → number_at after key ≡ put_in key (number_at before key) ms keys)
+    → (key : List Atom) → number_at after key ≡ number_where (has_key places key) (ns ++ ms) (rows ++ new)
+put_rows places before after ns ms rows new keys en em i k d p key =
+    let test = has_key places key in
+    let found = number_where test ns rows in
+    let all = one_of_distinct places key (rows ++ new) d in
+    let long : length ms ≡ length (map (key_of places) new) = em ∙ ap length k in
+    p key ∙ ap (put_in key (number_at before key) ms) k ∙ ap (λ o. put_in key o ms (map (key_of places) new)) (i key)
+    ∙ put_where key found ms (map (key_of places) new) long (one_of_keys key places new (one_front test rows new all))
+    ∙ ap (λ o. or_else o found) (where_keys key places ms new)
+    ∙ either_first test ns ms rows new all
+    ∙ sym (where_append test ns ms rows new en)

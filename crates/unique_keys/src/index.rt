@@ -1,6 +1,6 @@
 //! The index of one unique key.
 
-ghost use Rattle.std.specs.Prelude.{◌≡◌, ◌<◌, ◌≤◌, ◌++◌, [], ℕ, Bool, List, length, map, not, false, is_some, IfSome, IfOk, OnOk};
+ghost use Rattle.std.specs.Prelude.{◌≡◌, ◌≤◌, ◌+◌, ◌++◌, [], ℕ, Bool, List, length, map, not, false, is_some, IfSome, IfOk, OnOk};
 ghost use Rattle.ae_base.specs.Atoms.{Atom};
 ghost use Rattle.operators.specs.Alike.{key_of};
 ghost use Rattle.key_index.specs.Numbers.{number_at};
@@ -68,64 +68,63 @@ impl<K: Same> UniqueIndex<K> {
         self.index.number_of(key)
     }
 
-    /// The index of these rows with these numbers for the same key.
-    pub(crate) fn filled(
-        &self,
-        alloc: Global,
-        numbers: &[usize],
-        rows: &[&Row<K>],
-    ) -> Result<UniqueIndex<K>, AllocError>
-        requires { length numbers.now ≡ length rows.now }
-        ensures places { IfOk result (λ index. index.places ≡ self.now.places) }
-        ensures rows { has_twins self.now.places (map (λ row. row.now) rows.now) ≡ false
-            → IfOk result (IndexesRows numbers.now (map (λ row. row.now) rows.now)) }
+    /// An index of the same rows, for the same key. What was sealed isn't copied.
+    pub(crate) fn copy(&self, alloc: Global) -> Result<UniqueIndex<K>, AllocError>
+        ensures places { IfOk result (λ copy. copy.places ≡ self.now.places) }
+        ensures rows { (numbers : List ℕ) (rows : List (List Atom))
+            → IndexesRows numbers rows self.now → IfOk result (IndexesRows numbers rows) }
     {
-        let mut index = UniqueIndex::new(alloc, self.places.copy()?);
-        index.fill(alloc, numbers, rows)?;
-        Ok(index)
+        let places = self.places.copy()?;
+        let index = self.index.copy(alloc)?;
+        Ok(UniqueIndex { places, index })
     }
 
-    /// Puts rows into the index of none, each with its number.
-    fn fill(&mut self, alloc: Global, numbers: &[usize], rows: &[&Row<K>]) -> Result<(), AllocError>
-        requires each { length numbers.now ≡ length rows.now }
-        requires none { IndexesRows [] [] self.old }
+    /// Lets copies have all that is in the index, if there is memory for it: from then on a copy
+    /// copies no row's key. The index stays of the rows that it was of.
+    pub(crate) fn seal(&mut self, alloc: Global)
         ensures places { self.new.places ≡ self.old.places }
-        ensures rows { has_twins self.old.places (map (λ row. row.now) rows.now) ≡ false
-            → OnOk result (IndexesRows numbers.now (map (λ row. row.now) rows.now) self.new) }
+        ensures rows { (numbers : List ℕ) (rows : List (List Atom))
+            → IndexesRows numbers rows self.old → IndexesRows numbers rows self.new }
     {
-        self.reserve(rows.len())?;
-        let keys = keys_of(alloc, self.places(), rows)?;
-        let none: Seq<Key<K>> = Seq::new(alloc);
-        self.exchange(none.as_slice(), numbers, keys);
-        Ok(())
+        self.index.seal(alloc);
     }
 
-    /// Makes room for so many more rows, if there is memory for it.
+    /// Makes room for so many keys more that are taken out or put in, if there is memory for it.
     pub(crate) fn reserve(&mut self, count: usize) -> Result<(), AllocError>
         ensures places { self.new.places ≡ self.old.places }
-        ensures rows { (numbers : List ℕ) (rows : List (List Atom)) → IndexesRows numbers rows self.old
-            → IndexesRows numbers rows self.new }
+        ensures rows { (numbers : List ℕ) (rows : List (List Atom))
+            → IndexesRows numbers rows self.old → IndexesRows numbers rows self.new }
         ensures room { OnOk result (count ≤ self.new.keyed.spare) }
     {
         self.index.reserve(count)
     }
 
-    /// Takes out the keys of rows that go, and puts in those of new rows, each with its number. It
-    /// takes no memory.
-    pub(crate) fn exchange(&mut self, old: &[Key<K>], numbers: &[usize], new: Seq<Key<K>>)
-        requires each { length numbers.now ≡ length new }
-        requires room { length new ≤ self.old.keyed.spare }
+    /// Takes out the keys of rows that go. It takes no memory.
+    pub(crate) fn take_out(&mut self, keys: Seq<Key<K>>)
+        requires { length keys ≤ self.old.keyed.spare }
         ensures places { self.new.places ≡ self.old.places }
         ensures rows { (known : List ℕ) (there : List (List Atom)) (hits : List Bool)
-            (rows : List (List Atom)) → length known ≡ length there
+            → length known ≡ length there
             → IndexesRows known there self.old → has_twins self.old.places there ≡ false
-            → old.now ≡ map (key_of self.old.places) (hit there hits)
-            → new ≡ map (key_of self.old.places) rows
-            → has_twins self.old.places (unhit there hits ++ rows) ≡ false
-            → IndexesRows (unhit known hits ++ numbers.now) (unhit there hits ++ rows) self.new }
+            → keys ≡ map (key_of self.old.places) (hit there hits)
+            → IndexesRows (unhit known hits) (unhit there hits) self.new }
+        ensures room { self.old.keyed.spare ≤ self.new.keyed.spare + length keys }
     {
-        self.index.remove_all(old);
-        self.index.put_all(numbers, new);
+        self.index.remove_all(keys);
+    }
+
+    /// Puts in the keys of new rows, each with its number. It takes no memory.
+    pub(crate) fn put_in(&mut self, numbers: &[usize], keys: Seq<Key<K>>)
+        requires each { length numbers.now ≡ length keys }
+        requires room { length keys ≤ self.old.keyed.spare }
+        ensures places { self.new.places ≡ self.old.places }
+        ensures rows { (known : List ℕ) (there rows : List (List Atom))
+            → length known ≡ length there → IndexesRows known there self.old
+            → keys ≡ map (key_of self.old.places) rows
+            → has_twins self.old.places (there ++ rows) ≡ false
+            → IndexesRows (known ++ numbers.now) (there ++ rows) self.new }
+    {
+        self.index.put_all(numbers, keys);
     }
 
     /// The keys of new rows, if none is alike to another of them, or to one that is there and

@@ -51,8 +51,9 @@ pub fn exchange<K: Same>(
         indexes.old.items indexes.new.items }
 {
     let old_keys = keys_of_each(alloc, indexes.as_slice(), old)?;
-    let new_keys = make_ready(alloc, indexes, gone, new)?;
-    exchange_each(indexes, old_keys.as_slice(), numbers, new_keys);
+    let new_keys = make_ready(alloc, indexes, gone, new, old.len() + new.len())?;
+    take_out_each(indexes, old_keys);
+    put_in_each(indexes, numbers, new_keys);
     Ok(())
 }
 
@@ -68,43 +69,55 @@ pub fn take_out<K: Same>(
         → AreDistinct (keys_of indexes.old.items) there
         → map (λ row. row.now) rows.now ≡ hit there hits
         → OnOk result (All (IndexesRows (unhit known hits) (unhit there hits)) indexes.new.items) }
-    ensures err { OnErr result (indexes.new.items ≡ indexes.old.items) }
+    ensures err { (known : List ℕ) (there : List (List Atom))
+        → All (IndexesRows known there) indexes.old.items
+        → OnErr result (All (IndexesRows known there) indexes.new.items) }
 {
-    let old = keys_of_each(alloc, indexes.as_slice(), rows)?;
-    let none = keys_of_each(alloc, indexes.as_slice(), &rows[..0])?;
-    let numbers: Seq<usize> = Seq::new(alloc);
-    exchange_each(indexes, old.as_slice(), numbers.as_slice(), none);
+    let keys = keys_of_each(alloc, indexes.as_slice(), rows)?;
+    reserve_each(indexes, rows.len())?;
+    take_out_each(indexes, keys);
     Ok(())
 }
 
-/// Indexes of these rows with these numbers, for the same keys.
-pub fn fresh<K: Same>(
+/// Indexes of the same rows, for the same keys. What was sealed isn't copied.
+pub fn copied<K: Same>(
     alloc: Global,
     indexes: &[UniqueIndex<K>],
-    numbers: &[usize],
-    rows: &[&Row<K>],
 ) -> Result<Vec<UniqueIndex<K>>, AllocError>
-    requires { length numbers.now ≡ length rows.now }
-    ensures keys { IfOk result (λ fresh. keys_of fresh.items ≡ keys_of indexes.now) }
-    ensures indexed { AreDistinct (keys_of indexes.now) (map (λ row. row.now) rows.now)
-        → IfOk result
-        (λ fresh. All (IndexesRows numbers.now (map (λ row. row.now) rows.now)) fresh.items) }
+    ensures keys { IfOk result (λ copy. keys_of copy.items ≡ keys_of indexes.now) }
+    ensures indexed { (numbers : List ℕ) (rows : List (List Atom))
+        → All (IndexesRows numbers rows) indexes.now
+        → IfOk result (λ copy. All (IndexesRows numbers rows) copy.items) }
 {
-    let mut fresh = Vec::with_capacity(alloc, indexes.len())?;
+    let mut copy = Vec::with_capacity(alloc, indexes.len())?;
     for index in indexes {
-        let new = index.filled(alloc, numbers, rows)?;
-        fresh.push(new)?;
+        let new = index.copy(alloc)?;
+        copy.push(new)?;
     }
-    Ok(fresh)
+    Ok(copy)
 }
 
-/// The keys of new rows for each index, in which there is then room for them; or the first unique
-/// key on which two are alike, as in `new_keys`.
+/// Lets copies have all that is in each index, if there is memory for it: from then on copies of
+/// them copy no row's key. The indexes stay of the rows that they were of.
+pub fn seal_each<K: Same>(alloc: Global, indexes: &mut Vec<UniqueIndex<K>>)
+    ensures keys { keys_of indexes.new.items ≡ keys_of indexes.old.items }
+    ensures indexed { (numbers : List ℕ) (rows : List (List Atom))
+        → All (IndexesRows numbers rows) indexes.old.items
+        → All (IndexesRows numbers rows) indexes.new.items }
+{
+    for i in 0..indexes.len() {
+        indexes[i].seal(alloc);
+    }
+}
+
+/// The keys of new rows for each index, in which there is then room for so many keys; or the first
+/// unique key on which two are alike, as in `new_keys`.
 fn make_ready<K: Same>(
     alloc: Global,
     indexes: &mut Vec<UniqueIndex<K>>,
     gone: &[usize],
     rows: &[&Row<K>],
+    count: usize,
 ) -> Result<Seq<Seq<Key<K>>>, Refusal>
     requires few { length indexes.old.items ≤ 8 }
     requires rising { (to : ℕ) × AreRising 0 to gone.now }
@@ -112,8 +125,7 @@ fn make_ready<K: Same>(
     ensures same { (numbers : List ℕ) (there : List (List Atom))
         → All (IndexesRows numbers there) indexes.old.items
         → All (IndexesRows numbers there) indexes.new.items }
-    ensures room { OnOk result
-        (All (λ index. length rows.now ≤ index.keyed.spare) indexes.new.items) }
+    ensures room { OnOk result (All (λ index. count ≤ index.keyed.spare) indexes.new.items) }
     ensures keys { IfOk result
         (λ keys. keys ≡ keys_for (keys_of indexes.old.items) (map (λ row. row.now) rows.now)) }
     ensures answer { (known : List ℕ) (there : List (List Atom)) (hits : List Bool) (to : ℕ)
@@ -127,7 +139,7 @@ fn make_ready<K: Same>(
         (keys_for (keys_of indexes.old.items) (map (λ row. row.now) rows.now))) }
 {
     let keys = new_keys(alloc, indexes.as_slice(), gone, rows)?;
-    reserve_each(indexes, rows.len())?;
+    reserve_each(indexes, count)?;
     Ok(keys)
 }
 
@@ -178,7 +190,7 @@ fn keys_of_each<K: Same>(
     Ok(all)
 }
 
-/// Makes room in each index for so many more rows, if there is memory for it.
+/// Makes room in each index for so many keys more, if there is memory for it.
 fn reserve_each<K: Same>(indexes: &mut Vec<UniqueIndex<K>>, count: usize) -> Result<(), AllocError>
     ensures places { keys_of indexes.new.items ≡ keys_of indexes.old.items }
     ensures same { (numbers : List ℕ) (there : List (List Atom))
@@ -192,32 +204,49 @@ fn reserve_each<K: Same>(indexes: &mut Vec<UniqueIndex<K>>, count: usize) -> Res
     Ok(())
 }
 
-/// Takes the keys of rows that go out of each index, and puts in those of new ones, each with its
-/// number. It takes no memory.
-fn exchange_each<K: Same>(
-    indexes: &mut Vec<UniqueIndex<K>>,
-    old: &[Seq<Key<K>>],
-    numbers: &[usize],
-    new: Seq<Seq<Key<K>>>,
-)
-    requires old { length old.now ≡ length indexes.old.items }
-    requires new { length new ≡ length indexes.old.items }
-    requires each { All (λ keys. length numbers.now ≡ length keys) new }
-    requires room { All (λ index. length numbers.now ≤ index.keyed.spare) indexes.old.items }
+/// Takes the keys of rows that go out of each index. It takes no memory.
+fn take_out_each<K: Same>(indexes: &mut Vec<UniqueIndex<K>>, keys: Seq<Seq<Key<K>>>)
+    requires each { length keys ≡ length indexes.old.items }
+    requires room { (count : ℕ) × (All (λ ks. count ≡ length ks) keys
+        × All (λ index. count ≤ index.keyed.spare) indexes.old.items) }
     ensures places { keys_of indexes.new.items ≡ keys_of indexes.old.items }
     ensures rows { (known : List ℕ) (there : List (List Atom)) (hits : List Bool)
-        (rows : List (List Atom)) → length known ≡ length there
+        → length known ≡ length there
         → All (IndexesRows known there) indexes.old.items
         → AreDistinct (keys_of indexes.old.items) there
-        → old.now ≡ keys_for (keys_of indexes.old.items) (hit there hits)
-        → new ≡ keys_for (keys_of indexes.old.items) rows
-        → AreDistinct (keys_of indexes.old.items) (unhit there hits ++ rows)
-        → All (IndexesRows (unhit known hits ++ numbers.now) (unhit there hits ++ rows))
-        indexes.new.items }
+        → keys ≡ keys_for (keys_of indexes.old.items) (hit there hits)
+        → All (IndexesRows (unhit known hits) (unhit there hits)) indexes.new.items }
+    ensures room { (count more : ℕ) → All (λ ks. count ≡ length ks) keys
+        → All (λ index. count + more ≤ index.keyed.spare) indexes.old.items
+        → All (λ index. more ≤ index.keyed.spare) indexes.new.items }
 {
     let mut i = 0;
-    for keys in new.into_vec() {
-        indexes[i].exchange(old[i].as_slice(), numbers, keys);
+    for keys in keys.into_vec() {
+        indexes[i].take_out(keys);
+        i += 1;
+    }
+}
+
+/// Puts the keys of new rows into each index, each with the number of its row. It takes no memory.
+fn put_in_each<K: Same>(
+    indexes: &mut Vec<UniqueIndex<K>>,
+    numbers: &[usize],
+    keys: Seq<Seq<Key<K>>>,
+)
+    requires each { length keys ≡ length indexes.old.items }
+    requires numbered { All (λ ks. length numbers.now ≡ length ks) keys }
+    requires room { All (λ index. length numbers.now ≤ index.keyed.spare) indexes.old.items }
+    ensures places { keys_of indexes.new.items ≡ keys_of indexes.old.items }
+    ensures rows { (known : List ℕ) (there rows : List (List Atom))
+        → length known ≡ length there
+        → All (IndexesRows known there) indexes.old.items
+        → keys ≡ keys_for (keys_of indexes.old.items) rows
+        → AreDistinct (keys_of indexes.old.items) (there ++ rows)
+        → All (IndexesRows (known ++ numbers.now) (there ++ rows)) indexes.new.items }
+{
+    let mut i = 0;
+    for keys in keys.into_vec() {
+        indexes[i].put_in(numbers, keys);
         i += 1;
     }
 }

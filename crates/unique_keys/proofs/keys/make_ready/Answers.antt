@@ -1,5 +1,4 @@
 -- The keys are new, and there is room for them.
-use Rattle.std.proofs.Common.{◌∙◌}
 use Rattle.std.proofs.lemmas.Result.{err_from_is_err_and}
 use Rattle.unique_keys.proofs.keys.make_ready.Goals as goal
 

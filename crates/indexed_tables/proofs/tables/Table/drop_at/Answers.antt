@@ -21,7 +21,7 @@ pub invariant_of-self-in_err-take_out_at : goal.invariant_of-self-in_err-take_ou
 invariant_of-self-in_err-take_out_at g c =
     let m = c.make_removable.ensures in
     let e = c.in_err-take_out_at.ensures in
-    record { indexed = rw (e.err, m.rows, m.numbers.0) c.self.invariant.indexed; distinct = rw (e.err, m.rows) c.self.invariant.distinct }
+    record { indexed = e.err; distinct = rw (e.keys, m.rows) c.self.invariant.distinct }
 
 pub invariant_of-self-2 : goal.invariant_of-self-2
 invariant_of-self-2 g c =

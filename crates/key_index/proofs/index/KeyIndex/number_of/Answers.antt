@@ -1,12 +1,10 @@
--- The map has the key's number.
-use Rattle.std.proofs.Common.{◌∙◌}
-use Rattle.key_index.proofs.Entries.{looked_seen}
+-- The top says a number, or the levels below do.
+use Rattle.std.proofs.Common.{map, ap, ◌∙◌}
+use Rattle.key_index.specs.Levels.{number_through, number_under}
 use Rattle.key_index.proofs.index.KeyIndex.number_of.Goals as goal
 
-pub returns-in-Some : goal.returns-in-Some
-returns-in-Some g c =
-    rw (← c.self.view_is, ← c.key.view_is) (c.in-Some.ensures.value ∙ looked_seen (λ v. v.items) c.self.inside.numbers.entries c.key.inside.atoms.items)
-
-pub returns-in-None : goal.returns-in-None
-returns-in-None g c =
-    rw (← c.self.view_is, ← c.key.view_is) (c.in-None.ensures.value ∙ looked_seen (λ v. v.items) c.self.inside.numbers.entries c.key.inside.atoms.items)
+pub returns : goal.returns
+returns g c =
+    rw (← c.self.view_is)
+    (c.number_by.ensures (number_under (map (λ level. map (λ e. (e.0.items, e.1)) level.value.entries) c.as_slice.result.now)) c.number_below.ensures
+    ∙ ap (λ ls. number_through (map (λ e. (e.0.items, e.1)) c.self.inside.top.entries) (number_under (map (λ level. map (λ e. (e.0.items, e.1)) level.value.entries) ls)) c.args.key.now) c.as_slice.ensures.value)

@@ -1,9 +1,12 @@
 -- The key has its number, and the others have theirs.
-use Rattle.std.proofs.Common.{Some}
-use Rattle.key_index.proofs.Entries.{one_changed}
+use Rattle.std.proofs.Common.{map, Some}
+use Rattle.key_index.specs.Levels.{number_under}
+use Rattle.key_index.proofs.Entries.{one_said}
 use Rattle.key_index.proofs.index.KeyIndex.put.Goals as goal
 
 pub returns-clause-number : goal.returns-clause-number
 returns-clause-number g c =
     let u = c.in-Ok.ensures.updates in
-    rw (← c.self.view_is, ← c.key.view_is) (one_changed (λ v. v.items) c.self.inside.numbers.entries c.insert.new.self.entries c.key.inside.atoms (Some c.args.number) u.1 u.3)
+    rw (← c.self.view_is, ← c.key.view_is)
+    (one_said (λ v. v.items) c.self.inside.top.entries c.insert.new.self.entries c.key.inside.atoms u.3 (Some c.args.number) u.1
+    (number_under (map (λ l. map (λ e. (e.0.items, e.1)) l.value.entries) c.self.inside.below.items)))
