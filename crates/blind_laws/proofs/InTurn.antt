@@ -1,5 +1,5 @@
 -- Statements that are executed one after another over worlds that correspond.
-use Rattle.std.proofs.Common.{◌≡◌, List, [], ◌∷◌, ap, sym, subst, ◌∙◌}
+use Rattle.std.proofs.Common.{◌≡◌, List, [], ◌∷◌, refl, ap, sym, subst, ◌∙◌}
 use Rattle.std.specs.List.{AllZip}
 use Rattle.ae_base.specs.Atoms.{Atom}
 use Rattle.ae_base.specs.declared.atoms.AtomOf.TheVariants.{Null, Plain, Sealed}
@@ -10,6 +10,7 @@ use Rattle.engine.specs.Step.{step}
 use Rattle.engine.specs.WellTyped.{IsWellTyped}
 use Rattle.engine.specs.Worlds.{World}
 use Rattle.engine.proofs.Interface.{step_alike}
+use Rattle.blind_laws.proofs.Corresponding.{corresponding_typed}
 use Rattle.blind_laws.specs.Executions.{Execution, executed, any_cell, AreExecutable, ExecutionsCorrespond}
 use Rattle.blind_laws.specs.Laws.{AreAlike}
 use Rattle.blind_laws.specs.Renaming.{AreCells, PairsCells}
@@ -21,14 +22,14 @@ module _ (R : Pairing) (r : IsOneToOne R) (within : ArePairsWithin R) (keeps : S
       subst (OutcomesCorrespond R (executed world e)) (sym same) (step_alike R r within world other e.bound e.encs e.params f.params typed.keys corr m.params h.0.bound h.0.typed)
 
   pub steps_alike : (world other : World) (es fs : List Execution) → IsWellTyped any_cell world → WorldsCorrespond R world other → AreExecutable world es → AllZip (ExecutionsCorrespond R) es fs → AreAlike R world other es fs
-  steps_alike world other [] [] typed corr h m = record { answers = tt; worlds = corr }
+  steps_alike world other [] [] typed corr h m = record { answers = tt; worlds = corr; typed = typed; other_typed = corresponding_typed R r within any_cell (λ bytes. refl) world other typed corr }
   steps_alike world other [] (f ∷ fs) typed corr h m = absurd m
   steps_alike world other (e ∷ es) [] typed corr h m = absurd m
   steps_alike world other (e ∷ es) (f ∷ fs) typed corr h m =
       let kept = keeps any_cell world e.bound e.encs e.params typed h.0.bound h.0.typed h.0.values in
       let first = one_alike world other e f typed corr (h.0, tt) m.0 in
       let rest = steps_alike (executed world e).world (executed other f).world es fs kept.0 first.worlds h.1 m.1 in
-      record { answers = (first.answers, rest.answers); worlds = rest.worlds }
+      record { answers = (first.answers, rest.answers); worlds = rest.worlds; typed = rest.typed; other_typed = rest.other_typed }
 
 -- ---- cells are within each class
 

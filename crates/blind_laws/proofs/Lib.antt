@@ -1,1 +1,2 @@
+mod Corresponding
 mod InTurn

@@ -9,10 +9,12 @@ use Rattle.engine.specs.Worlds.{World}
 use Rattle.blind_laws.specs.Executions.{Execution, answers_of, world_after, any_cell, AreExecutable, ExecutionsCorrespond}
 use Rattle.blind_laws.specs.Renaming.{IsRenaming}
 
--- two lists of statements have answers that correspond, fault for fault, and lead to worlds that correspond
+-- two lists of statements have answers that correspond, fault for fault, and lead to worlds that correspond, both well typed
 pub record AreAlike (R : Class → Atom → Atom → Type 0) (world other : World) (es fs : List Execution) : Type 0 where
   pub answers : AllZip (BothAnswer (AnswersCorrespond R)) (answers_of world es) (answers_of other fs)
   pub worlds : WorldsCorrespond R (world_after world es) (world_after other fs)
+  pub typed : IsWellTyped any_cell (world_after world es)
+  pub other_typed : IsWellTyped any_cell (world_after other fs)
 
 -- over any pairing that is one-to-one in deterministic classes, of values within their types: so it is from worlds that
 -- correspond, the first one well typed, over values that correspond

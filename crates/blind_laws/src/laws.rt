@@ -5,8 +5,8 @@ ghost use Rattle.blind_laws.specs.Laws.{StepsAlike, RenamedStepsAlike};
 use engine::laws::step_keeps_worlds;
 
 /// Two lists of the same statements, over worlds and values that correspond, have answers and
-/// faults that correspond, one by one, and lead to worlds that correspond: so it is under every
-/// pairing that is one-to-one in deterministic classes.
+/// faults that correspond, one by one, and lead to worlds that correspond, both well typed: so it
+/// is under every pairing that is one-to-one in deterministic classes.
 pub fn steps_alike()
     ensures { StepsAlike }
 {

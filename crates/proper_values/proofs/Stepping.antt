@@ -29,13 +29,13 @@ use Rattle.operators.specs.Events.{Event, scan_of, join_of}
 use Rattle.operators.specs.Found.{Found, keys_of}
 use Rattle.operators.specs.Groups.{Group, grouped_row, grouping_of}
 use Rattle.operators.proofs.Interface.{AllRows, came, came_before, each_all, rows_filtered, rows_joined, rows_scanned}
-use Rattle.query_results.specs.Results.{items_of, found_of, results, where_true, groups_of, is_grouped, found_of_groups, all_found, answer_rows}
+use Rattle.query_results.specs.Results.{items_of, found_of, results, groups_of, is_grouped, found_of_groups, all_found, answer_rows}
 use Rattle.query_results.proofs.Interface.{all_answered, results_all}
 use Rattle.row_changes.specs.Rows.{values_into, completed, new_row, new_rows, replaced}
 use Rattle.row_changes.specs.Changes.{Tested, selects, set_values, updated_row, row_to_update, tested_row, row_to_delete}
 use Rattle.unique_keys.specs.Keys.{first_twins, unless_twins}
 use Rattle.engine.specs.Columns.{site_at, ty_at, shown_by, shown_of, result_column}
-use Rattle.engine.specs.Queries.{joined_all, found_in}
+use Rattle.engine.specs.Queries.{walked, where_true, found_in}
 use Rattle.engine.specs.Queries as queries
 use Rattle.engine.specs.Step as step
 use Rattle.engine.specs.Step.{Done, outcome, columns_of, uniques_of, rows_to_insert, rows_to_update, rows_to_delete, done_by}
@@ -209,7 +209,7 @@ module _ (world : World) (w : All AreProperRows world.contents) (params : List A
   filter_proper None es h = h
   filter_proper (Some condition) es h = rows_filtered IsProperRow params condition es h
 
-  joins_proper : (joins : List BoundJoin) (es : List Event) → AllRows IsProperRow es → AllRows IsProperRow (joined_all world params joins es)
+  joins_proper : (joins : List BoundJoin) (es : List Event) → AllRows IsProperRow es → AllRows IsProperRow (walked (rows_of world) params joins es)
   joins_proper [] es h = h
   joins_proper (join ∷ joins) es h =
       joins_proper joins (join_of params join.on (rows_of world join.source.table) es)
@@ -218,7 +218,7 @@ module _ (world : World) (w : All AreProperRows world.contents) (params : List A
   events_proper : (q : BoundQuery) → AllRows IsProperRow (queries.events_of world q params)
   events_proper q =
       let es = scan_of (rows_of world q.from.table) in
-      filter_proper q.filter (joined_all world params q.joins es) (joins_proper q.joins es (rows_scanned IsProperRow (rows_of world q.from.table) (rows_proper q.from.table)))
+      filter_proper q.filter (walked (rows_of world) params q.joins es) (joins_proper q.joins es (rows_scanned IsProperRow (rows_of world q.from.table) (rows_proper q.from.table)))
 
   module _ (q : BoundQuery) (items : All (λ (item : BoundItem). IsProperItem item.value) q.items) where
     one_found : (count : ℕ) (row : List Atom) (found : Found) → count ≤ 1000000 → IsProperRow row → found_of q params count row ≡ Ok found → IsProperRow found.shown

@@ -13,6 +13,7 @@ use Rattle.statement_analysis.specs.Sorts.{sort_of}
 use Rattle.statement_analysis.specs.declared.sorts.Sort.{Sort}
 use Rattle.statement_analysis.specs.declared.sorts.Sort.TheVariants.{Reads, Changes, Defines, Begins, Commits, RollsBack, NoStatement}
 use Rattle.server_core.specs.Serve.{State, serve, serve_all}
+pub use Rattle.server_core.specs.Serve.{session_of}
 
 -- accepted as a change, as a definition, or as BEGIN, COMMIT or ROLLBACK
 abbrev pub is_done : List Reply → Bool
@@ -68,10 +69,6 @@ held_at held session = slice_index_or held (session - 1) []
 
 abbrev pub with_held : {A : Type 0} → List (List A) → ℕ → List A → List (List A)
 with_held held session requests = slice_set held (session - 1) requests
-
-abbrev pub session_of : Request → ℕ
-session_of (Describe session text declarations) = session
-session_of (Execute session version text params) = session
 
 -- the records of the requests that are served from that state, of whose transactions so much is held
 abbrev pub recorded : {A : Type 0} → (A → Request) → State → List (List A) → List A → List (List A)

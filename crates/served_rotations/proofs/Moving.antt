@@ -42,7 +42,7 @@ use Rattle.transactions.specs.Stores.{Ask, Begins, Commits, Executes, Transacted
 use Rattle.wire_messages.specs.Messages.{Description}
 use Rattle.wire_messages.specs.declared.params.SentParam.{SentParam}
 use Rattle.wire_messages.specs.declared.requests.Request.{Request}
-use Rattle.served_rotations.specs.KeysFit.{Fits}
+use Rattle.plain_meaning.specs.Alike.{Fits}
 use Rattle.served_rotations.specs.Moved.{AreMoved}
 use Rattle.server_core.specs.Beside.{Beside, first_of, rest_of}
 use Rattle.served_rotations.specs.Beside.{all_asked}

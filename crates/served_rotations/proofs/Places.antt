@@ -50,7 +50,7 @@ use Rattle.value_norm.specs.Norm.{norm}
 use Rattle.wire_messages.specs.declared.columns.SentColumn.{SentColumn}
 use Rattle.wire_messages.specs.declared.params.SentParam.{SentParam}
 use Rattle.rotation_laws.specs.Laws.{AreColumnsOf, IsPut, declared, shown_column}
-use Rattle.served_rotations.specs.KeysFit.{Fits}
+use Rattle.plain_meaning.specs.Alike.{Fits}
 use Rattle.served_rotations.specs.Moved.{AreMoved, MeansBy, Opens, Seals}
 use Rattle.served_rotations.proofs.Batches.{AreKeysOf, AreRead, AreSent, IsKeyOf, IsSent}
 use Rattle.served_rotations.proofs.Deeds.{AreUsed, IsDone, all_used, described_means, insert_uses, params_long, prepared_means, same_ok, with_some}

@@ -25,7 +25,7 @@ use Rattle.statement_analysis.specs.Describing.{meta_list}
 use Rattle.ae_base.specs.Results.{◌>>=◌}
 use Rattle.conversation.specs.Keys.{meta_of, open_key, open_trusted, seen, is_trusted, with_values, trusted_meta}
 use Rattle.conversation.specs.declared.faults.DriverFault.{DriverFault}
-use Rattle.served_rotations.specs.KeysFit.{Fits, GivesOnly}
+use Rattle.plain_meaning.specs.Alike.{Fits, GivesOnly}
 
 -- what is told of a key opens to the keys of its number's column key, where it opens, whatever paths are trusted
 abbrev pub OpenAs : KeyMap → (ℕ → List ℕ) → List KeyMeta → Type 0

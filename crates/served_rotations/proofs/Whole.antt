@@ -61,7 +61,7 @@ use Rattle.wire_messages.specs.declared.params.SentParam.{SentParam}
 use Rattle.wire_messages.specs.declared.requests.Request.{Request}
 use Rattle.server_core.specs.Beside.{first_of}
 use Rattle.served_rotations.specs.Beside.{rotated_beside, rotation}
-use Rattle.served_rotations.specs.KeysFit.{Fits}
+use Rattle.plain_meaning.specs.Alike.{Fits}
 use Rattle.served_rotations.specs.Moved.{AreMoved}
 use Rattle.served_rotations.specs.Laws.{FinishedIsWhole, behind}
 use Rattle.served_rotations.proofs.Batches.{AreKeysOf, AreRead, AreSent, OnAnswer, Walk, next, now}

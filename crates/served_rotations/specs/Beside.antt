@@ -2,16 +2,12 @@
 use Rattle.std.specs.Prelude.{ℕ, List, [], ◌∷◌, ◌++◌}
 use Rattle.ae_edge.specs.Vaults.{KeyMap}
 use Rattle.wire_messages.specs.declared.requests.Request.{Request}
-use Rattle.wire_messages.specs.declared.requests.Request.TheVariants.{Describe, Execute}
 use Rattle.conversation.specs.Drive.{Passed, over}
 use Rattle.conversation.specs.Talk.{Talk, Ends, Prints}
 use Rattle.conversation.specs.declared.sessions.Session.TheVariants.{Idle}
 use Rattle.column_rotate.specs.Rotating.{rotating}
 use Rattle.server_core.specs.Beside.{Beside, first_of, rest_of, serve_beside}
-
-abbrev pub session_of : Request → ℕ
-session_of (Describe session text declarations) = session
-session_of (Execute session version text params) = session
+pub use Rattle.server_core.specs.Serve.{session_of}
 
 -- all requests in the order in which they were served
 abbrev pub all_asked : List (List Request) → List Request → List Request

@@ -16,7 +16,7 @@ use Rattle.server_core.specs.Serve.{State, empty_state, serve_all}
 use Rattle.proper_values.specs.Proper.{IsIdentifier}
 use Rattle.server_core.specs.Beside.{Beside}
 use Rattle.served_rotations.specs.Beside.{all_asked, others_asked, rotated_beside, session_of}
-use Rattle.served_rotations.specs.KeysFit.{Fits}
+use Rattle.plain_meaning.specs.Alike.{Fits}
 use Rattle.served_rotations.specs.Moved.{AreMoved}
 
 -- the state of a server behind some requests

@@ -1,4 +1,3 @@
 pub mod Beside
-pub mod KeysFit
 pub mod Laws
 pub mod Moved

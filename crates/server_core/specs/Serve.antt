@@ -89,6 +89,11 @@ abbrev pub serve : State → Request → Served State
 serve state (Describe session text declarations) = described state (describe (catalog_of state session) text declarations)
 serve state (Execute session version text params) = executed state session (prepared (catalog_of state session) version text params)
 
+-- the session of a request
+abbrev pub session_of : Request → ℕ
+session_of (Describe session text declarations) = session
+session_of (Execute session version text params) = session
+
 -- the requests one after another
 abbrev pub serve_all : State → List Request → List Reply × State
 serve_all state [] = ([], state)

@@ -13,12 +13,12 @@ use Rattle.sql_tree.specs.Bound.{BoundInsert, BoundUpdate, BoundDelete, BoundJoi
 use Rattle.sql_tree.specs.Bound as bound
 use Rattle.catalog.specs.Catalogs.{Catalog}
 use Rattle.operators.specs.Events.{Event, scan_of, join_of}
-use Rattle.query_results.specs.Results.{where_true, all_found, answer_of}
+use Rattle.query_results.specs.Results.{all_found, answer_of}
 use Rattle.unique_keys.specs.Keys.{first_twins, unless_twins}
 use Rattle.row_changes.specs.Rows.{new_rows}
 use Rattle.row_changes.specs.Changes.{Tested, row_to_update, row_to_delete}
 use Rattle.engine.specs.Columns.{result_column}
-use Rattle.engine.specs.Queries.{joined_all, found_in}
+use Rattle.engine.specs.Queries.{walked, where_true, found_in}
 use Rattle.engine.specs.Step as step
 use Rattle.engine.specs.Step.{Answer, Done, outcome, columns_of, uniques_of, rows_to_insert, rows_to_update, rows_to_delete, done_by}
 use Rattle.engine.specs.Worlds.{World, place_of, rows_of, with_rows}
@@ -74,18 +74,18 @@ module _ (world : World) (more : List (List (List Atom))) where
       (λ tested. (refl, (map (λ (t : Tested). t.row) (filter (λ (t : Tested). not t.hit) tested), refl, refl))))
 
   joins_same : (params : List Atom) (joins : List BoundJoin) (es : List Event) → All Same (map (λ (s : BoundSource). s.table) (map (λ (j : BoundJoin). j.source) joins))
-      → joined_all other params joins es ≡ joined_all world params joins es
+      → walked (rows_of other) params joins es ≡ walked (rows_of world) params joins es
   joins_same params [] es h = refl
   joins_same params (join ∷ joins) es h =
       let rest = map (λ (s : BoundSource). s.table) (map (λ (j : BoundJoin). j.source) joins) in
-      ap (λ rows. joined_all other params joins (join_of params join.on rows es)) (All-head Same join.source.table rest h)
+      ap (λ rows. walked (rows_of other) params joins (join_of params join.on rows es)) (All-head Same join.source.table rest h)
       ∙ joins_same params joins (join_of params join.on (rows_of world join.source.table) es) (All-tail Same join.source.table rest h)
 
   found_same : (q : BoundQuery) (params : List Atom) → All Same (tables_of (bound.Select q)) → found_in other q params ≡ found_in world q params
   found_same q params h =
       let rest = map (λ (s : BoundSource). s.table) (map (λ (j : BoundJoin). j.source) q.joins) in
       let first = All-head Same q.from.table rest h in
-      let walk = ap (λ rows. joined_all other params q.joins (scan_of rows)) first ∙ joins_same params q.joins (scan_of (rows_of world q.from.table)) (All-tail Same q.from.table rest h) in
+      let walk = ap (λ rows. walked (rows_of other) params q.joins (scan_of rows)) first ∙ joins_same params q.joins (scan_of (rows_of world q.from.table)) (All-tail Same q.from.table rest h) in
       ap (λ es. answer_of q (all_found q params (where_true params q.filter es))) walk
 
   select_both : (b : Bound) (encs : List Enc) (q : BoundQuery) (params : List Atom) → All Same (tables_of (bound.Select q))
