@@ -198,7 +198,7 @@ fn check_over<W: Sink>(alloc: Global, server: &mut Server, steps: &[Step], out: 
 }
 
 /// Checks the batches of steps over a server of their own.
-pub fn check_steps<W: Sink>(alloc: Global, steps: &[Step], out: &mut W) -> Checked
+pub(crate) fn check_steps<W: Sink>(alloc: Global, steps: &[Step], out: &mut W) -> Checked
     requires { All IsWithinLimits steps.now }
     ensures content { ChecksTo result steps.now (W.held out.old) (W.held out.new) }
     ensures write { result ≡ Checked.WriteFault → Rose (W.faults out.old) (W.faults out.new) }

@@ -49,7 +49,7 @@ impl Eq for Site {
 }
 
 /// The site of an operand.
-pub fn site_of(operand: &BoundOperand) -> Site
+pub(crate) fn site_of(operand: &BoundOperand) -> Site
     ensures { result ≡ spec.site_of (operand_of operand.now) }
 {
     match operand {

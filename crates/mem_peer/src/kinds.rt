@@ -12,7 +12,7 @@ use wire_messages::requests::Request;
 /// to an Execute the end of a definition or of a change, or columns, rows of as many atoms and the
 /// end of an answer; to each of them a refusal instead.
 #[tactic(auto, using(crate::proofs::ReplyKinds::suits_exactly))]
-pub fn suits(request: &Request<'_>, replies: &[Reply<'_>]) -> bool
+pub(crate) fn suits(request: &Request<'_>, replies: &[Reply<'_>]) -> bool
     ensures { IsTrue result ↔ HasKinds request.now replies.now }
 {
     has_kinds(request, replies)

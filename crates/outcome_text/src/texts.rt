@@ -47,7 +47,7 @@ pub fn text_of(alloc: Global, outcome: &Outcome) -> Result<String, AllocError>
 }
 
 /// The printed lines of a listing: its titles and its rows.
-pub fn listing_text(alloc: Global, listing: &Listing) -> Result<String, AllocError>
+pub(crate) fn listing_text(alloc: Global, listing: &Listing) -> Result<String, AllocError>
     ensures { IfOk result (λ text. string_bytes text ≡ printing.printed_listing listing.now) }
 {
     let mut text = String::new(alloc);

@@ -3,6 +3,7 @@
 ghost use Rattle.std.specs.Prelude.{◌≡◌, ◌<◌, ◌≤◌, ◌+◌, [], ◌∷◌, length, map};
 ghost use Rattle.std.specs.List.{All};
 ghost use Rattle.std.specs.Option.{option_copied};
+ghost use Rattle.ae_base.specs.Limits.{most_table_rows};
 ghost use Rattle.ae_base.specs.Results.{Answers, AnswersAs};
 ghost use Rattle.sql_tree.specs.Operands.{operand_of};
 ghost use Rattle.sql_tree.specs.Bound.{row_of};
@@ -33,7 +34,7 @@ pub fn new_rows<K: Same>(
     requires named { All (λ place. place < length columns.now) named.now }
     requires rows { All (λ row. (length row.values ≡ length named.now)
         × All (IsPlaced 0 (length params.now)) row.values) (map row_of bound.now) }
-    requires most { count ≤ 1000000 }
+    requires most { count ≤ most_table_rows }
     ensures { Answers result
         (rows.new_rows columns.now named.now params.now count (map row_of bound.now)) }
 {

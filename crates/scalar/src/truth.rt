@@ -20,7 +20,7 @@ impl Truth {
     }
 
     /// The truth of NOT.
-    pub fn negation(self) -> Truth
+    pub(crate) fn negation(self) -> Truth
         ensures { result ≡ negation self }
     {
         match self {
@@ -53,7 +53,7 @@ impl Truth {
     }
 
     /// The truth as it is, or its NOT.
-    pub fn negated_if(self, negated: bool) -> Truth
+    pub(crate) fn negated_if(self, negated: bool) -> Truth
         ensures { result ≡ if_negated negated self }
     {
         if negated { self.negation() } else { self }

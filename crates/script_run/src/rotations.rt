@@ -91,7 +91,7 @@ fn next_of(
 }
 
 /// Runs the rotation of a table quietly: how many rows were moved, or why nothing was changed.
-pub fn run_rotation<A: Around>(
+pub(crate) fn run_rotation<A: Around>(
     alloc: Global,
     env: &mut A,
     driver: &mut Driver,

@@ -289,7 +289,7 @@ impl Cursor {
     }
 
     /// An identifier at its place.
-    pub fn placed_name(&mut self) -> Result<NameAt, Refusal>
+    pub(crate) fn placed_name(&mut self) -> Result<NameAt, Refusal>
         ensures { Gives (λ name. name) result self.new (parse.placed_name self.old) }
     {
         match self.next() {

@@ -51,7 +51,7 @@ fn declaration(alloc: Global, param: &SentParam<'_>) -> Result<ParamDecl, AllocE
 
 /// The parameters that a statement uses, in the order of their declarations, each encrypted as the
 /// typing has it.
-pub fn used_params(
+pub(crate) fn used_params(
     alloc: Global,
     typed: &Typed,
     declarations: &[ParamDecl],

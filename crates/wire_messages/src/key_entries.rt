@@ -97,7 +97,7 @@ pub fn entry_count(keys: &[KeyPart<'_>]) -> usize
 
 /// Whether some keys have at most 128 entries.
 #[tactic(auto, using(crate::proofs::Gathering::entries_within))]
-pub fn are_few(keys: &[KeyPart<'_>]) -> bool
+pub(crate) fn are_few(keys: &[KeyPart<'_>]) -> bool
     ensures { IsTrue result ↔ (length (entries_of keys.now) ≤ 128) }
 {
     keys.len() <= MOST_ENTRIES && entry_count(keys) <= MOST_ENTRIES

@@ -40,7 +40,7 @@ impl<'a> Encrypted for SentColumn<'a> {
 
 /// Whether the keys are those of the items, in the order of their first use, and have at most 128
 /// entries.
-pub fn are_the_keys_of<T: Encrypted>(items: &[T], keys: &[KeyPart<'_>]) -> bool
+pub(crate) fn are_the_keys_of<T: Encrypted>(items: &[T], keys: &[KeyPart<'_>]) -> bool
     ensures { IsTrue result ↔ AreTheKeysOf (map T.enc_of items.now) keys.now }
 {
     if !are_few(keys) {

@@ -169,7 +169,7 @@ impl<'a, 'b> ToOwn<UsedParam<'b>> for UsedParam<'a> {
 }
 
 /// A copy of parts with names that borrows nothing.
-pub fn own_params<P: Named + ToOwn<T>, T: Named>(
+pub(crate) fn own_params<P: Named + ToOwn<T>, T: Named>(
     alloc: Global,
     params: &ParamList<P>,
 ) -> Result<ParamList<T>, AllocError>

@@ -89,7 +89,7 @@ impl<'a> ValuePart<'a> {
     }
 
     /// An own copy.
-    pub fn to_value(&self, alloc: Global) -> Result<KeyValue, AllocError>
+    pub(crate) fn to_value(&self, alloc: Global) -> Result<KeyValue, AllocError>
         ensures { IfOk result (λ copy. copy ≡ self.now) }
     {
         let path = self.path.to_ruled(alloc)?;

@@ -25,19 +25,19 @@ pub fn session(number: u16) -> Option<SessionId>
     SessionId::from_number(number)
 }
 
-pub fn key_id(number: u32) -> Option<KeyId>
+pub(crate) fn key_id(number: u32) -> Option<KeyId>
     ensures { result ≡ read.when read.is_nonzero number }
 {
     KeyId::from_number(number)
 }
 
-pub fn text_size(units: u16) -> Option<TextSize>
+pub(crate) fn text_size(units: u16) -> Option<TextSize>
     ensures { result ≡ read.when (read.is_within 1 4000) units }
 {
     TextSize::from_number(units)
 }
 
-pub fn binary_size(bytes: u16) -> Option<BinarySize>
+pub(crate) fn binary_size(bytes: u16) -> Option<BinarySize>
     ensures { result ≡ read.when (read.is_within 1 8000) bytes }
 {
     BinarySize::from_number(bytes)
@@ -94,19 +94,19 @@ pub fn statement(text: &str) -> Option<StatementPart<'_>>
     StatementPart::from_part(TxtPart::lent(text))
 }
 
-pub fn text_atom(text: &str) -> Option<AtomPart<'_>>
+pub(crate) fn text_atom(text: &str) -> Option<AtomPart<'_>>
     ensures { result ≡ read.made_when (read.is_text_within 12000) read.text (chars text.now) }
 {
     AtomPart::text(TxtPart::lent(text))
 }
 
-pub fn binary_atom(bytes: &[u8]) -> Option<AtomPart<'_>>
+pub(crate) fn binary_atom(bytes: &[u8]) -> Option<AtomPart<'_>>
     ensures { result ≡ read.made_when (read.is_blob_within 8000) read.binary bytes.now }
 {
     AtomPart::binary(BlobPart::lent(bytes))
 }
 
-pub fn sealed_atom(bytes: &[u8]) -> Option<AtomPart<'_>>
+pub(crate) fn sealed_atom(bytes: &[u8]) -> Option<AtomPart<'_>>
     ensures { result ≡ read.made_when (read.is_blob_within 16384) read.sealed bytes.now }
 {
     AtomPart::sealed(CellPart::lent(bytes))

@@ -12,7 +12,7 @@ use hex::FromHex;
 pub const MOST_CHARACTERS: usize = 64;
 
 /// Whether a path names a file: it has 1 to 64 ASCII letters, digits, `_` and `-`.
-pub fn is_key_path(path: &Txt) -> bool
+pub(crate) fn is_key_path(path: &Txt) -> bool
     ensures { IsTrue result ↔ IsKeyPath path.now }
 {
     let count = path.char_count();
@@ -28,7 +28,7 @@ fn has_path_characters(path: &str) -> bool
 
 /// The key that a file holds. There is one exactly where its content is 64 hexadecimal digits of
 /// either case, and at most one LF after them.
-pub fn key_of_file(content: &[u8]) -> Option<[u8; 32]>
+pub(crate) fn key_of_file(content: &[u8]) -> Option<[u8; 32]>
     ensures { IsKeyOf result content.now }
 {
     <[u8; 32] as FromHex>::from_hex(without_line_end(content)).ok()
