@@ -1,6 +1,7 @@
 #!/bin/sh
-# Runs every script of this folder and prints one table: what was measured, the seconds at a size and at four times that size,
-# their quotient, and the quotient drawn, where ten marks are linear growth. Ends with status 1 if one of them fails.
+# Runs every script of this folder and prints one table: what was measured, the seconds at a size and at four times
+# that size, their quotient, and the quotient drawn, where ten marks are linear growth. Ends with status 1 if one of
+# them fails.
 # Usage: bench/all.sh, on a machine with nothing else to do. The head of each script says what it measures.
 set -u
 bench=$(CDPATH="" cd -- "$(dirname -- "$0")" && pwd)

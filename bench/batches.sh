@@ -1,6 +1,6 @@
 #!/bin/sh
-# A script of N batches and one of four times as many: INSERTs of two parameters, then 20 queries that visit every row. A step costs
-# what its text and the rows that it visits cost, whatever came before it.
+# A script of N batches and one of four times as many: INSERTs of two parameters, then 20 queries that visit every
+# row. A step costs what its text and the rows that it visits cost, whatever came before it.
 # Usage: bench/batches.sh [N]
 . "$(dirname "$0")/lib.sh"
 n=${1:-5000}

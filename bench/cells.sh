@@ -1,10 +1,10 @@
 #!/bin/sh
-# Times the opening of cells by `ae drive`, over replies that were recorded, and the sealing by `ae run`: cells of an INT, of 200
-# characters and of 8,000 bytes. Beside them the same work by Python's `cryptography`, and what OpenSSL takes for the cipher and
-# the HMAC alone: with the processor's AES instructions, without them, by tables, and by tables with an HMAC that uses no vector
-# instructions either. Where `perf` can count, a line says what the cipher and the HMAC alone take in `ae drive`. All in processor
-# time, in one table. All is done five times in turn, and each figure is the least. Then the cipher and HMAC for 8,000 bytes are
-# compared in forty short rounds.
+# Times the opening of cells by `ae drive`, over replies that were recorded, and the sealing by `ae run`: cells of an
+# INT, of 200 characters and of 8,000 bytes. Beside them the same work by Python's `cryptography`, and what OpenSSL
+# takes for the cipher and the HMAC alone: with the processor's AES instructions, without them, by tables, and by
+# tables with an HMAC that uses no vector instructions either. Where `perf` can count, a line says what the cipher and
+# the HMAC alone take in `ae drive`. All in processor time, in one table. All is done five times in turn, and each
+# figure is the least. Then the cipher and HMAC for 8,000 bytes are compared in forty short rounds.
 # Usage: bench/cells.sh [N], where the program is built (./ae). N is a measure of how long it takes.
 #        bench/cells.sh in-turn [ROUNDS], for that comparison alone.
 . "$(dirname "$0")/lib.sh"
@@ -45,8 +45,8 @@ note() {
     mv noted "least.$1"
 }
 
-# line WHO NAME LESS CELLS BYTES: prints one line of the table: what took the seconds under a name, less those under another, if one
-# is given; how many cells, and the bytes of one. It tells where nothing was noted.
+# line WHO NAME LESS CELLS BYTES: prints one line of the table: what took the seconds under a name, less those under
+# another, if one is given; how many cells, and the bytes of one. It tells where nothing was noted.
 line() {
     if [ ! -f "least.$2" ]; then
         printf '    %-44s %10s\n' "$1" "$skipped"
@@ -64,8 +64,9 @@ speed() {
     openssl speed -seconds 1 "$@" 2>/dev/null | awk 'END { if (sub(/k$/, "", $NF)) print $NF }'
 }
 
-# openssl_round NAME AES HMAC BYTES: notes the seconds of a cell with so many bytes of ciphertext, without the processor's
-# instructions that the mask AES takes from the cipher and the mask HMAC from the HMAC. Each subshell sets its own mask.
+# openssl_round NAME AES HMAC BYTES: notes the seconds of a cell with so many bytes of ciphertext, without the
+# processor's instructions that the mask AES takes from the cipher and the mask HMAC from the HMAC. Each subshell sets
+# its own mask.
 # shellcheck disable=SC2030,SC2031
 openssl_round() {
     aes=$(
@@ -81,9 +82,9 @@ openssl_round() {
     fi
 }
 
-# The processor seconds of `ae drive` in the crates of the cipher, the hash and the cells, by 4,000 samples a second; nothing where
-# there are no samples. The compiler puts the decryption of eight blocks into a `replied` of the driver, which does little else:
-# it counts whole.
+# The processor seconds of `ae drive` in the crates of the cipher, the hash and the cells, by 4,000 samples a second;
+# nothing where there are no samples. The compiler puts the decryption of eight blocks into a `replied` of the driver,
+# which does little else: it counts whole.
 cipher_seconds() {
     perf record -q -e cpu-clock -c 250000 -o counted "$top/ae" drive <script >/dev/null 2>&1 || return 0
     perf report -i counted --stdio -q --no-children -F sample,symbol 2>/dev/null |
@@ -150,9 +151,9 @@ kind() {
     rm -r once often least.*
 }
 
-# in_turn ROUNDS: the cipher and HMAC of `ae drive` and those of OpenSSL's library in turn, by tables and without vectors, over 4,000
-# cells of 8,000 bytes that are opened (and 20 that `ae` seals, which count too). The rounds are short, since a processor is slower
-# while another one that shares its core is busy.
+# in_turn ROUNDS: the cipher and HMAC of `ae drive` and those of OpenSSL's library in turn, by tables and without
+# vectors, over 4,000 cells of 8,000 bytes that are opened (and 20 that `ae` seals, which count too). The rounds are
+# short, since a processor is slower while another one that shares its core is busy.
 in_turn() {
     recorded short bytes 20 200
     for _ in $(seq "$1"); do

@@ -1,7 +1,8 @@
 #!/bin/sh
-# Runs each example and compares the text with the one beside it. Then drives it again over the recorded replies, and serves the
-# recorded requests: text, status and replies are the same, also where the server writes the replies into a pipe. With a byte too
-# few or too many, driving ends with status 11. An example with replies of its own is left out: tools/compare_examples.sh drives it.
+# Runs each example and compares the text with the one beside it. Then drives it again over the recorded replies, and
+# serves the recorded requests: text, status and replies are the same, also where the server writes the replies into a
+# pipe. With a byte too few or too many, driving ends with status 11. An example with replies of its own is left out:
+# tools/compare_examples.sh drives it.
 # Usage: bench/drive.sh, with python3 installed
 . "$(dirname "$0")/lib.sh"
 

@@ -1,7 +1,8 @@
 #!/bin/sh
-# N rows with a protected value inserted and read back through both ends over frames of version 2, and four times as many: processor
-# seconds, and the most memory. Then N / 2.5 rows in both versions: the bytes of the frames and processor seconds, beside sqlite3 in
-# memory with the same cells. Fails if the text of the two versions differs, or more than 1 GiB of memory is taken.
+# N rows with a protected value inserted and read back through both ends over frames of version 2, and four times as
+# many: processor seconds, and the most memory. Then N / 2.5 rows in both versions: the bytes of the frames and
+# processor seconds, beside sqlite3 in memory with the same cells. Fails if the text of the two versions differs, or
+# more than 1 GiB of memory is taken.
 # Usage: bench/frames.sh [N [PROGRAM]], N at most 250000, with python3 and its sqlite3
 . "$(dirname "$0")/lib.sh"
 n=${1:-250000}

@@ -1,6 +1,7 @@
 #!/bin/sh
-# Each limit reached, and passed by one: the seconds, and the most memory that the program had, which may not be more than a bound. The rows
-# say what was passed; each ends with the status and the last line that the limit asks for, else the script fails.
+# Each limit reached, and passed by one: the seconds, and the most memory that the program had, which may not be more
+# than a bound. The rows say what was passed; each ends with the status and the last line that the limit asks for,
+# else the script fails.
 # Usage: bench/limits.sh [PROGRAM], with python3 installed
 . "$(dirname "$0")/lib.sh"
 program=${1:-$top/built/ae}

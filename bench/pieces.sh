@@ -1,6 +1,7 @@
 #!/bin/sh
-# A feed of frames in pieces of one byte: one frame with a long body, and many short frames; each once, and four times as long. A body
-# that arrives in many pieces is read once. This runs the sources of the crates UNPROVED, by a trial run of the toolchain's `rt`.
+# A feed of frames in pieces of one byte: one frame with a long body, and many short frames; each once, and four times
+# as long. A body that arrives in many pieces is read once. This runs the sources of the crates UNPROVED, by a trial
+# run of the toolchain's `rt`.
 # Usage: bench/pieces.sh
 . "$(dirname "$0")/lib.sh"
 

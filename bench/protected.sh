@@ -1,6 +1,7 @@
 #!/bin/sh
-# N steps over protected columns, and four times as many: INSERTs of a deterministic and a randomized value, and a grouped read after
-# each quarter of them. Then the same work in sqlite3, with cells sealed by Python's `cryptography`, if both are installed.
+# N steps over protected columns, and four times as many: INSERTs of a deterministic and a randomized value, and a
+# grouped read after each quarter of them. Then the same work in sqlite3, with cells sealed by Python's
+# `cryptography`, if both are installed.
 # Usage: bench/protected.sh [N]
 . "$(dirname "$0")/lib.sh"
 n=${1:-5000}

@@ -1,6 +1,7 @@
 #!/bin/sh
-# Refused statements cost what they say and read, and leave nothing behind: N INSERTs of a row that is new by the first unique key and
-# not by the second, and four times as many; then 200 DELETEs that hit none of N / 4 rows with a unique key, and none of N.
+# Refused statements cost what they say and read, and leave nothing behind: N INSERTs of a row that is new by the
+# first unique key and not by the second, and four times as many; then 200 DELETEs that hit none of N / 4 rows with a
+# unique key, and none of N.
 # Usage: bench/refused.sh [N]
 . "$(dirname "$0")/lib.sh"
 n=${1:-40000}

@@ -1,7 +1,7 @@
 #!/bin/sh
-# A rotation of a table with one protected column to another column key, over N rows and over four times as many, beside the single
-# INSERTs that made the rows. A rotation reads each row, opens its cell, seals it anew and inserts it in a transaction. Fails if it
-# takes more than three times what the INSERTs took, or grows faster than the rows.
+# A rotation of a table with one protected column to another column key, over N rows and over four times as many,
+# beside the single INSERTs that made the rows. A rotation reads each row, opens its cell, seals it anew and inserts
+# it in a transaction. Fails if it takes more than three times what the INSERTs took, or grows faster than the rows.
 # Usage: bench/rotation.sh [N], at most 25000
 . "$(dirname "$0")/lib.sh"
 n=${1:-25000}

@@ -1,6 +1,6 @@
 #!/bin/sh
-# Recorded requests served again, over and over: 50 MB and four times as many, in processor seconds and with the most memory. Then
-# 200 kB that arrive byte by byte. Fails if memory grows by more than a tenth.
+# Recorded requests served again, over and over: 50 MB and four times as many, in processor seconds and with the most
+# memory. Then 200 kB that arrive byte by byte. Fails if memory grows by more than a tenth.
 # Usage: bench/serve.sh [MEGABYTES], with python3 installed
 . "$(dirname "$0")/lib.sh"
 megabytes=${1:-50}

@@ -1,6 +1,6 @@
 #!/bin/sh
-# 4,000 statements of N conditions each, and of four times as many; then 100 statements of 15 kB, and of 60 kB, near the limit of a
-# statement. A statement is read in time linear in its text. Usage: bench/statements.sh [N]
+# 4,000 statements of N conditions each, and of four times as many; then 100 statements of 15 kB, and of 60 kB, near
+# the limit of a statement. A statement is read in time linear in its text. Usage: bench/statements.sh [N]
 . "$(dirname "$0")/lib.sh"
 n=${1:-20}
 

@@ -1,7 +1,7 @@
 #!/bin/sh
-# 64 sessions that each begin a transaction, insert a row and commit, one after another, over a table of N rows, and over one of four
-# times as many. A BEGIN copies no row, and a statement in a transaction costs what it costs outside. Fails if a COMMIT is
-# refused. Then the same statements in sqlite3, over 64 connections, if it is installed.
+# 64 sessions that each begin a transaction, insert a row and commit, one after another, over a table of N rows, and
+# over one of four times as many. A BEGIN copies no row, and a statement in a transaction costs what it costs outside.
+# Fails if a COMMIT is refused. Then the same statements in sqlite3, over 64 connections, if it is installed.
 # Usage: bench/transactions.sh [N], N a multiple of 1000, at most 24000
 . "$(dirname "$0")/lib.sh"
 n=${1:-10000}

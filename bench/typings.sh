@@ -1,6 +1,7 @@
 #!/bin/sh
-# The encryption typing of statements with as many rules as a statement may have, 8,192: parameters in one chain, the last of
-# which is compared with a protected column; and the same with a clash after all others. Each takes less than a second.
+# The encryption typing of statements with as many rules as a statement may have, 8,192: parameters in one chain, the
+# last of which is compared with a protected column; and the same with a clash after all others. Each takes less than
+# a second.
 # Usage: bench/typings.sh
 . "$(dirname "$0")/lib.sh"
 

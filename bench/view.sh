@@ -1,6 +1,7 @@
 #!/bin/sh
-# A recording of N MB listed, and one of four times as many, with the same thousand different cells: processor seconds, and the most
-# memory. Fails if that is above 64 MB, or if the text doesn't end with the counts of the recording.
+# A recording of N MB listed, and one of four times as many, with the same thousand different cells: processor
+# seconds, and the most memory. Fails if that is above 64 MB, or if the text doesn't end with the counts of the
+# recording.
 # Usage: bench/view.sh [N [PROGRAM]], N at most 268, with python3
 . "$(dirname "$0")/lib.sh"
 n=${1:-25}

@@ -1,8 +1,8 @@
 #!/bin/sh
-# Runs each example with the program, in a copy of its folder, and compares what it prints with the stored text. An example with a
-# file replies.bin is driven over it; of one with a file listing the recording is listed, too. The days of two_machines are run over
-# one journal. Also compares each script that is run with its copy among the scripts of the gate. Prints a line for each example;
-# ends with status 1 if one differs.
+# Runs each example with the program, in a copy of its folder, and compares what it prints with the stored text. An
+# example with a file replies.bin is driven over it; of one with a file listing the recording is listed, too. The days
+# of two_machines are run over one journal. Also compares each script that is run with its copy among the scripts of
+# the gate. Prints a line for each example; ends with status 1 if one differs.
 # Usage: tools/compare_examples.sh [PROGRAM], which is ./ae if it is left out; with - for PROGRAM nothing is run.
 set -u
 top=$(CDPATH="" cd -- "$(dirname -- "$0")/.." && pwd) || exit 1

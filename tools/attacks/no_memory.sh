@@ -1,7 +1,8 @@
 #!/bin/sh
-# Each request for memory refused in turn, in a run of every_statement.sql, in its check, in driving it and in serving its requests: the
-# output must be that of the whole, or its beginning with status 5. Prints how many requests there were, and how each came out.
-# A library that refuses them is put before the C library's. Usage: tools/attacks/no_memory.sh [PROGRAM], with python3 and cc installed
+# Each request for memory refused in turn, in a run of every_statement.sql, in its check, in driving it and in serving
+# its requests: the output must be that of the whole, or its beginning with status 5. Prints how many requests there
+# were, and how each came out. A library that refuses them is put before the C library's. Usage:
+# tools/attacks/no_memory.sh [PROGRAM], with python3 and cc installed
 . "$(dirname "$0")/../../bench/lib.sh"
 program=${1:-$top/built/ae}
 [ $# -ge 1 ] || "$top/ae" build

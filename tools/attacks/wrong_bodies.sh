@@ -1,5 +1,6 @@
 #!/bin/sh
-# The wrong bodies of tools/attacks/wrong-bodies, which the gate doesn't try, in a copy of the committed files: the prover must reject each.
+# The wrong bodies of tools/attacks/wrong-bodies, which the gate doesn't try, in a copy of the committed files: the
+# prover must reject each.
 # Usage: tools/attacks/wrong_bodies.sh [CRATE..], all of them if none is named
 . "$(dirname "$0")/../../bench/lib.sh"
 git -C "$top" archive HEAD | tar x
